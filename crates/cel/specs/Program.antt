@@ -1,0 +1,13 @@
+-- The tree of a program.
+use Rattle.std.specs.Prelude.{Option, Some, None, Result, Ok, Err}
+use Rattle.cel_syntax.specs.declared.error.ParseErrors.{ParseErrors}
+use Rattle.cel_syntax_tree.specs.Term.{Term, term}
+use Rattle.cel.specs.declared.program.Program.{Program}
+
+abbrev pub program_term : Program → Term
+program_term p = term p.expression
+
+-- the tree that a text was read as, if it was read
+abbrev pub program_seen : Result Program ParseErrors → Option Term
+program_seen (Ok p) = Some (program_term p)
+program_seen (Err e) = None

@@ -1,0 +1,113 @@
+//! Programs: an expression with its code.
+ghost use Rattle.std.specs.Prelude.{◌≡◌, ℕ, IfOk, MatchResult, map};
+ghost use Rattle.cel_book.specs.Book.{Book, IsBook, Agrees};
+ghost use Rattle.cel_book.specs.Entries.{entries_of};
+ghost use Rattle.cel_book.specs.Settled.{Settles};
+ghost use Rattle.cel_syntax.specs.Reading.{TextDerives, tree_of};
+ghost use Rattle.cel_syntax_tree.specs.FreeNames.{is_free};
+ghost use Rattle.cel_syntax_tree.specs.Term.{Term, term};
+ghost use Rattle.cel_meaning.specs.Bindings.{bindings_of, functions_of};
+ghost use Rattle.cel_meaning.specs.Meaning.{meaning};
+ghost use Rattle.cel_meaning.specs.Outcome.{outcome_view};
+ghost use Rattle.cel_machine.proofs.Sets.{same_code-prop};
+ghost use Rattle.cel_machine.specs.Code.{code_of};
+ghost use Rattle.cel_machine.specs.Op.{op};
+
+use cel_book::PatternBook;
+use cel_machine::{Instr, compile_tree, run_code};
+use cel_meaning::{Answer, Context, Functions};
+use cel_syntax::{ParseErrors, parse};
+use cel_syntax_tree::Expr;
+use cel_value::Refused;
+use std::alloc::Global;
+
+/// An expression, ready to be run.
+#[derive(Drop)]
+pub struct Program {
+    expression: Expr,
+    code: Vec<Instr>,
+    ghost is_coded: { map op code.items ≡ code_of (term expression) } by { same_code-prop _ _ },
+}
+
+impl Program {
+    ghost use Rattle.cel.specs.Program.{program_term, program_seen};
+
+    /// The program of a text.
+    ///
+    /// # Errors
+    /// [`ParseErrors`] where the text derives no tree. The outer error is `Memory` alone.
+    pub fn compile(alloc: Global, text: &str) -> Result<Result<Program, ParseErrors>, Refused>
+        ensures grammar { IfOk result (λ answer. MatchResult answer (λ p. TextDerives text.now (program_term p)) (λ _. (t : Term) → TextDerives text.now t → ⊥)) }
+        ensures reads { IfOk result (λ answer. program_seen answer ≡ tree_of text.now) }
+    {
+        match parse(alloc, text)? {
+            Ok(expression) => Ok(Ok(Program::from_expression(alloc, expression)?)),
+            Err(errors) => Ok(Err(errors)),
+        }
+    }
+
+    /// The program of a tree.
+    ///
+    /// # Errors
+    /// `Memory` alone.
+    pub fn from_expression(alloc: Global, expression: Expr) -> Result<Program, Refused>
+        ensures { IfOk result (λ p. program_term p ≡ term expression) }
+    {
+        let code = compile_tree(alloc, &expression)?;
+        Ok(Program { expression, code })
+    }
+
+    /// Its tree.
+    pub fn expression(&self) -> &Expr
+        ensures { term result.now ≡ program_term self.now }
+    {
+        &self.expression
+    }
+
+    /// Its code: that of its tree, with fewer than four instructions for each node.
+    pub fn code(&self) -> &[Instr]
+        ensures { map op result.now ≡ code_of (program_term self.now) }
+    {
+        self.code.as_slice()
+    }
+
+    /// Whether the name is free in its tree: a variable that it reads.
+    pub fn has_variable(&self, name: &str) -> bool
+        ensures { result ≡ is_free name.now (program_term self.now) }
+    {
+        self.expression.has_free_name(name)
+    }
+
+    /// What it means in the context: a value, or why there is none. What the patterns in it mean is settled by a book of this call alone.
+    ///
+    /// # Errors
+    /// `Memory` alone.
+    pub fn execute<F: Functions>(
+        &self,
+        alloc: Global,
+        context: &Context<'_, F>,
+    ) -> Result<Answer, Refused>
+        ensures { IfOk result (λ r. (book : Book) × IsBook book × Settles book (outcome_view r)
+            (λ b. meaning (F.library (functions_of context.now)) b (program_term self.now) (bindings_of context.now))) }
+    {
+        let mut book = PatternBook::new(alloc);
+        self.execute_with(alloc, context, &mut book)
+    }
+
+    /// What it means in the context, with what the book knows of patterns. The book keeps its entries, also where memory is refused.
+    ///
+    /// # Errors
+    /// `Memory` alone.
+    pub fn execute_with<F: Functions>(
+        &self,
+        alloc: Global,
+        context: &Context<'_, F>,
+        book: &mut PatternBook,
+    ) -> Result<Answer, Refused>
+        ensures keeps { Agrees (entries_of book.new) (entries_of book.old) }
+        ensures value { IfOk result (λ r. Settles (entries_of book.new) (outcome_view r)
+            (λ b. meaning (F.library (functions_of context.now)) b (program_term self.now) (bindings_of context.now))) }
+    {
+        run_code(alloc, self.code.as_slice(), context, book)
+    }
+}

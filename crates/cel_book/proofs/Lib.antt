@@ -1,0 +1,4 @@
+pub mod Books
+pub mod Entries
+mod Answered
+mod Places

@@ -1,0 +1,4 @@
+pub mod Book
+pub mod Settled
+pub mod Built
+pub mod Entries

@@ -1,0 +1,6 @@
+//! Patterns that are built once, and asked many times.
+#![tactic(auto)]
+
+mod book;
+
+pub use book::PatternBook;

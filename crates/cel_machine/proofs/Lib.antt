@@ -1,0 +1,6 @@
+pub mod Runs
+pub mod Walks
+pub mod Finish
+pub mod Stacks
+pub mod Sizes
+pub mod Sets

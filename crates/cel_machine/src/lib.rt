@@ -1,0 +1,14 @@
+//! Flat code of CEL expressions, and its machine.
+#![tactic(auto)]
+
+mod compile;
+mod instr;
+mod loops;
+mod operands;
+mod run;
+mod state;
+mod turns;
+
+pub use compile::compile_tree;
+pub use instr::Instr;
+pub use run::run_code;

@@ -1,0 +1,36 @@
+-- Names and what they are bound to (CEL language definition, "Name Resolution" and "Environment").
+use Rattle.std.specs.Prelude.{ℕ, List, [], ◌∷◌, ◌++◌, map, Option, Some, None, String, string_bytes, if◌then◌else◌}
+use Rattle.std.specs.declared.alloc.Global.{Global}
+use Rattle.std.specs.Str.{bytes_eq}
+use Rattle.cel_value.specs.Data.{Data}
+use Rattle.cel_value.specs.View.{view}
+use Rattle.cel_value.specs.declared.value.Value.{Value}
+use Rattle.cel_meaning.specs.declared.context.Context.{Context}
+use Rattle.cel_meaning.specs.declared.scope.Scope.{Scope, fold-Scope}
+use Rattle.cel_meaning.specs.declared.scope.Scope.TheOpen.{Scope-F}
+
+-- names with their values, the innermost first
+abbrev pub Bindings : Type 0
+Bindings = List (List ℕ × Data)
+
+-- what a name is bound to: its innermost binding
+abbrev pub binding : List ℕ → Bindings → Option Data
+binding x [] = None
+binding x (e ∷ es) = if bytes_eq x e.0 then Some e.1 else binding x es
+
+abbrev pub named : List (String Global × Value) → Bindings
+named es = map (λ e. (string_bytes e.0, view e.1)) es
+
+abbrev pub bindings_step : Scope-F Bindings → Bindings
+bindings_step Scope-F.Empty = []
+bindings_step (Scope-F.Named m outer) = named m.now.entries ++ outer.now
+
+abbrev pub bindings : Scope → Bindings
+bindings = fold-Scope Bindings bindings_step
+
+-- the bindings of a context: its own, then those of the scopes around it
+abbrev pub bindings_of : {F : Type 0} → Context F → Bindings
+bindings_of c = named c.variables.entries ++ bindings c.outer
+
+abbrev pub functions_of : {F : Type 0} → Context F → F
+functions_of c = c.functions

@@ -1,0 +1,9 @@
+pub mod Outcome
+pub mod Library
+pub mod Bindings
+pub mod Operators
+pub mod Decisions
+pub mod Ranges
+pub mod Meaning
+pub mod Progress
+pub mod Standard

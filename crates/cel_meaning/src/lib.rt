@@ -1,0 +1,14 @@
+//! What CEL expressions mean: names and their values, functions, operators, and the meaning of a tree.
+#![tactic(auto)]
+
+pub mod context;
+pub mod functions;
+pub mod operators;
+pub mod ranges;
+pub mod scope;
+pub mod standard;
+
+pub use context::Context;
+pub use functions::{Form, Functions};
+pub use operators::Answer;
+pub use standard::StandardFunctions;

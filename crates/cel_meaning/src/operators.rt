@@ -1,0 +1,197 @@
+//! What operators and selections do with values.
+ghost use Rattle.std.specs.Prelude.{◌≡◌, IfOk, Ok, Err, option_map, not};
+ghost use Rattle.std.specs.Option.{option_map_or};
+ghost use Rattle.cel_value.specs.Data.{bool};
+ghost use Rattle.cel_value.specs.Faults.{fault_view, no_overload};
+ghost use Rattle.cel_value.specs.Keys.{key_view};
+ghost use Rattle.cel_value.specs.View.{view};
+ghost use Rattle.cel_meaning.specs.Operators.{no_doubles, negated, operator_text, holds_of, ordered, related, operated_on_one, operated, selected};
+ghost use Rattle.cel_meaning.specs.Outcome.{outcome_view};
+ghost use Rattle.cel_meaning.specs.Progress.{Absorbs};
+
+use cel_syntax_tree::{BinaryOperator, UnaryOperator};
+use cel_value::build::find_entry;
+use cel_value::{ExecutionError, Key, Refused, Value};
+use std::alloc::Global;
+use std::cmp::Ordering;
+
+/// A value, or why there is none.
+pub type Answer = Result<Value, ExecutionError>;
+
+/// The fault of an operator, a macro or a function that takes no such values.
+pub fn no_such_overload(alloc: Global, name: &str) -> Result<ExecutionError, Refused>
+    ensures { IfOk result (λ e. fault_view e ≡ no_overload name.now) }
+{
+    Ok(ExecutionError::NoSuchOverload(String::from_str(alloc, name)?))
+}
+
+/// The fault of an operator or a function that a double was given to.
+pub(crate) fn double_fault(alloc: Global) -> Result<ExecutionError, Refused>
+    ensures { IfOk result (λ e. fault_view e ≡ no_doubles) }
+{
+    Ok(ExecutionError::UndeclaredReference(String::from_str(alloc, "double")?))
+}
+
+/// How far the operands so far decide.
+#[derive(Drop)]
+pub enum Progress {
+    /// One of them decides.
+    Decided,
+    /// None does. The first fault among them, if there is one.
+    Open(Option<ExecutionError>),
+}
+
+/// One more operand, after operands whose first fault is `fault`. The bool `stop` decides.
+pub fn absorb(
+    alloc: Global,
+    stop: bool,
+    name: &str,
+    fault: Option<ExecutionError>,
+    answer: Answer,
+) -> Result<Progress, Refused>
+    ensures { IfOk result (λ p. Absorbs stop name.now (option_map fault_view fault) (outcome_view answer) p) }
+{
+    match answer {
+        Ok(Value::Bool(b)) => {
+            if b == stop {
+                Ok(Progress::Decided)
+            } else {
+                Ok(Progress::Open(fault))
+            }
+        }
+        Ok(_) => match fault {
+            Some(first) => Ok(Progress::Open(Some(first))),
+            None => Ok(Progress::Open(Some(no_such_overload(alloc, name)?))),
+        },
+        Err(e) => match fault {
+            Some(first) => Ok(Progress::Open(Some(first))),
+            None => Ok(Progress::Open(Some(e))),
+        },
+    }
+}
+
+/// The answer where no operand decides.
+pub fn settle(stop: bool, fault: Option<ExecutionError>) -> Answer
+    ensures { outcome_view result
+        ≡ option_map_or Err (option_map fault_view fault) (Ok (bool (not stop))) }
+{
+    match fault {
+        Some(e) => Err(e),
+        None => Ok(Value::Bool(!stop)),
+    }
+}
+
+fn negate(alloc: Global, value: &Value) -> Result<Answer, Refused>
+    ensures { IfOk result (λ r. outcome_view r ≡ negated (view value.now)) }
+{
+    match value {
+        Value::Bool(b) => Ok(Ok(Value::Bool(!*b))),
+        _ => Ok(Err(no_such_overload(alloc, "!")?)),
+    }
+}
+
+/// An operator on one value.
+pub fn operate_on_one(
+    alloc: Global,
+    operator: UnaryOperator,
+    value: &Value,
+) -> Result<Answer, Refused>
+    ensures { IfOk result (λ r. outcome_view r ≡ operated_on_one operator (view value.now)) }
+{
+    if value.holds_double() {
+        return Ok(Err(double_fault(alloc)?));
+    }
+    match operator {
+        UnaryOperator::Not => negate(alloc, value),
+    }
+}
+
+/// The text of an operator.
+pub fn text_of(operator: BinaryOperator) -> &'static str
+    ensures { result.now ≡ operator_text operator }
+{
+    match operator {
+        BinaryOperator::Or => "||",
+        BinaryOperator::And => "&&",
+        BinaryOperator::Less => "<",
+        BinaryOperator::LessOrEqual => "<=",
+        BinaryOperator::Greater => ">",
+        BinaryOperator::GreaterOrEqual => ">=",
+        BinaryOperator::Equal => "==",
+        BinaryOperator::NotEqual => "!=",
+    }
+}
+
+fn holds(operator: BinaryOperator, order: Ordering) -> bool
+    ensures { result ≡ holds_of operator order }
+{
+    match operator {
+        BinaryOperator::Less => order.is_lt(),
+        BinaryOperator::LessOrEqual => order.is_le(),
+        BinaryOperator::Greater => order.is_gt(),
+        BinaryOperator::GreaterOrEqual => order.is_ge(),
+        _ => false,
+    }
+}
+
+fn order(
+    alloc: Global,
+    operator: BinaryOperator,
+    left: &Value,
+    right: &Value,
+) -> Result<Answer, Refused>
+    ensures { IfOk result (λ r. outcome_view r ≡ ordered operator (view left.now) (view right.now)) }
+{
+    match left.compare(right) {
+        Some(order) => Ok(Ok(Value::Bool(holds(operator, order)))),
+        None => Ok(Err(no_such_overload(alloc, text_of(operator))?)),
+    }
+}
+
+fn relate(
+    alloc: Global,
+    operator: BinaryOperator,
+    left: &Value,
+    right: &Value,
+) -> Result<Answer, Refused>
+    ensures { IfOk result (λ r. outcome_view r ≡ related operator (view left.now) (view right.now)) }
+{
+    match operator {
+        BinaryOperator::Or => Ok(Err(no_such_overload(alloc, "||")?)),
+        BinaryOperator::And => Ok(Err(no_such_overload(alloc, "&&")?)),
+        BinaryOperator::Less => order(alloc, operator, left, right),
+        BinaryOperator::LessOrEqual => order(alloc, operator, left, right),
+        BinaryOperator::Greater => order(alloc, operator, left, right),
+        BinaryOperator::GreaterOrEqual => order(alloc, operator, left, right),
+        BinaryOperator::Equal => Ok(Ok(Value::Bool(*left == *right))),
+        BinaryOperator::NotEqual => Ok(Ok(Value::Bool(*left != *right))),
+    }
+}
+
+/// An operator on two values.
+pub fn operate(
+    alloc: Global,
+    operator: BinaryOperator,
+    left: &Value,
+    right: &Value,
+) -> Result<Answer, Refused>
+    ensures { IfOk result (λ r. outcome_view r ≡ operated operator (view left.now) (view right.now)) }
+{
+    if left.holds_double() || right.holds_double() {
+        return Ok(Err(double_fault(alloc)?));
+    }
+    relate(alloc, operator, left, right)
+}
+
+/// The member of a map at a key.
+pub fn select(alloc: Global, key: &Key, value: &Value) -> Result<Answer, Refused>
+    ensures { IfOk result (λ r. outcome_view r ≡ selected (key_view key.now) (view value.now)) }
+{
+    match value {
+        Value::Map(entries) => match find_entry(entries.as_ref(), key) {
+            Some(member) => Ok(Ok(member.try_clone()?)),
+            None => Ok(Err(ExecutionError::NoSuchKey(key.try_clone()?))),
+        },
+        _ => Ok(Err(no_such_overload(alloc, ".")?)),
+    }
+}

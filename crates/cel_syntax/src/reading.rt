@@ -1,0 +1,44 @@
+//! The tree of a text.
+
+ghost use Rattle.std.specs.Prelude.{◌≡◌, MatchResult, IfOk, option_map};
+ghost use Rattle.kube_types_refused.specs.declared.Refused.TheVariants.{Memory};
+ghost use Rattle.cel_syntax_tree.specs.Term.{Term, term};
+ghost use Rattle.cel_syntax.specs.Reading.{TextDerives, tree_of, tree_seen};
+
+use crate::error::ParseErrors;
+use cel_syntax_grammar::parse_tokens;
+use cel_syntax_tokens::lexer::tokens;
+use cel_syntax_tree::Expr;
+use kube_types_refused::Refused;
+use std::alloc::Global;
+
+/// The tree of a text, or `None` where it derives none.
+#[tactic(auto, using(crate::proofs::Trees::of_no_tokens))]
+fn read(alloc: Global, text: &[u8]) -> Result<Option<Expr>, Refused>
+    ensures { MatchResult result (λ answer. option_map term answer ≡ tree_of text.now) (λ refused. refused ≡ Memory) }
+{
+    match tokens(alloc, text)? {
+        Some(found) => parse_tokens(alloc, &found),
+        None => Ok(None),
+    }
+}
+
+/// The tree that the text derives.
+///
+/// # Errors
+///
+/// [`ParseErrors`] where it derives none. The outer error is always [`Refused::Memory`].
+///
+/// Brackets, operators and selections may nest up to level 250. Source: the section "Syntax" of the CEL language definition.
+#[tactic(auto, using(crate::proofs::Trees::some_derives, crate::proofs::Trees::none_derives))]
+pub fn parse(alloc: Global, text: &str) -> Result<Result<Expr, ParseErrors>, Refused>
+    ensures grammar { MatchResult result
+        (λ answer. MatchResult answer (λ e. TextDerives text.now (term e)) (λ _. (t : Term) → TextDerives text.now t → ⊥))
+        (λ refused. refused ≡ Memory) }
+    ensures reads { IfOk result (λ answer. tree_seen answer ≡ tree_of text.now) }
+{
+    match read(alloc, text.as_bytes())? {
+        Some(tree) => Ok(Ok(tree)),
+        None => Ok(Err(ParseErrors)),
+    }
+}

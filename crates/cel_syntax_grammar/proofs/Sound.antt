@@ -1,0 +1,219 @@
+-- What the parser reads, the grammar derives.
+use Rattle.std.proofs.Common.{◌≡◌, ℕ, suc, zero, ◌+◌, ◌≤◌, refl, sym, subst, arith, Bool, true, false, Option, Some, None, List, [], ◌∷◌, drop, cond, ◌⊎◌, inl, inr, add-one, add-zero}
+use Rattle.std.specs.Prelude.{nat_le, max, if◌then◌else◌}
+use Rattle.std.proofs.lemmas.Bool.{leb-true}
+use Rattle.cel_value.specs.Data.{Data}
+use Rattle.cel_syntax_tokens.specs.declared.mark.Mark.{Mark}
+use Rattle.cel_syntax_tokens.specs.declared.mark.Mark.TheVariants as m
+use Rattle.cel_syntax_tokens.specs.Token.{Token, word, number, quoted, mark}
+use Rattle.cel_syntax_tree.specs.Term as tree
+use Rattle.cel_syntax_tree.specs.Term.{Term}
+use Rattle.cel_syntax_tree.specs.declared.expr.UnaryOperator.{UnaryOperator}
+use Rattle.cel_syntax_tree.specs.declared.expr.UnaryOperator.TheVariants as u
+use Rattle.cel_syntax_tree.specs.declared.expr.BinaryOperator.{BinaryOperator}
+use Rattle.cel_syntax_grammar.specs.Words.{is_identifier, is_selector}
+use Rattle.cel_syntax_grammar.specs.Literal.{literal_value}
+use Rattle.cel_syntax_grammar.specs.Operator.{sign}
+use Rattle.cel_syntax_grammar.specs.Grammar as g
+use Rattle.cel_syntax_grammar.specs.Grammar.{Expression, Chain, Prefixed, Signed, Member, Primary, Derives}
+use Rattle.cel_syntax_grammar.specs.Parser as p
+use Rattle.cel_syntax_grammar.specs.Parser.{Outcome, Parser, Found, and_then, same_mark, sees, above, operator_at}
+use Rattle.cel_syntax_grammar.proofs.Steps.{and_then_some, sees_mark, above_some, operator_at_token}
+
+some_same : {A : Type 0} {a b : A} → Some a ≡ Some b → a ≡ b
+some_same e = cc
+
+pure_gives : {A : Type 0} (R : List Token → A → Type 0) (a x : A) (ts rest : List Token) → ◌≡◌ {A = Outcome A} (Some (a, ts)) (Some (x, rest)) → R ts a → R rest x
+pure_gives {A} R a x ts rest e r = subst (λ (q : A × List Token). R q.1 q.0) (some_same e) r
+
+above_gives : (R : List Token → Term → ℕ → Type 0) (limit l : ℕ) (t : Term) (ts : List Token) (x : Found) (rest : List Token)
+    → above limit l t ts ≡ Some (x, rest) → R ts t (l + 1) → R rest x.0 x.1 × (x.1 ≤ limit)
+above_gives R limit l t ts x rest e r =
+    let h = above_some {t = t} limit l ts e in
+    rw (h.0, ← h.1) (r, h.2)
+
+-- before a test without which it refuses
+when : {A : Type 0} {x : A} {rest : List Token} (b : Bool) (f : Parser A) (ts : List Token) → (if b then f else p.refuse) ts ≡ Some (x, rest)
+    → (b ≡ true) × (f ts ≡ Some (x, rest))
+when true f ts e = (refl, e)
+when false f ts e = absurd (cc)
+
+unless_none : {A : Type 0} {y : A} (b : Bool) (o : Option A) → cond b None o ≡ Some y → (b ≡ false) × (o ≡ Some y)
+unless_none true o e = absurd (cc)
+unless_none false o e = (refl, e)
+
+when_some : {A : Type 0} {y : A} (b : Bool) (o : Option A) → cond b o None ≡ Some y → (b ≡ true) × (o ≡ Some y)
+when_some true o e = (refl, e)
+when_some false o e = absurd (cc)
+
+operated : {A : Type 0} {y : A} (o : Option BinaryOperator) (a : Option A) (f : BinaryOperator → Option A) → p.by_operator o a f ≡ Some y
+    → (a ≡ Some y) ⊎ ((op : BinaryOperator) × (o ≡ Some op) × (f op ≡ Some y))
+operated None a f e = inl e
+operated (Some op) a f e = inr (op, refl, e)
+
+move_signed : {s : UnaryOperator} {ts us rest : List Token} {t v : Term} {l k : ℕ} → Signed s ts rest t l → ts ≡ us → t ≡ v → l ≡ k → Signed s us rest v k
+move_signed d a b c = rw (← a, ← b, ← c) d
+
+eaten_by : {A : Type 0} {x : A} {rest : List Token} (b : Bool) (f h : Parser A) (ts : List Token)
+    → (if b then f else h) (if b then drop 1 ts else ts) ≡ Some (x, rest)
+    → ((b ≡ true) × (f (drop 1 ts) ≡ Some (x, rest))) ⊎ ((b ≡ false) × (h ts ≡ Some (x, rest)))
+eaten_by true f h ts e = inl (refl, e)
+eaten_by false f h ts e = inr (refl, e)
+
+-- where a mark may come, and one way goes on with it and one without it
+eaten : {A : Type 0} {x : A} {rest : List Token} (k : Mark) (f h : Parser A) (ts : List Token)
+    → (if sees k ts then f else h) (if sees k ts then drop 1 ts else ts) ≡ Some (x, rest)
+    → ((mid : List Token) × (ts ≡ mark k ∷ mid) × (f mid ≡ Some (x, rest))) ⊎ (h ts ≡ Some (x, rest))
+eaten k f h ts e = elim (eaten_by (sees k ts) f h ts e) [
+  | inl y ↦ inl (drop 1 ts, sees_mark k ts y.0, y.1)
+  | inr n ↦ inr n.1
+]
+
+expected_by : {A B : Type 0} {x : B} {rest : List Token} (b : Bool) (a : A) (f : A → Parser B) (ts : List Token)
+    → and_then (cond b (Some (a, ts)) None) f ≡ Some (x, rest) → (b ≡ true) × (f a ts ≡ Some (x, rest))
+expected_by true a f ts e = (refl, e)
+expected_by false a f ts e = absurd (cc)
+
+-- where a mark has to come
+expected : {A : Type 0} {x : A} {rest : List Token} (k : Mark) (f : Parser A) (ts : List Token) → p.◌>>◌ (p.expect k) f ts ≡ Some (x, rest)
+    → (mid : List Token) × (ts ≡ mark k ∷ mid) × (f mid ≡ Some (x, rest))
+expected k f ts e = let h = expected_by (sees k ts) tt (λ _. f) (drop 1 ts) e in (drop 1 ts, sees_mark k ts h.0, h.1)
+
+module _ (limit : ℕ) (sub : Parser Found)
+    (below : (ts rest : List Token) (x : Found) → sub ts ≡ Some (x, rest) → Expression ts rest x.0 x.1) where
+  -- what a parser of trees reads, from where on and in what relation
+  abbrev Sound : (List Token → List Token → Term → ℕ → Type 0) → List Token → Outcome Found → Type 0
+  Sound R ts o = (rest : List Token) (x : Found) → o ≡ Some (x, rest) → R ts rest x.0 x.1 × (x.1 ≤ limit)
+
+  sound_pure : (R : List Token → List Token → Term → ℕ → Type 0) (ts rest : List Token) (t : Term) (l : ℕ) → R ts rest t l → l ≤ limit → Sound R ts (Some ((t, l), rest))
+  sound_pure R ts rest t l d h end x e = pure_gives (λ end x. R ts end x.0 x.1 × (x.1 ≤ limit)) (t, l) x rest end e (d, h)
+
+  sound_named : (w : List ℕ) (ts : List Token) → Sound Primary (word w ∷ ts) (p.named limit sub w ts)
+  unfolding p.named
+  sound_named w ts rest x e =
+      let free = when (is_identifier w) _ ts e in
+      sound_pure Primary (word w ∷ ts) ts (tree.ident w) 0 (g.ident free.0) (omega arith) rest x free.1
+
+  sound_round : (ts : List Token) → Sound Primary (mark m.OpenRound ∷ ts) (p.round limit sub ts)
+  unfolding p.round p.closed
+  sound_round ts rest x e =
+      let r = and_then_some (sub ts) e in
+      let close = expected m.CloseRound _ r.1 r.3 in
+      above_gives (λ end. Primary (mark m.OpenRound ∷ ts) end) limit r.0.1 r.0.0 close.0 x rest close.2
+      (g.round (subst (λ z. Expression ts z r.0.0 r.0.1) close.1 (below ts r.1 r.0 r.2)))
+
+  sound_by : (k : Token) (ts : List Token) → Sound Primary (k ∷ ts) (p.primary_by limit sub k ts)
+  sound_by (word w) ts rest x e = sound_named w ts rest x e
+  sound_by (number ds) ts rest x e = absurd (cc)
+  sound_by (quoted s) ts rest x e = absurd (cc)
+  sound_by (mark m.OpenRound) ts rest x e = sound_round ts rest x e
+  sound_by (mark k) ts rest x e = absurd (cc)
+
+  sound_value : (k : Token) (ts : List Token) (v : Option Data) → literal_value k ≡ v → Sound Primary (k ∷ ts) (p.value_or limit sub v (p.primary_by limit sub k) ts)
+  sound_value k ts None is rest x e = sound_by k ts rest x e
+  sound_value k ts (Some v) is rest x e = sound_pure Primary (k ∷ ts) ts (tree.literal v) 0 (g.literal is) (omega arith) rest x e
+
+  sound_primary : (ts : List Token) → Sound Primary ts (p.primary limit sub ts)
+  unfolding p.primary
+  sound_primary [] rest x e = absurd (cc)
+  sound_primary (k ∷ ts) rest x e = sound_value k ts (literal_value k) refl rest x e
+
+  sound_field : (from ts : List Token) (t : Term) (l : ℕ) → Member from (mark m.Dot ∷ ts) t l → Sound (λ _. Member from) from (p.field limit sub t l ts)
+  unfolding p.field p.field_by
+  sound_field from [] t l d rest x e = absurd (cc)
+  sound_field from (word w ∷ ts) t l d rest x e =
+      let free = when (is_selector w) _ ts e in
+      above_gives (Member from) limit l (tree.select t w) ts x rest free.1 (g.select d free.0)
+  sound_field from (_ ∷ ts) t l d rest x e = absurd (cc)
+
+  sound_links : (n : ℕ) (from ts : List Token) (t : Term) (l : ℕ) → Member from ts t l → l ≤ limit → Sound (λ _. Member from) from (p.links limit sub n t l ts)
+  unfolding p.links
+  sound_links zero from ts t l d h rest x e =
+      let no_dot = unless_none (sees m.Dot ts) _ e in
+      sound_pure (λ _. Member from) from ts t l d h rest x no_dot.1
+  sound_links (suc n) from ts t l d h rest x e = elim (eaten m.Dot _ _ ts e) [
+    | inl y ↦
+        let r = and_then_some (p.field limit sub t l y.0) y.2 in
+        let s = sound_field from y.0 t l (subst (λ z. Member from z t l) y.1 d) r.1 r.0 r.2 in
+        sound_links n from r.1 r.0.0 r.0.1 s.0 s.1 rest x r.3
+    | inr end ↦ sound_pure (λ _. Member from) from ts t l d h rest x end
+  ]
+
+  sound_member : (ts : List Token) → Sound Member ts (p.member limit sub ts)
+  unfolding p.member
+  sound_member ts rest x e =
+      let r = and_then_some (p.primary limit sub ts) e in
+      let s = sound_primary ts r.1 r.0 r.2 in
+      sound_links limit ts r.1 r.0.0 r.0.1 (g.primary s.0) s.1 rest x r.3
+
+  sound_signs : (s : UnaryOperator) (ts rest : List Token) (t : Term) (l : ℕ) → Member (p.signs s ts).1 rest t l → Signed s ts rest (p.wrap s (p.signs s ts).0 t) (l + (p.signs s ts).0)
+  unfolding p.signs p.wrap
+  sound_signs s [] rest t l d = rw add-zero (g.unsigned d)
+  sound_signs s (k ∷ ts) rest t l d = by_test (sees (sign s) (k ∷ ts)) refl (sound_signs s ts rest t l) d
+    where
+      by_test : (b : Bool) → sees (sign s) (k ∷ ts) ≡ b
+          → (Member (p.signs s ts).1 rest t l → Signed s ts rest (p.wrap s (p.signs s ts).0 t) (l + (p.signs s ts).0))
+          → Member (if◌then◌else◌ {A = ℕ × List Token} b ((p.signs s ts).0 + 1, (p.signs s ts).1) (0, k ∷ ts)).1 rest t l
+          → Signed s (k ∷ ts) rest (p.wrap s (if◌then◌else◌ {A = ℕ × List Token} b ((p.signs s ts).0 + 1, (p.signs s ts).1) (0, k ∷ ts)).0 t)
+          (l + (if◌then◌else◌ {A = ℕ × List Token} b ((p.signs s ts).0 + 1, (p.signs s ts).1) (0, k ∷ ts)).0)
+      by_test true is again d =
+          move_signed (g.signed (again d)) (sym (sees_mark (sign s) (k ∷ ts) is)) (rw add-one) (omega arith)
+      by_test false is again d = rw add-zero (g.unsigned d)
+
+  sound_signed : (s : UnaryOperator) (ts : List Token) → Sound (Signed s) ts (p.signed limit sub s ts)
+  unfolding p.signed p.wrapped
+  sound_signed s ts rest x e =
+      let r = and_then_some (p.member limit sub (p.signs s ts).1) e in
+      let d = sound_signs s ts r.1 r.0.0 r.0.1 (sound_member (p.signs s ts).1 r.1 r.0 r.2).0 in
+      let fits = when_some (nat_le (r.0.1 + (p.signs s ts).0) limit) _ r.3 in
+      sound_pure (Signed s) ts r.1 _ _ d (leb-true _ _ fits.0) rest x fits.1
+
+  sound_prefixed : (ts : List Token) → Sound Prefixed ts (p.prefixed limit sub ts)
+  unfolding p.prefixed
+  sound_prefixed ts rest x e = let d = sound_signed u.Not ts rest x e in (g.prefixed d.0, d.1)
+
+  module _ (k : ℕ) (tighter : (ts : List Token) → Sound (Chain k) ts (p.chain limit sub k ts)) where
+    sound_turns : (n : ℕ) (from ts : List Token) (t : Term) (l : ℕ) → Chain (suc k) from ts t l → l ≤ limit
+        → Sound (λ _. Chain (suc k) from) from (p.turns limit sub (p.chain limit sub k) (suc k) n t l ts)
+    unfolding p.turns
+    sound_turns zero from ts t l d h rest x e = elim (operated (operator_at (suc k) ts) _ _ e) [
+      | inl end ↦ sound_pure (λ _. Chain (suc k) from) from ts t l d h rest x end
+      | inr y ↦ absurd (cc (y.2))
+    ]
+    sound_turns (suc n) from ts t l d h rest x e = elim (operated (operator_at (suc k) ts) _ _ e) [
+      | inl end ↦ sound_pure (λ _. Chain (suc k) from) from ts t l d h rest x end
+      | inr y ↦
+          let o = operator_at_token (suc k) ts y.0 y.1 in
+          let r = and_then_some (and_then (p.chain limit sub k (drop 1 ts)) (λ b. above limit (max l b.1) (tree.binary y.0 t b.0))) y.2 in
+          let b = and_then_some (p.chain limit sub k (drop 1 ts)) r.2 in
+          let longer = above_gives (Chain (suc k) from) limit (max l b.0.1) (tree.binary y.0 t b.0.0) b.1 r.0 r.1 b.3
+          (g.binary (subst (λ z. Chain (suc k) from z t l) o.1 d) o.2 (tighter (drop 1 ts) b.1 b.0 b.2).0) in
+          sound_turns n from r.1 r.0.0 r.0.1 longer.0 longer.1 rest x r.3
+    ]
+
+  sound_chain : (k : ℕ) (ts : List Token) → Sound (Chain k) ts (p.chain limit sub k ts)
+  unfolding p.chain
+  sound_chain zero ts rest x e = let d = sound_prefixed ts rest x e in (g.operand d.0, d.1)
+  sound_chain (suc k) ts rest x e =
+      let r = and_then_some (p.chain limit sub k ts) e in
+      let s = sound_chain k ts r.1 r.0 r.2 in
+      sound_turns k (sound_chain k) limit ts r.1 r.0.0 r.0.1 (g.tighter s.0) s.1 rest x r.3
+
+  sound_expression : (ts : List Token) → Sound Expression ts (p.expression limit sub ts)
+  unfolding p.expression
+  sound_expression ts rest x e = let d = sound_chain 5 ts rest x e in (g.plain d.0, d.1)
+
+-- What is read is an expression of a level within the limit.
+pub sound : (limit : ℕ) (ts rest : List Token) (x : Found) → p.expr limit ts ≡ Some (x, rest) → Expression ts rest x.0 x.1 × (x.1 ≤ limit)
+unfolding p.expr
+sound zero ts rest x e = sound_expression zero p.refuse (λ ts rest x e. absurd (cc)) ts rest x e
+sound (suc limit) ts rest x e = sound_expression (suc limit) (p.expr limit) (λ ts rest x e. (sound limit ts rest x e).0) ts rest x e
+
+pub sound_parse : (ts : List Token) (t : Term) → p.tree_of_tokens ts ≡ Some t → Derives ts t
+unfolding p.tree_of_tokens
+sound_parse ts t e = last_some (p.expr p.max_level ts) refl e
+  where
+    last_some : (o : Outcome Found) → p.expr p.max_level ts ≡ o → p.if_last o ≡ Some t → Derives ts t
+    last_some None is e = absurd (cc)
+    last_some (Some (x, [])) is e = let d = sound p.max_level ts [] x is in let same : x.0 ≡ t = some_same e in rw (← same) (x.1, d.0, d.1)
+    last_some (Some (x, k ∷ ks)) is e = absurd (cc)

@@ -1,0 +1,52 @@
+use Rattle.std.proofs.Common.{◌≡◌, ◌+◌, rules, arith, add-one}
+use Rattle.std.proofs.lemmas.Grind.{common_steps}
+use Rattle.cel_syntax_tree.specs.Term.{term}
+use Rattle.cel_syntax_grammar.specs.Parser as spec
+use Rattle.cel_syntax_grammar.specs.Cursor.{left}
+use Rattle.cel_syntax_grammar.proofs.Turns.{one_more, no_more, deeper}
+use Rattle.cel_syntax_grammar.proofs.grammar.Grammar.+operators.Goals as goal
+
+pub chain-returns-then-level-eq0 : goal.chain-returns-then-level-eq0
+unfolding spec.chain
+chain-returns-then-level-eq0 g t c = let none : c.args.level ≡ 0 = omega arith in rw none c.prefixed.ensures
+
+pub chain-returns-in_err-found : goal.chain-returns-in_err-found
+unfolding spec.chain
+chain-returns-in_err-found g t c =
+    rw (deeper (λ n. spec.chain c.args.self.now.limit (spec.below c.args.self.now.limit) n (left c.args.tokens.now)) c.args.level (omega arith)) (first_of (search rules, grind (arith, common_steps)))
+
+pub chain-returns : goal.chain-returns
+unfolding spec.chain
+chain-returns g t c =
+    let rest = rw add-one at c.turns.ensures in
+    rw (deeper (λ n. spec.chain c.args.self.now.limit (spec.below c.args.self.now.limit) n (left c.args.tokens.now)) c.args.level (omega arith), c.in_ok-found.ensures) rest
+
+pub turns-returns-in_default : goal.turns-returns-in_default
+unfolding spec.turns
+turns-returns-in_default g t c =
+    let e = one_more (λ n. spec.turns c.args.self.now.limit (spec.below c.args.self.now.limit) (spec.chain c.args.self.now.limit (spec.below c.args.self.now.limit) c.args.below) (c.args.below + 1) n (term c.loop-turn.found.0) c.loop-turn.found.1 (left c.loop-turn.tokens)) _ c.loop-turn._turn c.loop-turn-test.true c.loop-turn.invariant in
+    first_of (search rules, grind (arith, common_steps))
+
+pub turns-returns-in_err-found : goal.turns-returns-in_err-found
+unfolding spec.turns
+turns-returns-in_err-found g t c =
+    let e = one_more (λ n. spec.turns c.args.self.now.limit (spec.below c.args.self.now.limit) (spec.chain c.args.self.now.limit (spec.below c.args.self.now.limit) c.args.below) (c.args.below + 1) n (term c.loop-turn.found.0) c.loop-turn.found.1 (left c.loop-turn.tokens)) _ c.loop-turn._turn c.loop-turn-test.true c.loop-turn.invariant in
+    first_of (search rules, grind (arith, common_steps))
+
+pub turns-loop-turn-preserved : goal.turns-loop-turn-preserved
+unfolding spec.turns
+turns-loop-turn-preserved g t c =
+    let e = one_more (λ n. spec.turns c.args.self.now.limit (spec.below c.args.self.now.limit) (spec.chain c.args.self.now.limit (spec.below c.args.self.now.limit) c.args.below) (c.args.below + 1) n (term c.loop-turn.found.0) c.loop-turn.found.1 (left c.loop-turn.tokens)) _ c.loop-turn._turn c.loop-turn-test.true c.loop-turn.invariant in
+    first_of (search rules, grind (arith, common_steps))
+
+pub turns-returns-in-Some-operator : goal.turns-returns-in-Some-operator
+unfolding spec.turns
+turns-returns-in-Some-operator g t c =
+    let e = no_more (λ n. spec.turns c.args.self.now.limit (spec.below c.args.self.now.limit) (spec.chain c.args.self.now.limit (spec.below c.args.self.now.limit) c.args.below) (c.args.below + 1) n (term c.loop-turn.found.0) c.loop-turn.found.1 (left c.loop-turn.tokens)) _ c.loop-turn._turn c.loop-turn-test.false c.loop-turn.invariant in
+    first_of (search rules, grind (arith, common_steps))
+
+pub turns-returns-in-None : goal.turns-returns-in-None
+unfolding spec.turns
+turns-returns-in-None g t c =
+    let e = no_more (λ n. spec.turns c.args.self.now.limit (spec.below c.args.self.now.limit) (spec.chain c.args.self.now.limit (spec.below c.args.self.now.limit) c.args.below) (c.args.below + 1) n (term c.loop-turn.found.0) c.loop-turn.found.1 (left c.loop-turn.tokens)) _ c.loop-turn._turn c.loop-turn-test.false c.loop-turn.invariant in
+    first_of (search rules, grind (arith, common_steps))

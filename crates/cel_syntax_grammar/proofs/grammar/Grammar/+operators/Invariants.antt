@@ -1,0 +1,19 @@
+use Rattle.std.proofs.Common.{◌≡◌, ◌+◌, ◌-◌, ◌*◌}
+use Rattle.cel_syntax_tree.specs.Term.{term}
+use Rattle.cel_syntax_grammar.specs.Parser as spec
+use Rattle.cel_syntax_grammar.specs.Cursor.{left}
+use Rattle.cel_syntax_grammar.proofs.grammar.Grammar.+operators.Given as goal
+
+abbrev pub decreases-chain : goal.decreases-chain
+decreases-chain g l = 3 * l.level
+
+abbrev pub decreases-turns : goal.decreases-turns
+decreases-turns g l = 3 * l.below + 2
+
+abbrev pub decreases-operated : goal.decreases-operated
+decreases-operated g l = 3 * l.below + 1
+
+abbrev pub invariant-turns-loop-turn : goal.invariant-turns-loop-turn
+invariant-turns-loop-turn g l =
+    spec.turns l.self.limit (spec.below l.self.limit) (spec.chain l.self.limit (spec.below l.self.limit) l.below) (l.below + 1) l.self.limit (term l.fn.found.0) l.fn.found.1 (left l.fn.tokens)
+    ≡ spec.turns l.self.limit (spec.below l.self.limit) (spec.chain l.self.limit (spec.below l.self.limit) l.below) (l.below + 1) (l.self.limit - l._turn) (term l.found.0) l.found.1 (left l.tokens)

@@ -1,0 +1,33 @@
+use Rattle.std.proofs.Common.{◌≡◌, sym, ◌∙◌, arith, true, false}
+use Rattle.cel_syntax_grammar.specs.Parser.{sees}
+use Rattle.cel_syntax_grammar.specs.Cursor.{left}
+use Rattle.cel_syntax_grammar.proofs.Signs.{stops, goes, ended}
+use Rattle.cel_syntax_grammar.proofs.grammar.signs.Goals as goal
+
+pub returns-then-not-eat-clause-count : goal.returns-then-not-eat-clause-count
+returns-then-not-eat-clause-count c =
+    let no : sees c.sign_mark.result (left c.loop-turn.tokens) ≡ false = grind arith in
+    let h = stops c.args.sign c.sign_mark.result (left c.loop-turn.tokens) (left c.eat.new.self) c.sign_mark.ensures no c.eat.ensures.after in
+    omega (arith, h.0, c.loop-turn.invariant.0)
+
+pub returns-then-not-eat-clause-rest : goal.returns-then-not-eat-clause-rest
+returns-then-not-eat-clause-rest c =
+    let no : sees c.sign_mark.result (left c.loop-turn.tokens) ≡ false = grind arith in
+    let h = stops c.args.sign c.sign_mark.result (left c.loop-turn.tokens) (left c.eat.new.self) c.sign_mark.ensures no c.eat.ensures.after in
+    sym (c.loop-turn.invariant.1 ∙ h.1)
+
+pub loop-turn-preserved : goal.loop-turn-preserved
+loop-turn-preserved c =
+    let yes : sees c.sign_mark.result (left c.loop-turn.tokens) ≡ true = grind arith in
+    let h = goes c.args.sign c.sign_mark.result (left c.loop-turn.tokens) (left c.eat.new.self) c.sign_mark.ensures yes c.eat.ensures.after in
+    (omega (arith, h.0, c.loop-turn.invariant.0), c.loop-turn.invariant.1 ∙ h.1, omega (arith, h.2, c.loop-turn.invariant.2))
+
+pub returns-clause-count : goal.returns-clause-count
+returns-clause-count c =
+    let h = ended c.args.sign (left c.loop-turn.tokens) (omega (arith, c.loop-turn.invariant.2)) in
+    omega (arith, h.0, c.loop-turn.invariant.0, c.loop-turn.invariant.2)
+
+pub returns-clause-rest : goal.returns-clause-rest
+returns-clause-rest c =
+    let h = ended c.args.sign (left c.loop-turn.tokens) (omega (arith, c.loop-turn.invariant.2)) in
+    sym (c.loop-turn.invariant.1 ∙ h.1)

@@ -1,0 +1,24 @@
+-- What the code's tokens and answers stand for.
+use Rattle.std.specs.Prelude.{◌≡◌, ℕ, List, map, Some, None, Result, Ok, Err}
+use Rattle.cel_syntax_tokens.specs.Token.{Token, token_of}
+use Rattle.cel_syntax_tree.specs.Term.{term}
+use Rattle.cel_syntax_tree.specs.declared.expr.Expr.{Expr}
+use Rattle.cel_syntax_grammar.specs.Parser.{Outcome, Found}
+use Rattle.cel_syntax_grammar.specs.declared.error.SyntaxError.{SyntaxError}
+use Rattle.cel_syntax_grammar.specs.declared.error.SyntaxError.TheVariants.{Memory, Invalid}
+use Rattle.cel_syntax_grammar.specs.declared.tokens.Tokens.{Tokens}
+
+abbrev pub left : Tokens → List Token
+left t = map token_of t.rest.now
+
+-- what a function that expects something ensures: the parser's outcome, unless memory runs out
+abbrev pub Expects : Outcome (Unit {0}) → Result (Unit {0}) SyntaxError → List Token → Type 0
+Expects outcome (Ok a) new = outcome ≡ Some (a, new)
+Expects outcome (Err Memory) new = Unit {0}
+Expects outcome (Err Invalid) new = outcome ≡ None
+
+-- the same of a function that reads a tree
+abbrev pub Reads : Outcome Found → Result (Expr × ℕ) SyntaxError → List Token → Type 0
+Reads outcome (Ok x) new = outcome ≡ Some ((term x.0, x.1), new)
+Reads outcome (Err Memory) new = Unit {0}
+Reads outcome (Err Invalid) new = outcome ≡ None

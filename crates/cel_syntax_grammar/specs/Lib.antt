@@ -1,0 +1,7 @@
+pub mod Words
+pub mod Literal
+pub mod Operator
+pub mod Grammar
+pub mod Parser
+pub mod Cursor
+pub mod Nests

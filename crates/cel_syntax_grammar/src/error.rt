@@ -1,0 +1,30 @@
+//! Why tokens give no tree.
+
+ghost use Rattle.std.specs.Prelude.{◌≡◌};
+ghost use Rattle.cel_syntax_grammar.specs.declared.error.SyntaxError.TheVariants.{Memory};
+
+use std::alloc::{AllocError, AllocFailed};
+
+#[derive(Clone, Copy, Debug, PartialEq, Eq)]
+pub enum SyntaxError {
+    /// Memory was refused.
+    Memory,
+    /// The tokens derive none.
+    Invalid,
+}
+
+impl From<AllocError> for SyntaxError {
+    ghost from_gives = { λ _ e. e ≡ Memory };
+
+    fn from(_error: AllocError) -> SyntaxError {
+        SyntaxError::Memory
+    }
+}
+
+impl<T: Drop> From<AllocFailed<T>> for SyntaxError {
+    ghost from_gives = { λ _ e. e ≡ Memory };
+
+    fn from(_error: AllocFailed<T>) -> SyntaxError {
+        SyntaxError::Memory
+    }
+}

@@ -1,0 +1,12 @@
+//! Reads the tree of a CEL text from its tokens.
+#![tactic(auto)]
+
+mod error;
+mod grammar;
+pub mod laws;
+mod literal;
+pub mod parse;
+mod tokens;
+mod words;
+
+pub use parse::parse_tokens;

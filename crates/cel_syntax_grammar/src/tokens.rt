@@ -1,0 +1,106 @@
+//! A cursor over tokens.
+
+ghost use Rattle.std.specs.Prelude.{◌≡◌, ◌∷◌, [], MatchOption, drop, length};
+ghost use Rattle.cel_syntax_tokens.specs.Token.{token_of};
+ghost use Rattle.cel_syntax_grammar.specs.Operator.{operator_of as operator_of_lem};
+ghost use Rattle.cel_syntax_grammar.specs.Parser as spec;
+ghost use Rattle.cel_syntax_grammar.specs.Cursor.{left, Expects};
+
+use crate::error::SyntaxError;
+use cel_syntax_tokens::mark::Mark;
+use cel_syntax_tokens::token::Token;
+use cel_syntax_tree::BinaryOperator;
+
+/// The tokens that are left.
+#[derive(Clone, Copy)]
+pub struct Tokens<'a> {
+    pub rest: &'a [Token<'a>],
+}
+
+#[tactic(auto, unfolding(crate::specs::Parser::same_mark))]
+fn same_mark(a: Mark, b: Mark) -> bool
+    ensures { result ≡ spec.same_mark a b }
+{
+    a == b
+}
+
+fn operator_of(mark: Mark) -> Option<(u8, BinaryOperator)>
+    ensures { result ≡ operator_of_lem mark }
+{
+    match mark {
+        Mark::Less => Some((3, BinaryOperator::Less)),
+        Mark::LessOrEqual => Some((3, BinaryOperator::LessOrEqual)),
+        Mark::Greater => Some((3, BinaryOperator::Greater)),
+        Mark::GreaterOrEqual => Some((3, BinaryOperator::GreaterOrEqual)),
+        Mark::Equal => Some((3, BinaryOperator::Equal)),
+        Mark::NotEqual => Some((3, BinaryOperator::NotEqual)),
+        Mark::And => Some((4, BinaryOperator::And)),
+        Mark::Or => Some((5, BinaryOperator::Or)),
+        _ => None,
+    }
+}
+
+impl<'a> Tokens<'a> {
+    pub fn next(&mut self) -> Option<Token<'a>>
+        ensures token { MatchOption result ((left self.old ≡ []) × (left self.new ≡ [])) (λ t. left self.old ≡ token_of t ∷ left self.new) }
+        ensures rest { left self.new ≡ drop 1 (left self.old) }
+    {
+        let tokens = self.rest;
+        if tokens.is_empty() {
+            return None;
+        }
+        self.rest = &tokens[1..];
+        Some(tokens[0])
+    }
+
+    pub fn len(&self) -> usize
+        ensures { result ≡ length (left self.now) }
+    {
+        self.rest.len()
+    }
+
+    pub fn sees(&self, mark: Mark) -> bool
+        ensures { result ≡ spec.sees mark (left self.now) }
+    {
+        match self.rest.first() {
+            Some(Token::Mark(next)) => same_mark(*next, mark),
+            _ => false,
+        }
+    }
+
+    /// The operator that comes next, if it binds as loosely as that.
+    #[tactic(auto, unfolding(crate::specs::Parser::operator_at))]
+    pub fn operator(&self, level: u8) -> Option<BinaryOperator>
+        ensures { result ≡ spec.operator_at level (left self.now) }
+    {
+        match self.rest.first() {
+            Some(Token::Mark(mark)) => match operator_of(*mark) {
+                Some((at, operator)) if at == level => Some(operator),
+                _ => None,
+            },
+            _ => None,
+        }
+    }
+
+    /// Takes the mark, if it comes next, and tells whether it did.
+    pub fn eat(&mut self, mark: Mark) -> bool
+        ensures found { result ≡ spec.sees mark (left self.old) }
+        ensures after { left self.new ≡ spec.after mark (left self.old) }
+    {
+        let found = self.sees(mark);
+        if found {
+            let _mark = self.next();
+        }
+        found
+    }
+
+    pub fn expect(&mut self, mark: Mark) -> Result<(), SyntaxError>
+        ensures { Expects (spec.expect mark (left self.old)) result (left self.new) }
+    {
+        if self.eat(mark) {
+            Ok(())
+        } else {
+            Err(SyntaxError::Invalid)
+        }
+    }
+}

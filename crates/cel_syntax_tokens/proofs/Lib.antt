@@ -1,0 +1,4 @@
+pub mod Runs
+pub mod First
+pub mod Cut
+pub mod CutOf

@@ -1,0 +1,147 @@
+//! A scan from token to token.
+
+ghost use Rattle.std.specs.Prelude.{◌≡◌, ◌≤◌, ℕ, length, MatchOption, MatchResult, drop, map};
+ghost use Rattle.kube_types_refused.specs.declared.Refused.TheVariants.{Memory};
+ghost use Rattle.cel_syntax_tokens.specs.Token.{Token as SpecToken, token_of};
+ghost use Rattle.cel_syntax_tokens.specs.Tokens as spec;
+ghost use Rattle.cel_syntax_tokens.specs.Tokens.{Longest, CutsInto, CutsIntoNone};
+
+use crate::bytes::{
+    digits_length, inside_length, is_letter, is_quote, is_white_space, line_length, word_length,
+};
+use crate::mark::Mark;
+use crate::token::Token;
+use kube_types_refused::Refused;
+use std::alloc::Global;
+
+#[tactic(auto, unfolding(crate::specs::Tokens::one_byte))]
+fn one_byte(byte: u8) -> Option<Mark>
+    ensures { result ≡ spec.one_byte byte }
+{
+    match byte {
+        b'(' => Some(Mark::OpenRound),
+        b')' => Some(Mark::CloseRound),
+        b'[' => Some(Mark::OpenSquare),
+        b']' => Some(Mark::CloseSquare),
+        b'{' => Some(Mark::OpenBrace),
+        b'}' => Some(Mark::CloseBrace),
+        b',' => Some(Mark::Comma),
+        b'.' => Some(Mark::Dot),
+        b':' => Some(Mark::Colon),
+        b'?' => Some(Mark::Question),
+        b'!' => Some(Mark::Not),
+        b'-' => Some(Mark::Minus),
+        b'+' => Some(Mark::Plus),
+        b'*' => Some(Mark::Star),
+        b'/' => Some(Mark::Slash),
+        b'%' => Some(Mark::Percent),
+        b'<' => Some(Mark::Less),
+        b'>' => Some(Mark::Greater),
+        _ => None,
+    }
+}
+
+#[tactic(auto, unfolding(crate::specs::Tokens::two_bytes))]
+fn two_bytes(first: u8, second: u8) -> Option<Mark>
+    ensures { result ≡ spec.two_bytes first second }
+{
+    match (first, second) {
+        (b'<', b'=') => Some(Mark::LessOrEqual),
+        (b'>', b'=') => Some(Mark::GreaterOrEqual),
+        (b'=', b'=') => Some(Mark::Equal),
+        (b'!', b'=') => Some(Mark::NotEqual),
+        (b'&', b'&') => Some(Mark::And),
+        (b'|', b'|') => Some(Mark::Or),
+        _ => None,
+    }
+}
+
+fn two_at_front(text: &[u8]) -> Option<Mark>
+    ensures { result ≡ spec.two_at_front text.now }
+{
+    match text {
+        [first, second, ..] => two_bytes(*first, *second),
+        _ => None,
+    }
+}
+
+fn begins_comment(text: &[u8]) -> bool
+    ensures { result ≡ spec.begins_comment text.now }
+{
+    match text {
+        [first, second, ..] => *first == b'/' && *second == b'/',
+        _ => false,
+    }
+}
+
+fn after(text: &[u8], count: usize) -> &[u8]
+    requires { count ≤ length text.now }
+    ensures { result.now ≡ drop count text.now }
+{
+    &text[count..]
+}
+
+/// The longest token at the front, and its length in bytes.
+fn first_token(text: &[u8]) -> Option<(Token<'_>, usize)>
+    ensures { MatchOption result ((n : ℕ) (t : SpecToken) → Longest text.now n t → ⊥) (λ found. Longest text.now found.1 (token_of found.0)) }
+{
+    if text.is_empty() {
+        return None;
+    }
+    let first = text[0];
+    let more = after(text, 1);
+    if is_letter(first) {
+        let length = 1 + word_length(more);
+        return Some((Token::Word(&text[..length]), length));
+    }
+    if first.is_ascii_digit() {
+        let length = 1 + digits_length(more);
+        return Some((Token::Number(&text[..length]), length));
+    }
+    if is_quote(first) {
+        let inside = inside_length(first, more);
+        if inside < more.len() && more[inside] == first {
+            let length = inside + 2;
+            return Some((Token::Quoted(&text[..length]), length));
+        }
+        return None;
+    }
+    match two_at_front(text) {
+        Some(mark) => Some((Token::Mark(mark), 2)),
+        None => match one_byte(first) {
+            Some(mark) => Some((Token::Mark(mark), 1)),
+            None => None,
+        },
+    }
+}
+
+/// The tokens of a text, in their order, or `None` where it cuts into none.
+///
+/// Tokens are cut by longest match. Between them stand white space (tab, newline, form feed,
+/// carriage return, space) and comments (`//` to the newline or the text's end). Numbers are
+/// decimal digits, and strings stand on one line without a backslash. The only error is
+/// [`Refused::Memory`]. Source: the section "Syntax" of the CEL language definition.
+pub fn tokens(alloc: Global, text: &[u8]) -> Result<Option<Vec<Token<'_>>>, Refused>
+    ensures { MatchResult result
+        (λ answer. MatchOption answer (CutsIntoNone text.now) (λ found. CutsInto text.now (map token_of found.items)))
+        (λ refused. refused ≡ Memory) }
+{
+    let mut found = Vec::new(alloc);
+    let mut rest = text;
+    while !rest.is_empty() {
+        if begins_comment(rest) {
+            rest = after(rest, line_length(rest));
+        } else if is_white_space(rest[0]) {
+            rest = after(rest, 1);
+        } else {
+            match first_token(rest) {
+                Some((token, length)) => {
+                    found.push(token)?;
+                    rest = after(rest, length);
+                }
+                None => return Ok(None),
+            }
+        }
+    }
+    Ok(Some(found))
+}

@@ -1,0 +1,8 @@
+//! Cuts a CEL text into tokens.
+#![tactic(auto)]
+
+mod bytes;
+pub mod laws;
+pub mod lexer;
+pub mod mark;
+pub mod token;

@@ -1,0 +1,21 @@
+-- The free names of an expression: those that no macro around them binds. A macro binds its variable in its filter and
+-- its body, and not in its range (CEL language definition, "Macros").
+use Rattle.std.specs.Prelude.{ℕ, List, Bool, false, not, ◌&&◌, ◌||◌}
+use Rattle.std.specs.Str.{bytes_eq}
+use Rattle.cel_syntax_tree.specs.Term.{Term, literal, ident, select, unary, binary, choice, macro, Terms, no_terms, term_and}
+
+abbrev mutual
+  -- whether x is a free name of the term
+  pub is_free : List ℕ → Term → Bool
+  is_free x (literal v) = false
+  is_free x (ident y) = bytes_eq x y
+  is_free x (select a y) = is_free x a
+  is_free x (unary o a) = is_free x a
+  is_free x (binary o a b) = is_free x a || is_free x b
+  is_free x (choice a b c) = is_free x a || (is_free x b || is_free x c)
+  is_free x (macro k r y f b) = is_free x r || (not (bytes_eq x y) && (is_free_in_any x f || is_free x b))
+
+  -- whether x is a free name of one of the terms
+  pub is_free_in_any : List ℕ → Terms → Bool
+  is_free_in_any x no_terms = false
+  is_free_in_any x (term_and t ts) = is_free x t || is_free_in_any x ts

@@ -1,0 +1,10 @@
+pub mod Data
+pub mod Faults
+pub mod Find
+pub mod Keys
+pub mod Kinds
+pub mod Parts
+pub mod Same
+pub mod SameLaws
+pub mod Texts
+pub mod View

@@ -1,0 +1,75 @@
+//! Copies of values, which share what they hold, and their kinds.
+ghost use Rattle.std.specs.Prelude.{◌≡◌, IfOk};
+ghost use Rattle.cel_value.specs.View.{view, optional_view, kind_of};
+ghost use Rattle.cel_value.specs.Keys.{key_view};
+
+use crate::key::Key;
+use crate::kind::Kind;
+use crate::value::{OptionalValue, Value};
+use kube_types::Refused;
+
+impl Key {
+    /// The same key. Its text is shared.
+    pub fn try_clone(&self) -> Result<Key, Refused>
+        ensures { IfOk result (λ k. key_view k ≡ key_view self.now) }
+    {
+        match self {
+            Key::Bool(b) => Ok(Key::Bool(*b)),
+            Key::Int(n) => Ok(Key::Int(*n)),
+            Key::Uint(n) => Ok(Key::Uint(*n)),
+            Key::String(text) => Ok(Key::String(text.clone()?)),
+        }
+    }
+}
+
+impl OptionalValue {
+    /// The same optional. Its value is shared.
+    pub fn try_clone(&self) -> Result<OptionalValue, Refused>
+        ensures { IfOk result (λ o. optional_view o ≡ optional_view self.now) }
+    {
+        match &self.held {
+            None => Ok(OptionalValue { held: None }),
+            Some(value) => Ok(OptionalValue {
+                held: Some(value.clone()?),
+            }),
+        }
+    }
+}
+
+impl Value {
+    /// The same value. What is large is shared, so it takes no memory.
+    pub fn try_clone(&self) -> Result<Value, Refused>
+        ensures { IfOk result (λ v. view v ≡ view self.now) }
+    {
+        match self {
+            Value::Null => Ok(Value::Null),
+            Value::Bool(b) => Ok(Value::Bool(*b)),
+            Value::Int(n) => Ok(Value::Int(*n)),
+            Value::UInt(n) => Ok(Value::UInt(*n)),
+            Value::Float => Ok(Value::Float),
+            Value::String(text) => Ok(Value::String(text.clone()?)),
+            Value::Bytes(bytes) => Ok(Value::Bytes(bytes.clone()?)),
+            Value::List(items) => Ok(Value::List(items.clone()?)),
+            Value::Map(entries) => Ok(Value::Map(entries.clone()?)),
+            Value::Optional(o) => Ok(Value::Optional(o.try_clone()?)),
+        }
+    }
+
+    /// The kind of the value.
+    pub fn type_of(&self) -> Kind
+        ensures { result ≡ kind_of (view self.now) }
+    {
+        match self {
+            Value::Null => Kind::Null,
+            Value::Bool(_) => Kind::Bool,
+            Value::Int(_) => Kind::Int,
+            Value::UInt(_) => Kind::UInt,
+            Value::Float => Kind::Float,
+            Value::String(_) => Kind::String,
+            Value::Bytes(_) => Kind::Bytes,
+            Value::List(_) => Kind::List,
+            Value::Map(_) => Kind::Map,
+            Value::Optional(_) => Kind::Optional,
+        }
+    }
+}

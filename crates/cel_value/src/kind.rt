@@ -1,0 +1,49 @@
+//! The kinds of values.
+use std::fmt;
+
+/// A kind of values. It prints the name that CEL and Kubernetes give it.
+#[derive(Clone, Copy, Debug, PartialEq, Eq)]
+pub enum Kind {
+    /// `null`
+    Null,
+    /// `bool`
+    Bool,
+    /// `int`, signed, of 64 bits
+    Int,
+    /// `uint`, unsigned, of 64 bits
+    UInt,
+    /// `double`
+    Float,
+    /// `string`
+    String,
+    /// `bytes`
+    Bytes,
+    /// `list`
+    List,
+    /// `map`
+    Map,
+    /// `optional`
+    Optional,
+}
+
+impl fmt::Display for Kind {
+    ghost use Rattle.std.specs.Prelude.{Some};
+    ghost use Rattle.cel_value.specs.Kinds.{kind_name};
+
+    ghost output = { λ k. Some (kind_name k) };
+
+    fn fmt<W: fmt::Write>(&self, f: &mut fmt::Formatter<W>) -> fmt::Result {
+        match self {
+            Kind::Null => f.write_str("null"),
+            Kind::Bool => f.write_str("bool"),
+            Kind::Int => f.write_str("int"),
+            Kind::UInt => f.write_str("uint"),
+            Kind::Float => f.write_str("double"),
+            Kind::String => f.write_str("string"),
+            Kind::Bytes => f.write_str("bytes"),
+            Kind::List => f.write_str("list"),
+            Kind::Map => f.write_str("map"),
+            Kind::Optional => f.write_str("optional"),
+        }
+    }
+}

@@ -1,0 +1,21 @@
+//! The values of CEL, their equality and order, the keys of maps, and the errors of an execution.
+#![tactic(auto)]
+
+pub mod build;
+pub mod compare;
+pub mod copy;
+pub mod doubles;
+pub mod error;
+pub mod key;
+pub mod kind;
+pub mod laws;
+pub mod parts;
+pub mod same;
+pub mod text;
+pub mod value;
+
+pub use error::ExecutionError;
+pub use key::Key;
+pub use kind::Kind;
+pub use kube_types::Refused;
+pub use value::{Map, OptionalValue, Value};

@@ -1,0 +1,121 @@
+//! Equality of values.
+ghost use Rattle.std.specs.Prelude.{◌≡◌};
+ghost use Rattle.cel_value.specs.View.{view, items_view, entries_view, optional_view};
+ghost use Rattle.cel_value.specs.Same.{same, same_shapes, shapes, entry_shapes};
+
+use crate::value::{Map, OptionalValue, Value};
+
+impl PartialEq for Value {
+    ghost use Rattle.std.specs.Cmp.{partial_equiv_from_equiv};
+    ghost use Rattle.cel_value.specs.SameLaws.{value-equiv};
+
+    ghost eq = { λ a b. same (view a) (view b) };
+
+    ghost laws = { partial_equiv_from_equiv value-equiv };
+
+    fn eq(&self, other: &Value) -> bool {
+        is_same(self, other)
+    }
+}
+
+impl Eq for Value {
+    ghost use Rattle.cel_value.specs.SameLaws.{value-equiv};
+
+    ghost laws = { value-equiv };
+}
+
+#[cycle(same)]
+pub(crate) fn is_same(a: &Value, b: &Value) -> bool
+    ensures { result ≡ same (view a.now) (view b.now) }
+{
+    match a {
+        Value::Null => matches!(b, Value::Null),
+        Value::Float => matches!(b, Value::Float),
+        Value::Bool(x) => match b.as_bool() {
+            Some(y) => *x == y,
+            None => false,
+        },
+        Value::Int(x) => match b.as_number() {
+            Some(y) => *x as i128 == y,
+            None => false,
+        },
+        Value::UInt(x) => match b.as_number() {
+            Some(y) => *x as i128 == y,
+            None => false,
+        },
+        Value::String(x) => match b.as_str() {
+            Some(y) => x.as_str() == y,
+            None => false,
+        },
+        Value::Bytes(x) => match b.as_bytes() {
+            Some(y) => x.as_slice() == y,
+            None => false,
+        },
+        Value::List(x) => match b.as_list() {
+            Some(y) => are_same(x.as_ref(), y),
+            None => false,
+        },
+        Value::Map(x) => match b.as_map() {
+            Some(y) => entries_same(x.as_ref(), y),
+            None => false,
+        },
+        Value::Optional(x) => match b.as_optional() {
+            Some(y) => held_same(x, y),
+            None => false,
+        },
+    }
+}
+
+#[cycle(same)]
+fn held_same(a: &OptionalValue, b: &OptionalValue) -> bool
+    ensures { result ≡ same_shapes (shapes (optional_view a.now)) (shapes (optional_view b.now)) }
+{
+    match &a.held {
+        None => b.held.is_none(),
+        Some(x) => match &b.held {
+            None => false,
+            Some(y) => is_same(x.as_ref(), y.as_ref()),
+        },
+    }
+}
+
+#[cycle(same)]
+fn are_same(xs: &Vec<Value>, ys: &Vec<Value>) -> bool
+    ensures { result
+        ≡ same_shapes (shapes (items_view xs.now.items)) (shapes (items_view ys.now.items)) }
+{
+    let mut rest = ys.iter();
+    for x in xs {
+        match rest.next() {
+            None => return false,
+            Some(y) => {
+                if !is_same(x, y) {
+                    return false;
+                }
+            }
+        }
+    }
+    rest.next().is_none()
+}
+
+#[cycle(same)]
+fn entries_same(xs: &Map, ys: &Map) -> bool
+    ensures { result
+        ≡ same_shapes (entry_shapes (entries_view xs.now.entries)) (entry_shapes (entries_view ys.now.entries)) }
+{
+    let mut rest = ys.iter();
+    for (key, x) in xs.iter() {
+        match rest.next() {
+            None => return false,
+            Some((other, y)) => {
+                if *key != *other {
+                    return false;
+                }
+                if !is_same(x, y) {
+                    return false;
+                }
+            }
+        }
+    }
+    rest.next().is_none()
+}

@@ -1,0 +1,42 @@
+//! The values of CEL. What is large is shared, so that a copy takes no memory.
+
+use crate::key::Key;
+use std::collections::BTreeMap;
+use std::rc::Rc;
+
+/// A map's entries, in the order of their keys.
+pub type Map = BTreeMap<Key, Value>;
+
+/// A value, or none.
+#[derive(Drop)]
+#[cycle(values)]
+pub struct OptionalValue {
+    /// The value that is there.
+    pub held: Option<Rc<Value>>,
+}
+
+/// A value of CEL.
+#[derive(Drop)]
+#[cycle(values)]
+pub enum Value {
+    /// `null`.
+    Null,
+    /// `true` or `false`.
+    Bool(bool),
+    /// A signed integer of 64 bits.
+    Int(i64),
+    /// An unsigned integer of 64 bits.
+    UInt(u64),
+    /// A double, whose number is not kept.
+    Float,
+    /// A text.
+    String(Rc<String>),
+    /// A list of bytes.
+    Bytes(Rc<Vec<u8>>),
+    /// A list.
+    List(Rc<Vec<Value>>),
+    /// A map, in key order.
+    Map(Rc<Map>),
+    /// A value, or none.
+    Optional(OptionalValue),
+}

@@ -1,0 +1,9 @@
+//! The worked rows: what the public calls answer to given inputs. Each table says what is expected.
+#![tactic(auto)]
+
+#[cfg(test)]
+mod expressions;
+#[cfg(test)]
+mod program;
+#[cfg(test)]
+mod rules;

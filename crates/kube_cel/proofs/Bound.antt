@@ -1,0 +1,41 @@
+-- A meaning depends only on what the names are bound to.
+use Rattle.cel_book.specs.Book.{Book}
+use Rattle.cel_meaning.specs.Bindings.{Bindings, binding}
+use Rattle.cel_meaning.specs.Decisions.{truth, chosen}
+use Rattle.cel_meaning.specs.Library.{Library}
+use Rattle.cel_meaning.specs.Meaning.{meaning, binary_of, macro_name, macro_of}
+use Rattle.cel_meaning.specs.Operators.{operated_on_one, selected}
+use Rattle.cel_meaning.specs.Outcome.{and_then}
+use Rattle.cel_meaning.specs.Ranges.{range_of}
+use Rattle.cel_syntax_tree.specs.Term.{Term, literal, ident, select, unary, binary, choice, macro}
+use Rattle.cel_value.specs.Data.{Data, text_key}
+use Rattle.cel_value.specs.Faults.{undeclared}
+use Rattle.std.proofs.Common.{◌≡◌, ℕ, List, ◌∷◌, map, Bool, true, false, Option, Some, Ok, Err, codes, if◌then◌else◌, refl, sym, ap, ◌∙◌}
+use Rattle.std.proofs.lemmas.Slice.Eq.{bytes_eq-Decides}
+use Rattle.std.specs.Option.{option_map_or}
+use Rattle.std.specs.Bool.{Decides}
+use Rattle.std.specs.Str.{bytes_eq}
+
+pub meaning_same : (library : Library) (book : Book) (t : Term) (e f : Bindings) → ((x : List ℕ) → binding x e ≡ binding x f) → meaning library book t e ≡ meaning library book t f
+meaning_same library book (literal v) e f h = refl
+meaning_same library book (ident x) e f h = ap (λ o. option_map_or Ok o (Err (undeclared x))) (h x)
+meaning_same library book (select a x) e f h = ap (λ r. and_then r (λ v. selected (text_key x) v)) (meaning_same library book a e f h)
+meaning_same library book (unary op a) e f h = ap (λ r. and_then r (λ v. operated_on_one op v)) (meaning_same library book a e f h)
+meaning_same library book (binary op a b) e f h = λ i. binary_of op (meaning_same library book a e f h i) (meaning_same library book b e f h i)
+meaning_same library book (choice a b c) e f h = λ i. chosen (truth (codes "?:") (meaning_same library book a e f h i)) (meaning_same library book b e f h i) (meaning_same library book c e f h i)
+meaning_same library book (macro kind range x filter body) e f h = λ i.
+    and_then (meaning_same library book range e f h i) (λ v. and_then (range_of (macro_name kind) v) (λ items. macro_of kind (map
+    (λ d. meaning_same library book body ((x, d) ∷ e) ((x, d) ∷ f) (λ y. ap (λ o. if bytes_eq y x then Some d else o) (h y)) i) items)))
+
+decided_alike : {P Q : Type 0} (b c : Bool) → Decides b P → Decides c Q → (P → Q) → (Q → P) → b ≡ c
+decided_alike true true d e f g = refl
+decided_alike true false d e f g = sym (e.1 (f (d.0 refl)))
+decided_alike false true d e f g = d.1 (g (e.0 refl))
+decided_alike false false d e f g = refl
+
+bytes_eq_turned : (x y : List ℕ) → bytes_eq x y ≡ bytes_eq y x
+bytes_eq_turned x y = decided_alike (bytes_eq x y) (bytes_eq y x) (bytes_eq-Decides x y) (bytes_eq-Decides y x) (λ e. sym e) (λ e. sym e)
+
+-- one more name
+pub bound : (x name : List ℕ) (v d : Data) (r o : Option Data) (es : Bindings) → r ≡ (if bytes_eq name x then Some v else o) → v ≡ d → o ≡ binding x es → r ≡ binding x ((name, d) ∷ es)
+bound x name v d r o es e p q = e ∙ (λ i. if bytes_eq_turned name x i then Some (p i) else q i)

@@ -1,0 +1,6 @@
+pub mod Answers
+pub mod ErrorLists
+pub mod Errors
+pub mod Places
+pub mod Texts
+pub mod Verdicts

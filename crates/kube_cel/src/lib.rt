@@ -1,0 +1,14 @@
+//! Validation of Kubernetes objects by the CEL rules of their schema.
+#![tactic(auto)]
+
+pub mod error;
+pub mod laws;
+mod path;
+mod place;
+pub mod validation;
+mod verdict;
+mod walk;
+
+pub use error::{ErrorKind, ValidationError, ValidationErrors};
+pub use kube_types::Refused;
+pub use validation::{Validator, validate};

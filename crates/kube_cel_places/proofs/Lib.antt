@@ -1,0 +1,5 @@
+pub mod Candidates
+pub mod Carried
+pub mod Found
+pub mod Ordered
+pub mod Steps

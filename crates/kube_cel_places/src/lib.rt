@@ -1,0 +1,2 @@
+//! The places that a schema and a value share: definitions and lemmas for every walk over them.
+#![tactic(auto)]

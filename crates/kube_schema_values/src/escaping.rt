@@ -1,0 +1,115 @@
+//! Field names written so that CEL can select them, in the manner of the Kubernetes API server
+//! (Kubernetes documentation, "Use CEL validation rules", escaping of property names).
+ghost use Rattle.std.specs.Prelude.{◌≡◌, ◌++◌, List, ℕ, IfOk, OnOk, string_bytes};
+ghost use Rattle.std.specs.Char.{encode_utf8};
+ghost use Rattle.kube_schema_values.specs.Escape.{is_reserved, escape, escaped_text, escaped_character, held_text};
+
+use cel_value::Refused;
+use std::alloc::Global;
+
+/// Whether CEL keeps a word for itself (CEL language definition, "Syntax").
+#[tactic(auto, unfolding(crate::specs::Escape::is_reserved))]
+pub(crate) fn is_reserved(name: &str) -> bool
+    ensures { result ≡ is_reserved name.now }
+{
+    matches!(
+        name,
+        "true"
+            | "false"
+            | "null"
+            | "in"
+            | "as"
+            | "break"
+            | "const"
+            | "continue"
+            | "else"
+            | "for"
+            | "function"
+            | "if"
+            | "import"
+            | "let"
+            | "loop"
+            | "package"
+            | "namespace"
+            | "return"
+            | "var"
+            | "void"
+            | "while"
+    )
+}
+
+/// The name as CEL selects it: a reserved word between double underscores; in any other name each two underscores from the
+/// left become `__underscores__`, `.` becomes `__dot__`, `-` `__dash__` and `/` `__slash__`, and the rest stays.
+///
+/// Two names are never escaped to one text.
+///
+/// # Errors
+///
+/// [`Refused`] where memory is refused.
+#[tactic(auto, unfolding(crate::specs::Escape::escape))]
+pub fn escape_field_name(alloc: Global, name: &str) -> Result<String, Refused>
+    ensures { IfOk result (λ s. string_bytes s ≡ escape name.now) }
+{
+    let mut escaped = String::with_capacity(alloc, name.len())?;
+    if is_reserved(name) {
+        escaped.push_str("__")?;
+        escaped.push_str(name)?;
+        escaped.push_str("__")?;
+    } else {
+        push_escaped(name, &mut escaped)?;
+    }
+    Ok(escaped)
+}
+
+// Adds a name that is no reserved word.
+fn push_escaped(name: &str, out: &mut String) -> Result<(), Refused>
+    ensures { OnOk result (string_bytes out.new
+        ≡ string_bytes out.old ++ escaped_text name.now) }
+{
+    let mut holds_underscore = false;
+    for character in name.chars() {
+        holds_underscore = push_next(holds_underscore, character, out)?;
+    }
+    if holds_underscore {
+        out.push_str("_")?;
+    }
+    Ok(())
+}
+
+// Adds the next character, behind an underscore that may still be held back. Answers whether one is held back now, since it
+// may be the first of two.
+fn push_next(holds_underscore: bool, character: char, out: &mut String) -> Result<bool, Refused>
+    ensures { IfOk result (λ holds. (rest : List ℕ) → string_bytes out.new ++ escaped_text (held_text holds ++ rest)
+        ≡ string_bytes out.old ++ escaped_text (held_text holds_underscore ++ (encode_utf8 character ++ rest))) }
+{
+    match (holds_underscore, character) {
+        (true, '_') => {
+            out.push_str("__underscores__")?;
+            Ok(false)
+        }
+        (false, '_') => Ok(true),
+        (true, _) => {
+            out.push_str("_")?;
+            push_character(character, out)?;
+            Ok(false)
+        }
+        (false, _) => {
+            push_character(character, out)?;
+            Ok(false)
+        }
+    }
+}
+
+// Adds what stands for a character alone.
+#[tactic(auto, unfolding(crate::specs::Escape::escaped_character))]
+fn push_character(character: char, out: &mut String) -> Result<(), Refused>
+    ensures { OnOk result (string_bytes out.new
+        ≡ string_bytes out.old ++ escaped_character character) }
+{
+    match character {
+        '.' => Ok(out.push_str("__dot__")?),
+        '-' => Ok(out.push_str("__dash__")?),
+        '/' => Ok(out.push_str("__slash__")?),
+        _ => Ok(out.push(character)?),
+    }
+}

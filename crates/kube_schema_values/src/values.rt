@@ -1,0 +1,98 @@
+//! JSON values as CEL values, where no schema says more: numbers by their range, objects as maps with escaped keys
+//! (Kubernetes documentation, "Use CEL validation rules", the CEL types of schema types).
+ghost use Rattle.std.specs.Prelude.{◌≡◌, IfOk, OnOk, OnErr, string_bytes};
+ghost use Rattle.serde_json.specs.View.{view as json_view, items_view as json_items_view, members_view, number_view};
+ghost use Rattle.cel_value.specs.Data.{text, text_key};
+ghost use Rattle.cel_value.specs.Keys.{put};
+ghost use Rattle.cel_value.specs.View.{view, items_view, entries_view};
+ghost use Rattle.kube_schema_values.specs.Plain.{plain, plain_number, plain_items, plain_entries};
+
+use crate::escaping::escape_field_name;
+use cel_value::{Key, Map, Refused, Value};
+use serde_json::{Map as Members, Number, Value as Json};
+use std::alloc::Global;
+use std::rc::Rc;
+
+/// A JSON value as a CEL value: a number becomes an int where `i64` holds it, else a uint where `u64` does, else a double;
+/// an object becomes a map whose keys are escaped as [`escape_field_name`] does.
+///
+/// # Errors
+///
+/// [`Refused`] where memory is refused.
+#[cycle(plain)]
+#[tactic(auto, unfolding(crate::specs::Plain::plain))]
+pub fn bind_plain(alloc: Global, value: &Json) -> Result<Value, Refused>
+    ensures { IfOk result (λ v. view v ≡ plain (json_view value.now)) }
+{
+    match value {
+        Json::Null => Ok(Value::Null),
+        Json::Bool(truth) => Ok(Value::Bool(*truth)),
+        Json::Number(number) => Ok(bind_number(number)),
+        Json::String(chars) => bind_text(alloc, chars.as_str()),
+        Json::Array(items) => Value::from_items(alloc, bind_items(alloc, items)?),
+        Json::Object(members) => Value::from_entries(alloc, bind_members(alloc, members)?),
+    }
+}
+
+/// A JSON number as a CEL value: an int where `i64` holds it, else a uint where `u64` does, else a double.
+pub fn bind_number(number: &Number) -> Value
+    ensures { view result ≡ plain_number (number_view number.now) }
+{
+    if let Some(n) = number.as_i64() {
+        return Value::Int(n);
+    }
+    match number.as_u64() {
+        Some(n) => Value::UInt(n),
+        None => Value::Float,
+    }
+}
+
+/// A text as a CEL string.
+///
+/// # Errors
+///
+/// [`Refused`] where memory is refused.
+pub fn bind_text(alloc: Global, chars: &str) -> Result<Value, Refused>
+    ensures { IfOk result (λ v. view v ≡ text chars.now) }
+{
+    Value::from_text(alloc, String::from_str(alloc, chars)?)
+}
+
+#[cycle(plain)]
+fn bind_items(alloc: Global, items: &Vec<Json>) -> Result<Vec<Value>, Refused>
+    ensures { IfOk result (λ v. items_view v.items ≡ plain_items (json_items_view items.now.items)) }
+{
+    let mut bound = Vec::with_capacity(alloc, items.len())?;
+    for item in items {
+        bound.push(bind_plain(alloc, item)?)?;
+    }
+    Ok(bound)
+}
+
+#[cycle(plain)]
+fn bind_members(alloc: Global, members: &Members<String, Json>) -> Result<Map, Refused>
+    ensures { IfOk result (λ m. entries_view m.entries ≡ plain_entries (members_view members.now.entries)) }
+{
+    let mut bound = Map::new(alloc);
+    for (key, member) in members.iter().rev() {
+        let name = escape_field_name(alloc, key.as_str())?;
+        let value = bind_plain(alloc, member)?;
+        put_entry(alloc, &mut bound, name, value)?;
+    }
+    Ok(bound)
+}
+
+/// Puts a value into a map at a text, in place of the one that was there.
+///
+/// # Errors
+///
+/// [`Refused`] where memory is refused; the value is dropped, and the map is as it was.
+pub fn put_entry(alloc: Global, entries: &mut Map, key: String, value: Value) -> Result<(), Refused>
+    ensures entered { OnOk result (entries_view entries.new.entries
+        ≡ put (text_key (string_bytes key)) (view value) (entries_view entries.old.entries)) }
+    ensures unchanged { OnErr result (entries_view entries.new.entries ≡ entries_view entries.old.entries) }
+{
+    let key = Key::String(Rc::new(alloc, key)?);
+    drop(entries.insert(key, value)?);
+    Ok(())
+}

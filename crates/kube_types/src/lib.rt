@@ -1,0 +1,4 @@
+//! The types that Kubernetes adds to CEL's, and the one outer error of every call.
+#![tactic(auto)]
+
+pub use kube_types_refused::Refused;
