@@ -1,11 +1,9 @@
 -- What functions mean: how a name may be called, and what a call gives.
-use Rattle.std.specs.Prelude.{ℕ, List, Bool, Option, Err}
+use Rattle.std.specs.Prelude.{ℕ, List, Bool, Option}
 use Rattle.cel_book.specs.Book.{Book}
 use Rattle.cel_value.specs.Data.{Data}
-use Rattle.cel_value.specs.Faults.{no_overload}
 use Rattle.cel_meaning.specs.Outcome.{Outcome}
 use Rattle.cel_meaning.specs.declared.functions.Form.{Form}
-use Rattle.cel_meaning.specs.declared.functions.Form.TheVariants.{Unknown}
 
 pub record Library : Type 0 where
   -- how a name may be called, with a receiver or without, with so many arguments

@@ -14,6 +14,7 @@ pub mod same;
 pub mod text;
 pub mod value;
 
+pub use cel_value_times::{Duration, Timestamp, laws as time_laws};
 pub use error::ExecutionError;
 pub use key::Key;
 pub use kind::Kind;

@@ -6,4 +6,8 @@ mod expressions;
 #[cfg(test)]
 mod program;
 #[cfg(test)]
+mod quantities;
+#[cfg(test)]
 mod rules;
+#[cfg(test)]
+mod times;

@@ -1,7 +1,7 @@
 -- The errors at one place (Kubernetes documentation, "Validation rules").
 use Rattle.cel_book.specs.Book.{Book}
 use Rattle.cel_meaning.specs.Bindings.{Bindings}
-use Rattle.cel_meaning.specs.Library.{no_library}
+use Rattle.cel_meaning.specs.Standard.{standard_library}
 use Rattle.cel_meaning.specs.Meaning.{meaning}
 use Rattle.cel_meaning.specs.Outcome.{Outcome}
 use Rattle.cel_syntax_tree.specs.Term.{Term}
@@ -92,7 +92,7 @@ is_applicable is_transition old = not is_transition || is_some old
 
 -- what a rule means under the standard functions
 unfoldable pub rule_outcome : Book → Term → Json → Option Json → Outcome
-rule_outcome b t value old = meaning no_library b t (rule_bindings value old)
+rule_outcome b t value old = meaning standard_library b t (rule_bindings value old)
 
 -- why a rule is malformed
 abbrev pub malformed_error : List ℕ → Malformed → ErrorData

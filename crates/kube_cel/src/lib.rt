@@ -9,6 +9,8 @@ pub mod validation;
 mod verdict;
 mod walk;
 
+pub use cel;
 pub use error::{ErrorKind, ValidationError, ValidationErrors};
+pub use kube_schema::{CompilationError, CompilationResult, Rule, RuleFault, escape_field_name};
 pub use kube_types::Refused;
 pub use validation::{Validator, validate};

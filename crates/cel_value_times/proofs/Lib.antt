@@ -1,0 +1,10 @@
+pub mod InstantLemmas
+pub mod DigitLemmas
+pub mod AmountLemmas
+pub mod SumLemmas
+pub mod CalendarFacts
+pub mod ReadLemmas
+pub mod PrintLemmas
+pub mod TimestampLemmas
+pub mod DurationLemmas
+pub mod LawLemmas

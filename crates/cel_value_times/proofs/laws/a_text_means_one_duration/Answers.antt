@@ -1,0 +1,5 @@
+use Rattle.cel_value_times.proofs.LawLemmas.{one_duration}
+use Rattle.cel_value_times.proofs.laws.a_text_means_one_duration.Goals as goal
+
+pub returns : goal.returns
+returns c = one_duration

@@ -1,0 +1,7 @@
+pub mod Ranges
+pub mod Instants
+pub mod Digits
+pub mod DurationTexts
+pub mod Fronts
+pub mod TimestampTexts
+pub mod TimestampFronts

@@ -1,0 +1,44 @@
+//! Laws of the texts of times, as contracts of functions that do nothing.
+ghost use Rattle.std.specs.Prelude.{ℕ, ℤ, List, ◌≡◌, ◌<◌, ◌+ℤ◌, ◌*ℤ◌, pos};
+ghost use Rattle.jiff_core.specs.Calendar.{days_from_civil};
+ghost use Rattle.cel_value_times.specs.Ranges.{IsDuration, IsSecond, IsOffset, earliest_second, latest_second};
+ghost use Rattle.cel_value_times.specs.DurationTexts.{IsDurationText, duration_text};
+ghost use Rattle.cel_value_times.specs.TimestampTexts.{IsTimestampText, IsPrintedTimestamp};
+
+/// What a duration is printed as means that duration.
+pub fn printed_durations_mean_themselves()
+    ensures { (nanoseconds : ℤ) → IsDuration nanoseconds →
+        IsDurationText (duration_text nanoseconds) nanoseconds }
+{}
+
+/// A text means one duration at most.
+pub fn a_text_means_one_duration()
+    ensures { (text : List ℕ) (a b : ℤ) → IsDurationText text a → IsDurationText text b → a ≡ b }
+{}
+
+/// What a timestamp is printed as means a timestamp of the same instant and the same offset.
+pub fn printed_timestamps_mean_themselves()
+    ensures { (text : List ℕ) (second : ℤ) (nanoseconds : ℕ) (offset : ℤ) →
+        nanoseconds < 1_000_000_000 → IsSecond second → IsOffset offset →
+        IsPrintedTimestamp text second nanoseconds offset →
+        IsTimestampText text second nanoseconds offset }
+{}
+
+/// A text means one timestamp at most.
+pub fn a_text_means_one_timestamp()
+    ensures { (text : List ℕ) (a b : ℤ) (m n : ℕ) (o p : ℤ) →
+        IsTimestampText text a m o → IsTimestampText text b n p → (a ≡ b) × (m ≡ n) × (o ≡ p) }
+{}
+
+/// A timestamp is printed in one way.
+pub fn a_timestamp_has_one_printed_text()
+    ensures { (a b : List ℕ) (second : ℤ) (nanoseconds : ℕ) (offset : ℤ) →
+        IsPrintedTimestamp a second nanoseconds offset →
+        IsPrintedTimestamp b second nanoseconds offset → a ≡ b }
+{}
+
+/// The range of seconds is that of the years 1 to 9999.
+pub fn the_range_is_the_years_1_to_9999()
+    ensures first { days_from_civil (pos 1) 1 1 *ℤ pos 86_400 ≡ earliest_second }
+    ensures last { days_from_civil (pos 9999) 12 31 *ℤ pos 86_400 +ℤ pos 86_399 ≡ latest_second }
+{}

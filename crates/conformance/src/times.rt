@@ -1,0 +1,175 @@
+//! Rows of timestamps and durations, by the types' own calls.
+
+use cel_value::{Duration, Timestamp};
+use std::cmp::Ordering;
+use std::test::Fail;
+
+/// A text with what the duration prints, or nothing where the text is none.
+const DURATIONS: [(&str, Option<&str>); 30] = [
+    ("1234567ns", Some("1.234567ms")),
+    ("1h", Some("1h0m0s")),
+    ("9223372036854775807ns", Some("2562047h47m16.854775807s")),
+    ("-9223372036854775808ns", Some("-2562047h47m16.854775808s")),
+    ("9223372036854775808ns", None),
+    ("1.5h", Some("1h30m0s")),
+    ("90m", Some("1h30m0s")),
+    // Each amount is cut to whole nanoseconds.
+    ("1.9ns", Some("1ns")),
+    ("0", Some("0s")),
+    ("-0", Some("0s")),
+    ("0h", Some("0s")),
+    ("100ms", Some("100ms")),
+    (".5s", Some("500ms")),
+    ("5.s", Some("5s")),
+    ("-1.5s", Some("-1.5s")),
+    ("1h1ms", Some("1h0m0.001s")),
+    ("1m1s", Some("1m1s")),
+    // Both signs of a micro are read, and the first is printed.
+    ("1us", Some("1\u{b5}s")),
+    ("1\u{b5}s", Some("1\u{b5}s")),
+    ("1\u{3bc}s", Some("1\u{b5}s")),
+    ("", None),
+    ("-", None),
+    ("1", None),
+    ("s", None),
+    (".s", None),
+    ("1..5s", None),
+    ("+1s", None),
+    ("1s-1s", None),
+    ("1 s", None),
+    ("1d", None),
+];
+
+#[test]
+fn durations_are_read_and_printed(rt: HostRuntime) -> Result<(), Fail> {
+    let alloc = rt.alloc();
+    for (text, want) in DURATIONS {
+        match (Duration::read(text), want) {
+            (Some(duration), Some(want)) => {
+                let printed = duration.text(alloc)?;
+                assert_eq!(rt; printed.as_str(), want, "{text}");
+            }
+            (found, want) => assert_eq!(rt; found.is_some(), want.is_some(), "{text}"),
+        }
+    }
+    Ok(())
+}
+
+/// A text with what the timestamp prints, or nothing where the text is none.
+const TIMESTAMPS: [(&str, Option<&str>); 26] = [
+    ("2024-01-01T00:00:00Z", Some("2024-01-01T00:00:00+00:00")),
+    (
+        "2024-02-29T12:00:00.5+01:00",
+        Some("2024-02-29T12:00:00.500+01:00"),
+    ),
+    ("2024-02-29t12:00:00z", Some("2024-02-29T12:00:00+00:00")),
+    (
+        "2024-02-29T12:00:00.000001-23:59",
+        Some("2024-02-29T12:00:00.000001-23:59"),
+    ),
+    // A fraction is cut after its ninth digit.
+    (
+        "2024-01-01T00:00:00.1234567899Z",
+        Some("2024-01-01T00:00:00.123456789+00:00"),
+    ),
+    (
+        "2024-01-01T00:00:00.0000000009Z",
+        Some("2024-01-01T00:00:00+00:00"),
+    ),
+    ("0001-01-01T00:00:00Z", Some("0001-01-01T00:00:00+00:00")),
+    (
+        "9999-12-31T23:59:59.999999999Z",
+        Some("9999-12-31T23:59:59.999999999+00:00"),
+    ),
+    (
+        "2024-01-01T00:00:00-00:00",
+        Some("2024-01-01T00:00:00+00:00"),
+    ),
+    // The instant is before the year 1, or past the year 9999.
+    ("0001-01-01T00:00:00+01:00", None),
+    ("9999-12-31T23:59:59-00:01", None),
+    ("0000-01-01T00:00:00Z", None),
+    ("2023-02-29T00:00:00Z", None),
+    ("1900-02-29T00:00:00Z", None),
+    ("2024-13-01T00:00:00Z", None),
+    ("2024-01-01T24:00:00Z", None),
+    ("2024-01-01T23:59:60Z", None),
+    ("2024-01-01T00:60:00Z", None),
+    ("2024-01-01 00:00:00Z", None),
+    ("2024-01-01T00:00:00", None),
+    ("2024-01-01T00:00:00.Z", None),
+    ("2024-01-01T00:00:00+24:00", None),
+    ("2024-01-01T00:00:00+01:60", None),
+    ("2024-01-01T00:00:00+0100", None),
+    ("24-01-01T00:00:00Z", None),
+    ("2024-01-01T00:00:0\u{e9}Z", None),
+];
+
+#[test]
+fn timestamps_are_read_and_printed(rt: HostRuntime) -> Result<(), Fail> {
+    let alloc = rt.alloc();
+    for (text, want) in TIMESTAMPS {
+        match (Timestamp::read(text), want) {
+            (Some(timestamp), Some(want)) => {
+                let printed = timestamp.text(alloc)?;
+                assert_eq!(rt; printed.as_str(), want, "{text}");
+            }
+            (found, want) => assert_eq!(rt; found.is_some(), want.is_some(), "{text}"),
+        }
+    }
+    Ok(())
+}
+
+/// A timestamp, a duration, and the text of their sum, or nothing where it is out of range.
+const SUMS: [(&str, &str, Option<&str>); 6] = [
+    (
+        "2024-02-29T23:59:59Z",
+        "1s",
+        Some("2024-03-01T00:00:00+00:00"),
+    ),
+    (
+        "2024-03-01T00:00:00+01:00",
+        "-1ns",
+        Some("2024-02-29T23:59:59.999999999+01:00"),
+    ),
+    // The instant is in range, but the local year is 10000.
+    ("9999-12-31T22:00:00+01:00", "2h", None),
+    ("9999-12-31T22:00:00Z", "2h", None),
+    ("0001-01-01T00:00:00Z", "-1ns", None),
+    (
+        "9999-12-31T22:00:00Z",
+        "1h",
+        Some("9999-12-31T23:00:00+00:00"),
+    ),
+];
+
+#[test]
+fn times_are_added_and_compared(rt: HostRuntime) -> Result<(), Fail> {
+    let alloc = rt.alloc();
+    for (start, duration, want) in SUMS {
+        let start = Timestamp::read(start).ok_or("a timestamp")?;
+        let duration = Duration::read(duration).ok_or("a duration")?;
+        match (start.checked_add(duration), want) {
+            (Some(sum), Some(want)) => {
+                let printed = sum.text(alloc)?;
+                assert_eq!(rt; printed.as_str(), want);
+            }
+            (found, want) => assert_eq!(rt; found.is_some(), want.is_some()),
+        }
+    }
+    let first = Timestamp::read("0001-01-01T00:00:00Z").ok_or("a timestamp")?;
+    let last = Timestamp::read("9999-12-31T23:59:59Z").ok_or("a timestamp")?;
+    assert!(rt; last.since(first).is_none());
+    // Two timestamps of one instant are equal, whatever their offsets.
+    let here = Timestamp::read("2024-01-01T01:00:00+01:00").ok_or("a timestamp")?;
+    let there = Timestamp::read("2024-01-01T00:00:00Z").ok_or("a timestamp")?;
+    assert!(rt; here == there);
+    assert!(rt; first.cmp(&last) == Ordering::Less);
+    assert_eq!(rt; here.since(there).ok_or("a duration")?.nanoseconds(), 0i64);
+    let most = Duration::read("9223372036854775807ns").ok_or("a duration")?;
+    let one = Duration::read("1ns").ok_or("a duration")?;
+    assert!(rt; most.checked_add(one).is_none());
+    assert!(rt; most.checked_sub(one).is_some());
+    assert!(rt; one.cmp(&most) == Ordering::Less);
+    Ok(())
+}

@@ -1,0 +1,7 @@
+pub mod Digits
+pub mod Forms
+pub mod Gaps
+pub mod Lengths
+pub mod Meanings
+pub mod Wholes
+pub mod Zeros

@@ -1,0 +1,10 @@
+pub mod Decimal
+pub mod Integers
+pub mod Normal
+pub mod NormalLaws
+pub mod OrderLaws
+pub mod Printed
+pub mod Reading
+pub mod Scales
+pub mod Shown
+pub mod Sums

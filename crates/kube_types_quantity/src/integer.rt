@@ -1,0 +1,26 @@
+//! Why a quantity is given as no integer.
+ghost use Rattle.std.specs.Prelude.{Some, codes};
+
+use std::fmt;
+
+/// Why a quantity has no integer of 64 bits.
+#[derive(Clone, Copy, Debug, PartialEq, Eq)]
+pub enum IntegerError {
+    /// The number has digits after the point.
+    NotAnInteger,
+    /// The number is an integer, and 64 bits cannot hold it.
+    TooLargeForInteger,
+}
+
+impl fmt::Display for IntegerError {
+    ghost use Rattle.kube_types_quantity.specs.Integers.{integer_error_text};
+
+    ghost output = { λ e. Some (integer_error_text e) };
+
+    fn fmt<W: fmt::Write>(&self, f: &mut fmt::Formatter<W>) -> fmt::Result {
+        match self {
+            IntegerError::NotAnInteger => f.write_str("quantity is not an integer"),
+            IntegerError::TooLargeForInteger => f.write_str("quantity too large for integer"),
+        }
+    }
+}

@@ -1,0 +1,34 @@
+//! Laws of quantities, over the definitions alone: each function here does nothing, and its contract is the law.
+ghost use Rattle.std.specs.Cmp.{IsTotalOrder};
+ghost use Rattle.std.specs.Int.{is_negative};
+ghost use Rattle.std.specs.Prelude.{◌≡◌, ◌↔◌, false, ℤ, pos};
+ghost use Rattle.std.specs.declared.cmp.Ordering.TheVariants.{Equal};
+ghost use Rattle.kube_types_quantity.specs.Decimal.{Decimal, SameNumber, decimal_cmp, natural, times_ten_to};
+ghost use Rattle.kube_types_quantity.specs.Normal.{IsNormal, normal_form};
+ghost use Rattle.kube_types_quantity.specs.Sums.{decimal_at};
+
+/// The order of numbers is a total one, at every scale.
+pub fn order_is_total()
+    ensures { IsTotalOrder decimal_cmp }
+{}
+
+/// The order ties two numbers exactly where they are one number, at every scale.
+pub fn order_agrees_with_equality()
+    ensures { (x y : Decimal) → (decimal_cmp x y ≡ Equal) ↔ SameNumber x y }
+{}
+
+/// Two numbers in normal form are one number exactly where their mantissas and scales are equal.
+pub fn equality_is_that_of_normal_forms()
+    ensures { (x y : Decimal) → IsNormal x → IsNormal y → SameNumber x y ↔ (x ≡ y) }
+{}
+
+/// The normal form of a number is in normal form, and is the same number.
+pub fn normal_form_keeps_the_number()
+    ensures { (x : Decimal) → IsNormal (normal_form x) × SameNumber (normal_form x) x }
+{}
+
+/// A number in normal form is the integer z exactly where its scale is not negative, and its mantissa times ten to the scale is z.
+pub fn integers_have_no_places()
+    ensures { (x : Decimal) (z : ℤ) → IsNormal x → SameNumber x (decimal_at z (pos 0))
+        ↔ ((is_negative x.scale ≡ false) × (z ≡ times_ten_to x.mantissa (natural x.scale))) }
+{}

@@ -1,0 +1,16 @@
+//! Resource quantities of Kubernetes: exact decimal numbers with suffixes, as `1.5Gi` and `200m`.
+//!
+//! Source: the documentation of `Quantity` in `k8s.io/apimachinery/pkg/api/resource`.
+#![tactic(auto)]
+
+mod integer;
+pub mod laws;
+mod normal;
+mod order;
+mod printing;
+mod quantity;
+mod reading;
+mod scaling;
+
+pub use integer::IntegerError;
+pub use quantity::KubeQuantity;

@@ -1,0 +1,59 @@
+//! Normal forms: the zeros that a mantissa ends in go into the scale.
+ghost use Rattle.std.specs.Option.{option_map};
+ghost use Rattle.std.specs.Prelude.{◌≡◌, ◌≢◌, ◌*◌, ◌^◌, ◌%◌, ◌<◌, unsigned_abs};
+ghost use Rattle.kube_types_quantity.specs.Normal.{shortened, trailing_zeros, held};
+ghost use Rattle.kube_types_quantity.specs.Shown.{number};
+ghost use Rattle.kube_types_quantity.specs.Sums.{decimal_at};
+
+use crate::quantity::KubeQuantity;
+use crate::scaling::signed;
+
+/// A positive number without the zeros that it ends in, and how many they were.
+fn without_trailing_zeros(size: u128) -> (u128, u32)
+    requires { 0 < size }
+    ensures product { size ≡ result.0 * 10 ^ result.1 }
+    ensures last_digit { result.0 % 10 ≢ 0 }
+    ensures few { result.1 < 39 }
+{
+    let mut rest = size;
+    let mut zeros = 0;
+    while rest % 10 == 0 {
+        rest /= 10;
+        zeros += 1;
+    }
+    (rest, zeros)
+}
+
+/// A mantissa without the zeros that it ends in, and how many they were.
+pub(crate) fn reduced(mantissa: i128) -> (i128, u32)
+    ensures value { result.0 ≡ shortened mantissa }
+    ensures zeros { result.1 ≡ trailing_zeros (unsigned_abs mantissa) }
+    ensures zero { unsigned_abs mantissa ≡ 0 → (unsigned_abs result.0 ≡ 0) × (result.1 ≡ 0) }
+    ensures last_digit { 0 < unsigned_abs mantissa → unsigned_abs result.0 % 10 ≢ 0 }
+    ensures few { result.1 < 39 }
+{
+    if mantissa == 0 {
+        return (0, 0);
+    }
+    let (size, zeros) = without_trailing_zeros(mantissa.unsigned_abs());
+    (signed(mantissa.is_negative(), size).unwrap(), zeros)
+}
+
+/// The quantity that holds `mantissa` times ten to the `scale`, if its normal form has a scale of 32 bits.
+#[tactic(auto, unfolding(crate::specs::Normal::held, crate::specs::Normal::normal_form))]
+pub(crate) fn normalised(mantissa: i128, scale: i128) -> Option<KubeQuantity>
+    requires { unsigned_abs scale < 2 ^ 66 }
+    ensures { option_map number result ≡ held (decimal_at mantissa scale) }
+{
+    if mantissa == 0 {
+        return Some(KubeQuantity {
+            mantissa: 0,
+            scale: 0,
+        });
+    }
+    let (mantissa, zeros) = reduced(mantissa);
+    match i32::try_from(scale + i128::from(zeros)) {
+        Ok(scale) => Some(KubeQuantity { mantissa, scale }),
+        Err(_) => None,
+    }
+}

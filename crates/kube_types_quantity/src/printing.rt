@@ -1,0 +1,61 @@
+//! The text of a quantity: its decimal number in full.
+ghost use Rattle.std.specs.Fmt.{decimal};
+ghost use Rattle.std.specs.Prelude.{◌≡◌, ◌/◌, ◌%◌, ◌^◌, length, replicate, Some};
+
+use crate::quantity::KubeQuantity;
+use std::fmt;
+
+/// So many zeros.
+#[derive(Clone, Copy)]
+struct Zeros(u32);
+
+impl fmt::Display for Zeros {
+    ghost output = { λ z. Some (replicate z.0 48) };
+
+    fn fmt<W: fmt::Write>(&self, f: &mut fmt::Formatter<W>) -> fmt::Result {
+        for _i in 0..self.0 {
+            f.write_str("0")?;
+        }
+        Ok(())
+    }
+}
+
+/// How many digits a number is printed with.
+fn printed_len(number: u128) -> u32
+    ensures { result ≡ length (decimal number) }
+{
+    if number == 0 { 1 } else { number.ilog10() + 1 }
+}
+
+/// The parts of a number before and after the point that stands before its last `places` digits.
+fn split_at_point(number: u128, places: u32) -> (u128, u128)
+    ensures whole { result.0 ≡ number / 10 ^ places }
+    ensures fraction { result.1 ≡ number % 10 ^ places }
+{
+    match 10u128.checked_pow(places) {
+        Some(power) => (number / power, number % power),
+        None => (0, number),
+    }
+}
+
+/// The decimal number in full, with no exponent and no suffix; a scale near its end takes thousands of millions of zeros.
+#[tactic(auto, unfolding(crate::specs::Printed::decimal_text))]
+impl fmt::Display for KubeQuantity {
+    ghost use Rattle.kube_types_quantity.specs.Printed.{decimal_text};
+    ghost use Rattle.kube_types_quantity.specs.Shown.{number};
+
+    ghost output = { λ q. Some (decimal_text (number q)) };
+
+    fn fmt<W: fmt::Write>(&self, f: &mut fmt::Formatter<W>) -> fmt::Result {
+        let places = self.scale.unsigned_abs();
+        if self.scale >= 0 {
+            let mantissa = self.mantissa;
+            let zeros = Zeros(places);
+            return write!(f, "{mantissa}{zeros}");
+        }
+        let sign = if self.mantissa < 0 { "-" } else { "" };
+        let (whole, fraction) = split_at_point(self.mantissa.unsigned_abs(), places);
+        let zeros = Zeros(places.saturating_sub(printed_len(fraction)));
+        write!(f, "{sign}{whole}.{zeros}{fraction}")
+    }
+}
