@@ -1,9 +1,13 @@
 //! Programs: an expression with its code.
-ghost use Rattle.std.specs.Prelude.{◌≡◌, ℕ, IfOk, MatchResult, map};
+ghost use Rattle.std.specs.Prelude.{◌≡◌, ℕ, IfOk, IfErr, MatchResult, map};
 ghost use Rattle.cel_book.specs.Book.{Book, IsBook, Agrees};
 ghost use Rattle.cel_book.specs.Entries.{entries_of};
 ghost use Rattle.cel_book.specs.Settled.{Settles};
 ghost use Rattle.cel_syntax.specs.Reading.{TextDerives, tree_of};
+ghost use Rattle.kube_types_refused.specs.declared.Refused.TheVariants.{Memory};
+ghost use Rattle.cel_syntax_names.specs.Calls.{is_called};
+ghost use Rattle.cel_syntax_names.specs.Names.{AreNames};
+ghost use Rattle.cel_syntax_names.specs.References.{variable_names, function_names};
 ghost use Rattle.cel_syntax_tree.specs.FreeNames.{is_free};
 ghost use Rattle.cel_syntax_tree.specs.Term.{Term, term};
 ghost use Rattle.cel_meaning.specs.Bindings.{bindings_of, functions_of};
@@ -17,6 +21,7 @@ use cel_book::PatternBook;
 use cel_machine::{Instr, compile_tree, run_code};
 use cel_meaning::{Answer, Context, Functions};
 use cel_syntax::{ParseErrors, parse};
+use cel_syntax_names::References;
 use cel_syntax_tree::Expr;
 use cel_value::Refused;
 use std::alloc::Global;
@@ -64,7 +69,7 @@ impl Program {
         &self.expression
     }
 
-    /// Its code: that of its tree, with fewer than four instructions for each node.
+    /// Its code: that of its tree, with fewer than five instructions for each node.
     pub fn code(&self) -> &[Instr]
         ensures { map op result.now ≡ code_of (program_term self.now) }
     {
@@ -76,6 +81,18 @@ impl Program {
         ensures { result ≡ is_free name.now (program_term self.now) }
     {
         self.expression.has_free_name(name)
+    }
+
+    /// The names that it refers to: exactly its free names, and exactly the names of its calls.
+    ///
+    /// # Errors
+    /// `Memory` alone.
+    pub fn references(&self, alloc: Global) -> Result<References, Refused>
+        ensures variables { IfOk result (λ r. AreNames (variable_names r) (λ x. is_free x (program_term self.now))) }
+        ensures functions { IfOk result (λ r. AreNames (function_names r) (λ x. is_called x (program_term self.now))) }
+        ensures memory { IfErr result (λ e. e ≡ Memory) }
+    {
+        References::of(alloc, &self.expression)
     }
 
     /// What it means in the context: a value, or why there is none. What the patterns in it mean is settled by a book of this call alone.

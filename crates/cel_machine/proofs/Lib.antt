@@ -4,3 +4,5 @@ pub mod Finish
 pub mod Stacks
 pub mod Sizes
 pub mod Sets
+pub mod Parts
+pub mod Compiles

@@ -1,18 +1,24 @@
--- The code of a tree is short: at most three instructions for a node, and one more for each operand, which is a node.
-use Rattle.std.proofs.Common.{◌≡◌, Bool, true, false, ℕ, ◌+◌, ◌*◌, ◌≤◌, List, [], ◌∷◌, ◌++◌, length, arith, length-append}
-use Rattle.cel_syntax_tree.specs.Term.{Term, literal, ident, select, unary, binary, choice, macro}
+-- The code of a tree is short: fewer than five instructions for a node.
+use Rattle.std.proofs.Common.{◌≡◌, Bool, true, false, ℕ, suc, ◌+◌, ◌*◌, ◌≤◌, List, [], ◌∷◌, ◌++◌, length, arith, length-append}
+use Rattle.std.specs.Prelude.{codes}
+use Rattle.cel_syntax_tree.specs.Term.{Term, Terms, Pairs, literal, ident, select, has, index, unary, binary, choice, list_of, map_with, call, qualified, macro, no_terms, term_and, count_of, no_pairs, pair_and}
 use Rattle.cel_syntax_tree.specs.declared.expr.BinaryOperator.{BinaryOperator}
-use Rattle.cel_syntax_tree.specs.declared.expr.BinaryOperator.TheVariants.{Or, And, Less, LessOrEqual, Greater, GreaterOrEqual, Equal, NotEqual}
-use Rattle.cel_value.specs.Data.{text_key}
-use Rattle.cel_machine.specs.Code.{operand, both, logic, choice_code, loop, binary_code, stops, code_of}
-use Rattle.cel_machine.specs.Op.{Op, one_value, two_values, selected_at, guard, apply, branch, skip, absorb, join, begin, next}
-use Rattle.cel_machine.specs.Size.{nodes}
+use Rattle.cel_syntax_tree.specs.declared.expr.BinaryOperator.TheVariants.{Or, And, Less, LessOrEqual, Greater, GreaterOrEqual, Equal, NotEqual, In, Add, Subtract, Multiply, Divide, Remainder}
+use Rattle.cel_syntax_tree.specs.declared.expr.MacroKind.{MacroKind}
+use Rattle.cel_syntax_tree.specs.declared.expr.MacroKind.TheVariants.{All, Exists, ExistsOne, Map, Filter}
+use Rattle.cel_value.specs.Data.{text_key, optional, no_items}
+use Rattle.cel_machine.specs.Code.{operand, one_with, both_with, logic, choice_code, loop, entry_code, filter_code, binary_code, code_of, operands, codes_of, entries_code, pair_codes}
+use Rattle.cel_machine.specs.Op.{Op, Work, one_value, two_values, selected_at, has_at, indexed_by, as_list, put_entry, as_present, push, guard, apply, invoke, branch, skip, absorb, join, begin, next}
+use Rattle.cel_machine.specs.Size.{nodes, all_nodes, pair_nodes}
 
 operand_length : (c : List Op) (k : ℕ) (rest : List Op) → length (operand c k rest) ≡ length c + 1 + length rest
 operand_length c k rest = omega (arith, length-append c (guard k (length rest) ∷ rest))
 
-both_length : (a b : List Op) (o : BinaryOperator) → length (both a b o) ≡ length a + length b + 3
-both_length a b o = omega (arith, operand_length b 1 (apply (two_values o) 2 ∷ []), operand_length a 0 (operand b 1 (apply (two_values o) 2 ∷ [])))
+one_length : (w : Work) (a : List Op) → length (one_with w a) ≡ length a + 2
+one_length w a = omega (arith, operand_length a 0 (apply w 1 ∷ []))
+
+both_length : (w : Work) (a b : List Op) → length (both_with w a b) ≡ length a + length b + 3
+both_length w a b = omega (arith, operand_length b 1 (apply w 2 ∷ []), operand_length a 0 (operand b 1 (apply w 2 ∷ [])))
 
 logic_length : (s : Bool) (a b : List Op) → length (logic s a b) ≡ length a + length b + 2
 logic_length s a b = omega (arith, length-append a (absorb s (length b + 1) ∷ (b ++ join s ∷ [])), length-append b (join s ∷ []))
@@ -20,24 +26,56 @@ logic_length s a b = omega (arith, length-append a (absorb s (length b + 1) ∷ 
 binary_length : (o : BinaryOperator) (a b : List Op) → length (binary_code o a b) ≤ length a + length b + 3
 binary_length Or a b = omega (arith, logic_length true a b)
 binary_length And a b = omega (arith, logic_length false a b)
-binary_length Less a b = omega (arith, both_length a b Less)
-binary_length LessOrEqual a b = omega (arith, both_length a b LessOrEqual)
-binary_length Greater a b = omega (arith, both_length a b Greater)
-binary_length GreaterOrEqual a b = omega (arith, both_length a b GreaterOrEqual)
-binary_length Equal a b = omega (arith, both_length a b Equal)
-binary_length NotEqual a b = omega (arith, both_length a b NotEqual)
+binary_length Less a b = omega (arith, both_length (two_values Less) a b)
+binary_length LessOrEqual a b = omega (arith, both_length (two_values LessOrEqual) a b)
+binary_length Greater a b = omega (arith, both_length (two_values Greater) a b)
+binary_length GreaterOrEqual a b = omega (arith, both_length (two_values GreaterOrEqual) a b)
+binary_length Equal a b = omega (arith, both_length (two_values Equal) a b)
+binary_length NotEqual a b = omega (arith, both_length (two_values NotEqual) a b)
+binary_length In a b = omega (arith, both_length (two_values In) a b)
+binary_length Add a b = omega (arith, both_length (two_values Add) a b)
+binary_length Subtract a b = omega (arith, both_length (two_values Subtract) a b)
+binary_length Multiply a b = omega (arith, both_length (two_values Multiply) a b)
+binary_length Divide a b = omega (arith, both_length (two_values Divide) a b)
+binary_length Remainder a b = omega (arith, both_length (two_values Remainder) a b)
 
-choice_length : (a b c : List Op) → length (choice_code a b c) ≡ length a + length b + length c + 2
-choice_length a b c = omega (arith, length-append a (branch (length b + 1) (length b + 1 + length c) ∷ (b ++ skip (length c) ∷ c)), length-append b (skip (length c) ∷ c))
+choice_length : (name : List ℕ) (a b c : List Op) → length (choice_code name a b c) ≡ length a + length b + length c + 2
+choice_length name a b c = omega (arith, length-append a (branch name (length b + 1) (length b + 1 + length c) ∷ (b ++ skip (length c) ∷ c)), length-append b (skip (length c) ∷ c))
 
-loop_length : (s : Bool) (a : List Op) (x : List ℕ) (b : List Op) → length (loop s a x b) ≡ length a + length b + 2
-loop_length s a x b = omega (arith, length-append a (begin s x (length b + 1) ∷ (b ++ next s ∷ [])), length-append b (next s ∷ []))
+filter_length : (a b : List Op) → length (filter_code a b) ≡ length a + length b + 5
+filter_length a b = omega (arith, choice_length (codes "map") a (one_with as_present b) (push (optional no_items) ∷ []), one_length as_present b)
 
-pub code_is_short : (t : Term) → length (code_of t) + 1 ≤ 4 * nodes t
-code_is_short (literal v) = omega arith
-code_is_short (ident x) = omega arith
-code_is_short (select a x) = omega (arith, code_is_short a, operand_length (code_of a) 0 (apply (selected_at (text_key x)) 1 ∷ []))
-code_is_short (unary o a) = omega (arith, code_is_short a, operand_length (code_of a) 0 (apply (one_value o) 1 ∷ []))
-code_is_short (binary o a b) = omega (arith, code_is_short a, code_is_short b, binary_length o (code_of a) (code_of b))
-code_is_short (choice a b c) = omega (arith, code_is_short a, code_is_short b, code_is_short c, choice_length (code_of a) (code_of b) (code_of c))
-code_is_short (macro k range x filter body) = omega (arith, code_is_short range, code_is_short body, loop_length (stops k) (code_of range) x (code_of body))
+loop_length : (k : MacroKind) (f : Bool) (a : List Op) (x : List ℕ) (b : List Op) → length (loop k f a x b) ≡ length a + length b + 2
+loop_length k f a x b = omega (arith, length-append a (begin k x (length b + 1) ∷ (b ++ next k f ∷ [])), length-append b (next k f ∷ []))
+
+entry_length : (a b rest : List Op) → length (entry_code a b rest) ≡ length a + length b + length rest + 4
+entry_length a b rest = omega (arith, operand_length b 2 (apply put_entry 3 ∷ guard 0 (length rest) ∷ rest), operand_length a 1 (operand b 2 (apply put_entry 3 ∷ guard 0 (length rest) ∷ rest)))
+
+mutual
+  pub code_is_short : (t : Term) → length (code_of t) + 2 ≤ 5 * nodes t
+  code_is_short (literal v) = omega arith
+  code_is_short (ident x) = omega arith
+  code_is_short (select a x) = omega (arith, code_is_short a, one_length (selected_at (text_key x)) (code_of a))
+  code_is_short (has a x) = omega (arith, code_is_short a, one_length (has_at (text_key x)) (code_of a))
+  code_is_short (index a b) = omega (arith, code_is_short a, code_is_short b, both_length indexed_by (code_of a) (code_of b))
+  code_is_short (unary o a) = omega (arith, code_is_short a, one_length (one_value o) (code_of a))
+  code_is_short (binary o a b) = omega (arith, code_is_short a, code_is_short b, binary_length o (code_of a) (code_of b))
+  code_is_short (choice a b c) = omega (arith, code_is_short a, code_is_short b, code_is_short c, choice_length (codes "?:") (code_of a) (code_of b) (code_of c))
+  code_is_short (list_of ts) = omega (arith, operands_are_short ts 0 (apply as_list (count_of ts) ∷ []))
+  code_is_short (map_with ps) = omega (arith, entries_are_short ps)
+  code_is_short (call target x args) = omega (arith, operands_are_short target 0 (operands (codes_of args) (count_of target) (invoke x (count_of target) (count_of args) ∷ [])), operands_are_short args (count_of target) (invoke x (count_of target) (count_of args) ∷ []))
+  code_is_short (qualified x args) = omega (arith, operands_are_short args 0 (invoke x 0 (count_of args) ∷ []))
+  code_is_short (macro All range x filter body) = omega (arith, code_is_short range, code_is_short body, loop_length All false (code_of range) x (code_of body))
+  code_is_short (macro Exists range x filter body) = omega (arith, code_is_short range, code_is_short body, loop_length Exists false (code_of range) x (code_of body))
+  code_is_short (macro ExistsOne range x filter body) = omega (arith, code_is_short range, code_is_short body, loop_length ExistsOne false (code_of range) x (code_of body))
+  code_is_short (macro Filter range x filter body) = omega (arith, code_is_short range, code_is_short body, loop_length Filter false (code_of range) x (code_of body))
+  code_is_short (macro Map range x no_terms body) = omega (arith, code_is_short range, code_is_short body, loop_length Map false (code_of range) x (code_of body))
+  code_is_short (macro Map range x (term_and t ts) body) = omega (arith, code_is_short range, code_is_short t, code_is_short body, loop_length Map true (code_of range) x (filter_code (code_of t) (code_of body)), filter_length (code_of t) (code_of body))
+
+  operands_are_short : (ts : Terms) (k : ℕ) (rest : List Op) → length (operands (codes_of ts) k rest) ≤ 5 * all_nodes ts + length rest
+  operands_are_short no_terms k rest = omega arith
+  operands_are_short (term_and t ts) k rest = omega (arith, code_is_short t, operands_are_short ts (suc k) rest, operand_length (code_of t) k (operands (codes_of ts) (suc k) rest))
+
+  entries_are_short : (ps : Pairs) → length (entries_code (pair_codes ps) []) ≤ 5 * pair_nodes ps
+  entries_are_short no_pairs = omega arith
+  entries_are_short (pair_and k v ps) = omega (arith, code_is_short k, code_is_short v, entries_are_short ps, entry_length (code_of k) (code_of v) (entries_code (pair_codes ps) []))

@@ -1,16 +1,19 @@
 //! From trees to code.
-ghost use Rattle.std.specs.Prelude.{◌≡◌, ◌++◌, [], ◌∷◌, ℕ, List, IfOk, map, length, string_bytes};
-ghost use Rattle.cel_syntax_tree.specs.Term.{term};
-ghost use Rattle.cel_machine.specs.Code.{code_of, logic, operand, both, binary_code, choice_code, loop, stops};
-ghost use Rattle.cel_machine.specs.Op.{op};
+ghost use Rattle.std.specs.Prelude.{◌≡◌, ◌≤◌, ◌++◌, [], ◌∷◌, ℕ, List, IfOk, OnOk, map, length, string_bytes, codes};
+ghost use Rattle.cel_value.specs.Data.{map_of, no_entries};
+ghost use Rattle.cel_syntax_tree.specs.Term.{Term, Terms, list_of, call, qualified, no_terms, term_and, term, terms_of, pairs_of};
+ghost use Rattle.cel_machine.specs.Code.{code_of, codes_of, pair_codes, logic, operand, operands, one_with, both_with, binary_code, choice_code, filter_code, loop, macro_code, after_form, entry_code, entries_code};
+ghost use Rattle.cel_machine.specs.Op.{op, as_present, indexed_by, two_values, invoke, push, test_name};
+ghost use Rattle.cel_machine.specs.State.{codes_view, pairs_view, filter_codes, from_end};
 
-use crate::instr::Instr;
+use crate::instr::{Instr, Test};
 use cel_syntax_tree::{BinaryOperator, Expr, MacroKind};
-use cel_value::{Key, Refused};
+use cel_value::{Key, Map, OptionalValue, Refused, Value};
 use std::alloc::Global;
 use std::rc::Rc;
 
 /// The code of a tree.
+#[cycle(compile)]
 pub fn compile_tree(alloc: Global, expr: &Expr) -> Result<Vec<Instr>, Refused>
     ensures { IfOk result (λ code. map op code.items ≡ code_of (term expr.now)) }
 {
@@ -21,6 +24,16 @@ pub fn compile_tree(alloc: Global, expr: &Expr) -> Result<Vec<Instr>, Refused>
             let code = compile_tree(alloc, operand)?;
             let last = one(alloc, Instr::Select(Key::String(name.clone()?)))?;
             join_operand(code, 0, last)
+        }
+        Expr::Has(operand, name) => {
+            let code = compile_tree(alloc, operand)?;
+            let last = one(alloc, Instr::Has(Key::String(name.clone()?)))?;
+            join_operand(code, 0, last)
+        }
+        Expr::Index(operand, index) => {
+            let first = compile_tree(alloc, operand)?;
+            let second = compile_tree(alloc, index)?;
+            join_index(alloc, first, second)
         }
         Expr::Unary(operator, operand) => {
             let code = compile_tree(alloc, operand)?;
@@ -36,20 +49,82 @@ pub fn compile_tree(alloc: Global, expr: &Expr) -> Result<Vec<Instr>, Refused>
             let first = compile_tree(alloc, test)?;
             let second = compile_tree(alloc, yes)?;
             let third = compile_tree(alloc, no)?;
-            join_branches(first, second, third)
+            join_branches(Test::Condition, first, second, third)
+        }
+        Expr::List(items) => {
+            let codes = compile_all(alloc, items)?;
+            let all = join_list(alloc, codes)?;
+            Ok(all)
+        }
+        Expr::Map(pairs) => {
+            let codes = compile_pairs(alloc, pairs)?;
+            join_map(alloc, codes)
+        }
+        Expr::Call { target, name, args } => match target {
+            None => {
+                let codes = compile_all(alloc, args)?;
+                let all = join_function(alloc, name, codes)?;
+                Ok(all)
+            }
+            Some(target) => {
+                let receiver = compile_tree(alloc, target)?;
+                let codes = compile_all(alloc, args)?;
+                let all = join_method(alloc, name, receiver, codes)?;
+                Ok(all)
+            }
+        },
+        Expr::Qualified { name, args } => {
+            let codes = compile_all(alloc, args)?;
+            let all = join_function(alloc, name, codes)?;
+            Ok(all)
         }
         Expr::Macro {
             kind,
             range,
             variable,
-            filter: _,
+            filter,
             body,
         } => {
             let first = compile_tree(alloc, range)?;
             let second = compile_tree(alloc, body)?;
-            join_loop(*kind, first, variable.clone()?, second)
+            match filter {
+                None => join_macro(alloc, *kind, first, variable.clone()?, None, second),
+                Some(filter) => {
+                    let test = compile_tree(alloc, filter)?;
+                    join_macro(alloc, *kind, first, variable.clone()?, Some(test), second)
+                }
+            }
         }
     }
+}
+
+/// The code of each tree.
+#[cycle(compile)]
+fn compile_all(alloc: Global, items: &Vec<Expr>) -> Result<Vec<Vec<Instr>>, Refused>
+    ensures { IfOk result (λ codes. codes_view codes.items ≡ codes_of (terms_of (map term items.now.items))) }
+{
+    let mut codes = Vec::new(alloc);
+    for item in items {
+        codes.push(compile_tree(alloc, item)?)?;
+    }
+    Ok(codes)
+}
+
+/// The code of each key with that of its value.
+#[cycle(compile)]
+fn compile_pairs(
+    alloc: Global,
+    pairs: &Vec<(Expr, Expr)>,
+) -> Result<Vec<(Vec<Instr>, Vec<Instr>)>, Refused>
+    ensures { IfOk result (λ codes. pairs_view codes.items ≡ pair_codes (pairs_of (map (λ p. (term p.0, term p.1)) pairs.now.items))) }
+{
+    let mut codes = Vec::new(alloc);
+    for pair in pairs {
+        let key = compile_tree(alloc, &pair.0)?;
+        let value = compile_tree(alloc, &pair.1)?;
+        codes.push((key, value))?;
+    }
+    Ok(codes)
 }
 
 fn one(alloc: Global, instr: Instr) -> Result<Vec<Instr>, Refused>
@@ -73,6 +148,169 @@ fn join_operand(code: Vec<Instr>, under: usize, mut rest: Vec<Instr>) -> Result<
     Ok(all)
 }
 
+/// One more instruction in front of code that is written from its end on.
+fn prepend_one(rest: &mut Vec<Instr>, instr: Instr) -> Result<(), Refused>
+    ensures { OnOk result (from_end rest.new.items ≡ op instr ∷ from_end rest.old.items) }
+{
+    rest.push(instr)?;
+    Ok(())
+}
+
+/// An operand, over so many values, in front of code that is written from its end on.
+fn prepend_operand(code: Vec<Instr>, under: usize, rest: &mut Vec<Instr>) -> Result<(), Refused>
+    ensures { OnOk result (from_end rest.new.items ≡ operand (map op code.items) under (from_end rest.old.items)) }
+{
+    let past = rest.len();
+    prepend_one(rest, Instr::Guard { under, past })?;
+    let mut front = code;
+    front.reverse();
+    rest.append(&mut front)?;
+    Ok(())
+}
+
+/// The operands of a strict form, over so many values, and what follows them there.
+fn join_operands(
+    codes: Vec<Vec<Instr>>,
+    under: usize,
+    last: Vec<Instr>,
+) -> Result<Vec<Instr>, Refused>
+    requires { under ≤ 1 }
+    ensures { IfOk result (λ all. map op all.items ≡ operands (codes_view codes.items) under (map op last.items)) }
+{
+    let mut before = codes;
+    let mut rest = last;
+    rest.reverse();
+    while let Some(code) = before.pop() {
+        prepend_operand(code, under + before.len(), &mut rest)?;
+    }
+    rest.reverse();
+    Ok(rest)
+}
+
+/// The code of a list.
+fn join_list(alloc: Global, codes: Vec<Vec<Instr>>) -> Result<Vec<Instr>, Refused>
+    ensures { IfOk result (λ all. (ts : Terms) → codes_view codes.items ≡ codes_of ts → map op all.items ≡ code_of (list_of ts)) }
+{
+    let last = one(alloc, Instr::List(codes.len()))?;
+    join_operands(codes, 0, last)
+}
+
+/// The code of an index.
+fn join_index(alloc: Global, left: Vec<Instr>, right: Vec<Instr>) -> Result<Vec<Instr>, Refused>
+    ensures { IfOk result (λ all. map op all.items ≡ both_with indexed_by (map op left.items) (map op right.items)) }
+{
+    let last = one(alloc, Instr::Index)?;
+    let rest = join_operand(right, 1, last)?;
+    join_operand(left, 0, rest)
+}
+
+/// An entry of a map literal in front of code that is written from its end on.
+fn prepend_entry(key: Vec<Instr>, value: Vec<Instr>, rest: &mut Vec<Instr>) -> Result<(), Refused>
+    ensures { OnOk result (from_end rest.new.items ≡ entry_code (map op key.items) (map op value.items) (from_end rest.old.items)) }
+{
+    let past = rest.len();
+    prepend_one(rest, Instr::Guard { under: 0, past })?;
+    prepend_one(rest, Instr::Put)?;
+    prepend_operand(value, 2, rest)?;
+    prepend_operand(key, 1, rest)
+}
+
+/// Pushes a map with no entry.
+fn empty_map(alloc: Global) -> Result<Instr, Refused>
+    ensures { IfOk result (λ i. op i ≡ push (map_of no_entries)) }
+{
+    Ok(Instr::Push(Value::from_entries(alloc, Map::new(alloc))?))
+}
+
+/// The code of a map literal.
+fn join_map(alloc: Global, pairs: Vec<(Vec<Instr>, Vec<Instr>)>) -> Result<Vec<Instr>, Refused>
+    ensures { IfOk result (λ all. map op all.items ≡ push (map_of no_entries) ∷ entries_code (pairs_view pairs.items) []) }
+{
+    let mut before = pairs;
+    let mut rest = Vec::new(alloc);
+    while let Some(pair) = before.pop() {
+        prepend_entry(pair.0, pair.1, &mut rest)?;
+    }
+    let empty = empty_map(alloc)?;
+    prepend_one(&mut rest, empty)?;
+    rest.reverse();
+    Ok(rest)
+}
+
+/// How a name may be called, and then the call.
+fn join_form(
+    alloc: Global,
+    name: &Rc<String>,
+    receiver: bool,
+    count: usize,
+    mut rest: Vec<Instr>,
+) -> Result<Vec<Instr>, Refused>
+    ensures { IfOk result (λ all. map op all.items ≡ after_form (string_bytes name.now.value) receiver count (map op rest.items)) }
+{
+    let past = rest.len();
+    let mut all = one(
+        alloc,
+        Instr::Form {
+            name: name.clone()?,
+            receiver,
+            count,
+            past,
+        },
+    )?;
+    all.append(&mut rest)?;
+    Ok(all)
+}
+
+fn function_call(name: &Rc<String>, count: usize) -> Result<Instr, Refused>
+    ensures { IfOk result (λ i. op i ≡ invoke (string_bytes name.now.value) 0 count) }
+{
+    Ok(Instr::Call {
+        name: name.clone()?,
+        count,
+    })
+}
+
+fn method_call(name: &Rc<String>, count: usize) -> Result<Instr, Refused>
+    ensures { IfOk result (λ i. op i ≡ invoke (string_bytes name.now.value) 1 count) }
+{
+    Ok(Instr::Method {
+        name: name.clone()?,
+        count,
+    })
+}
+
+/// The code of a call without a receiver.
+fn join_function(
+    alloc: Global,
+    name: &Rc<String>,
+    codes: Vec<Vec<Instr>>,
+) -> Result<Vec<Instr>, Refused>
+    ensures { IfOk result (λ all. (ts : Terms) → codes_view codes.items ≡ codes_of ts → map op all.items ≡ code_of (qualified (string_bytes name.now.value) ts)) }
+{
+    let count = codes.len();
+    let instr = function_call(name, count)?;
+    let last = one(alloc, instr)?;
+    let rest = join_operands(codes, 0, last)?;
+    join_form(alloc, name, false, count, rest)
+}
+
+/// The code of a call with a receiver.
+fn join_method(
+    alloc: Global,
+    name: &Rc<String>,
+    receiver: Vec<Instr>,
+    codes: Vec<Vec<Instr>>,
+) -> Result<Vec<Instr>, Refused>
+    ensures { IfOk result (λ all. (t : Term) (ts : Terms) → map op receiver.items ≡ code_of t → codes_view codes.items ≡ codes_of ts → map op all.items ≡ code_of (call (term_and t no_terms) (string_bytes name.now.value) ts)) }
+{
+    let count = codes.len();
+    let instr = method_call(name, count)?;
+    let last = one(alloc, instr)?;
+    let front = join_operands(codes, 1, last)?;
+    let rest = join_operand(receiver, 0, front)?;
+    join_form(alloc, name, true, count, rest)
+}
+
 /// The code of an operator that takes both values.
 fn join_both(
     alloc: Global,
@@ -80,7 +318,7 @@ fn join_both(
     left: Vec<Instr>,
     right: Vec<Instr>,
 ) -> Result<Vec<Instr>, Refused>
-    ensures { IfOk result (λ all. map op all.items ≡ both (map op left.items) (map op right.items) operator) }
+    ensures { IfOk result (λ all. map op all.items ≡ both_with (two_values operator) (map op left.items) (map op right.items)) }
 {
     let last = one(alloc, Instr::Binary(operator))?;
     let rest = join_operand(right, 1, last)?;
@@ -119,21 +357,29 @@ fn join_binary(
         }
         BinaryOperator::Equal => join_both(alloc, BinaryOperator::Equal, left, right),
         BinaryOperator::NotEqual => join_both(alloc, BinaryOperator::NotEqual, left, right),
+        BinaryOperator::In => join_both(alloc, BinaryOperator::In, left, right),
+        BinaryOperator::Add => join_both(alloc, BinaryOperator::Add, left, right),
+        BinaryOperator::Subtract => join_both(alloc, BinaryOperator::Subtract, left, right),
+        BinaryOperator::Multiply => join_both(alloc, BinaryOperator::Multiply, left, right),
+        BinaryOperator::Divide => join_both(alloc, BinaryOperator::Divide, left, right),
+        BinaryOperator::Remainder => join_both(alloc, BinaryOperator::Remainder, left, right),
     }
 }
 
-/// The code of a condition and its two branches.
+/// The code of a test and its two branches.
 fn join_branches(
+    kind: Test,
     test: Vec<Instr>,
     mut yes: Vec<Instr>,
     mut no: Vec<Instr>,
 ) -> Result<Vec<Instr>, Refused>
-    ensures { IfOk result (λ all. map op all.items ≡ choice_code (map op test.items) (map op yes.items) (map op no.items)) }
+    ensures { IfOk result (λ all. map op all.items ≡ choice_code (test_name kind) (map op test.items) (map op yes.items) (map op no.items)) }
 {
     let other = yes.len() + 1;
     let skipped = no.len();
     let mut all = test;
     all.push(Instr::Branch {
+        test: kind,
         other,
         past: other + skipped,
     })?;
@@ -143,34 +389,60 @@ fn join_branches(
     Ok(all)
 }
 
-/// The bool at which a macro stops.
-fn stop_of(kind: MacroKind) -> bool
-    ensures { result ≡ stops kind }
+/// A body behind a filter.
+fn join_filter(alloc: Global, test: Vec<Instr>, body: Vec<Instr>) -> Result<Vec<Instr>, Refused>
+    ensures { IfOk result (λ all. map op all.items ≡ filter_code (map op test.items) (map op body.items)) }
 {
-    match kind {
-        MacroKind::All => false,
-        MacroKind::Exists => true,
-    }
+    let last = one(alloc, Instr::Present)?;
+    let yes = join_operand(body, 0, last)?;
+    let no = one(alloc, Instr::Push(Value::Optional(OptionalValue::none())))?;
+    join_branches(Test::Filter, test, yes, no)
 }
 
-/// The code of a macro.
+/// A macro's range and its body.
 fn join_loop(
     kind: MacroKind,
+    filtered: bool,
     range: Vec<Instr>,
     variable: Rc<String>,
     mut body: Vec<Instr>,
 ) -> Result<Vec<Instr>, Refused>
-    ensures { IfOk result (λ all. map op all.items ≡ loop (stops kind) (map op range.items) (string_bytes variable.value) (map op body.items)) }
+    ensures { IfOk result (λ all. map op all.items ≡ loop kind filtered (map op range.items) (string_bytes variable.value) (map op body.items)) }
 {
-    let stop = stop_of(kind);
     let past = body.len() + 1;
     let mut all = range;
     all.push(Instr::Begin {
-        stop,
+        kind,
         variable,
         past,
     })?;
     all.append(&mut body)?;
-    all.push(Instr::Next(stop))?;
+    all.push(Instr::Next { kind, filtered })?;
     Ok(all)
+}
+
+/// The code of a macro, with that of its filter. No other macro than `map` has one.
+fn join_macro(
+    alloc: Global,
+    kind: MacroKind,
+    range: Vec<Instr>,
+    variable: Rc<String>,
+    filter: Option<Vec<Instr>>,
+    body: Vec<Instr>,
+) -> Result<Vec<Instr>, Refused>
+    ensures { IfOk result (λ all. map op all.items ≡ macro_code kind (map op range.items) (string_bytes variable.value) (filter_codes filter) (map op body.items)) }
+{
+    match kind {
+        MacroKind::All => join_loop(MacroKind::All, false, range, variable, body),
+        MacroKind::Exists => join_loop(MacroKind::Exists, false, range, variable, body),
+        MacroKind::ExistsOne => join_loop(MacroKind::ExistsOne, false, range, variable, body),
+        MacroKind::Filter => join_loop(MacroKind::Filter, false, range, variable, body),
+        MacroKind::Map => match filter {
+            None => join_loop(MacroKind::Map, false, range, variable, body),
+            Some(test) => {
+                let filtered = join_filter(alloc, test, body)?;
+                join_loop(MacroKind::Map, true, range, variable, filtered)
+            }
+        },
+    }
 }

@@ -1,8 +1,15 @@
 //! The instructions of an expression.
 
-use cel_syntax_tree::{BinaryOperator, UnaryOperator};
+use cel_syntax_tree::{BinaryOperator, MacroKind, UnaryOperator};
 use cel_value::{Key, Value};
 use std::rc::Rc;
+
+/// What is tested: a condition, or the filter of a macro. Its fault bears its name.
+#[derive(Clone, Copy, Debug, PartialEq, Eq)]
+pub enum Test {
+    Condition,
+    Filter,
+}
 
 /// One instruction. It takes its operands from a stack of values, each of them a value or the error that stands for it, and leaves its
 /// result there. A jump says how many instructions it passes.
@@ -23,8 +30,36 @@ pub enum Instr {
     Binary(BinaryOperator),
     /// The member of a map at a key.
     Select(Key),
-    /// A condition: goes on, or passes `other` instructions to the other branch, or `past` both with an error.
+    /// Whether a map has a member at a key.
+    Has(Key),
+    /// The item or the member of the lower value at the index on top.
+    Index,
+    /// A list of so many values.
+    List(usize),
+    /// A map with one more entry: takes the map so far, the key, the value.
+    Put,
+    /// An optional value that holds the top.
+    Present,
+    /// How a name may be called with a receiver or without, with so many arguments: goes on, or passes so many instructions with an error.
+    Form {
+        name: Rc<String>,
+        receiver: bool,
+        count: usize,
+        past: usize,
+    },
+    /// A call with so many arguments.
+    Call {
+        name: Rc<String>,
+        count: usize,
+    },
+    /// A call with a receiver and so many arguments.
+    Method {
+        name: Rc<String>,
+        count: usize,
+    },
+    /// A test: goes on where it holds, or passes `other` instructions where it does not, or `past` both with an error.
     Branch {
+        test: Test,
         other: usize,
         past: usize,
     },
@@ -37,12 +72,15 @@ pub enum Instr {
     },
     /// Takes the right operand.
     Join(bool),
-    /// Takes a range: goes on with its first item, or past the loop where there is none.
+    /// Takes a macro's range: goes on with its first item, or past the loop where there is none.
     Begin {
-        stop: bool,
+        kind: MacroKind,
         variable: Rc<String>,
         past: usize,
     },
-    /// Takes the outcome at an item: ends the loop, or goes back with the next item.
-    Next(bool),
+    /// Takes the outcome at an item, an optional value where it went through a filter: ends the loop, or goes back with the next item.
+    Next {
+        kind: MacroKind,
+        filtered: bool,
+    },
 }

@@ -1,6 +1,7 @@
 //! Flat code of CEL expressions, and its machine.
 #![tactic(auto)]
 
+mod calls;
 mod compile;
 mod instr;
 mod loops;
@@ -10,5 +11,5 @@ mod state;
 mod turns;
 
 pub use compile::compile_tree;
-pub use instr::Instr;
+pub use instr::{Instr, Test};
 pub use run::run_code;

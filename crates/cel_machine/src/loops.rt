@@ -1,30 +1,23 @@
 //! What the start and the end of a loop do.
-ghost use Rattle.std.specs.Prelude.{◌≡◌, ◌∷◌, [], ◌<◌, ◌≤◌, ◌+◌, ℕ, Bool, IfOk, List, Option, Some, Ok, Err, option_map, map, reverse, drop, nat_lt, MatchOption};
-ghost use Rattle.std.specs.Prelude.{String};
-ghost use Rattle.std.specs.Option.{option_map_or};
-ghost use Rattle.std.specs.declared.alloc.Global.{Global};
-ghost use Rattle.std.specs.declared.rc.Rc.{Rc};
-ghost use Rattle.cel_book.specs.Book.{Book, Agrees};
-ghost use Rattle.cel_book.specs.Entries.{entries_of};
-ghost use Rattle.cel_value.specs.Faults.{Fault, fault_view, undeclared};
-ghost use Rattle.cel_value.specs.Keys.{key_view};
+ghost use Rattle.std.specs.Prelude.{◌≡◌, ◌∷◌, ◌<◌, ◌+◌, ℕ, IfOk, List, Option, Ok, option_map, map, reverse, nat_lt, MatchOption};
+ghost use Rattle.cel_value.specs.Faults.{Fault, fault_view};
 ghost use Rattle.cel_value.specs.View.{view};
-ghost use Rattle.cel_meaning.specs.Bindings.{Bindings, binding, bindings_of, functions_of};
-ghost use Rattle.cel_meaning.specs.Library.{Library};
-ghost use Rattle.cel_meaning.specs.Outcome.{Outcome, outcome_view};
-ghost use Rattle.cel_machine.specs.Machine.{Loop, go, turn, guarded, branched, absorbed, joined, begun, looped, allowed, inside, limit, logic_name, loop_name, again, entered};
-ghost use Rattle.cel_machine.specs.Op.{op, next, apply, load, one_value, two_values, selected_at};
-ghost use Rattle.cel_machine.specs.State.{loop_view, outcomes, aside, loops_view, values_of, aside_of, loops_of};
-ghost use Rattle.cel_machine.specs.Correct.{Reaches, LeadsOut, Enters, Advances, Top};
-ghost use Rattle.cel_machine.specs.declared.instr.Instr.TheVariants.{Begin};
+ghost use Rattle.cel_meaning.specs.Macros.{gift_view, made_of};
+ghost use Rattle.cel_meaning.specs.Outcome.{outcome_view};
+ghost use Rattle.cel_machine.specs.Machine.{Loop, go, begun, looped, allowed, limit, loop_name, again, entered, settled, over_none, held_gift, gift_at, weighed, collected, turned};
+ghost use Rattle.cel_machine.specs.Op.{op, next};
+ghost use Rattle.cel_machine.specs.State.{loop_view, outcomes, values_of, aside_of, loops_of};
+ghost use Rattle.cel_machine.specs.Correct.{Enters, Advances, Top};
 
 use crate::instr::Instr;
 use crate::state::{
-    Entry, LoopState, Stacks, pop_answer, pop_aside, pop_loop, pop_value, push_answer, push_aside,
-    push_loop,
+    End, Entry, LoopState, Stacks, pop_answer, pop_aside, pop_loop, pop_value, push_answer,
+    push_aside, push_loop,
 };
-use cel_meaning::operators::{Answer, Progress, absorb, settle};
+use cel_meaning::macros::{finish, gift, name_of};
+use cel_meaning::operators::{Answer, Progress, absorb, no_such_overload, settle};
 use cel_meaning::ranges::range_items;
+use cel_syntax_tree::MacroKind;
 use cel_value::{ExecutionError, Refused, Value};
 use std::alloc::Global;
 
@@ -64,9 +57,23 @@ fn reversed(items: Vec<Value>) -> Vec<Value>
     rest
 }
 
+/// The outcome of a macro over no items.
+fn answer_over_none(alloc: Global, kind: MacroKind) -> Result<Answer, Refused>
+    ensures { IfOk result (λ r. outcome_view r ≡ over_none kind) }
+{
+    match kind {
+        MacroKind::All => Ok(Ok(Value::Bool(true))),
+        MacroKind::Exists => Ok(Ok(Value::Bool(false))),
+        MacroKind::ExistsOne => finish(alloc, MacroKind::ExistsOne, Vec::new(alloc)),
+        MacroKind::Map => finish(alloc, MacroKind::Map, Vec::new(alloc)),
+        MacroKind::Filter => finish(alloc, MacroKind::Filter, Vec::new(alloc)),
+    }
+}
+
 /// Into a loop over these items, with the first of them, or past it where there is none.
 fn enter<'c>(
-    stop: bool,
+    alloc: Global,
+    kind: MacroKind,
     variable: &'c str,
     past: usize,
     place: usize,
@@ -76,13 +83,14 @@ fn enter<'c>(
 ) -> Result<Entry, Refused>
     requires { place < end }
     ensures { IfOk result (λ e. (size : ℕ) → limit size (loops_of stacks.old) ≡ end →
-        Enters size end (entered size stop variable.now past place (Ok (map view items.items)) (values_of stacks.old) (aside_of stacks.old) (loops_of stacks.old))
+        Enters size end (entered size kind variable.now past place (Ok (map view items.items)) (values_of stacks.old) (aside_of stacks.old) (loops_of stacks.old))
         place past e (values_of stacks.new) (aside_of stacks.new) (loops_of stacks.old) (loops_of stacks.new)) }
 {
     let mut rest = reversed(items);
+    let given = Vec::new(alloc);
     match pop_value(&mut rest) {
         None => {
-            push_answer(&mut stacks.values, Ok(Value::Bool(!stop)))?;
+            push_answer(&mut stacks.values, answer_over_none(alloc, kind)?)?;
             if past < end - place {
                 Ok(Entry::Past)
             } else {
@@ -100,6 +108,7 @@ fn enter<'c>(
                         variable,
                         item,
                         rest,
+                        given,
                         start: place + 1,
                         finish: place + past,
                     },
@@ -116,7 +125,7 @@ fn enter<'c>(
 /// The start of a loop.
 pub(crate) fn begin<'c>(
     alloc: Global,
-    stop: bool,
+    kind: MacroKind,
     variable: &'c str,
     past: usize,
     place: usize,
@@ -125,16 +134,16 @@ pub(crate) fn begin<'c>(
 ) -> Result<Entry, Refused>
     requires { place < end }
     ensures { IfOk result (λ e. (size : ℕ) → limit size (loops_of stacks.old) ≡ end →
-        Enters size end (begun size stop variable.now past place (values_of stacks.old) (aside_of stacks.old) (loops_of stacks.old))
+        Enters size end (begun size kind variable.now past place (values_of stacks.old) (aside_of stacks.old) (loops_of stacks.old))
         place past e (values_of stacks.new) (aside_of stacks.new) (loops_of stacks.old) (loops_of stacks.new)) }
 {
     match pop_answer(&mut stacks.values) {
         None => Ok(Entry::Out),
         Some(answer) => match answer {
             Err(e) => leave(Err(e), past, place, end, &mut stacks.values),
-            Ok(value) => match range_items(alloc, loop_text(stop), &value)? {
+            Ok(value) => match range_items(alloc, name_of(kind), &value)? {
                 Err(e) => leave(Err(e), past, place, end, &mut stacks.values),
-                Ok(items) => enter(stop, variable, past, place, end, items, stacks),
+                Ok(items) => enter(alloc, kind, variable, past, place, end, items, stacks),
             },
         },
     }
@@ -149,7 +158,7 @@ fn next_item<'c>(
     stacks: &mut Stacks<'c>,
 ) -> Result<Entry, Refused>
     ensures { IfOk result (λ e. (body : ℕ) → state.entry.start ≡ body → state.entry.finish ≡ place →
-        Advances (again stop place (option_map fault_view last) (loop_view state.entry) (loop_view state.entry).rest (values_of stacks.old) (aside_of stacks.old) (loops_of stacks.old))
+        Advances (again (settled stop (option_map fault_view last)) place (option_map fault_view last) (loop_view state.entry) (loop_view state.entry).rest (values_of stacks.old) (aside_of stacks.old) (loops_of stacks.old))
         body place e (values_of stacks.new) (aside_of stacks.new) (loop_view state.entry ∷ loops_of stacks.old) (loops_of stacks.new)) }
 {
     let mut rest = state.rest;
@@ -163,6 +172,7 @@ fn next_item<'c>(
                 variable: state.variable,
                 item,
                 rest,
+                given: state.given,
                 start: state.start,
                 finish: state.finish,
             };
@@ -173,41 +183,176 @@ fn next_item<'c>(
     }
 }
 
+/// The next item of a loop that gathers, or its end.
+fn next_gathered<'c>(
+    alloc: Global,
+    kind: MacroKind,
+    place: usize,
+    kept: Option<ExecutionError>,
+    state: LoopState<'c>,
+    stacks: &mut Stacks<'c>,
+) -> Result<Entry, Refused>
+    ensures { IfOk result (λ e. (body : ℕ) → state.entry.start ≡ body → state.entry.finish ≡ place →
+        Advances (again (made_of kind (loop_view state.entry).given) place (option_map fault_view kept) (loop_view state.entry) (loop_view state.entry).rest (values_of stacks.old) (aside_of stacks.old) (loops_of stacks.old))
+        body place e (values_of stacks.new) (aside_of stacks.new) (loop_view state.entry ∷ loops_of stacks.old) (loops_of stacks.new)) }
+{
+    let mut rest = state.rest;
+    match pop_value(&mut rest) {
+        None => {
+            push_answer(&mut stacks.values, finish(alloc, kind, state.given)?)?;
+            Ok(Entry::Past)
+        }
+        Some(item) => {
+            let next = LoopState {
+                variable: state.variable,
+                item,
+                rest,
+                given: state.given,
+                start: state.start,
+                finish: state.finish,
+            };
+            push_loop(&mut stacks.loops, next)?;
+            push_aside(&mut stacks.absorbed, kept)?;
+            Ok(Entry::Inside)
+        }
+    }
+}
+
+/// After an item of a loop that the bool `stop` ends.
+fn weigh<'c>(
+    alloc: Global,
+    stop: bool,
+    place: usize,
+    answer: Answer,
+    kept: Option<ExecutionError>,
+    state: LoopState<'c>,
+    stacks: &mut Stacks<'c>,
+) -> Result<Entry, Refused>
+    ensures { IfOk result (λ e. (body : ℕ) → state.entry.start ≡ body → state.entry.finish ≡ place →
+        Advances (weighed stop place (outcome_view answer) (values_of stacks.old) (option_map fault_view kept) (aside_of stacks.old) (loop_view state.entry) (loops_of stacks.old))
+        body place e (values_of stacks.new) (aside_of stacks.new) (loop_view state.entry ∷ loops_of stacks.old) (loops_of stacks.new)) }
+{
+    match absorb(alloc, stop, loop_text(stop), kept, answer)? {
+        Progress::Decided => {
+            push_answer(&mut stacks.values, Ok(Value::Bool(stop)))?;
+            Ok(Entry::Past)
+        }
+        Progress::Open(last) => next_item(stop, place, last, state, stacks),
+    }
+}
+
+/// What an optional value holds, or an error.
+fn held(alloc: Global, answer: Answer) -> Result<Result<Option<Value>, ExecutionError>, Refused>
+    ensures { IfOk result (λ g. gift_view g ≡ held_gift (outcome_view answer)) }
+{
+    match answer {
+        Err(e) => Ok(Err(e)),
+        Ok(Value::Optional(optional)) => match optional.value() {
+            Some(value) => Ok(Ok(Some(value.try_clone()?))),
+            None => Ok(Ok(None)),
+        },
+        Ok(_) => Ok(Err(no_such_overload(alloc, "map")?)),
+    }
+}
+
+/// What an item gives.
+fn gift_from(
+    alloc: Global,
+    end: End,
+    item: &Value,
+    answer: Answer,
+) -> Result<Result<Option<Value>, ExecutionError>, Refused>
+    ensures { IfOk result (λ g. gift_view g ≡ gift_at end.kind end.filtered (view item.now) (outcome_view answer)) }
+{
+    if end.filtered {
+        held(alloc, answer)
+    } else {
+        gift(alloc, end.kind, item, answer)
+    }
+}
+
+/// After an item of a loop that gathers.
+fn collect<'c>(
+    alloc: Global,
+    end: End,
+    place: usize,
+    answer: Answer,
+    kept: Option<ExecutionError>,
+    mut state: LoopState<'c>,
+    stacks: &mut Stacks<'c>,
+) -> Result<Entry, Refused>
+    ensures { IfOk result (λ e. (body : ℕ) → state.entry.start ≡ body → state.entry.finish ≡ place →
+        Advances (collected end.kind place (gift_at end.kind end.filtered (view state.entry.item) (outcome_view answer)) (values_of stacks.old) (option_map fault_view kept) (aside_of stacks.old) (loop_view state.entry) (loops_of stacks.old))
+        body place e (values_of stacks.new) (aside_of stacks.new) (loop_view state.entry ∷ loops_of stacks.old) (loops_of stacks.new)) }
+{
+    match gift_from(alloc, end, &state.item, answer)? {
+        Err(e) => {
+            push_answer(&mut stacks.values, Err(e))?;
+            Ok(Entry::Past)
+        }
+        Ok(None) => next_gathered(alloc, end.kind, place, kept, state, stacks),
+        Ok(Some(value)) => {
+            state.given.push(value)?;
+            next_gathered(alloc, end.kind, place, kept, state, stacks)
+        }
+    }
+}
+
+/// After an item.
+fn turn_back<'c>(
+    alloc: Global,
+    end: End,
+    place: usize,
+    answer: Answer,
+    kept: Option<ExecutionError>,
+    state: LoopState<'c>,
+    stacks: &mut Stacks<'c>,
+) -> Result<Entry, Refused>
+    ensures { IfOk result (λ e. (body : ℕ) → state.entry.start ≡ body → state.entry.finish ≡ place →
+        Advances (turned end.kind end.filtered place (outcome_view answer) (values_of stacks.old) (option_map fault_view kept) (aside_of stacks.old) (loop_view state.entry) (loops_of stacks.old))
+        body place e (values_of stacks.new) (aside_of stacks.new) (loop_view state.entry ∷ loops_of stacks.old) (loops_of stacks.new)) }
+{
+    match end.kind {
+        MacroKind::All => weigh(alloc, false, place, answer, kept, state, stacks),
+        MacroKind::Exists => weigh(alloc, true, place, answer, kept, state, stacks),
+        MacroKind::ExistsOne => collect(alloc, end, place, answer, kept, state, stacks),
+        MacroKind::Map => collect(alloc, end, place, answer, kept, state, stacks),
+        MacroKind::Filter => collect(alloc, end, place, answer, kept, state, stacks),
+    }
+}
+
 /// The end of a loop's body.
 pub(crate) fn advance(
     alloc: Global,
-    stop: bool,
+    end: End,
     place: usize,
     stacks: &mut Stacks<'_>,
 ) -> Result<Entry, Refused>
     ensures { IfOk result (λ e. (body : ℕ) → Top body place (loops_of stacks.old) →
-        Advances (looped stop place (values_of stacks.old) (aside_of stacks.old) (loops_of stacks.old))
+        Advances (looped end.kind end.filtered place (values_of stacks.old) (aside_of stacks.old) (loops_of stacks.old))
         body place e (values_of stacks.new) (aside_of stacks.new) (loops_of stacks.old) (loops_of stacks.new)) }
 {
     match pop_answer(&mut stacks.values) {
         None => Ok(Entry::Out),
         Some(answer) => match pop_aside(&mut stacks.absorbed) {
             None => Ok(Entry::Out),
-            Some(fault) => match pop_loop(&mut stacks.loops) {
+            Some(kept) => match pop_loop(&mut stacks.loops) {
                 None => Ok(Entry::Out),
-                Some(state) => match absorb(alloc, stop, loop_text(stop), fault, answer)? {
-                    Progress::Decided => {
-                        push_answer(&mut stacks.values, Ok(Value::Bool(stop)))?;
-                        Ok(Entry::Past)
-                    }
-                    Progress::Open(last) => next_item(stop, place, last, state, stacks),
-                },
+                Some(state) => turn_back(alloc, end, place, answer, kept, state, stacks),
             },
         },
     }
 }
 
 /// Which loop's end an instruction is, if any.
-pub(crate) fn end_of(instr: &Instr) -> Option<bool>
-    ensures { MatchOption result ((p m : ℕ) → allowed (op instr.now) p m ≡ nat_lt p m) (λ stop. op instr.now ≡ next stop) }
+pub(crate) fn end_of(instr: &Instr) -> Option<End>
+    ensures { MatchOption result ((p m : ℕ) → allowed (op instr.now) p m ≡ nat_lt p m) (λ end. op instr.now ≡ next end.kind end.filtered) }
 {
     match instr {
-        Instr::Next(stop) => Some(*stop),
+        Instr::Next { kind, filtered } => Some(End {
+            kind: *kind,
+            filtered: *filtered,
+        }),
         _ => None,
     }
 }

@@ -1,29 +1,26 @@
 //! What an instruction does with the operands on the stack.
-ghost use Rattle.std.specs.Prelude.{◌≡◌, ◌∷◌, [], ◌<◌, ◌≤◌, ◌+◌, ℕ, Bool, IfOk, List, Option, Some, Ok, Err, option_map, map, reverse, drop, nat_lt, MatchOption};
-ghost use Rattle.std.specs.Prelude.{String};
-ghost use Rattle.std.specs.Option.{option_map_or};
-ghost use Rattle.std.specs.declared.alloc.Global.{Global};
-ghost use Rattle.std.specs.declared.rc.Rc.{Rc};
-ghost use Rattle.cel_book.specs.Book.{Book, Agrees};
-ghost use Rattle.cel_book.specs.Entries.{entries_of};
-ghost use Rattle.cel_value.specs.Faults.{Fault, fault_view, undeclared};
+ghost use Rattle.std.specs.Prelude.{◌≡◌, ◌∷◌, [], ◌<◌, ◌≤◌, ◌+◌, ℕ, IfOk, List, Option, Ok, drop, length, map, Some, None, MatchOption};
+ghost use Rattle.cel_book.specs.Book.{Book};
+ghost use Rattle.cel_value.specs.Data.{Data};
+ghost use Rattle.cel_value.specs.Faults.{Fault};
 ghost use Rattle.cel_value.specs.Keys.{key_view};
 ghost use Rattle.cel_value.specs.View.{view};
-ghost use Rattle.cel_meaning.specs.Bindings.{Bindings, binding, bindings_of, functions_of};
+ghost use Rattle.cel_meaning.specs.Bindings.{Bindings};
 ghost use Rattle.cel_meaning.specs.Library.{Library};
-ghost use Rattle.cel_meaning.specs.Outcome.{Outcome, outcome_view};
-ghost use Rattle.cel_machine.specs.Machine.{Loop, go, turn, guarded, branched, absorbed, joined, begun, looped, allowed, inside, limit, logic_name, loop_name, again, entered};
-ghost use Rattle.cel_machine.specs.Op.{op, next, apply, load, one_value, two_values, selected_at};
-ghost use Rattle.cel_machine.specs.State.{loop_view, outcomes, aside, loops_view, values_of, aside_of, loops_of};
-ghost use Rattle.cel_machine.specs.Correct.{Reaches, LeadsOut, Enters, Advances, Top};
-ghost use Rattle.cel_machine.specs.declared.instr.Instr.TheVariants.{Begin};
+ghost use Rattle.cel_meaning.specs.Outcome.{outcome_view};
+ghost use Rattle.cel_machine.specs.Machine.{Loop, turn, guarded, branched, absorbed, joined, limit, logic_name, taken};
+ghost use Rattle.cel_machine.specs.Op.{apply, one_value, two_values, selected_at, has_at, indexed_by, as_list, put_entry, as_present, test_name};
+ghost use Rattle.cel_machine.specs.State.{outcomes, aside};
+ghost use Rattle.cel_machine.specs.Correct.{Reaches, Lacks};
 
+use crate::instr::Test;
 use crate::state::{pop_answer, pop_aside, push_answer, push_aside};
+use cel_meaning::members::{has, index, put, select};
 use cel_meaning::operators::{
-    Answer, Progress, absorb, no_such_overload, operate, operate_on_one, select, settle,
+    Answer, Progress, absorb, no_such_overload, operate, operate_on_one, settle,
 };
 use cel_syntax_tree::{BinaryOperator, UnaryOperator};
-use cel_value::{ExecutionError, Key, Refused, Value};
+use cel_value::{ExecutionError, Key, OptionalValue, Refused, Value};
 use std::alloc::Global;
 
 /// The place so many instructions past the next one, if it is no later than the end.
@@ -81,9 +78,20 @@ pub(crate) fn guard(
     }
 }
 
-/// A condition.
+/// The name of a test.
+fn test_text(test: Test) -> &'static str
+    ensures { result.now ≡ test_name test }
+{
+    match test {
+        Test::Condition => "?:",
+        Test::Filter => "map",
+    }
+}
+
+/// A test.
 pub(crate) fn branch(
     alloc: Global,
+    test: Test,
     other: usize,
     past: usize,
     place: usize,
@@ -92,7 +100,7 @@ pub(crate) fn branch(
 ) -> Result<Option<usize>, Refused>
     requires { place < end }
     ensures { IfOk result (λ q. (size : ℕ) (ab : List (Option Fault)) (ls : List Loop) → limit size ls ≡ end
-        → Reaches size place end (branched other past place (outcomes values.old.items) ab ls) q (outcomes values.new.items) ab ls) }
+        → Reaches size place end (branched (test_name test) other past place (outcomes values.old.items) ab ls) q (outcomes values.new.items) ab ls) }
 {
     match pop_answer(values) {
         None => Ok(None),
@@ -100,7 +108,7 @@ pub(crate) fn branch(
             Ok(Value::Bool(true)) => Ok(Some(place + 1)),
             Ok(Value::Bool(false)) => Ok(jump(place, other, end)),
             Ok(_) => {
-                push_answer(values, Err(no_such_overload(alloc, "?:")?))?;
+                push_answer(values, Err(no_such_overload(alloc, test_text(test))?))?;
                 Ok(jump(place, past, end))
             }
             Err(e) => {
@@ -245,6 +253,165 @@ pub(crate) fn member(
                 Ok(Some(place + 1))
             }
             Err(_) => Ok(None),
+        },
+    }
+}
+
+/// Whether a map has a member at a key.
+pub(crate) fn member_there(
+    alloc: Global,
+    key: &Key,
+    place: usize,
+    end: usize,
+    values: &mut Vec<Answer>,
+) -> Result<Option<usize>, Refused>
+    requires { place < end }
+    ensures { IfOk result (λ q. (library : Library) (b : Book) (env : Bindings) (size : ℕ) (ab : List (Option Fault)) (ls : List Loop) → limit size ls ≡ end
+        → Reaches size place end (turn library b env size (apply (has_at (key_view key.now)) 1) place (outcomes values.old.items) ab ls) q (outcomes values.new.items) ab ls) }
+{
+    match pop_answer(values) {
+        None => Ok(None),
+        Some(answer) => match answer {
+            Ok(value) => {
+                push_answer(values, has(alloc, key, &value)?)?;
+                Ok(Some(place + 1))
+            }
+            Err(_) => Ok(None),
+        },
+    }
+}
+
+/// An optional value that holds the top.
+pub(crate) fn present(
+    alloc: Global,
+    place: usize,
+    end: usize,
+    values: &mut Vec<Answer>,
+) -> Result<Option<usize>, Refused>
+    requires { place < end }
+    ensures { IfOk result (λ q. (library : Library) (b : Book) (env : Bindings) (size : ℕ) (ab : List (Option Fault)) (ls : List Loop) → limit size ls ≡ end
+        → Reaches size place end (turn library b env size (apply as_present 1) place (outcomes values.old.items) ab ls) q (outcomes values.new.items) ab ls) }
+{
+    match pop_answer(values) {
+        None => Ok(None),
+        Some(answer) => match answer {
+            Ok(value) => {
+                push_answer(
+                    values,
+                    Ok(Value::Optional(OptionalValue::of(alloc, value)?)),
+                )?;
+                Ok(Some(place + 1))
+            }
+            Err(_) => Ok(None),
+        },
+    }
+}
+
+/// The item or the member of a value at an index.
+pub(crate) fn indexing(
+    alloc: Global,
+    place: usize,
+    end: usize,
+    values: &mut Vec<Answer>,
+) -> Result<Option<usize>, Refused>
+    requires { place < end }
+    ensures { IfOk result (λ q. (library : Library) (b : Book) (env : Bindings) (size : ℕ) (ab : List (Option Fault)) (ls : List Loop) → limit size ls ≡ end
+        → Reaches size place end (turn library b env size (apply indexed_by 2) place (outcomes values.old.items) ab ls) q (outcomes values.new.items) ab ls) }
+{
+    match pop_answer(values) {
+        None => Ok(None),
+        Some(last) => match last {
+            Err(_) => Ok(None),
+            Ok(at) => match pop_answer(values) {
+                None => Ok(None),
+                Some(first) => match first {
+                    Err(_) => Ok(None),
+                    Ok(value) => {
+                        push_answer(values, index(alloc, &value, &at)?)?;
+                        Ok(Some(place + 1))
+                    }
+                },
+            },
+        },
+    }
+}
+
+/// The topmost value, unless it is an error.
+pub(crate) fn pop_operand(values: &mut Vec<Answer>) -> Option<Value>
+    ensures { MatchOption result (Lacks (outcomes values.old.items)) (λ v. outcomes values.old.items ≡ Ok (view v) ∷ outcomes values.new.items) }
+{
+    match pop_answer(values) {
+        None => None,
+        Some(answer) => match answer {
+            Ok(value) => Some(value),
+            Err(_) => None,
+        },
+    }
+}
+
+/// So many values from the top, the lowest first; none where there are not so many, or where one of them is an error.
+pub(crate) fn take_values(
+    alloc: Global,
+    count: usize,
+    values: &mut Vec<Answer>,
+) -> Result<Option<Vec<Value>>, Refused>
+    ensures { IfOk result (λ o. MatchOption o (taken count (outcomes values.old.items) [] ≡ None)
+        (λ v. (length v.items ≡ count) × (taken count (outcomes values.old.items) [] ≡ Some (map view v.items, outcomes values.new.items)))) }
+{
+    let mut found = Vec::new(alloc);
+    while found.len() < count {
+        match pop_operand(values) {
+            None => return Ok(None),
+            Some(value) => found.push(value)?,
+        }
+    }
+    found.reverse();
+    Ok(Some(found))
+}
+
+/// A list of so many values.
+pub(crate) fn list(
+    alloc: Global,
+    count: usize,
+    place: usize,
+    end: usize,
+    values: &mut Vec<Answer>,
+) -> Result<Option<usize>, Refused>
+    requires { place < end }
+    ensures { IfOk result (λ q. (library : Library) (b : Book) (env : Bindings) (size : ℕ) (ab : List (Option Fault)) (ls : List Loop) → limit size ls ≡ end
+        → Reaches size place end (turn library b env size (apply as_list count) place (outcomes values.old.items) ab ls) q (outcomes values.new.items) ab ls) }
+{
+    match take_values(alloc, count, values)? {
+        None => Ok(None),
+        Some(items) => {
+            push_answer(values, Ok(Value::from_items(alloc, items)?))?;
+            Ok(Some(place + 1))
+        }
+    }
+}
+
+/// A map literal's next entry.
+pub(crate) fn put_next(
+    alloc: Global,
+    place: usize,
+    end: usize,
+    values: &mut Vec<Answer>,
+) -> Result<Option<usize>, Refused>
+    requires { place < end }
+    ensures { IfOk result (λ q. (library : Library) (b : Book) (env : Bindings) (size : ℕ) (ab : List (Option Fault)) (ls : List Loop) → limit size ls ≡ end
+        → Reaches size place end (turn library b env size (apply put_entry 3) place (outcomes values.old.items) ab ls) q (outcomes values.new.items) ab ls) }
+{
+    match pop_operand(values) {
+        None => Ok(None),
+        Some(value) => match pop_operand(values) {
+            None => Ok(None),
+            Some(key) => match pop_operand(values) {
+                None => Ok(None),
+                Some(map) => {
+                    push_answer(values, put(alloc, map, &key, &value)?)?;
+                    Ok(Some(place + 1))
+                }
+            },
         },
     }
 }

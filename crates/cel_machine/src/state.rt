@@ -6,14 +6,17 @@ ghost use Rattle.cel_meaning.specs.Outcome.{outcome_view};
 ghost use Rattle.cel_machine.specs.State.{outcomes, aside, loop_view, loops_view};
 
 use cel_meaning::operators::Answer;
+use cel_syntax_tree::MacroKind;
 use cel_value::{ExecutionError, Refused, Value};
 
-/// A loop: the item that its variable is bound to, the items that are left, the next one last, and the places where its body starts and ends.
+/// A loop: the item that its variable is bound to, the items that are left, the next one last, what the items so far gave to its result,
+/// and the places where its body starts and ends.
 #[derive(Drop)]
 pub struct LoopState<'c> {
     pub variable: &'c str,
     pub item: Value,
     pub rest: Vec<Value>,
+    pub given: Vec<Value>,
     pub start: usize,
     pub finish: usize,
 }
@@ -24,6 +27,13 @@ pub struct Stacks<'c> {
     pub values: Vec<Answer>,
     pub absorbed: Vec<Option<ExecutionError>>,
     pub loops: Vec<LoopState<'c>>,
+}
+
+/// The end of a loop's body: its macro, and whether what the body leaves went through a filter.
+#[derive(Clone, Copy, Debug, PartialEq, Eq)]
+pub struct End {
+    pub kind: MacroKind,
+    pub filtered: bool,
 }
 
 /// Where an instruction of a loop leads: to an item, past the loop, or out of all that it may reach.

@@ -1,3 +1,6 @@
 pub mod Decisions
 pub mod Lookups
 pub mod Sets
+pub mod Numbers
+pub mod MapCopies
+pub mod Items

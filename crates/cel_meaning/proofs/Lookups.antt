@@ -1,16 +1,15 @@
 -- Names that are looked up, and what macros go over.
-use Rattle.std.proofs.Common.{◌≡◌, ℕ, List, [], ◌∷◌, ◌++◌, Bool, true, false, cond, Option, Some, None, Ok, Err, map, take, length, get_or, ◌+◌, ◌<◌, option_map, String, Global, Bor, BTreeMap, rules, refl, ap, ◌∙◌, sym}
+use Rattle.std.proofs.Common.{is_some, ◌≡◌, ℕ, List, [], ◌∷◌, ◌++◌, Bool, true, false, cond, Option, Some, None, Ok, map, take, length, get_or, ◌+◌, ◌<◌, option_map, String, Global, Bor, BTreeMap, rules, refl, ap, ◌∙◌, sym, append_assoc}
 use Rattle.std.specs.BTreeMap.{get_by_text, UpdatesBy, is_at}
 use Rattle.std.specs.Cmp.Lexicographic.{slice_cmp}
 use Rattle.std.specs.Map.{lookup}
-use Rattle.std.specs.Option.{option_or, option_map_or}
+use Rattle.std.specs.Option.{option_or}
 use Rattle.std.specs.Ordering.{nat_cmp}
 use Rattle.std.specs.Str.{bytes_eq}
 use Rattle.std.specs.String.{string_bytes, string_cmp}
 use Rattle.std.proofs.lemmas.List.{take_more, map_push}
 use Rattle.std.proofs.lemmas.Map.Text.{is_eq-slice_cmp, btree_map_updates_text}
-use Rattle.cel_value.specs.Data.{KeyData, Data, list, map_of}
-use Rattle.cel_value.specs.Faults.{no_key}
+use Rattle.cel_value.specs.Data.{KeyData, Data, bool, list, map_of}
 use Rattle.cel_value.specs.Find.{find}
 use Rattle.cel_value.specs.Keys.{key_view}
 use Rattle.cel_value.specs.View.{view, entries_view, items_of, items_view}
@@ -18,7 +17,7 @@ use Rattle.cel_value.specs.declared.key.Key.{Key}
 use Rattle.cel_value.specs.declared.value.Value.{Value, the_lemmas}
 use Rattle.cel_value.specs.declared.value.Value.TheVariants as value
 use Rattle.cel_meaning.specs.Bindings.{Bindings, binding, named, bindings}
-use Rattle.cel_meaning.specs.Operators.{selected}
+use Rattle.cel_meaning.specs.Members.{has_member, is_key, key_of, contained}
 use Rattle.cel_meaning.specs.Ranges.{keys_list, key_data, items_list, range_of}
 use Rattle.cel_meaning.specs.declared.scope.Scope.{Scope, the_lemmas as scope_lemmas}
 use Rattle.cel_meaning.specs.declared.scope.Scope.TheVariants as scope
@@ -96,25 +95,33 @@ inner_bindings es m outer h = ap (λ fs. named fs ++ bindings (scope.Named m out
 
 -- ---- maps
 
-view-Map : (m : _) → view (value.Map m) ≡ map_of (entries_view m.value.entries)
-view-Map m = search (rules, the_lemmas)
+pub view_map : (m : _) → view (value.Map m) ≡ map_of (entries_view m.value.entries)
+view_map m = search (rules, the_lemmas)
 
 pub view-List : (v : _) → view (value.List v) ≡ list (items_view v.value.items)
 view-List v = search (rules, the_lemmas)
 
-pub selected-Map : (k : KeyData) (v : Value) (m : _) (o : Option Data) → v ≡ value.Map m → o ≡ find k (entries_view m.value.entries) → option_map_or Ok o (Err (no_key k)) ≡ selected k (view v)
-selected-Map k v m o is e = ap (λ p. option_map_or Ok p (Err (no_key k))) e ∙ ap (selected k) (sym (view-Map m) ∙ ap view (sym is))
+view_bool : (b : Bool) → view (value.Bool b) ≡ bool b
+view_bool b = search (rules, the_lemmas)
+
+pub has-Map : (k : KeyData) (v : Value) (m : _) (b : Bool) → v ≡ value.Map m → b ≡ is_some (find k (entries_view m.value.entries)) → Ok (view (value.Bool b)) ≡ has_member k (view v)
+has-Map k v m b is e = ap Ok (view_bool b) ∙ ap (λ h. Ok (bool h)) e ∙ ap (has_member k) (sym (view_map m) ∙ ap view (sym is))
+
+pub contained-Map : (d : Data) (v : Value) (m : _) (b : Bool) → v ≡ value.Map m → b ≡ is_key (entries_view m.value.entries) (key_of d) → Ok (view (value.Bool b)) ≡ contained d (view v)
+contained-Map d v m b is e = ap Ok (view_bool b) ∙ ap (λ h. Ok (bool h)) e ∙ ap (contained d) (sym (view_map m) ∙ ap view (sym is))
 
 pub range-List : (name : List ℕ) (v : Value) (m : _) (ds : List Data) → v ≡ value.List m → ds ≡ map view m.value.items → Ok ds ≡ range_of name (view v)
 range-List name v m ds is e = ap Ok e ∙ ap Ok (sym (items_list-items_of (map view m.value.items))) ∙ ap (range_of name) (sym (view-List m) ∙ ap view (sym is))
 
 pub range-Map : (name : List ℕ) (v : Value) (m : _) (ds : List Data) → v ≡ value.Map m → ds ≡ keys_list (entries_view m.value.entries) → Ok ds ≡ range_of name (view v)
-range-Map name v m ds is e = ap Ok e ∙ ap (range_of name) (sym (view-Map m) ∙ ap view (sym is))
+range-Map name v m ds is e = ap Ok e ∙ ap (range_of name) (sym (view_map m) ∙ ap view (sym is))
 
 -- ---- copies
 
-pub copied_more : (xs : List Value) (i : ℕ) (x v : Value) (ys zs : List Value) → i < length xs → x ≡ get_or xs i x → view v ≡ view x → map view ys ≡ map view (take i xs) → zs ≡ ys ++ v ∷ []
-    → map view zs ≡ map view (take (i + 1) xs)
-copied_more xs i x v ys zs lt is same done e =
-    ap (map view) e ∙ map_push view ys v ∙ ap (λ ds. ds ++ view v ∷ []) done ∙ ap (λ d. map view (take i xs) ++ d ∷ []) same
-    ∙ sym (ap (map view) (take_more xs i x lt ∙ ap (λ y. take i xs ++ y ∷ []) (sym is)) ∙ map_push view (take i xs) x)
+-- one more copy
+pub copied_more : (before xs : List Value) (i : ℕ) (x v : Value) (ys zs : List Value) → i < length xs → x ≡ get_or xs i x → view v ≡ view x → map view ys ≡ map view before ++ map view (take i xs) → zs ≡ ys ++ v ∷ []
+    → map view zs ≡ map view before ++ map view (take (i + 1) xs)
+copied_more before xs i x v ys zs lt is same done e =
+    ap (map view) e ∙ map_push view ys v ∙ ap (λ ds. ds ++ view v ∷ []) done ∙ append_assoc (map view before) (map view (take i xs)) (view v ∷ [])
+    ∙ ap (λ d. map view before ++ (map view (take i xs) ++ d ∷ [])) same
+    ∙ ap (λ ds. map view before ++ ds) (sym (ap (map view) (take_more xs i x lt ∙ ap (λ y. take i xs ++ y ∷ []) (sym is)) ∙ map_push view (take i xs) x))

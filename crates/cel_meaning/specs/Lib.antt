@@ -1,9 +1,13 @@
 pub mod Outcome
 pub mod Library
 pub mod Bindings
+pub mod Arithmetic
+pub mod Members
 pub mod Operators
 pub mod Decisions
 pub mod Ranges
+pub mod Macros
+pub mod Calls
 pub mod Meaning
 pub mod Progress
 pub mod Standard

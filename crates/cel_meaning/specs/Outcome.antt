@@ -1,7 +1,7 @@
 -- What an evaluation comes to: a value, or the reason why there is none (CEL language definition, "Evaluation").
-use Rattle.std.specs.Prelude.{Result, Ok, Err}
+use Rattle.std.specs.Prelude.{List, [], ◌∷◌, codes, Result, Ok, Err}
 use Rattle.cel_value.specs.Data.{Data}
-use Rattle.cel_value.specs.Faults.{Fault, fault_view}
+use Rattle.cel_value.specs.Faults.{Fault, undeclared, fault_view}
 use Rattle.cel_value.specs.View.{view}
 use Rattle.cel_value.specs.declared.error.ExecutionError.{ExecutionError}
 use Rattle.cel_value.specs.declared.value.Value.{Value}
@@ -17,3 +17,12 @@ outcome_view (Err e) = Err (fault_view e)
 abbrev pub and_then : {A B : Type 0} → Result A Fault → (A → Result B Fault) → Result B Fault
 and_then (Ok v) f = f v
 and_then (Err e) f = Err e
+
+-- all the values, or the first error from the left
+abbrev pub all_values : List Outcome → Result (List Data) Fault
+all_values [] = Ok []
+all_values (r ∷ rs) = and_then r (λ v. and_then (all_values rs) (λ vs. Ok (v ∷ vs)))
+
+-- why nothing is done with a double
+abbrev pub no_doubles : Fault
+no_doubles = undeclared (codes "double")

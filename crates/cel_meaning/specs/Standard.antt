@@ -7,9 +7,7 @@ use Rattle.cel_value.specs.Data.{Data, bool}
 use Rattle.cel_value.specs.Faults.{no_overload}
 use Rattle.cel_value.specs.Find.{first_item}
 use Rattle.cel_value.specs.Parts.{held_in}
-use Rattle.cel_value.specs.Same.{has_double}
 use Rattle.cel_meaning.specs.Library.{Library}
-use Rattle.cel_meaning.specs.Operators.{no_doubles}
 use Rattle.cel_meaning.specs.Outcome.{Outcome}
 use Rattle.cel_meaning.specs.declared.functions.Form.{Form}
 use Rattle.cel_meaning.specs.declared.functions.Form.TheVariants.{Unknown, Wrong, Known}
@@ -22,12 +20,8 @@ standard_form name receiver count =
 abbrev pub has_value : Data → Outcome
 has_value v = option_map_or (λ ds. Ok (bool (is_some (first_item ds)))) (held_in v) (Err (no_overload (codes "hasValue")))
 
--- a function takes no double, as an operator takes none
-abbrev pub asked_of : Data → Outcome
-asked_of v = if has_double v then Err no_doubles else has_value v
-
 abbrev pub standard_answer : List ℕ → Option Data → List Data → Book → Outcome
-standard_answer name receiver args book = option_map_or asked_of receiver (Err (no_overload name))
+standard_answer name receiver args book = option_map_or has_value receiver (Err (no_overload name))
 
 abbrev pub standard_library : Library
 standard_library = record { form_of = standard_form; answer_of = standard_answer }

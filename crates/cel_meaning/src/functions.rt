@@ -1,5 +1,5 @@
 //! The functions that an expression may call.
-ghost use Rattle.std.specs.Prelude.{◌≡◌, length, map, option_map, is_some, IfOk};
+ghost use Rattle.std.specs.Prelude.{◌≡◌, length, map, option_map, is_some, IfOk, IfErr};
 ghost use Rattle.cel_book.specs.Book.{Agrees};
 ghost use Rattle.cel_book.specs.Entries.{entries_of};
 ghost use Rattle.cel_book.specs.Settled.{Settles};
@@ -39,6 +39,9 @@ pub trait Functions: Copy {
         ensures { result ≡ (library self.now).form_of name.now receiver count };
 
     /// The answer of a call whose form is known. The book keeps its entries, also where the call is refused memory.
+    ///
+    /// # Errors
+    /// `Memory` alone.
     fn call(
         &self,
         alloc: Global,
@@ -51,5 +54,6 @@ pub trait Functions: Copy {
             ≡ Form.Known }
         ensures keeps { Agrees (entries_of book.new) (entries_of book.old) }
         ensures value { IfOk result (λ r. Settles (entries_of book.new) (outcome_view r)
-            ((library self.now).answer_of name.now (option_map (λ v. view v.now) receiver.entry) (map view args.now))) };
+            ((library self.now).answer_of name.now (option_map (λ v. view v.now) receiver.entry) (map view args.now))) }
+        ensures memory { IfErr result (λ e. e ≡ Refused.Memory) };
 }

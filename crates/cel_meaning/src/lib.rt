@@ -1,8 +1,13 @@
 //! What CEL expressions mean: names and their values, functions, operators, and the meaning of a tree.
 #![tactic(auto)]
 
+mod arithmetic;
+pub mod calls;
 pub mod context;
 pub mod functions;
+pub mod macros;
+mod map_literals;
+pub mod members;
 pub mod operators;
 pub mod ranges;
 pub mod scope;

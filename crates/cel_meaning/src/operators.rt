@@ -1,17 +1,17 @@
-//! What operators and selections do with values.
-ghost use Rattle.std.specs.Prelude.{◌≡◌, IfOk, Ok, Err, option_map, not};
+//! What operators do with values.
+ghost use Rattle.std.specs.Prelude.{◌≡◌, IfOk, IfErr, Ok, Err, option_map, not};
 ghost use Rattle.std.specs.Option.{option_map_or};
 ghost use Rattle.cel_value.specs.Data.{bool};
 ghost use Rattle.cel_value.specs.Faults.{fault_view, no_overload};
-ghost use Rattle.cel_value.specs.Keys.{key_view};
 ghost use Rattle.cel_value.specs.View.{view};
-ghost use Rattle.cel_meaning.specs.Operators.{no_doubles, negated, operator_text, holds_of, ordered, related, operated_on_one, operated, selected};
-ghost use Rattle.cel_meaning.specs.Outcome.{outcome_view};
+ghost use Rattle.cel_meaning.specs.Operators.{negated, operator_text, holds_of, ordered, related, operated_on_one, operated};
+ghost use Rattle.cel_meaning.specs.Outcome.{no_doubles, outcome_view};
 ghost use Rattle.cel_meaning.specs.Progress.{Absorbs};
 
+use crate::arithmetic::{add, divide, multiply, negate, remainder, subtract};
+use crate::members::is_in;
 use cel_syntax_tree::{BinaryOperator, UnaryOperator};
-use cel_value::build::find_entry;
-use cel_value::{ExecutionError, Key, Refused, Value};
+use cel_value::{ExecutionError, Refused, Value};
 use std::alloc::Global;
 use std::cmp::Ordering;
 
@@ -19,15 +19,20 @@ use std::cmp::Ordering;
 pub type Answer = Result<Value, ExecutionError>;
 
 /// The fault of an operator, a macro or a function that takes no such values.
+///
+/// # Errors
+/// `Memory` alone.
 pub fn no_such_overload(alloc: Global, name: &str) -> Result<ExecutionError, Refused>
-    ensures { IfOk result (λ e. fault_view e ≡ no_overload name.now) }
+    ensures value { IfOk result (λ e. fault_view e ≡ no_overload name.now) }
+    ensures memory { IfErr result (λ e. e ≡ Refused.Memory) }
 {
     Ok(ExecutionError::NoSuchOverload(String::from_str(alloc, name)?))
 }
 
 /// The fault of an operator or a function that a double was given to.
 pub(crate) fn double_fault(alloc: Global) -> Result<ExecutionError, Refused>
-    ensures { IfOk result (λ e. fault_view e ≡ no_doubles) }
+    ensures value { IfOk result (λ e. fault_view e ≡ no_doubles) }
+    ensures memory { IfErr result (λ e. e ≡ Refused.Memory) }
 {
     Ok(ExecutionError::UndeclaredReference(String::from_str(alloc, "double")?))
 }
@@ -42,6 +47,9 @@ pub enum Progress {
 }
 
 /// One more operand, after operands whose first fault is `fault`. The bool `stop` decides.
+///
+/// # Errors
+/// `Memory` alone.
 pub fn absorb(
     alloc: Global,
     stop: bool,
@@ -49,7 +57,8 @@ pub fn absorb(
     fault: Option<ExecutionError>,
     answer: Answer,
 ) -> Result<Progress, Refused>
-    ensures { IfOk result (λ p. Absorbs stop name.now (option_map fault_view fault) (outcome_view answer) p) }
+    ensures value { IfOk result (λ p. Absorbs stop name.now (option_map fault_view fault) (outcome_view answer) p) }
+    ensures memory { IfErr result (λ e. e ≡ Refused.Memory) }
 {
     match answer {
         Ok(Value::Bool(b)) => {
@@ -81,8 +90,9 @@ pub fn settle(stop: bool, fault: Option<ExecutionError>) -> Answer
     }
 }
 
-fn negate(alloc: Global, value: &Value) -> Result<Answer, Refused>
-    ensures { IfOk result (λ r. outcome_view r ≡ negated (view value.now)) }
+fn invert(alloc: Global, value: &Value) -> Result<Answer, Refused>
+    ensures value { IfOk result (λ r. outcome_view r ≡ negated (view value.now)) }
+    ensures memory { IfErr result (λ e. e ≡ Refused.Memory) }
 {
     match value {
         Value::Bool(b) => Ok(Ok(Value::Bool(!*b))),
@@ -91,18 +101,23 @@ fn negate(alloc: Global, value: &Value) -> Result<Answer, Refused>
 }
 
 /// An operator on one value.
+///
+/// # Errors
+/// `Memory` alone.
 pub fn operate_on_one(
     alloc: Global,
     operator: UnaryOperator,
     value: &Value,
 ) -> Result<Answer, Refused>
-    ensures { IfOk result (λ r. outcome_view r ≡ operated_on_one operator (view value.now)) }
+    ensures value { IfOk result (λ r. outcome_view r ≡ operated_on_one operator (view value.now)) }
+    ensures memory { IfErr result (λ e. e ≡ Refused.Memory) }
 {
     if value.holds_double() {
         return Ok(Err(double_fault(alloc)?));
     }
     match operator {
-        UnaryOperator::Not => negate(alloc, value),
+        UnaryOperator::Not => invert(alloc, value),
+        UnaryOperator::Negate => negate(alloc, value),
     }
 }
 
@@ -119,6 +134,12 @@ pub fn text_of(operator: BinaryOperator) -> &'static str
         BinaryOperator::GreaterOrEqual => ">=",
         BinaryOperator::Equal => "==",
         BinaryOperator::NotEqual => "!=",
+        BinaryOperator::In => "in",
+        BinaryOperator::Add => "+",
+        BinaryOperator::Subtract => "-",
+        BinaryOperator::Multiply => "*",
+        BinaryOperator::Divide => "/",
+        BinaryOperator::Remainder => "%",
     }
 }
 
@@ -140,7 +161,8 @@ fn order(
     left: &Value,
     right: &Value,
 ) -> Result<Answer, Refused>
-    ensures { IfOk result (λ r. outcome_view r ≡ ordered operator (view left.now) (view right.now)) }
+    ensures value { IfOk result (λ r. outcome_view r ≡ ordered operator (view left.now) (view right.now)) }
+    ensures memory { IfErr result (λ e. e ≡ Refused.Memory) }
 {
     match left.compare(right) {
         Some(order) => Ok(Ok(Value::Bool(holds(operator, order)))),
@@ -154,7 +176,8 @@ fn relate(
     left: &Value,
     right: &Value,
 ) -> Result<Answer, Refused>
-    ensures { IfOk result (λ r. outcome_view r ≡ related operator (view left.now) (view right.now)) }
+    ensures value { IfOk result (λ r. outcome_view r ≡ related operator (view left.now) (view right.now)) }
+    ensures memory { IfErr result (λ e. e ≡ Refused.Memory) }
 {
     match operator {
         BinaryOperator::Or => Ok(Err(no_such_overload(alloc, "||")?)),
@@ -165,33 +188,30 @@ fn relate(
         BinaryOperator::GreaterOrEqual => order(alloc, operator, left, right),
         BinaryOperator::Equal => Ok(Ok(Value::Bool(*left == *right))),
         BinaryOperator::NotEqual => Ok(Ok(Value::Bool(*left != *right))),
+        BinaryOperator::In => is_in(alloc, left, right),
+        BinaryOperator::Add => add(alloc, left, right),
+        BinaryOperator::Subtract => subtract(alloc, left, right),
+        BinaryOperator::Multiply => multiply(alloc, left, right),
+        BinaryOperator::Divide => divide(alloc, left, right),
+        BinaryOperator::Remainder => remainder(alloc, left, right),
     }
 }
 
 /// An operator on two values.
+///
+/// # Errors
+/// `Memory` alone.
 pub fn operate(
     alloc: Global,
     operator: BinaryOperator,
     left: &Value,
     right: &Value,
 ) -> Result<Answer, Refused>
-    ensures { IfOk result (λ r. outcome_view r ≡ operated operator (view left.now) (view right.now)) }
+    ensures value { IfOk result (λ r. outcome_view r ≡ operated operator (view left.now) (view right.now)) }
+    ensures memory { IfErr result (λ e. e ≡ Refused.Memory) }
 {
     if left.holds_double() || right.holds_double() {
         return Ok(Err(double_fault(alloc)?));
     }
     relate(alloc, operator, left, right)
-}
-
-/// The member of a map at a key.
-pub fn select(alloc: Global, key: &Key, value: &Value) -> Result<Answer, Refused>
-    ensures { IfOk result (λ r. outcome_view r ≡ selected (key_view key.now) (view value.now)) }
-{
-    match value {
-        Value::Map(entries) => match find_entry(entries.as_ref(), key) {
-            Some(member) => Ok(Ok(member.try_clone()?)),
-            None => Ok(Err(ExecutionError::NoSuchKey(key.try_clone()?))),
-        },
-        _ => Ok(Err(no_such_overload(alloc, ".")?)),
-    }
 }

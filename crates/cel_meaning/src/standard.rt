@@ -1,11 +1,11 @@
 //! The functions of the CEL standard.
-ghost use Rattle.std.specs.Prelude.{◌≡◌, IfOk};
+ghost use Rattle.std.specs.Prelude.{◌≡◌, IfOk, IfErr};
 ghost use Rattle.cel_value.specs.View.{view};
 ghost use Rattle.cel_meaning.specs.Outcome.{outcome_view};
-ghost use Rattle.cel_meaning.specs.Standard.{asked_of, has_value, standard_library};
+ghost use Rattle.cel_meaning.specs.Standard.{has_value, standard_library};
 
 use crate::functions::{Form, Functions};
-use crate::operators::{Answer, double_fault, no_such_overload};
+use crate::operators::{Answer, no_such_overload};
 use cel_book::PatternBook;
 use cel_value::{Refused, Value};
 use std::alloc::Global;
@@ -15,7 +15,8 @@ use std::alloc::Global;
 pub struct StandardFunctions;
 
 fn has_value(alloc: Global, value: &Value) -> Result<Answer, Refused>
-    ensures { IfOk result (λ r. outcome_view r ≡ has_value (view value.now)) }
+    ensures value { IfOk result (λ r. outcome_view r ≡ has_value (view value.now)) }
+    ensures memory { IfErr result (λ e. e ≡ Refused.Memory) }
 {
     match value.as_optional() {
         Some(optional) => match optional.value() {
@@ -24,15 +25,6 @@ fn has_value(alloc: Global, value: &Value) -> Result<Answer, Refused>
         },
         None => Ok(Err(no_such_overload(alloc, "hasValue")?)),
     }
-}
-
-fn ask(alloc: Global, value: &Value) -> Result<Answer, Refused>
-    ensures { IfOk result (λ r. outcome_view r ≡ asked_of (view value.now)) }
-{
-    if value.holds_double() {
-        return Ok(Err(double_fault(alloc)?));
-    }
-    has_value(alloc, value)
 }
 
 impl Functions for StandardFunctions {
@@ -64,7 +56,7 @@ impl Functions for StandardFunctions {
         _book: &mut PatternBook,
     ) -> Result<Answer, Refused> {
         match receiver {
-            Some(value) => ask(alloc, value),
+            Some(value) => has_value(alloc, value),
             None => Ok(Err(no_such_overload(alloc, name)?)),
         }
     }

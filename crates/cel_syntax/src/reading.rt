@@ -29,7 +29,7 @@ fn read(alloc: Global, text: &[u8]) -> Result<Option<Expr>, Refused>
 ///
 /// [`ParseErrors`] where it derives none. The outer error is always [`Refused::Memory`].
 ///
-/// Brackets, operators and selections may nest up to level 250. Source: the section "Syntax" of the CEL language definition.
+/// Its parts may nest up to level 250. Source: the section "Syntax" of the CEL language definition.
 #[tactic(auto, using(crate::proofs::Trees::some_derives, crate::proofs::Trees::none_derives))]
 pub fn parse(alloc: Global, text: &str) -> Result<Result<Expr, ParseErrors>, Refused>
     ensures grammar { MatchResult result

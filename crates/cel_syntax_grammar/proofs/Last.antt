@@ -1,6 +1,6 @@
 -- The whole of the tokens.
-use Rattle.std.proofs.Common.{◌≡◌, ℕ, ◌<◌, zero, suc, refl, sym, arith, Option, Some, None, List, [], ◌∷◌, length}
-use Rattle.std.specs.Prelude.{Result, Ok, Err, MatchResult, MatchOption, option_map}
+use Rattle.std.proofs.Common.{◌≡◌, ℕ, ◌<◌, zero, suc, refl, sym, arith, cond, Option, Some, None, List, [], ◌∷◌, length}
+use Rattle.std.specs.Prelude.{nat_le, Result, Ok, Err, MatchResult, MatchOption, option_map}
 use Rattle.kube_types_refused.specs.declared.Refused.{Refused}
 use Rattle.kube_types_refused.specs.declared.Refused.TheVariants.{Memory}
 use Rattle.cel_syntax_tokens.specs.Token.{Token}
@@ -16,7 +16,7 @@ unfolding expr below
 expr_is zero = refl
 expr_is (suc n) = refl
 
-pub if_none_left : (x : Found) (ts : List Token) → length ts ≡ 0 → if_last (Some (x, ts)) ≡ Some x.0
+pub if_none_left : (x : Found) (ts : List Token) → length ts ≡ 0 → if_last (Some (x, ts)) ≡ cond (nat_le x.1 250) (Some x.0) None
 if_none_left x [] h = refl
 if_none_left x (t ∷ ts) h = absurd (omega arith)
 

@@ -9,13 +9,13 @@ use Rattle.std.proofs.lemmas.Bool.{ltb-true, le-leb, eqb-true, eq-eqb}
 use Rattle.std.proofs.lemmas.Bool.Decides.{nat_tests}
 use Rattle.cel_syntax_tokens.specs.contracts.mark.Mark.{the_type}
 use Rattle.cel_syntax_tokens.specs.declared.mark.Mark.{Mark}
-use Rattle.cel_syntax_tokens.specs.Token.{Token, mark}
+use Rattle.cel_syntax_tokens.specs.Token.{Token, word, mark}
 use Rattle.cel_syntax_tree.specs.Term.{Term}
 use Rattle.cel_syntax_tree.specs.declared.expr.BinaryOperator.{BinaryOperator}
 use Rattle.cel_syntax_grammar.specs.Words.{is_identifier, is_selector, is_literal, is_kept}
-use Rattle.cel_syntax_grammar.specs.Literal.{word_value}
+use Rattle.cel_syntax_literals.specs.Literal.{word_value, literal_value}
 use Rattle.cel_syntax_grammar.specs.Operator.{operator, operator_of}
-use Rattle.cel_syntax_grammar.specs.Parser.{Outcome, Parser, Found, and_then, same_mark, sees, above, operator_at, if_level}
+use Rattle.cel_syntax_grammar.specs.Parser.{Outcome, Parser, Found, and_then, same_mark, sees, above, slack, operator_at, if_level, is_end, sees_end}
 
 pub and_then_some : {A B : Type 0} {f : A → Parser B} {rest : List Token} {y : B} (o : Outcome A) → and_then o f ≡ Some (y, rest)
     → (x : A) × (mid : List Token) × (o ≡ Some (x, mid)) × (f x mid ≡ Some (y, rest))
@@ -33,16 +33,16 @@ unfolding same_mark
 sees_itself m ts = true_same the_type m m refl
 
 pub above_some : {t : Term} {x : Found} {rest : List Token} (limit l : ℕ) (ts : List Token) → above limit l t ts ≡ Some (x, rest)
-    → (x ≡ (t, l + 1)) × (ts ≡ rest) × (l + 1 ≤ limit)
+    → (x ≡ (t, l + 1)) × (ts ≡ rest) × (l + 1 ≤ limit + slack t)
 unfolding above
 above_some {t} {x} {rest} limit l ts e =
-    let h = cond_some {A = Found × List Token} (nat_lt l limit) ((t, l + 1), ts) (x, rest) e in
-    let lt : l < limit = ltb-true l limit h.0 in
+    let h = cond_some {A = Found × List Token} (nat_lt l (limit + slack t)) ((t, l + 1), ts) (x, rest) e in
+    let lt : l < limit + slack t = ltb-true l (limit + slack t) h.0 in
     (sym (ap (λ (p : Found × List Token). p.0) h.1), ap (λ (p : Found × List Token). p.1) h.1, omega arith)
 
-pub above_at : {t : Term} (limit l : ℕ) (ts : List Token) → l + 1 ≤ limit → above limit l t ts ≡ Some ((t, l + 1), ts)
+pub above_at : {t : Term} (limit l : ℕ) (ts : List Token) → l + 1 ≤ limit + slack t → above limit l t ts ≡ Some ((t, l + 1), ts)
 unfolding above
-above_at limit l ts h = let lt : nat_lt l limit ≡ true = le-leb (suc l) limit (omega arith) in rw lt
+above_at {t} limit l ts h = let lt : nat_lt l (limit + slack t) ≡ true = le-leb (suc l) (limit + slack t) (omega arith) in rw lt
 
 if_level_some : (k : ℕ) (o : Option (ℕ × BinaryOperator)) (op : BinaryOperator) → if_level k o ≡ Some op → o ≡ Some (k, op)
 if_level_some k None op e = absurd (cc)
@@ -66,6 +66,13 @@ pub no_operator : (m k : Mark) (o : ℕ × BinaryOperator) → operator_of m ≡
 unfolding same_mark
 no_operator m k o e none = false_same the_type (Prim.search) m k (λ same. absurd (cc (ap operator_of same)))
 
+-- nor is a token that begins an expression one that ends it
+pub no_end : (k : Mark) (ts : List Token) → is_end k ≡ true → sees_end ts ≡ false → sees k ts ≡ false
+unfolding same_mark
+no_end k [] is h = refl
+no_end k (mark n ∷ ts) is h = false_same the_type (Prim.search) n k (λ same. absurd (cc (ap is_end same)))
+no_end k (_ ∷ ts) is h = refl
+
 -- An operator doesn't bind more tightly than it does.
 pub no_tighter : (j k : ℕ) (o : Token) (ts : List Token) (op : BinaryOperator) → operator o ≡ Some (suc k, op) → j ≤ k → operator_at j (o ∷ ts) ≡ None
 unfolding operator_at
@@ -83,7 +90,7 @@ no_word : (w t : List ℕ) (ts : List (List ℕ)) → not (list_any (bytes_eq w)
 no_word w t ts e = neither (bytes_eq w t) (list_any (bytes_eq w) ts) e
 
 -- An identifier is no literal.
-pub identifier_value : (w : List ℕ) → is_identifier w ≡ true → word_value w ≡ None
+pub identifier_value : (w : List ℕ) → is_identifier w ≡ true → literal_value false (word w) ≡ None
 unfolding is_identifier is_selector is_literal word_value
 identifier_value w h =
     let some = both (is_utf8 w) (not (is_literal w)) (both (is_selector w) (not (is_kept w)) h).0 in

@@ -1,23 +1,32 @@
 -- Which tokens derive which tree, with a case for each production. Source: section "Syntax" of the CEL language definition.
 -- `X before after tree level` says that the tokens `before` are an X and then the tokens `after`, that X is this tree, and that its
--- parts nest to this level: an identifier and a literal have level 0, brackets, an operator and a selection one more than the greatest
--- of their parts. Round brackets leave no node.
-use Rattle.std.specs.Prelude.{◌≡◌, ℕ, zero, suc, ◌+◌, ◌≤◌, max, true, List, [], ◌∷◌, Some}
+-- parts nest to this level: an identifier and a literal have level 0, everything else one more than the greatest of its parts, and 1
+-- where it has none. Round brackets leave no node, but they count.
+use Rattle.std.specs.Prelude.{◌≡◌, ℕ, zero, suc, ◌+◌, ◌≤◌, max, true, false, List, [], ◌∷◌, Some}
 use Rattle.cel_value.specs.Data.{Data}
 use Rattle.cel_syntax_tokens.specs.Token.{Token, word, mark}
 use Rattle.cel_syntax_tokens.specs.declared.mark.Mark.TheVariants as m
 use Rattle.cel_syntax_tree.specs.Term as tree
-use Rattle.cel_syntax_tree.specs.Term.{Term}
+use Rattle.cel_syntax_tree.specs.Term.{Term, terms_of, pairs_of}
 use Rattle.cel_syntax_tree.specs.declared.expr.UnaryOperator.{UnaryOperator}
 use Rattle.cel_syntax_tree.specs.declared.expr.BinaryOperator.{BinaryOperator}
+use Rattle.cel_syntax_literals.specs.Literal.{takes_minus, literal_value}
 use Rattle.cel_syntax_grammar.specs.Words.{is_identifier, is_selector}
-use Rattle.cel_syntax_grammar.specs.Literal.{literal_value}
-use Rattle.cel_syntax_grammar.specs.Operator.{sign, operator}
+use Rattle.cel_syntax_grammar.specs.Operator.{sign, operator, is_operator_before}
+use Rattle.cel_syntax_grammar.specs.Calls.{call_of, method_of, parts_level}
+
+-- a comma that may be there
+pub data OptionalComma : List Token → List Token → Type 0 where
+  without : {ts : List Token} → OptionalComma ts ts
+  with_comma : {ts : List Token} → OptionalComma (mark m.Comma ∷ ts) ts
 
 mutual
   -- Expr
   pub data Expression : List Token → List Token → Term → ℕ → Type 0 where
     plain : {ts rest : List Token} {t : Term} {l : ℕ} → Chain 5 ts rest t l → Expression ts rest t l
+    conditional : {ts when_true when_false rest : List Token} {c t f : Term} {lc lt lf : ℕ}
+        → Chain 5 ts (mark m.Question ∷ when_true) c lc → Chain 5 when_true (mark m.Colon ∷ when_false) t lt → Expression when_false rest f lf
+        → Expression ts rest (tree.choice c t f) (max lc (max lt lf) + 1)
 
   -- ConditionalOr, ConditionalAnd, Relation, Addition, Multiplication: operators that bind as loosely as the number says, or tighter.
   -- They group to the left.
@@ -32,9 +41,10 @@ mutual
   pub data Prefixed : List Token → List Token → Term → ℕ → Type 0 where
     prefixed : {s : UnaryOperator} {ts rest : List Token} {t : Term} {l : ℕ} → Signed s ts rest t l → Prefixed ts rest t l
 
+  -- A minus right before an int or a double is no operator, but part of the literal.
   pub data Signed : UnaryOperator → List Token → List Token → Term → ℕ → Type 0 where
     unsigned : {s : UnaryOperator} {ts rest : List Token} {t : Term} {l : ℕ} → Member ts rest t l → Signed s ts rest t l
-    signed : {s : UnaryOperator} {ts rest : List Token} {t : Term} {l : ℕ}
+    signed : {s : UnaryOperator} {ts rest : List Token} {t : Term} {l : ℕ} → is_operator_before s ts ≡ true
         → Signed s ts rest t l → Signed s (mark (sign s) ∷ ts) rest (tree.unary s t) (l + 1)
 
   -- Member
@@ -42,13 +52,54 @@ mutual
     primary : {ts rest : List Token} {t : Term} {l : ℕ} → Primary ts rest t l → Member ts rest t l
     select : {ts rest : List Token} {t : Term} {l : ℕ} {w : List ℕ}
         → Member ts (mark m.Dot ∷ word w ∷ rest) t l → is_selector w ≡ true → Member ts rest (tree.select t w) (l + 1)
+    method : {ts args rest : List Token} {t u : Term} {l la : ℕ} {w : List ℕ} {us : List Term}
+        → Member ts (mark m.Dot ∷ word w ∷ mark m.OpenRound ∷ args) t l → is_selector w ≡ true
+        → Items args (mark m.CloseRound ∷ rest) us la → method_of t w us ≡ Some u → Member ts rest u (max l la + 1)
+    index : {ts inner rest : List Token} {t i : Term} {l li : ℕ}
+        → Member ts (mark m.OpenSquare ∷ inner) t l → Expression inner (mark m.CloseSquare ∷ rest) i li
+        → Member ts rest (tree.index t i) (max l li + 1)
 
   -- Primary
   pub data Primary : List Token → List Token → Term → ℕ → Type 0 where
     ident : {rest : List Token} {w : List ℕ} → is_identifier w ≡ true → Primary (word w ∷ rest) rest (tree.ident w) 0
+    call : {args rest : List Token} {w : List ℕ} {us : List Term} {t : Term} {l : ℕ}
+        → is_identifier w ≡ true → Items args (mark m.CloseRound ∷ rest) us l → call_of w us ≡ Some t
+        → Primary (word w ∷ mark m.OpenRound ∷ args) rest t (parts_level t l + 1)
     round : {inner rest : List Token} {t : Term} {l : ℕ}
         → Expression inner (mark m.CloseRound ∷ rest) t l → Primary (mark m.OpenRound ∷ inner) rest t (l + 1)
-    literal : {rest : List Token} {k : Token} {v : Data} → literal_value k ≡ Some v → Primary (k ∷ rest) rest (tree.literal v) 0
+    list : {items mid rest : List Token} {us : List Term} {l : ℕ}
+        → Items items mid us l → OptionalComma mid (mark m.CloseSquare ∷ rest)
+        → Primary (mark m.OpenSquare ∷ items) rest (tree.list_of (terms_of us)) (l + 1)
+    map : {entries mid rest : List Token} {ps : List (Term × Term)} {l : ℕ}
+        → Entries entries mid ps l → OptionalComma mid (mark m.CloseBrace ∷ rest)
+        → Primary (mark m.OpenBrace ∷ entries) rest (tree.map_with (pairs_of ps)) (l + 1)
+    literal : {rest : List Token} {k : Token} {v : Data} → literal_value false k ≡ Some v → Primary (k ∷ rest) rest (tree.literal v) 0
+    negative : {rest : List Token} {k : Token} {v : Data} → takes_minus k ≡ true → literal_value true k ≡ Some v
+        → Primary (mark m.Minus ∷ k ∷ rest) rest (tree.literal v) 0
+
+  -- expressions with commas between them, or none
+  pub data Items : List Token → List Token → List Term → ℕ → Type 0 where
+    no_items : {ts : List Token} → Items ts ts [] 0
+    items : {ts rest : List Token} {us : List Term} {l : ℕ} → SomeItems ts rest us l → Items ts rest us l
+
+  pub data SomeItems : List Token → List Token → List Term → ℕ → Type 0 where
+    last_item : {ts rest : List Token} {t : Term} {l : ℕ} → Expression ts rest t l → SomeItems ts rest (t ∷ []) l
+    more_items : {ts next rest : List Token} {t : Term} {us : List Term} {l lm : ℕ}
+        → Expression ts (mark m.Comma ∷ next) t l → SomeItems next rest us lm → SomeItems ts rest (t ∷ us) (max l lm)
+
+  -- pairs with commas between them, or none
+  pub data Entries : List Token → List Token → List (Term × Term) → ℕ → Type 0 where
+    no_entries : {ts : List Token} → Entries ts ts [] 0
+    entries : {ts rest : List Token} {ps : List (Term × Term)} {l : ℕ} → SomeEntries ts rest ps l → Entries ts rest ps l
+
+  pub data SomeEntries : List Token → List Token → List (Term × Term) → ℕ → Type 0 where
+    last_entry : {ts rest : List Token} {a b : Term} {l : ℕ} → Pair ts rest a b l → SomeEntries ts rest ((a, b) ∷ []) l
+    more_entries : {ts next rest : List Token} {a b : Term} {ps : List (Term × Term)} {l lm : ℕ}
+        → Pair ts (mark m.Comma ∷ next) a b l → SomeEntries next rest ps lm → SomeEntries ts rest ((a, b) ∷ ps) (max l lm)
+
+  pub data Pair : List Token → List Token → Term → Term → ℕ → Type 0 where
+    pair : {ts values rest : List Token} {a b : Term} {la lb : ℕ}
+        → Expression ts (mark m.Colon ∷ values) a la → Expression values rest b lb → Pair ts rest a b (max la lb)
 
 -- The tokens, all of them, derive the tree. What nests past level 250 isn't read.
 abbrev pub Derives : List Token → Term → Type 0

@@ -1,6 +1,6 @@
 pub mod Words
-pub mod Literal
 pub mod Operator
+pub mod Calls
 pub mod Grammar
 pub mod Parser
 pub mod Cursor

@@ -1,5 +1,5 @@
 -- The steps of the parser, as functions of the tokens that are left.
-use Rattle.std.specs.Prelude.{ℕ, zero, suc, ◌+◌, max, nat_lt, nat_le, nat_eq, Bool, false, if◌then◌else◌, List, [], ◌∷◌, drop, Option, Some, None}
+use Rattle.std.specs.Prelude.{ℕ, zero, suc, ◌+◌, max, nat_lt, nat_le, nat_eq, Bool, true, false, not, ◌&&◌, if◌then◌else◌, List, [], ◌∷◌, ◌++◌, length, drop, Option, Some, None}
 use denote.Enum.Bare.{sameb}
 use Rattle.cel_value.specs.Data.{Data}
 use Rattle.cel_syntax_tokens.specs.contracts.mark.Mark.{the_type}
@@ -7,13 +7,14 @@ use Rattle.cel_syntax_tokens.specs.declared.mark.Mark.{Mark}
 use Rattle.cel_syntax_tokens.specs.declared.mark.Mark.TheVariants as m
 use Rattle.cel_syntax_tokens.specs.Token.{Token, word, number, quoted, mark}
 use Rattle.cel_syntax_tree.specs.Term as tree
-use Rattle.cel_syntax_tree.specs.Term.{Term}
+use Rattle.cel_syntax_tree.specs.Term.{Term, terms_of, pairs_of}
 use Rattle.cel_syntax_tree.specs.declared.expr.UnaryOperator.{UnaryOperator}
 use Rattle.cel_syntax_tree.specs.declared.expr.UnaryOperator.TheVariants as u
 use Rattle.cel_syntax_tree.specs.declared.expr.BinaryOperator.{BinaryOperator}
+use Rattle.cel_syntax_literals.specs.Literal.{takes_minus, literal_value}
 use Rattle.cel_syntax_grammar.specs.Words.{is_identifier, is_selector}
-use Rattle.cel_syntax_grammar.specs.Literal.{literal_value}
-use Rattle.cel_syntax_grammar.specs.Operator.{sign, operator}
+use Rattle.cel_syntax_grammar.specs.Operator.{sign, operator, is_operator_before}
+use Rattle.cel_syntax_grammar.specs.Calls.{call_of, method_of, parts_level}
 
 abbrev pub Outcome : Type 0 → Type 0
 Outcome A = Option (A × List Token)
@@ -73,22 +74,56 @@ unfoldable pub operator_at : ℕ → List Token → Option BinaryOperator
 operator_at k [] = None
 operator_at k (t ∷ ts) = if_level k (operator t)
 
+-- A comma or a closing bracket ends the items, or comes before the first of them.
+abbrev pub is_end : Mark → Bool
+is_end m.CloseRound = true
+is_end m.CloseSquare = true
+is_end m.CloseBrace = true
+is_end m.Comma = true
+is_end _ = false
+
+abbrev pub sees_end : List Token → Bool
+sees_end (mark k ∷ ts) = is_end k
+sees_end _ = false
+
+-- whether another item comes next, behind a comma
+abbrev pub goes_on : List Token → Bool
+goes_on ts = sees m.Comma ts && not (sees_end (drop 1 ts))
+
 -- a tree and its level
 abbrev pub Found : Type 0
 Found = Term × ℕ
 
+-- A selection may be one level over a limit, since `has` counts what it selects from alone.
+abbrev pub slack : Term → ℕ
+slack (tree.select t w) = 1
+slack _ = 0
+
 -- a tree one level above its highest part, if the limit allows it
 unfoldable pub above : ℕ → ℕ → Term → Parser Found
-above limit l t = λ ts. if nat_lt l limit then Some ((t, l + 1), ts) else None
+above limit l t = λ ts. if nat_lt l (limit + slack t) then Some ((t, l + 1), ts) else None
+
+-- the same of a tree that there may be none of
+abbrev pub above_if : ℕ → ℕ → Option Term → Parser Found
+above_if limit l None = refuse
+above_if limit l (Some t) = above limit l t
+
+-- and of a call's tree, by the level of its arguments
+abbrev pub above_call : ℕ → ℕ → Option Term → Parser Found
+above_call limit l None = refuse
+above_call limit l (Some t) = above limit (parts_level t l) t
 
 abbrev pub by_operator : {A : Type 0} → Option BinaryOperator → A → (BinaryOperator → A) → A
 by_operator None none some = none
 by_operator (Some op) none some = some op
 
+unfoldable pub sees_sign : UnaryOperator → List Token → Bool
+sees_sign s ts = sees (sign s) ts && is_operator_before s (drop 1 ts)
+
 -- how many of the sign come next, and the tokens after them
 unfoldable pub signs : UnaryOperator → List Token → ℕ × List Token
 signs s [] = (0, [])
-signs s (t ∷ ts) = if sees (sign s) (t ∷ ts) then ((signs s ts).0 + 1, (signs s ts).1) else (0, t ∷ ts)
+signs s (t ∷ ts) = if sees_sign s (t ∷ ts) then ((signs s ts).0 + 1, (signs s ts).1) else (0, t ∷ ts)
 
 unfoldable pub wrap : UnaryOperator → ℕ → Term → Term
 wrap s zero t = t
@@ -96,28 +131,87 @@ wrap s (suc n) t = tree.unary s (wrap s n t)
 
 -- a tree behind so many signs, if the limit allows it
 unfoldable pub wrapped : ℕ → UnaryOperator → ℕ → Found → Parser Found
-wrapped limit s n x = λ ts. if nat_le (x.1 + n) limit then Some ((wrap s n x.0, x.1 + n), ts) else None
+wrapped limit s n x = λ ts.
+    if nat_eq n 0 then Some (x, ts) else (if nat_le (x.1 + n) limit then Some ((wrap s n x.0, x.1 + n), ts) else None)
 
 -- what an operator makes of a tree and the operand after it
 abbrev pub operated : ℕ → Parser Found → BinaryOperator → Term → ℕ → Parser Found
 operated limit operand op t l = operand >>= λ x. above limit (max l x.1) (tree.binary op t x.0)
 
--- what was in round brackets, up to the closing one
-unfoldable pub closed : ℕ → Term → ℕ → Parser Found
-closed limit t l = expect m.CloseRound >> above limit l t
+-- a tree whose last part was read, up to the closing mark
+unfoldable pub closed : ℕ → Mark → Term → ℕ → Parser Found
+closed limit k t l = expect k >> above limit l t
+
+-- a comma may stand before the closing mark
+unfoldable pub closed_list : ℕ → Mark → Term → ℕ → Parser Found
+closed_list limit k t l = eat m.Comma >>= λ _. closed limit k t l
+
+-- what is read for each item, and commas between the items, with the items so far and their level
+unfoldable pub items_from : {A : Type 0} → Parser (A × ℕ) → ℕ → List A → ℕ → Parser (List A × ℕ)
+items_from item zero us l = refuse
+items_from item (suc n) us l = do
+  x ← item
+  λ ts. if goes_on ts then items_from item n (us ++ x.0 ∷ []) (max l x.1) (drop 1 ts) else Some ((us ++ x.0 ∷ [], max l x.1), ts)
+
+-- Each turn takes a token.
+unfoldable pub items_of : {A : Type 0} → Parser (A × ℕ) → Parser (List A × ℕ)
+items_of item = λ ts. if sees_end ts then Some (([], 0), ts) else items_from item (length ts) [] 0 ts
 
 -- The limit is that of the levels, and sub reads an expression in brackets.
 module _ (limit : ℕ) (sub : Parser Found) where
+  unfoldable pub items : Parser (List Term × ℕ)
+  items = items_of sub
+
+  unfoldable pub pair : Parser ((Term × Term) × ℕ)
+  pair = do
+    a ← sub
+    expect m.Colon >> (sub >>= λ b. pure ((a.0, b.0), max a.1 b.1))
+
+  unfoldable pub entries : Parser (List (Term × Term) × ℕ)
+  entries = items_of pair
+
+  -- up to the closing bracket
+  unfoldable pub arguments : Parser (List Term × ℕ)
+  arguments = items >>= λ us. expect m.CloseRound >> pure us
+
+  unfoldable pub called : List ℕ → Parser Found
+  called w = arguments >>= λ us. above_call limit us.1 (call_of w us.0)
+
   unfoldable pub named : List ℕ → Parser Found
-  named w = if is_identifier w then pure (tree.ident w, 0) else refuse
+  named w = if is_identifier w then (do
+    is_call ← eat m.OpenRound
+    if is_call then called w else pure (tree.ident w, 0)) else refuse
 
   unfoldable pub round : Parser Found
   round = do
     x ← sub
-    closed limit x.0 x.1
+    closed limit m.CloseRound x.0 x.1
+
+  unfoldable pub list : Parser Found
+  list = do
+    us ← items
+    closed_list limit m.CloseSquare (tree.list_of (terms_of us.0)) us.1
+
+  unfoldable pub map : Parser Found
+  map = do
+    ps ← entries
+    closed_list limit m.CloseBrace (tree.map_with (pairs_of ps.0)) ps.1
+
+  abbrev pub value_or : Option Data → Parser Found → Parser Found
+  value_or None other = other
+  value_or (Some v) other = pure (tree.literal v, 0)
+
+  abbrev pub negative_by : Token → Parser Found
+  negative_by k = if takes_minus k then value_or (literal_value true k) refuse else refuse
+
+  unfoldable pub negative : Parser Found
+  negative = next >>= negative_by
 
   abbrev pub primary_by_mark : Mark → Parser Found
   primary_by_mark m.OpenRound = round
+  primary_by_mark m.OpenSquare = list
+  primary_by_mark m.OpenBrace = map
+  primary_by_mark m.Minus = negative
   primary_by_mark _ = refuse
 
   abbrev pub primary_by : Token → Parser Found
@@ -126,37 +220,49 @@ module _ (limit : ℕ) (sub : Parser Found) where
   primary_by (quoted s) = refuse
   primary_by (mark m) = primary_by_mark m
 
-  abbrev pub value_or : Option Data → Parser Found → Parser Found
-  value_or None other = other
-  value_or (Some v) other = pure (tree.literal v, 0)
-
   unfoldable pub primary : Parser Found
-  primary = next >>= (λ k. value_or (literal_value k) (primary_by k))
+  primary = next >>= (λ k. value_or (literal_value false k) (primary_by k))
 
-  unfoldable pub field_by : Term → ℕ → Token → Parser Found
-  field_by t l (word w) = if is_selector w then above limit l (tree.select t w) else refuse
+  -- a method's name was read, and an opening bracket
+  unfoldable pub method : Term → ℕ → List ℕ → Parser Found
+  method t l w = arguments >>= λ us. above_if limit (max l us.1) (method_of t w us.0)
+
+  unfoldable pub selected : Term → ℕ → List ℕ → Parser Found
+  selected t l w = if is_selector w then (do
+    is_call ← eat m.OpenRound
+    if is_call then method t l w else above limit l (tree.select t w)) else refuse
+
+  abbrev pub field_by : Term → ℕ → Token → Parser Found
+  field_by t l (word w) = selected t l w
   field_by t l _ = refuse
 
   unfoldable pub field : Term → ℕ → Parser Found
   field t l = next >>= field_by t l
 
-  -- The number counts the turns that are left. Each adds a level, so the limit is enough.
+  unfoldable pub index : Term → ℕ → Parser Found
+  index t l = do
+    i ← sub
+    closed limit m.CloseSquare (tree.index t i.0) (max l i.1)
+
+  -- The number counts the turns that are left. Each adds a level, so one more than the limit is enough.
   unfoldable pub links : ℕ → Term → ℕ → Parser Found
-  links zero t l = λ ts. if sees m.Dot ts then None else Some ((t, l), ts)
+  links zero t l = λ ts. if sees m.Dot ts then None else (if sees m.OpenSquare ts then None else Some ((t, l), ts))
   links (suc n) t l = do
     is_field ← eat m.Dot
-    if is_field then (do x ← field t l; links n x.0 x.1) else pure (t, l)
+    if is_field then (do x ← field t l; links n x.0 x.1) else (do
+      is_index ← eat m.OpenSquare
+      if is_index then (do x ← index t l; links n x.0 x.1) else pure (t, l))
 
   unfoldable pub member : Parser Found
   member = do
     x ← primary
-    links limit x.0 x.1
+    links (limit + 1) x.0 x.1
 
   unfoldable pub signed : UnaryOperator → Parser Found
   signed s = λ ts. and_then (member (signs s ts).1) (λ x. wrapped limit s (signs s ts).0 x)
 
   unfoldable pub prefixed : Parser Found
-  prefixed = signed u.Not
+  prefixed = λ ts. if sees m.Not ts then signed u.Not ts else signed u.Negate ts
 
   -- Each turn adds a level here too.
   unfoldable pub turns : Parser Found → ℕ → ℕ → Term → ℕ → Parser Found
@@ -170,8 +276,17 @@ module _ (limit : ℕ) (sub : Parser Found) where
     x ← chain k
     turns (chain k) (suc k) limit x.0 x.1
 
+  -- the two branches of a condition
+  unfoldable pub branches : Term → ℕ → Parser Found
+  branches c l = do
+    a ← chain 5
+    expect m.Colon >> (sub >>= λ b. above limit (max l (max a.1 b.1)) (tree.choice c a.0 b.0))
+
   unfoldable pub expression : Parser Found
-  expression = chain 5
+  expression = do
+    c ← chain 5
+    asks ← eat m.Question
+    if asks then branches c.0 c.1 else pure c
 
 -- an expression of at most this level
 unfoldable pub expr : ℕ → Parser Found
@@ -188,7 +303,7 @@ max_level = 250
 
 abbrev pub if_last : Outcome Found → Option Term
 if_last None = None
-if_last (Some (x, [])) = Some x.0
+if_last (Some (x, [])) = if nat_le x.1 max_level then Some x.0 else None
 if_last (Some (x, t ∷ ts)) = None
 
 -- the tree of the tokens, all of them

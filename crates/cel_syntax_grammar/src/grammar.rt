@@ -1,19 +1,22 @@
 //! Expressions, by recursive descent. Each rule takes the parser of what stands in brackets as a parameter.
 
-ghost use Rattle.std.specs.Prelude.{◌≡◌, ◌+◌, ◌<◌, MatchResult, List, drop, max};
-ghost use Rattle.cel_syntax_tokens.specs.Token.{Token as SpecToken, word as spec_word};
+ghost use Rattle.std.specs.Prelude.{◌≡◌, ◌+◌, ◌<◌, MatchResult, List, drop, map, max};
+ghost use Rattle.cel_syntax_tokens.specs.Token.{Token as SpecToken};
 ghost use Rattle.cel_syntax_tree.specs.Term as tree;
 ghost use Rattle.cel_syntax_tree.specs.Term.{term};
-ghost use Rattle.cel_syntax_grammar.specs.Operator.{sign as sign_of};
+ghost use Rattle.cel_syntax_tokens.specs.declared.mark.Mark.TheVariants.{CloseSquare as close_square};
+ghost use Rattle.cel_syntax_grammar.specs.Operator.{sign as sign_of, is_operator_before as is_operator_before_lem};
+ghost use Rattle.cel_syntax_grammar.specs.Calls as calls;
 ghost use Rattle.cel_syntax_grammar.specs.Parser as spec;
-ghost use Rattle.cel_syntax_grammar.specs.Cursor.{left, left as spec_left, Reads};
+ghost use Rattle.cel_syntax_grammar.specs.Cursor.{left, left as spec_left, Reads, ReadsItems, ReadsEntries, ReadsPair};
 ghost use Rattle.cel_syntax_grammar.specs.Nests.{Nests};
 ghost use Rattle.cel_syntax_grammar.specs.declared.error.SyntaxError.TheVariants.{Memory};
 
+use crate::calls::{call, method, parts_level};
 use crate::error::SyntaxError;
-use crate::literal::literal;
 use crate::tokens::Tokens;
 use crate::words::{identifier, selector, shared};
+use cel_syntax_literals::{literal, takes_minus};
 use cel_syntax_tokens::mark::Mark;
 use cel_syntax_tokens::token::Token;
 use cel_syntax_tree::{BinaryOperator, Expr, UnaryOperator};
@@ -24,21 +27,54 @@ fn sign_mark(sign: UnaryOperator) -> Mark
 {
     match sign {
         UnaryOperator::Not => Mark::Not,
+        UnaryOperator::Negate => Mark::Minus,
     }
 }
 
-/// Takes all such signs that come next, and counts them.
+fn is_operator_before(sign: UnaryOperator, tokens: &Tokens<'_>) -> bool
+    ensures { result ≡ is_operator_before_lem sign (left tokens.now) }
+{
+    match sign {
+        UnaryOperator::Not => true,
+        UnaryOperator::Negate => !tokens.begins_number(),
+    }
+}
+
+#[tactic(auto, unfolding(crate::specs::Parser::sees_sign))]
+fn sees_sign(tokens: &Tokens<'_>, sign: UnaryOperator) -> bool
+    ensures { result ≡ spec.sees_sign sign (left tokens.now) }
+{
+    if !tokens.sees(sign_mark(sign)) {
+        return false;
+    }
+    let mut ahead = *tokens;
+    let _sign = ahead.next();
+    is_operator_before(sign, &ahead)
+}
+
+/// Takes all such signs that come next, and counts them. A minus that belongs to a literal is none.
 fn signs(tokens: &mut Tokens<'_>, sign: UnaryOperator) -> usize
     ensures count { result ≡ (spec.signs sign (left tokens.old)).0 }
     ensures rest { left tokens.new ≡ (spec.signs sign (left tokens.old)).1 }
 {
     let all = tokens.len();
     for turn in 0..all {
-        if !tokens.eat(sign_mark(sign)) {
+        if !sees_sign(tokens, sign) {
             return turn;
         }
+        let _sign = tokens.next();
     }
     all
+}
+
+/// How far over a limit the tree may be.
+fn slack(tree: &Expr) -> usize
+    ensures { result ≡ spec.slack (term tree.now) }
+{
+    match tree {
+        Expr::Select(_, _) => 1,
+        _ => 0,
+    }
 }
 
 fn unary(alloc: Global, operator: UnaryOperator, operand: Expr) -> Result<Expr, SyntaxError>
@@ -66,6 +102,21 @@ fn binary(
     Ok(Expr::Binary(operator, left, Box::new(alloc, right)?))
 }
 
+fn index(alloc: Global, target: Expr, index: Expr) -> Result<Expr, SyntaxError>
+    ensures { MatchResult result (λ e. term e ≡ tree.index (term target) (term index)) (λ error. error ≡ Memory) }
+{
+    let target = Box::new(alloc, target)?;
+    Ok(Expr::Index(target, Box::new(alloc, index)?))
+}
+
+fn conditional(alloc: Global, test: Expr, yes: Expr, no: Expr) -> Result<Expr, SyntaxError>
+    ensures { MatchResult result (λ e. term e ≡ tree.choice (term test) (term yes) (term no)) (λ error. error ≡ Memory) }
+{
+    let test = Box::new(alloc, test)?;
+    let yes = Box::new(alloc, yes)?;
+    Ok(Expr::Cond(test, yes, Box::new(alloc, no)?))
+}
+
 fn wrap(alloc: Global, sign: UnaryOperator, count: usize, inside: Expr) -> Result<Expr, SyntaxError>
     ensures { MatchResult result (λ e. term e ≡ spec.wrap sign count (term inside)) (λ error. error ≡ Memory) }
 {
@@ -80,12 +131,12 @@ fn wrap(alloc: Global, sign: UnaryOperator, count: usize, inside: Expr) -> Resul
 pub struct Grammar<F> {
     pub alloc: Global,
     /// The highest level of a tree.
-    pub limit: usize,
+    pub limit: u8,
     /// Reads an expression of at most that level.
     pub expr: F,
 }
 
-impl<F: Fn(Global, &mut Tokens<'_>, usize) -> Result<(Expr, usize), SyntaxError>> Grammar<F> {
+impl<F: Fn(Global, &mut Tokens<'_>, u8) -> Result<(Expr, usize), SyntaxError>> Grammar<F> {
     /// What stands in brackets.
     #[tactic(auto, unfolding(crate::specs::Parser::below))]
     fn sub(&self, tokens: &mut Tokens<'_>) -> Result<(Expr, usize), SyntaxError>
@@ -103,8 +154,78 @@ impl<F: Fn(Global, &mut Tokens<'_>, usize) -> Result<(Expr, usize), SyntaxError>
     fn above(&self, level: usize, tree: Expr) -> Result<(Expr, usize), SyntaxError>
         ensures { (ts : List SpecToken) → Reads (spec.above self.now.limit level (term tree) ts) result ts }
     {
-        if level < self.limit {
+        if level < usize::from(self.limit) + slack(&tree) {
             Ok((tree, level + 1))
+        } else {
+            Err(SyntaxError::Invalid)
+        }
+    }
+
+    /// The items of a list or a call, which may be none.
+    fn items(&self, tokens: &mut Tokens<'_>) -> Result<(Vec<Expr>, usize), SyntaxError>
+        requires { Nests self.now.limit (F.pre self.now.expr) (F.post self.now.expr) }
+        ensures { ReadsItems (spec.items self.now.limit (spec.below self.now.limit) (left tokens.old)) result (left tokens.new) }
+    {
+        let mut found = Vec::new(self.alloc);
+        let mut high: usize = 0;
+        if tokens.sees_end() {
+            return Ok((found, high));
+        }
+        for _turn in 0..tokens.len() {
+            let (item, level) = self.sub(tokens)?;
+            found.push(item)?;
+            high = high.max(level);
+            if !tokens.goes_on() {
+                return Ok((found, high));
+            }
+            let _comma = tokens.next();
+        }
+        Err(SyntaxError::Invalid)
+    }
+
+    /// A key and its value.
+    #[tactic(auto, unfolding(crate::specs::Parser::pair))]
+    fn pair(&self, tokens: &mut Tokens<'_>) -> Result<((Expr, Expr), usize), SyntaxError>
+        requires { Nests self.now.limit (F.pre self.now.expr) (F.post self.now.expr) }
+        ensures { ReadsPair (spec.pair self.now.limit (spec.below self.now.limit) (left tokens.old)) result (left tokens.new) }
+    {
+        let key = self.sub(tokens)?;
+        tokens.expect(Mark::Colon)?;
+        let value = self.sub(tokens)?;
+        Ok(((key.0, value.0), key.1.max(value.1)))
+    }
+
+    /// The entries of a map, which may be none.
+    fn entries(&self, tokens: &mut Tokens<'_>) -> Result<(Vec<(Expr, Expr)>, usize), SyntaxError>
+        requires { Nests self.now.limit (F.pre self.now.expr) (F.post self.now.expr) }
+        ensures { ReadsEntries (spec.entries self.now.limit (spec.below self.now.limit) (left tokens.old)) result (left tokens.new) }
+    {
+        let mut found = Vec::new(self.alloc);
+        let mut high: usize = 0;
+        if tokens.sees_end() {
+            return Ok((found, high));
+        }
+        for _turn in 0..tokens.len() {
+            let (entry, level) = self.pair(tokens)?;
+            found.push(entry)?;
+            high = high.max(level);
+            if !tokens.goes_on() {
+                return Ok((found, high));
+            }
+            let _comma = tokens.next();
+        }
+        Err(SyntaxError::Invalid)
+    }
+
+    /// The arguments of a call, up to the closing bracket.
+    #[tactic(auto, unfolding(crate::specs::Parser::arguments))]
+    fn arguments(&self, tokens: &mut Tokens<'_>) -> Result<(Vec<Expr>, usize), SyntaxError>
+        requires { Nests self.now.limit (F.pre self.now.expr) (F.post self.now.expr) }
+        ensures { ReadsItems (spec.arguments self.now.limit (spec.below self.now.limit) (left tokens.old)) result (left tokens.new) }
+    {
+        let found = self.items(tokens)?;
+        if tokens.eat(Mark::CloseRound) {
+            Ok(found)
         } else {
             Err(SyntaxError::Invalid)
         }
@@ -116,31 +237,109 @@ impl<F: Fn(Global, &mut Tokens<'_>, usize) -> Result<(Expr, usize), SyntaxError>
         ensures { Reads (spec.round self.now.limit (spec.below self.now.limit) (left tokens.old)) result (left tokens.new) }
     {
         let inside = self.sub(tokens)?;
-        self.closed(tokens, inside)
+        self.closed(tokens, Mark::CloseRound, inside)
     }
 
-    /// What was in round brackets, up to the closing one.
+    /// A tree whose last part was read, up to the closing mark.
     #[tactic(auto, unfolding(crate::specs::Parser::closed))]
     fn closed(
         &self,
         tokens: &mut Tokens<'_>,
+        mark: Mark,
         inside: (Expr, usize),
     ) -> Result<(Expr, usize), SyntaxError>
-        ensures { Reads (spec.closed self.now.limit (term inside.0) inside.1 (left tokens.old)) result (left tokens.new) }
+        ensures { Reads (spec.closed self.now.limit mark (term inside.0) inside.1 (left tokens.old)) result (left tokens.new) }
     {
-        if tokens.eat(Mark::CloseRound) {
+        if tokens.eat(mark) {
             self.above(inside.1, inside.0)
         } else {
             Err(SyntaxError::Invalid)
         }
     }
 
-    #[tactic(auto, unfolding(crate::specs::Parser::named))]
-    fn named(&self, word: &[u8]) -> Result<(Expr, usize), SyntaxError>
-        ensures { (ts : List SpecToken) → Reads (spec.named self.now.limit (spec.below self.now.limit) word.now ts) result ts }
+    /// The same where a comma may stand before the closing mark.
+    #[tactic(auto, unfolding(crate::specs::Parser::closed_list))]
+    fn closed_list(
+        &self,
+        tokens: &mut Tokens<'_>,
+        mark: Mark,
+        inside: (Expr, usize),
+    ) -> Result<(Expr, usize), SyntaxError>
+        ensures { Reads (spec.closed_list self.now.limit mark (term inside.0) inside.1 (left tokens.old)) result (left tokens.new) }
     {
-        match identifier(word) {
-            Some(name) => Ok((Expr::Ident(shared(self.alloc, name)?), 0)),
+        let _comma = tokens.eat(Mark::Comma);
+        self.closed(tokens, mark, inside)
+    }
+
+    #[tactic(auto, unfolding(crate::specs::Parser::list))]
+    fn list(&self, tokens: &mut Tokens<'_>) -> Result<(Expr, usize), SyntaxError>
+        requires { Nests self.now.limit (F.pre self.now.expr) (F.post self.now.expr) }
+        ensures { Reads (spec.list self.now.limit (spec.below self.now.limit) (left tokens.old)) result (left tokens.new) }
+    {
+        let found = self.items(tokens)?;
+        self.closed_list(tokens, Mark::CloseSquare, (Expr::List(found.0), found.1))
+    }
+
+    #[tactic(auto, unfolding(crate::specs::Parser::map))]
+    fn map(&self, tokens: &mut Tokens<'_>) -> Result<(Expr, usize), SyntaxError>
+        requires { Nests self.now.limit (F.pre self.now.expr) (F.post self.now.expr) }
+        ensures { Reads (spec.map self.now.limit (spec.below self.now.limit) (left tokens.old)) result (left tokens.new) }
+    {
+        let found = self.entries(tokens)?;
+        self.closed_list(tokens, Mark::CloseBrace, (Expr::Map(found.0), found.1))
+    }
+
+    /// The call of a global function with these arguments.
+    fn global(
+        &self,
+        name: &str,
+        arguments: (Vec<Expr>, usize),
+    ) -> Result<(Expr, usize), SyntaxError>
+        ensures { (ts : List SpecToken) → Reads (spec.above_call self.now.limit arguments.1 (calls.call_of name.now (map term arguments.0.items)) ts) result ts }
+    {
+        match call(self.alloc, name, arguments.0)? {
+            Some(tree) => self.above(parts_level(&tree, arguments.1), tree),
+            None => Err(SyntaxError::Invalid),
+        }
+    }
+
+    #[tactic(auto, unfolding(crate::specs::Parser::called))]
+    fn called(&self, tokens: &mut Tokens<'_>, name: &str) -> Result<(Expr, usize), SyntaxError>
+        requires { Nests self.now.limit (F.pre self.now.expr) (F.post self.now.expr) }
+        ensures { Reads (spec.called self.now.limit (spec.below self.now.limit) name.now (left tokens.old)) result (left tokens.new) }
+    {
+        let arguments = self.arguments(tokens)?;
+        self.global(name, arguments)
+    }
+
+    #[tactic(auto, unfolding(crate::specs::Parser::named))]
+    fn named(&self, tokens: &mut Tokens<'_>, word: &[u8]) -> Result<(Expr, usize), SyntaxError>
+        requires { Nests self.now.limit (F.pre self.now.expr) (F.post self.now.expr) }
+        ensures { Reads (spec.named self.now.limit (spec.below self.now.limit) word.now (left tokens.old)) result (left tokens.new) }
+    {
+        let Some(name) = identifier(word) else {
+            return Err(SyntaxError::Invalid);
+        };
+        if tokens.eat(Mark::OpenRound) {
+            self.called(tokens, name)
+        } else {
+            Ok((Expr::Ident(shared(self.alloc, name)?), 0))
+        }
+    }
+
+    /// A number with the minus before it, which was taken.
+    #[tactic(auto, unfolding(crate::specs::Parser::negative))]
+    fn negative(&self, tokens: &mut Tokens<'_>) -> Result<(Expr, usize), SyntaxError>
+        ensures { Reads (spec.negative self.now.limit (spec.below self.now.limit) (left tokens.old)) result (left tokens.new) }
+    {
+        let Some(token) = tokens.next() else {
+            return Err(SyntaxError::Invalid);
+        };
+        if !takes_minus(token) {
+            return Err(SyntaxError::Invalid);
+        }
+        match literal(self.alloc, true, token)? {
+            Some(value) => Ok((Expr::Literal(value), 0)),
             None => Err(SyntaxError::Invalid),
         }
     }
@@ -153,59 +352,145 @@ impl<F: Fn(Global, &mut Tokens<'_>, usize) -> Result<(Expr, usize), SyntaxError>
         let Some(token) = tokens.next() else {
             return Err(SyntaxError::Invalid);
         };
-        if let Some(value) = literal(self.alloc, token)? {
+        if let Some(value) = literal(self.alloc, false, token)? {
             return Ok((Expr::Literal(value), 0));
         }
         match token {
-            Token::Word(word) => self.named(word),
+            Token::Word(word) => self.named(tokens, word),
             Token::Mark(Mark::OpenRound) => self.round(tokens),
+            Token::Mark(Mark::OpenSquare) => self.list(tokens),
+            Token::Mark(Mark::OpenBrace) => self.map(tokens),
+            Token::Mark(Mark::Minus) => self.negative(tokens),
             _ => Err(SyntaxError::Invalid),
         }
     }
 
-    /// A field of the target. The dot was taken.
-    #[tactic(auto, unfolding(crate::specs::Parser::field, crate::specs::Parser::field_by))]
-    fn field(
+    /// The call of a method with these arguments.
+    fn method_with(
+        &self,
+        target: (Expr, usize),
+        name: &str,
+        arguments: (Vec<Expr>, usize),
+    ) -> Result<(Expr, usize), SyntaxError>
+        ensures { (ts : List SpecToken) → Reads (spec.above_if self.now.limit (max target.1 arguments.1) (calls.method_of (term target.0) name.now (map term arguments.0.items)) ts) result ts }
+    {
+        let level = target.1.max(arguments.1);
+        match method(self.alloc, target.0, name, arguments.0)? {
+            Some(tree) => self.above(level, tree),
+            None => Err(SyntaxError::Invalid),
+        }
+    }
+
+    /// A method's call. Its name and the opening bracket were taken.
+    #[tactic(auto, unfolding(crate::specs::Parser::method))]
+    fn method(
         &self,
         tokens: &mut Tokens<'_>,
         target: (Expr, usize),
+        name: &str,
     ) -> Result<(Expr, usize), SyntaxError>
-        ensures { Reads (spec.field self.now.limit (spec.below self.now.limit) (term target.0) target.1 (left tokens.old)) result (left tokens.new) }
+        requires { Nests self.now.limit (F.pre self.now.expr) (F.post self.now.expr) }
+        ensures { Reads (spec.method self.now.limit (spec.below self.now.limit) (term target.0) target.1 name.now (left tokens.old)) result (left tokens.new) }
     {
-        match tokens.next() {
-            Some(Token::Word(word)) => self.selected(word, target),
-            _ => Err(SyntaxError::Invalid),
-        }
+        let arguments = self.arguments(tokens)?;
+        self.method_with(target, name, arguments)
     }
 
-    #[tactic(auto, unfolding(crate::specs::Parser::field_by))]
-    fn selected(&self, word: &[u8], target: (Expr, usize)) -> Result<(Expr, usize), SyntaxError>
-        ensures { (ts : List SpecToken) → Reads (spec.field_by self.now.limit (spec.below self.now.limit) (term target.0) target.1 (spec_word word.now) ts) result ts }
+    /// The field of that name.
+    fn select(&self, target: (Expr, usize), name: &str) -> Result<(Expr, usize), SyntaxError>
+        ensures { (ts : List SpecToken) → Reads (spec.above self.now.limit target.1 (tree.select (term target.0) name.now) ts) result ts }
+    {
+        let tree = select(self.alloc, target.0, name)?;
+        self.above(target.1, tree)
+    }
+
+    /// A field or a method of the target, by its name, which was taken.
+    #[tactic(auto, unfolding(crate::specs::Parser::selected))]
+    fn selected(
+        &self,
+        tokens: &mut Tokens<'_>,
+        target: (Expr, usize),
+        word: &[u8],
+    ) -> Result<(Expr, usize), SyntaxError>
+        requires { Nests self.now.limit (F.pre self.now.expr) (F.post self.now.expr) }
+        ensures { Reads (spec.selected self.now.limit (spec.below self.now.limit) (term target.0) target.1 word.now (left tokens.old)) result (left tokens.new) }
     {
         match selector(word) {
             Some(name) => {
-                let tree = select(self.alloc, target.0, name)?;
-                self.above(target.1, tree)
+                if tokens.eat(Mark::OpenRound) {
+                    self.method(tokens, target, name)
+                } else {
+                    self.select(target, name)
+                }
             }
             None => Err(SyntaxError::Invalid),
         }
     }
 
-    /// The selections that follow a primary.
+    /// A field or a method of the target. The dot was taken.
+    #[tactic(auto, unfolding(crate::specs::Parser::field))]
+    fn field(
+        &self,
+        tokens: &mut Tokens<'_>,
+        target: (Expr, usize),
+    ) -> Result<(Expr, usize), SyntaxError>
+        requires { Nests self.now.limit (F.pre self.now.expr) (F.post self.now.expr) }
+        ensures { Reads (spec.field self.now.limit (spec.below self.now.limit) (term target.0) target.1 (left tokens.old)) result (left tokens.new) }
+    {
+        match tokens.next() {
+            Some(Token::Word(word)) => self.selected(tokens, target, word),
+            _ => Err(SyntaxError::Invalid),
+        }
+    }
+
+    /// The target at an index that was read.
+    #[tactic(auto, unfolding(crate::specs::Parser::closed))]
+    fn indexed(
+        &self,
+        tokens: &mut Tokens<'_>,
+        target: (Expr, usize),
+        at: (Expr, usize),
+    ) -> Result<(Expr, usize), SyntaxError>
+        ensures { Reads (spec.closed self.now.limit close_square (tree.index (term target.0) (term at.0)) (max target.1 at.1) (left tokens.old)) result (left tokens.new) }
+    {
+        let level = target.1.max(at.1);
+        let tree = index(self.alloc, target.0, at.0)?;
+        self.closed(tokens, Mark::CloseSquare, (tree, level))
+    }
+
+    /// An item of the target by its index. The opening bracket was taken.
+    #[tactic(auto, unfolding(crate::specs::Parser::index))]
+    fn index(
+        &self,
+        tokens: &mut Tokens<'_>,
+        target: (Expr, usize),
+    ) -> Result<(Expr, usize), SyntaxError>
+        requires { Nests self.now.limit (F.pre self.now.expr) (F.post self.now.expr) }
+        ensures { Reads (spec.index self.now.limit (spec.below self.now.limit) (term target.0) target.1 (left tokens.old)) result (left tokens.new) }
+    {
+        let at = self.sub(tokens)?;
+        self.indexed(tokens, target, at)
+    }
+
+    /// The selections, methods and indices that follow a primary.
     fn links(
         &self,
         tokens: &mut Tokens<'_>,
         mut found: (Expr, usize),
     ) -> Result<(Expr, usize), SyntaxError>
-        ensures { Reads (spec.links self.now.limit (spec.below self.now.limit) self.now.limit (term found.0) found.1 (left tokens.old)) result (left tokens.new) }
+        requires { Nests self.now.limit (F.pre self.now.expr) (F.post self.now.expr) }
+        ensures { Reads (spec.links self.now.limit (spec.below self.now.limit) (self.now.limit + 1) (term found.0) found.1 (left tokens.old)) result (left tokens.new) }
     {
-        for _turn in 0..self.limit {
-            if !tokens.eat(Mark::Dot) {
+        for _turn in 0..usize::from(self.limit) + 1 {
+            if tokens.eat(Mark::Dot) {
+                found = self.field(tokens, found)?;
+            } else if tokens.eat(Mark::OpenSquare) {
+                found = self.index(tokens, found)?;
+            } else {
                 return Ok(found);
             }
-            found = self.field(tokens, found)?;
         }
-        if tokens.sees(Mark::Dot) {
+        if tokens.sees(Mark::Dot) || tokens.sees(Mark::OpenSquare) {
             return Err(SyntaxError::Invalid);
         }
         Ok(found)
@@ -230,8 +515,12 @@ impl<F: Fn(Global, &mut Tokens<'_>, usize) -> Result<(Expr, usize), SyntaxError>
     ) -> Result<(Expr, usize), SyntaxError>
         ensures { (ts : List SpecToken) → Reads (spec.wrapped self.now.limit sign count (term operand.0, operand.1) ts) result ts }
     {
+        if count == 0 {
+            return Ok(operand);
+        }
+        let limit = usize::from(self.limit);
         let level = operand.1;
-        if level > self.limit || count > self.limit - level {
+        if level > limit || count > limit - level {
             return Err(SyntaxError::Invalid);
         }
         Ok((wrap(self.alloc, sign, count, operand.0)?, level + count))
@@ -256,7 +545,11 @@ impl<F: Fn(Global, &mut Tokens<'_>, usize) -> Result<(Expr, usize), SyntaxError>
         requires { Nests self.now.limit (F.pre self.now.expr) (F.post self.now.expr) }
         ensures { Reads (spec.prefixed self.now.limit (spec.below self.now.limit) (left tokens.old)) result (left tokens.new) }
     {
-        self.signed(tokens, UnaryOperator::Not)
+        if tokens.sees(Mark::Not) {
+            self.signed(tokens, UnaryOperator::Not)
+        } else {
+            self.signed(tokens, UnaryOperator::Negate)
+        }
     }
 
     /// An operator with its two operands.
@@ -327,21 +620,54 @@ impl<F: Fn(Global, &mut Tokens<'_>, usize) -> Result<(Expr, usize), SyntaxError>
         self.turns(tokens, level - 1, found)
     }
 
+    /// A condition with its branches.
+    fn chosen(
+        &self,
+        test: (Expr, usize),
+        yes: (Expr, usize),
+        no: (Expr, usize),
+    ) -> Result<(Expr, usize), SyntaxError>
+        ensures { (ts : List SpecToken) → Reads (spec.above self.now.limit (max test.1 (max yes.1 no.1)) (tree.choice (term test.0) (term yes.0) (term no.0)) ts) result ts }
+    {
+        let level = test.1.max(yes.1.max(no.1));
+        let tree = conditional(self.alloc, test.0, yes.0, no.0)?;
+        self.above(level, tree)
+    }
+
+    /// The branches of a condition. The question mark was taken.
+    #[tactic(auto, unfolding(crate::specs::Parser::branches))]
+    fn branches(
+        &self,
+        tokens: &mut Tokens<'_>,
+        test: (Expr, usize),
+    ) -> Result<(Expr, usize), SyntaxError>
+        requires { Nests self.now.limit (F.pre self.now.expr) (F.post self.now.expr) }
+        ensures { Reads (spec.branches self.now.limit (spec.below self.now.limit) (term test.0) test.1 (left tokens.old)) result (left tokens.new) }
+    {
+        let yes = self.chain(tokens, 5)?;
+        if !tokens.eat(Mark::Colon) {
+            return Err(SyntaxError::Invalid);
+        }
+        let no = self.sub(tokens)?;
+        self.chosen(test, yes, no)
+    }
+
     #[tactic(auto, unfolding(crate::specs::Parser::expression))]
     fn expression(&self, tokens: &mut Tokens<'_>) -> Result<(Expr, usize), SyntaxError>
         requires { Nests self.now.limit (F.pre self.now.expr) (F.post self.now.expr) }
         ensures { Reads (spec.expression self.now.limit (spec.below self.now.limit) (left tokens.old)) result (left tokens.new) }
     {
-        self.chain(tokens, 5)
+        let test = self.chain(tokens, 5)?;
+        if tokens.eat(Mark::Question) {
+            self.branches(tokens, test)
+        } else {
+            Ok(test)
+        }
     }
 }
 
 /// An expression of at most this level.
-pub fn expr(
-    alloc: Global,
-    tokens: &mut Tokens<'_>,
-    limit: usize,
-) -> Result<(Expr, usize), SyntaxError>
+pub fn expr(alloc: Global, tokens: &mut Tokens<'_>, limit: u8) -> Result<(Expr, usize), SyntaxError>
     ensures { Reads (spec.expr limit (left tokens.old)) result (left tokens.new) }
 {
     Grammar { alloc, limit, expr }.expression(tokens)

@@ -16,7 +16,7 @@ use kube_types_refused::Refused;
 use std::alloc::Global;
 
 /// The highest level of a tree that is read.
-const MAX_LEVEL: usize = 250;
+const MAX_LEVEL: u8 = 250;
 
 #[tactic(auto, using(crate::proofs::Last::if_none_left, crate::proofs::Last::if_some_left), unfolding(crate::specs::Parser::tree_of_tokens))]
 fn read(alloc: Global, tokens: &[Token<'_>]) -> Result<Option<Expr>, Refused>
@@ -24,7 +24,7 @@ fn read(alloc: Global, tokens: &[Token<'_>]) -> Result<Option<Expr>, Refused>
 {
     let mut cursor = Tokens { rest: tokens };
     match expr(alloc, &mut cursor, MAX_LEVEL) {
-        Ok(found) => Ok(if cursor.len() == 0 {
+        Ok(found) => Ok(if cursor.len() == 0 && found.1 <= usize::from(MAX_LEVEL) {
             Some(found.0)
         } else {
             None
@@ -36,7 +36,7 @@ fn read(alloc: Global, tokens: &[Token<'_>]) -> Result<Option<Expr>, Refused>
 
 /// The tree that the tokens derive, or `None` where they derive none.
 ///
-/// Brackets, operators and selections may nest up to level 250. The only error is [`Refused::Memory`]. Source: the section "Syntax" of the
+/// Its parts may nest up to level 250. The only error is [`Refused::Memory`]. Source: the section "Syntax" of the
 /// CEL language definition.
 pub fn parse_tokens(alloc: Global, tokens: &[Token<'_>]) -> Result<Option<Expr>, Refused>
     ensures grammar { MatchResult result

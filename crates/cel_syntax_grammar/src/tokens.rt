@@ -2,11 +2,13 @@
 
 ghost use Rattle.std.specs.Prelude.{◌≡◌, ◌∷◌, [], MatchOption, drop, length};
 ghost use Rattle.cel_syntax_tokens.specs.Token.{token_of};
-ghost use Rattle.cel_syntax_grammar.specs.Operator.{operator_of as operator_of_lem};
+ghost use Rattle.cel_syntax_grammar.specs.Operator as operators;
 ghost use Rattle.cel_syntax_grammar.specs.Parser as spec;
 ghost use Rattle.cel_syntax_grammar.specs.Cursor.{left, Expects};
 
 use crate::error::SyntaxError;
+use crate::words::is_word;
+use cel_syntax_literals::takes_minus;
 use cel_syntax_tokens::mark::Mark;
 use cel_syntax_tokens::token::Token;
 use cel_syntax_tree::BinaryOperator;
@@ -25,9 +27,14 @@ fn same_mark(a: Mark, b: Mark) -> bool
 }
 
 fn operator_of(mark: Mark) -> Option<(u8, BinaryOperator)>
-    ensures { result ≡ operator_of_lem mark }
+    ensures { result ≡ operators.operator_of mark }
 {
     match mark {
+        Mark::Star => Some((1, BinaryOperator::Multiply)),
+        Mark::Slash => Some((1, BinaryOperator::Divide)),
+        Mark::Percent => Some((1, BinaryOperator::Remainder)),
+        Mark::Plus => Some((2, BinaryOperator::Add)),
+        Mark::Minus => Some((2, BinaryOperator::Subtract)),
         Mark::Less => Some((3, BinaryOperator::Less)),
         Mark::LessOrEqual => Some((3, BinaryOperator::LessOrEqual)),
         Mark::Greater => Some((3, BinaryOperator::Greater)),
@@ -38,6 +45,35 @@ fn operator_of(mark: Mark) -> Option<(u8, BinaryOperator)>
         Mark::Or => Some((5, BinaryOperator::Or)),
         _ => None,
     }
+}
+
+fn word_operator(word: &[u8]) -> Option<(u8, BinaryOperator)>
+    ensures { result ≡ operators.word_operator word.now }
+{
+    if is_word(word, b"in") {
+        Some((3, BinaryOperator::In))
+    } else {
+        None
+    }
+}
+
+fn token_operator(token: Token<'_>) -> Option<(u8, BinaryOperator)>
+    ensures { result ≡ operators.operator (token_of token.entry) }
+{
+    match token {
+        Token::Word(word) => word_operator(word),
+        Token::Mark(mark) => operator_of(mark),
+        _ => None,
+    }
+}
+
+fn is_end(mark: Mark) -> bool
+    ensures { result ≡ spec.is_end mark }
+{
+    matches!(
+        mark,
+        Mark::CloseRound | Mark::CloseSquare | Mark::CloseBrace | Mark::Comma
+    )
 }
 
 impl<'a> Tokens<'a> {
@@ -74,11 +110,43 @@ impl<'a> Tokens<'a> {
         ensures { result ≡ spec.operator_at level (left self.now) }
     {
         match self.rest.first() {
-            Some(Token::Mark(mark)) => match operator_of(*mark) {
+            Some(token) => match token_operator(*token) {
                 Some((at, operator)) if at == level => Some(operator),
                 _ => None,
             },
-            _ => None,
+            None => None,
+        }
+    }
+
+    /// Whether a comma or a closing bracket comes next.
+    pub fn sees_end(&self) -> bool
+        ensures { result ≡ spec.sees_end (left self.now) }
+    {
+        match self.rest.first() {
+            Some(Token::Mark(mark)) => is_end(*mark),
+            _ => false,
+        }
+    }
+
+    /// Whether another item comes next, behind a comma.
+    pub fn goes_on(&self) -> bool
+        ensures { result ≡ spec.goes_on (left self.now) }
+    {
+        if !self.sees(Mark::Comma) {
+            return false;
+        }
+        let mut ahead = *self;
+        let _comma = ahead.next();
+        !ahead.sees_end()
+    }
+
+    /// Whether an int or a double comes next.
+    pub fn begins_number(&self) -> bool
+        ensures { result ≡ operators.begins_number (left self.now) }
+    {
+        match self.rest.first() {
+            Some(token) => takes_minus(*token),
+            None => false,
         }
     }
 

@@ -2,10 +2,12 @@
 use Rattle.std.proofs.Common.{◌≡◌, ℕ, suc, zero, ◌<◌, refl, sym, ◌∙◌, ap, subst, arith, Bool, true, false, Option, Some, None, List, [], ◌∷◌, ◌++◌, take, drop, length, get_or, ◌&&◌, ◌||◌, ◌⊎◌, inl, inr, append_assoc, append-nil, map}
 use Rattle.std.specs.Prelude.{nat_eq}
 use Rattle.std.specs.List.{prefix_len}
-use Rattle.std.specs.Char.{is_ascii_digit}
 use Rattle.std.proofs.lemmas.Bool.{eqb-true}
 use Rattle.cel_syntax_tokens.specs.Token.{Token}
-use Rattle.cel_syntax_tokens.specs.Tokens.{is_letter, is_quote, is_white_space, is_in_line, one_byte, two_bytes, mark_of, token_of_bytes, Longest, begins_comment, Cuts, done, space, comment, token, CutsInto, CutsIntoNone}
+use Rattle.cel_syntax_tokens.specs.Spelling.{some_then}
+use Rattle.cel_syntax_tokens.specs.Numbers.{is_hexadecimal, is_fraction, is_decimal, is_number}
+use Rattle.cel_syntax_tokens.specs.Strings.{is_quote}
+use Rattle.cel_syntax_tokens.specs.Tokens.{is_letter, is_white_space, is_in_line, one_byte, two_bytes, mark_of, token_of_bytes, Longest, begins_comment, Cuts, done, space, comment, token, CutsInto, CutsIntoNone}
 use Rattle.cel_syntax_tokens.proofs.First.{some_none, no_token_at_end}
 
 either : (a b : Bool) → (a || b) ≡ true → (a ≡ true) ⊎ (b ≡ true)
@@ -19,23 +21,23 @@ no_mark b [] one two = one
 no_mark b (c ∷ []) one two = two c
 no_mark b (c ∷ d ∷ z) one two = refl
 
-no_token_from : (b : ℕ) (z : List ℕ) (n : ℕ) → is_letter b ≡ false → is_ascii_digit b ≡ false → is_quote b ≡ false → one_byte b ≡ None
+no_token_from : (b : ℕ) (z : List ℕ) (n : ℕ) → is_letter b ≡ false → is_quote b ≡ false → ((y : List ℕ) → is_number (b ∷ y) ≡ false) → one_byte b ≡ None
     → ((c : ℕ) → two_bytes b c ≡ None) → token_of_bytes (take n (b ∷ z)) ≡ None
 unfolding token_of_bytes
-no_token_from b z zero l d q one two = refl
-no_token_from b z (suc n) l d q one two = rw (l, d, q, no_mark b (take n z) one two)
+no_token_from b z zero l q number one two = refl
+no_token_from b z (suc n) l q number one two = rw (l, q, number (take n z), no_mark b (take n z) one two)
 
 pub no_space_token : {b n : ℕ} {z : List ℕ} {t : Token} → is_white_space b ≡ true → Longest (b ∷ z) n t → ⊥
-unfolding token_of_bytes one_byte two_bytes
+unfolding token_of_bytes one_byte two_bytes is_number is_hexadecimal is_fraction is_decimal some_then
 no_space_token {b} {n} {z} {t} s l = some_none (sym l.token ∙ elim (either _ _ s) [
-  | inr e ↦ by 32 e (no_token_from 32 z n refl refl refl refl (λ c. refl))
+  | inr e ↦ by 32 e (no_token_from 32 z n refl refl (λ y. refl) refl (λ c. refl))
   | inl s ↦ elim (either _ _ s) [
-    | inr e ↦ by 13 e (no_token_from 13 z n refl refl refl refl (λ c. refl))
+    | inr e ↦ by 13 e (no_token_from 13 z n refl refl (λ y. refl) refl (λ c. refl))
     | inl s ↦ elim (either _ _ s) [
-      | inr e ↦ by 12 e (no_token_from 12 z n refl refl refl refl (λ c. refl))
+      | inr e ↦ by 12 e (no_token_from 12 z n refl refl (λ y. refl) refl (λ c. refl))
       | inl s ↦ elim (either _ _ s) [
-        | inr e ↦ by 10 e (no_token_from 10 z n refl refl refl refl (λ c. refl))
-        | inl e ↦ by 9 e (no_token_from 9 z n refl refl refl refl (λ c. refl))
+        | inr e ↦ by 10 e (no_token_from 10 z n refl refl (λ y. refl) refl (λ c. refl))
+        | inl e ↦ by 9 e (no_token_from 9 z n refl refl (λ y. refl) refl (λ c. refl))
       ]
     ]
   ]

@@ -1,14 +1,17 @@
 -- What the scan finds at the front is the longest token there.
-use Rattle.std.proofs.Common.{◌≡◌, ℕ, suc, zero, ◌+◌, ◌<◌, ◌≤◌, refl, sym, ◌∙◌, ap, subst, arith, true, false, Some, None, List, [], ◌∷◌, take, drop, length, get_or, one-add}
+use Rattle.std.proofs.Common.{◌≡◌, ℕ, suc, zero, ◌+◌, ◌<◌, ◌≤◌, refl, sym, ◌∙◌, subst, arith, true, false, Some, None, List, [], ◌∷◌, take, drop, length, get_or, one-add}
 use Rattle.std.specs.Prelude.{nat_eq}
 use Rattle.std.specs.List.{prefix_len}
-use Rattle.std.specs.Char.{is_ascii_digit}
 use Rattle.std.proofs.lemmas.Bool.{eqb-true}
 use Rattle.std.proofs.lemmas.List.Sums.{prefix_len-le-length}
 use Rattle.cel_syntax_tokens.specs.declared.mark.Mark.{Mark}
 use Rattle.cel_syntax_tokens.specs.Token.{Token, word, number, quoted, mark}
-use Rattle.cel_syntax_tokens.specs.Tokens.{is_letter, is_word_byte, is_quote, is_inside, one_byte, two_bytes, two_at_front, token_of_bytes, Longest}
-use Rattle.cel_syntax_tokens.proofs.Runs.{all_front, all_longer, closes_front, closes_longer, closes_never}
+use Rattle.cel_syntax_tokens.specs.Strings.{is_quote, is_string, is_prefixed}
+use Rattle.cel_syntax_tokens.specs.Tokens.{is_letter, is_word_byte, one_byte, two_bytes, two_at_front, token_of_bytes, Longest}
+use Rattle.cel_syntax_tokens.specs.Spelling.{some_then, LongestSpelling}
+use Rattle.cel_syntax_tokens.specs.Numbers.{is_exponent, is_fraction, is_end_or_suffix, is_hexadecimal, is_after_digits, is_decimal, is_number}
+use Rattle.cel_syntax_tokens.proofs.Spelling.{class_is_not}
+use Rattle.cel_syntax_tokens.proofs.Runs.{all_front, all_longer}
 
 pub some_none : {A : Type 0} {x : A} → Some x ≡ None → ⊥
 some_none e = cc
@@ -42,126 +45,163 @@ pub nothing_at_end : (z : List ℕ) → length z ≡ 0 → (n : ℕ) (t : Token)
 nothing_at_end [] e n t found = no_token_at_end found
 nothing_at_end (b ∷ z) e n t found = omega arith
 
--- ---- words and numbers
+-- ---- words
 
-longest_word : (b : ℕ) (z : List ℕ) → is_letter b ≡ true → Longest (b ∷ z) (suc (prefix_len is_word_byte z)) (word (b ∷ take (prefix_len is_word_byte z) z))
+longest_word : (b : ℕ) (z : List ℕ) (n : ℕ) → is_letter b ≡ true → LongestSpelling is_prefixed (b ∷ z) n → n ≤ suc (prefix_len is_word_byte z)
+    → Longest (b ∷ z) (suc (prefix_len is_word_byte z)) (word (b ∷ take (prefix_len is_word_byte z) z))
 unfolding token_of_bytes
-longest_word b z letter = record {
+longest_word b z n letter r h = record {
   within = omega (arith, prefix_len-le-length is_word_byte z);
   token = rw (letter, all_front is_word_byte z);
   longest = longer;
 }
   where
     longer : (k : ℕ) → suc (prefix_len is_word_byte z) < k → k ≤ length (b ∷ z) → token_of_bytes (take k (b ∷ z)) ≡ None
-    longer zero h w = refl
-    longer (suc k) h w = rw (letter, all_longer is_word_byte z k (omega arith) (omega arith))
+    longer zero i w = refl
+    longer (suc k) i w = rw (letter, all_longer is_word_byte z k (omega arith) (omega arith), r.none_longer (suc k) (omega arith) w)
 
-longest_number : (b : ℕ) (z : List ℕ) → is_letter b ≡ false → is_ascii_digit b ≡ true → Longest (b ∷ z) (suc (prefix_len is_ascii_digit z)) (number (b ∷ take (prefix_len is_ascii_digit z) z))
-unfolding token_of_bytes
-longest_number b z no_letter digit = record {
-  within = omega (arith, prefix_len-le-length is_ascii_digit z);
-  token = rw (no_letter, digit, all_front is_ascii_digit z);
-  longest = longer;
-}
-  where
-    longer : (k : ℕ) → suc (prefix_len is_ascii_digit z) < k → k ≤ length (b ∷ z) → token_of_bytes (take k (b ∷ z)) ≡ None
-    longer zero h w = refl
-    longer (suc k) h w = rw (no_letter, digit, all_longer is_ascii_digit z k (omega arith) (omega arith))
-
-pub word_at : (z : List ℕ) → 0 < length z → is_letter (get_or z 0 0) ≡ true
+pub word_at : (z : List ℕ) (n : ℕ) → 0 < length z → is_letter (get_or z 0 0) ≡ true → LongestSpelling is_prefixed z n → n ≤ 1 + prefix_len is_word_byte (drop 1 z)
     → Longest z (1 + prefix_len is_word_byte (drop 1 z)) (word (take (1 + prefix_len is_word_byte (drop 1 z)) z))
-word_at [] some e = absurd (omega arith)
-word_at (b ∷ z) some e = rw one-add (longest_word b z e)
-
-pub number_at : (z : List ℕ) → 0 < length z → is_letter (get_or z 0 0) ≡ false → is_ascii_digit (get_or z 0 0) ≡ true
-    → Longest z (1 + prefix_len is_ascii_digit (drop 1 z)) (number (take (1 + prefix_len is_ascii_digit (drop 1 z)) z))
-number_at [] some l e = absurd (omega arith)
-number_at (b ∷ z) some l e = rw one-add (longest_number b z l e)
+word_at [] n some e r h = absurd (omega arith)
+word_at (b ∷ z) n some e r h = rw one-add (longest_word b z n e r (omega arith))
 
 -- ---- strings
 
-longest_quoted : (b : ℕ) (z : List ℕ) → is_letter b ≡ false → is_ascii_digit b ≡ false → is_quote b ≡ true
-    → prefix_len (is_inside b) z < length z → get_or z (prefix_len (is_inside b) z) 0 ≡ b
-    → Longest (b ∷ z) (suc (suc (prefix_len (is_inside b) z))) (quoted (b ∷ take (suc (prefix_len (is_inside b) z)) z))
+longest_prefixed : (b : ℕ) (z : List ℕ) (n : ℕ) → is_letter b ≡ true → LongestSpelling is_prefixed (b ∷ z) n → 1 + prefix_len is_word_byte z < n
+    → Longest (b ∷ z) n (quoted (take n (b ∷ z)))
 unfolding token_of_bytes
-longest_quoted b z l d q h e = record { within = omega arith; token = rw (l, d, q, closes_front b z h e); longest = longer }
+longest_prefixed b z zero letter r h = absurd (omega arith)
+longest_prefixed b z (suc n) letter r h = record {
+  within = r.fits;
+  token = let fits = r.fits in rw (letter, all_longer is_word_byte z n (omega arith) (omega arith), r.is_one (omega arith));
+  longest = longer;
+}
   where
-    longer : (k : ℕ) → suc (suc (prefix_len (is_inside b) z)) < k → k ≤ length (b ∷ z) → token_of_bytes (take k (b ∷ z)) ≡ None
-    longer zero h w = refl
-    longer (suc k) h w = rw (l, d, q, closes_longer b z k (omega arith) (omega arith))
+    longer : (k : ℕ) → suc n < k → k ≤ length (b ∷ z) → token_of_bytes (take k (b ∷ z)) ≡ None
+    longer zero i w = refl
+    longer (suc k) i w = rw (letter, all_longer is_word_byte z k (omega arith) (omega arith), r.none_longer (suc k) i w)
 
-never_quoted : (b : ℕ) (z : List ℕ) → is_letter b ≡ false → is_ascii_digit b ≡ false → is_quote b ≡ true
-    → (prefix_len (is_inside b) z < length z → get_or z (prefix_len (is_inside b) z) 0 ≡ b → ⊥) → (n : ℕ) (t : Token) → Longest (b ∷ z) n t → ⊥
+pub prefixed_at : (z : List ℕ) (n : ℕ) → 0 < length z → is_letter (get_or z 0 0) ≡ true → LongestSpelling is_prefixed z n → 1 + prefix_len is_word_byte (drop 1 z) < n
+    → Longest z n (quoted (take n z))
+prefixed_at [] n some e r h = absurd (omega arith)
+prefixed_at (b ∷ z) n some e r h = longest_prefixed b z n e r h
+
+longest_quoted : (b : ℕ) (z : List ℕ) (n : ℕ) → is_letter b ≡ false → is_quote b ≡ true → LongestSpelling (is_string false) (b ∷ z) n → 0 < n
+    → Longest (b ∷ z) n (quoted (take n (b ∷ z)))
 unfolding token_of_bytes
-never_quoted b z l d q h n t found = some_none (sym found.token ∙ none n)
+longest_quoted b z zero l q r h = absurd (omega arith)
+longest_quoted b z (suc n) l q r h = record { within = r.fits; token = rw (l, q, r.is_one h); longest = longer }
   where
-    none : (k : ℕ) → token_of_bytes (take k (b ∷ z)) ≡ None
-    none zero = refl
-    none (suc k) = rw (l, d, q, closes_never b z k h)
+    longer : (k : ℕ) → suc n < k → k ≤ length (b ∷ z) → token_of_bytes (take k (b ∷ z)) ≡ None
+    longer zero i w = refl
+    longer (suc k) i w = rw (l, q, r.none_longer (suc k) i w)
 
--- the first byte, what stands after it, and how far that goes on within the quotes
-pub quoted_at : (z more : List ℕ) (n : ℕ) → more ≡ drop 1 z → n ≡ prefix_len (is_inside (get_or z 0 0)) more → 0 < length z → is_letter (get_or z 0 0) ≡ false
-    → is_ascii_digit (get_or z 0 0) ≡ false → is_quote (get_or z 0 0) ≡ true → n < length more → get_or more n 0 ≡ get_or z 0 0 → Longest z (n + 2) (quoted (take (n + 2) z))
-quoted_at [] more n em en some l d q h e = absurd (omega arith)
-quoted_at (b ∷ z) more n em en some l d q h e =
-    let same : n ≡ prefix_len (is_inside b) z = en ∙ ap (prefix_len (is_inside b)) em in
-    let all : suc (suc (prefix_len (is_inside b) z)) ≡ n + 2 = omega arith in
-    subst (λ k. Longest (b ∷ z) k (quoted (take k (b ∷ z)))) all (longest_quoted b z l d q (rw (en, em) at h) (rw (en, em) at e))
+pub quoted_at : (z : List ℕ) (n : ℕ) → 0 < length z → is_letter (get_or z 0 0) ≡ false → is_quote (get_or z 0 0) ≡ true → LongestSpelling (is_string false) z n → 0 < n
+    → Longest z n (quoted (take n z))
+quoted_at [] n some l q r h = absurd (omega arith)
+quoted_at (b ∷ z) n some l q r h = longest_quoted b z n l q r h
 
-pub never_quoted_at : (z more : List ℕ) (n : ℕ) → more ≡ drop 1 z → n ≡ prefix_len (is_inside (get_or z 0 0)) more → 0 < length z → is_letter (get_or z 0 0) ≡ false
-    → is_ascii_digit (get_or z 0 0) ≡ false → is_quote (get_or z 0 0) ≡ true → (n < length more → get_or more n 0 ≡ get_or z 0 0 → ⊥) → (k : ℕ) (t : Token) → Longest z k t → ⊥
-never_quoted_at [] more n em en some l d q h = absurd (omega arith)
-never_quoted_at (b ∷ z) more n em en some l d q h = never_quoted b z l d q (rw (en, em) at h)
+never_quoted : (b : ℕ) (z : List ℕ) → is_letter b ≡ false → is_quote b ≡ true → LongestSpelling (is_string false) (b ∷ z) 0 → (n : ℕ) (t : Token) → Longest (b ∷ z) n t → ⊥
+unfolding token_of_bytes
+never_quoted b z l q r zero t found = some_none (sym found.token)
+never_quoted b z l q r (suc n) t found = some_none (sym found.token ∙ rw (l, q, r.none_longer (suc n) (omega arith) found.within))
+
+pub never_quoted_at : (z : List ℕ) (n : ℕ) → 0 < length z → is_letter (get_or z 0 0) ≡ false → is_quote (get_or z 0 0) ≡ true → LongestSpelling (is_string false) z n → n ≤ 0
+    → (k : ℕ) (t : Token) → Longest z k t → ⊥
+never_quoted_at [] n some l q r h = absurd (omega arith)
+never_quoted_at (b ∷ z) n some l q r h = let none : n ≡ 0 = omega arith in never_quoted b z l q (subst (λ i. LongestSpelling (is_string false) (b ∷ z) i) none r)
+
+-- ---- numbers
+
+digit_is_no_mark : (b c : ℕ) → is_number (b ∷ []) ≡ true → two_bytes b c ≡ None
+unfolding two_bytes is_number is_hexadecimal is_fraction is_decimal is_after_digits is_end_or_suffix is_exponent some_then
+digit_is_no_mark b c is = rw (other 60 refl, other 62 refl, other 61 refl, other 33 refl, other 38 refl, other 124 refl)
+  where
+    other : (v : ℕ) → is_number (v ∷ []) ≡ false → nat_eq b v ≡ false
+    other v none = class_is_not (λ x. is_number (x ∷ [])) v b none is
+
+longest_number : (b : ℕ) (z : List ℕ) (n : ℕ) → is_letter b ≡ false → is_quote b ≡ false → LongestSpelling is_number (b ∷ z) n → 0 < n → Longest (b ∷ z) n (number (take n (b ∷ z)))
+unfolding token_of_bytes
+longest_number b z zero l q r some = absurd (omega arith)
+longest_number b z (suc n) l q r some = record { within = r.fits; token = rw (l, q, r.is_one some); longest = longer z r.is_one r.none_longer }
+  where
+    longer : (z : List ℕ) → (0 < suc n → is_number (take (suc n) (b ∷ z)) ≡ true) → ((k : ℕ) → suc n < k → k ≤ length (b ∷ z) → is_number (take k (b ∷ z)) ≡ false)
+        → (k : ℕ) → suc n < k → k ≤ length (b ∷ z) → token_of_bytes (take k (b ∷ z)) ≡ None
+    longer z is none zero h w = absurd (omega arith)
+    longer z is none (suc zero) h w = absurd (omega arith)
+    longer [] is none (suc (suc k)) h w = absurd (omega arith)
+    longer (c ∷ z) is none (suc (suc zero)) h w =
+        let one : n ≡ 0 = omega arith in
+        rw (l, q, none 2 h w, digit_is_no_mark b c (subst (λ i. is_number (take (suc i) (b ∷ c ∷ z)) ≡ true) one (is (omega arith))))
+    longer (c ∷ []) is none (suc (suc (suc k))) h w = absurd (omega arith)
+    longer (c ∷ x ∷ z) is none (suc (suc (suc k))) h w = rw (l, q, none (suc (suc (suc k))) h w)
+
+pub number_at : (z : List ℕ) (n : ℕ) → 0 < length z → is_letter (get_or z 0 0) ≡ false → is_quote (get_or z 0 0) ≡ false → LongestSpelling is_number z n → 0 < n
+    → Longest z n (number (take n z))
+number_at [] n some l q r h = absurd (omega arith)
+number_at (b ∷ z) n some l q r h = longest_number b z n l q r h
 
 -- ---- marks
 
-module _ (b : ℕ) (l : is_letter b ≡ false) (d : is_ascii_digit b ≡ false) (q : is_quote b ≡ false) where
-  longest_two : (c : ℕ) (z : List ℕ) (k : Mark) → two_bytes b c ≡ Some k → Longest (b ∷ c ∷ z) 2 (mark k)
+-- no number stands at the front
+abbrev pub NoNumber : List ℕ → Type 0
+NoNumber z = (k : ℕ) → 0 < k → k ≤ length z → is_number (take k z) ≡ false
+
+module _ (b : ℕ) (l : is_letter b ≡ false) (q : is_quote b ≡ false) where
+  longest_two : (c : ℕ) (z : List ℕ) (k : Mark) → NoNumber (b ∷ c ∷ z) → two_bytes b c ≡ Some k → Longest (b ∷ c ∷ z) 2 (mark k)
   unfolding token_of_bytes
-  longest_two c z k is = record { within = omega arith; token = rw (l, d, q, is); longest = longer z }
+  longest_two c z k none is = record { within = omega arith; token = rw (l, q, none 2 (omega arith) (omega arith), is); longest = longer z none }
     where
-      longer : (z : List ℕ) (n : ℕ) → 2 < n → n ≤ length (b ∷ c ∷ z) → token_of_bytes (take n (b ∷ c ∷ z)) ≡ None
-      longer z zero h w = absurd (omega arith)
-      longer z (suc zero) h w = absurd (omega arith)
-      longer z (suc (suc zero)) h w = absurd (omega arith)
-      longer [] (suc (suc (suc n))) h w = absurd (omega arith)
-      longer (x ∷ z) (suc (suc (suc n))) h w = rw (l, d, q)
+      longer : (z : List ℕ) → NoNumber (b ∷ c ∷ z) → (n : ℕ) → 2 < n → n ≤ length (b ∷ c ∷ z) → token_of_bytes (take n (b ∷ c ∷ z)) ≡ None
+      longer z none zero h w = absurd (omega arith)
+      longer z none (suc zero) h w = absurd (omega arith)
+      longer z none (suc (suc zero)) h w = absurd (omega arith)
+      longer [] none (suc (suc (suc n))) h w = absurd (omega arith)
+      longer (x ∷ z) none (suc (suc (suc n))) h w = rw (l, q, none (suc (suc (suc n))) (omega arith) w)
 
-  no_longer_mark : (z : List ℕ) (n : ℕ) → ((c : ℕ) (y : List ℕ) → z ≡ c ∷ y → two_bytes b c ≡ None) → 1 < n → n ≤ length (b ∷ z) → token_of_bytes (take n (b ∷ z)) ≡ None
+  no_longer_mark : (z : List ℕ) (n : ℕ) → NoNumber (b ∷ z) → ((c : ℕ) (y : List ℕ) → z ≡ c ∷ y → two_bytes b c ≡ None) → 1 < n → n ≤ length (b ∷ z)
+      → token_of_bytes (take n (b ∷ z)) ≡ None
   unfolding token_of_bytes
-  no_longer_mark z zero two h w = absurd (omega arith)
-  no_longer_mark z (suc zero) two h w = absurd (omega arith)
-  no_longer_mark [] (suc (suc n)) two h w = absurd (omega arith)
-  no_longer_mark (c ∷ z) (suc (suc zero)) two h w = rw (l, d, q, two c z refl)
-  no_longer_mark (c ∷ []) (suc (suc (suc n))) two h w = absurd (omega arith)
-  no_longer_mark (c ∷ x ∷ z) (suc (suc (suc n))) two h w = rw (l, d, q)
+  no_longer_mark z zero none two h w = absurd (omega arith)
+  no_longer_mark z (suc zero) none two h w = absurd (omega arith)
+  no_longer_mark [] (suc (suc n)) none two h w = absurd (omega arith)
+  no_longer_mark (c ∷ z) (suc (suc zero)) none two h w = rw (l, q, none 2 (omega arith) w, two c z refl)
+  no_longer_mark (c ∷ []) (suc (suc (suc n))) none two h w = absurd (omega arith)
+  no_longer_mark (c ∷ x ∷ z) (suc (suc (suc n))) none two h w = rw (l, q, none (suc (suc (suc n))) (omega arith) w)
 
-  longest_one : (z : List ℕ) (k : Mark) → ((c : ℕ) (y : List ℕ) → z ≡ c ∷ y → two_bytes b c ≡ None) → one_byte b ≡ Some k → Longest (b ∷ z) 1 (mark k)
+  longest_one : (z : List ℕ) (k : Mark) → NoNumber (b ∷ z) → ((c : ℕ) (y : List ℕ) → z ≡ c ∷ y → two_bytes b c ≡ None) → one_byte b ≡ Some k → Longest (b ∷ z) 1 (mark k)
   unfolding token_of_bytes
-  longest_one z k two is = record { within = omega arith; token = rw (l, d, q, is); longest = λ n h w. no_longer_mark z n two h w }
+  longest_one z k none two is = record {
+    within = omega arith;
+    token = rw (l, q, none 1 (omega arith) (omega arith), is);
+    longest = λ n h w. no_longer_mark z n none two h w;
+  }
 
-  no_mark : (z : List ℕ) → ((c : ℕ) (y : List ℕ) → z ≡ c ∷ y → two_bytes b c ≡ None) → one_byte b ≡ None → (n : ℕ) (t : Token) → Longest (b ∷ z) n t → ⊥
+  no_mark : (z : List ℕ) → NoNumber (b ∷ z) → ((c : ℕ) (y : List ℕ) → z ≡ c ∷ y → two_bytes b c ≡ None) → one_byte b ≡ None → (n : ℕ) (t : Token) → Longest (b ∷ z) n t → ⊥
   unfolding token_of_bytes
-  no_mark z two one zero t found = some_none (sym found.token)
-  no_mark z two one (suc zero) t found = some_none (sym found.token ∙ rw (l, d, q, one))
-  no_mark z two one (suc (suc n)) t found = some_none (sym found.token ∙ no_longer_mark z (suc (suc n)) two (omega arith) found.within)
+  no_mark z none two one zero t found = some_none (sym found.token)
+  no_mark z none two one (suc zero) t found = some_none (sym found.token ∙ rw (l, q, none 1 (omega arith) (omega arith), one))
+  no_mark z none two one (suc (suc n)) t found = some_none (sym found.token ∙ no_longer_mark z (suc (suc n)) none two (omega arith) found.within)
 
 no_two : (b : ℕ) (z : List ℕ) → two_at_front (b ∷ z) ≡ None → (c : ℕ) (y : List ℕ) → z ≡ c ∷ y → two_bytes b c ≡ None
 no_two b [] e c y is = absurd (cc)
 no_two b (x ∷ z) e c y is = let same : x ≡ c = cc in rw (← same) e
 
-pub two_at : (z : List ℕ) (k : Mark) → is_letter (get_or z 0 0) ≡ false → is_ascii_digit (get_or z 0 0) ≡ false → is_quote (get_or z 0 0) ≡ false
+none_of : (z : List ℕ) (n : ℕ) → LongestSpelling is_number z n → n ≤ 0 → NoNumber z
+none_of z n r zero_at_most = λ k h w. r.none_longer k (omega arith) w
+
+pub two_at : (z : List ℕ) (k : Mark) (n : ℕ) → is_letter (get_or z 0 0) ≡ false → is_quote (get_or z 0 0) ≡ false → LongestSpelling is_number z n → n ≤ 0
     → two_at_front z ≡ Some k → Longest z 2 (mark k)
-two_at [] k l d q e = absurd (cc)
-two_at (b ∷ []) k l d q e = absurd (cc)
-two_at (b ∷ c ∷ z) k l d q e = longest_two b l d q c z k e
+two_at [] k n l q r none e = absurd (cc)
+two_at (b ∷ []) k n l q r none e = absurd (cc)
+two_at (b ∷ c ∷ z) k n l q r none e = longest_two b l q c z k (none_of (b ∷ c ∷ z) n r none) e
 
-pub one_at : (z : List ℕ) (k : Mark) → 0 < length z → is_letter (get_or z 0 0) ≡ false → is_ascii_digit (get_or z 0 0) ≡ false → is_quote (get_or z 0 0) ≡ false
+pub one_at : (z : List ℕ) (k : Mark) (n : ℕ) → 0 < length z → is_letter (get_or z 0 0) ≡ false → is_quote (get_or z 0 0) ≡ false → LongestSpelling is_number z n → n ≤ 0
     → two_at_front z ≡ None → one_byte (get_or z 0 0) ≡ Some k → Longest z 1 (mark k)
-one_at [] k some l d q two e = absurd (omega arith)
-one_at (b ∷ z) k some l d q two e = longest_one b l d q z k (no_two b z two) e
+one_at [] k n some l q r none two e = absurd (omega arith)
+one_at (b ∷ z) k n some l q r none two e = longest_one b l q z k (none_of (b ∷ z) n r none) (no_two b z two) e
 
-pub none_at : (z : List ℕ) → 0 < length z → is_letter (get_or z 0 0) ≡ false → is_ascii_digit (get_or z 0 0) ≡ false → is_quote (get_or z 0 0) ≡ false
-    → two_at_front z ≡ None → one_byte (get_or z 0 0) ≡ None → (n : ℕ) (t : Token) → Longest z n t → ⊥
-none_at [] some l d q two e = absurd (omega arith)
-none_at (b ∷ z) some l d q two e = no_mark b l d q z (no_two b z two) e
+pub none_at : (z : List ℕ) (n : ℕ) → 0 < length z → is_letter (get_or z 0 0) ≡ false → is_quote (get_or z 0 0) ≡ false → LongestSpelling is_number z n → n ≤ 0
+    → two_at_front z ≡ None → one_byte (get_or z 0 0) ≡ None → (k : ℕ) (t : Token) → Longest z k t → ⊥
+none_at [] n some l q r none two e = absurd (omega arith)
+none_at (b ∷ z) n some l q r none two e = no_mark b l q z (none_of (b ∷ z) n r none) (no_two b z two) e

@@ -1,10 +1,12 @@
 -- Which tokens a text cuts into, after the sections "Syntax" and "Values" of the CEL language definition.
-use Rattle.std.specs.Prelude.{◌≡◌, ℕ, ◌<◌, ◌≤◌, Bool, true, false, not, ◌&&◌, ◌||◌, if◌then◌else◌, nat_eq, List, [], ◌∷◌, length, take, drop, Option, Some, None, option_map}
+use Rattle.std.specs.Prelude.{◌≡◌, ℕ, ◌<◌, ◌≤◌, Bool, false, true, not, ◌&&◌, ◌||◌, if◌then◌else◌, nat_eq, List, [], ◌∷◌, length, take, drop, Option, Some, None, option_map}
 use Rattle.std.specs.List.{list_all, prefix_len}
 use Rattle.std.specs.Char.{is_ascii_alphabetic, is_ascii_digit}
 use Rattle.cel_syntax_tokens.specs.declared.mark.Mark.{Mark}
 use Rattle.cel_syntax_tokens.specs.declared.mark.Mark.TheVariants as m
 use Rattle.cel_syntax_tokens.specs.Token.{Token, word, number, quoted, mark}
+use Rattle.cel_syntax_tokens.specs.Numbers.{is_number}
+use Rattle.cel_syntax_tokens.specs.Strings.{is_quote, is_string, is_prefixed}
 
 -- ---- classes of bytes
 
@@ -18,18 +20,6 @@ is_word_byte b = is_letter b || is_ascii_digit b
 -- tab, newline, form feed, carriage return, space
 abbrev pub is_white_space : ℕ → Bool
 is_white_space b = nat_eq b 9 || nat_eq b 10 || nat_eq b 12 || nat_eq b 13 || nat_eq b 32
-
--- a double or a single quote
-abbrev pub is_quote : ℕ → Bool
-is_quote b = nat_eq b 34 || nat_eq b 39
-
--- no backslash, newline or carriage return
-abbrev pub is_plain : ℕ → Bool
-is_plain b = not (nat_eq b 92) && not (nat_eq b 10) && not (nat_eq b 13)
-
--- may stand within a string in these quotes
-abbrev pub is_inside : ℕ → ℕ → Bool
-is_inside quote b = not (nat_eq b quote) && is_plain b
 
 -- no newline, which alone ends a line
 abbrev pub is_in_line : ℕ → Bool
@@ -80,22 +70,13 @@ mark_of b (c ∷ d ∷ z) = None
 
 -- ---- tokens
 
-abbrev pub is_end : List ℕ → Bool
-is_end [] = true
-is_end (b ∷ z) = false
-
--- what stands within a string and its closing quote, and nothing more
-abbrev pub closes : ℕ → List ℕ → Bool
-closes quote [] = false
-closes quote (b ∷ z) = if nat_eq b quote then is_end z else (is_plain b && closes quote z)
-
 -- the token that these bytes are, all of them
 unfoldable pub token_of_bytes : List ℕ → Option Token
 token_of_bytes [] = None
 token_of_bytes (b ∷ z) =
-    if is_letter b then (if list_all is_word_byte z then Some (word (b ∷ z)) else None)
-    else (if is_ascii_digit b then (if list_all is_ascii_digit z then Some (number (b ∷ z)) else None)
-    else (if is_quote b then (if closes b z then Some (quoted (b ∷ z)) else None)
+    if is_letter b then (if list_all is_word_byte z then Some (word (b ∷ z)) else (if is_prefixed (b ∷ z) then Some (quoted (b ∷ z)) else None))
+    else (if is_quote b then (if is_string false (b ∷ z) then Some (quoted (b ∷ z)) else None)
+    else (if is_number (b ∷ z) then Some (number (b ∷ z))
     else option_map mark (mark_of b z)))
 
 -- The first n bytes are this token, and no more of the bytes are one.

@@ -1,8 +1,10 @@
 //! Classes of bytes, and how many bytes of a class stand at the front.
 
-ghost use Rattle.std.specs.Prelude.{◌≡◌, ◌≤◌, length};
+ghost use Rattle.std.specs.Prelude.{◌≡◌, ◌<◌, ◌≤◌, IsTrue, length, drop};
 ghost use Rattle.std.specs.List.{prefix_len};
-ghost use Rattle.std.specs.Char.{is_ascii_digit};
+ghost use Rattle.std.specs.Char.{is_ascii_digit, is_ascii_hexdigit};
+ghost use Rattle.cel_syntax_tokens.specs.Spelling as spelling;
+ghost use Rattle.cel_syntax_tokens.specs.Strings as strings;
 ghost use Rattle.cel_syntax_tokens.specs.Tokens as spec;
 
 pub(crate) fn is_letter(byte: u8) -> bool
@@ -24,21 +26,54 @@ pub(crate) fn is_white_space(byte: u8) -> bool
 }
 
 pub(crate) fn is_quote(byte: u8) -> bool
-    ensures { result ≡ spec.is_quote byte }
+    ensures { result ≡ strings.is_quote byte }
 {
     byte == b'"' || byte == b'\''
 }
 
-fn is_plain(byte: u8) -> bool
-    ensures { result ≡ spec.is_plain byte }
+/// Newline or carriage return.
+pub(crate) fn is_line_break(byte: u8) -> bool
+    ensures { result ≡ strings.is_line_break byte }
 {
-    byte != b'\\' && byte != b'\n' && byte != b'\r'
+    byte == b'\n' || byte == b'\r'
 }
 
-fn is_inside(quote: u8, byte: u8) -> bool
-    ensures { result ≡ spec.is_inside quote byte }
+/// Whether this byte stands at the front.
+pub(crate) fn begins(text: &[u8], byte: u8) -> bool
+    ensures value { result ≡ spelling.begins (spelling.is_byte byte) text.now }
+    ensures within { IsTrue result → 1 ≤ length text.now }
 {
-    byte != quote && is_plain(byte)
+    match text {
+        [first, ..] => *first == byte,
+        [] => false,
+    }
+}
+
+/// Whether one of these two bytes stands at the front.
+pub(crate) fn begins_either(text: &[u8], one: u8, other: u8) -> bool
+    ensures value { result ≡ spelling.begins (spelling.is_either one other) text.now }
+    ensures within { IsTrue result → 1 ≤ length text.now }
+{
+    match text {
+        [first, ..] => *first == one || *first == other,
+        [] => false,
+    }
+}
+
+/// What stands behind so many bytes.
+pub(crate) fn after(text: &[u8], count: usize) -> &[u8]
+    requires { count ≤ length text.now }
+    ensures { result.now ≡ drop count text.now }
+{
+    &text[count..]
+}
+
+/// A byte more than this length, unless it is 0.
+pub(crate) fn longer(length: usize) -> usize
+    requires { length < usize.MAX }
+    ensures { result ≡ spelling.longer length }
+{
+    if length == 0 { 0 } else { 1 + length }
 }
 
 /// How many bytes go on a word.
@@ -57,13 +92,13 @@ pub(crate) fn digits_length(text: &[u8]) -> usize
     text.iter().take_while(|byte| byte.is_ascii_digit()).count()
 }
 
-/// How many bytes stand within a string in such quotes.
-pub(crate) fn inside_length(quote: u8, text: &[u8]) -> usize
-    ensures value { result ≡ prefix_len (spec.is_inside quote) text.now }
+/// How many bytes are hexadecimal digits.
+pub(crate) fn hexadecimal_digits_length(text: &[u8]) -> usize
+    ensures value { result ≡ prefix_len is_ascii_hexdigit text.now }
     ensures within { result ≤ length text.now }
 {
     text.iter()
-        .take_while(|byte| is_inside(quote, **byte))
+        .take_while(|byte| byte.is_ascii_hexdigit())
         .count()
 }
 

@@ -1,7 +1,9 @@
 //! Laws of the definitions, each the contract of a call that does nothing.
 
-ghost use Rattle.std.specs.Prelude.{◌≡◌, ℕ, List, MatchOption};
+ghost use Rattle.std.specs.Prelude.{◌≡◌, ℕ, List, [], ◌++◌, true, MatchOption};
 ghost use Rattle.cel_syntax_tokens.specs.Cut.{cut};
+ghost use Rattle.cel_syntax_tokens.specs.declared.quoted.Quotes.{Quotes};
+ghost use Rattle.cel_syntax_tokens.specs.Strings.{is_closed};
 ghost use Rattle.cel_syntax_tokens.specs.Token.{Token};
 ghost use Rattle.cel_syntax_tokens.specs.Tokens.{Cuts, CutsInto, CutsIntoNone};
 
@@ -13,4 +15,9 @@ pub fn one_cut()
 /// The function `cut` answers the tokens that a text cuts into, or none where it cuts into none.
 pub fn cut_is_what_a_text_cuts_into()
     ensures { (z : List ℕ) → MatchOption (cut z) (CutsIntoNone z) (λ ts. CutsInto z ts) }
+{}
+
+/// Where a string closes it ends: its bytes begin no longer string in the same quotes.
+pub fn a_string_closes_once()
+    ensures { (q : Quotes) (y z : List ℕ) → is_closed q y ≡ true → is_closed q (y ++ z) ≡ true → z ≡ [] }
 {}

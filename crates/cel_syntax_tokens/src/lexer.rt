@@ -6,10 +6,10 @@ ghost use Rattle.cel_syntax_tokens.specs.Token.{Token as SpecToken, token_of};
 ghost use Rattle.cel_syntax_tokens.specs.Tokens as spec;
 ghost use Rattle.cel_syntax_tokens.specs.Tokens.{Longest, CutsInto, CutsIntoNone};
 
-use crate::bytes::{
-    digits_length, inside_length, is_letter, is_quote, is_white_space, line_length, word_length,
-};
+use crate::bytes::{after, is_letter, is_quote, is_white_space, line_length, word_length};
 use crate::mark::Mark;
+use crate::number::number_length;
+use crate::quoted::{prefixed_length, string_length};
 use crate::token::Token;
 use kube_types_refused::Refused;
 use std::alloc::Global;
@@ -74,13 +74,6 @@ fn begins_comment(text: &[u8]) -> bool
     }
 }
 
-fn after(text: &[u8], count: usize) -> &[u8]
-    requires { count ≤ length text.now }
-    ensures { result.now ≡ drop count text.now }
-{
-    &text[count..]
-}
-
 /// The longest token at the front, and its length in bytes.
 fn first_token(text: &[u8]) -> Option<(Token<'_>, usize)>
     ensures { MatchOption result ((n : ℕ) (t : SpecToken) → Longest text.now n t → ⊥) (λ found. Longest text.now found.1 (token_of found.0)) }
@@ -89,22 +82,24 @@ fn first_token(text: &[u8]) -> Option<(Token<'_>, usize)>
         return None;
     }
     let first = text[0];
-    let more = after(text, 1);
     if is_letter(first) {
-        let length = 1 + word_length(more);
-        return Some((Token::Word(&text[..length]), length));
-    }
-    if first.is_ascii_digit() {
-        let length = 1 + digits_length(more);
-        return Some((Token::Number(&text[..length]), length));
+        let word = 1 + word_length(after(text, 1));
+        let prefixed = prefixed_length(text);
+        if prefixed > word {
+            return Some((Token::Quoted(&text[..prefixed]), prefixed));
+        }
+        return Some((Token::Word(&text[..word]), word));
     }
     if is_quote(first) {
-        let inside = inside_length(first, more);
-        if inside < more.len() && more[inside] == first {
-            let length = inside + 2;
-            return Some((Token::Quoted(&text[..length]), length));
+        let quoted = string_length(false, text);
+        if quoted > 0 {
+            return Some((Token::Quoted(&text[..quoted]), quoted));
         }
         return None;
+    }
+    let number = number_length(text);
+    if number > 0 {
+        return Some((Token::Number(&text[..number]), number));
     }
     match two_at_front(text) {
         Some(mark) => Some((Token::Mark(mark), 2)),
@@ -118,9 +113,9 @@ fn first_token(text: &[u8]) -> Option<(Token<'_>, usize)>
 /// The tokens of a text, in their order, or `None` where it cuts into none.
 ///
 /// Tokens are cut by longest match. Between them stand white space (tab, newline, form feed,
-/// carriage return, space) and comments (`//` to the newline or the text's end). Numbers are
-/// decimal digits, and strings stand on one line without a backslash. The only error is
-/// [`Refused::Memory`]. Source: the section "Syntax" of the CEL language definition.
+/// carriage return, space) and comments (`//` to the newline or the text's end). A string with an
+/// escape that means nothing is a token. The only error is [`Refused::Memory`]. Source: the section
+/// "Syntax" of the CEL language definition.
 pub fn tokens(alloc: Global, text: &[u8]) -> Result<Option<Vec<Token<'_>>>, Refused>
     ensures { MatchResult result
         (λ answer. MatchOption answer (CutsIntoNone text.now) (λ found. CutsInto text.now (map token_of found.items)))

@@ -5,4 +5,6 @@ mod bytes;
 pub mod laws;
 pub mod lexer;
 pub mod mark;
+mod number;
+mod quoted;
 pub mod token;

@@ -8,6 +8,8 @@ use std::rc::Rc;
 pub enum UnaryOperator {
     /// `!`
     Not,
+    /// `-`
+    Negate,
 }
 
 /// An operator on two values.
@@ -29,6 +31,18 @@ pub enum BinaryOperator {
     Equal,
     /// `!=`
     NotEqual,
+    /// `in`
+    In,
+    /// `+`
+    Add,
+    /// `-`
+    Subtract,
+    /// `*`
+    Multiply,
+    /// `/`
+    Divide,
+    /// `%`
+    Remainder,
 }
 
 /// A macro that goes over a range.
@@ -38,6 +52,12 @@ pub enum MacroKind {
     All,
     /// Whether it holds of some item.
     Exists,
+    /// Whether it holds of just one item.
+    ExistsOne,
+    /// The images of the items, of those alone that a filter keeps where there is one.
+    Map,
+    /// The items that the predicate holds of.
+    Filter,
 }
 
 /// An expression. Its names are shared, so that code made of it takes them without a copy.
@@ -49,13 +69,32 @@ pub enum Expr {
     Ident(Rc<String>),
     /// A member of a map.
     Select(Box<Expr>, Rc<String>),
+    /// Whether a map has a member, as the macro `has` asks.
+    Has(Box<Expr>, Rc<String>),
+    /// An item of a list or a member of a map, by its index or key.
+    Index(Box<Expr>, Box<Expr>),
     /// An operator on one value.
     Unary(UnaryOperator, Box<Expr>),
     /// An operator on two values.
     Binary(BinaryOperator, Box<Expr>, Box<Expr>),
     /// A condition with its two branches.
     Cond(Box<Expr>, Box<Expr>, Box<Expr>),
-    /// A macro, which binds its variable in filter and body.
+    /// A list of its items.
+    List(Vec<Expr>),
+    /// A map of its entries, each a key with its value.
+    Map(Vec<(Expr, Expr)>),
+    /// A call, on a target where there is one.
+    Call {
+        target: Option<Box<Expr>>,
+        name: Rc<String>,
+        args: Vec<Expr>,
+    },
+    /// A call of a function whose name has a dot in it.
+    Qualified {
+        name: Rc<String>,
+        args: Vec<Expr>,
+    },
+    /// A macro, which binds its variable in filter and body. A filter is there for `map(x, p, f)` alone.
     Macro {
         kind: MacroKind,
         range: Box<Expr>,

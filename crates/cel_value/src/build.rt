@@ -1,5 +1,5 @@
 //! Making values of parts, and finding the entries of maps.
-ghost use Rattle.std.specs.Prelude.{◌≡◌, IfOk, MatchResult, IsSome, None, option_map, string_bytes};
+ghost use Rattle.std.specs.Prelude.{◌≡◌, IfOk, IfErr, MatchResult, IsSome, None, option_map, string_bytes};
 ghost use Rattle.cel_value.specs.Data.{item, no_items, list, map_of, text};
 ghost use Rattle.cel_value.specs.Faults.{fault_view, duplicate_key};
 ghost use Rattle.cel_value.specs.Find.{find, first_item};
@@ -16,14 +16,16 @@ use std::rc::Rc;
 impl Value {
     /// The string value of a text. `Refused` where there is no memory to share it.
     pub fn from_text(alloc: Global, chars: String) -> Result<Value, Refused>
-        ensures { IfOk result (λ v. view v ≡ text (string_bytes chars)) }
+        ensures value { IfOk result (λ v. view v ≡ text (string_bytes chars)) }
+        ensures memory { IfErr result (λ e. e ≡ Refused.Memory) }
     {
         Ok(Value::String(Rc::new(alloc, chars)?))
     }
 
     /// The list of these items.
     pub fn from_items(alloc: Global, items: Vec<Value>) -> Result<Value, Refused>
-        ensures { IfOk result (λ v. view v ≡ list (items_view items.items)) }
+        ensures value { IfOk result (λ v. view v ≡ list (items_view items.items)) }
+        ensures memory { IfErr result (λ e. e ≡ Refused.Memory) }
     {
         Ok(Value::List(Rc::new(alloc, items)?))
     }
@@ -31,7 +33,8 @@ impl Value {
     /// The map of these entries.
     #[tactic(auto, using(crate::proofs::Views::view_map))]
     pub fn from_entries(alloc: Global, entries: Map) -> Result<Value, Refused>
-        ensures { IfOk result (λ v. view v ≡ map_of (entries_view entries.entries)) }
+        ensures value { IfOk result (λ v. view v ≡ map_of (entries_view entries.entries)) }
+        ensures memory { IfErr result (λ e. e ≡ Refused.Memory) }
     {
         Ok(Value::Map(Rc::new(alloc, entries)?))
     }
@@ -40,7 +43,8 @@ impl Value {
 impl OptionalValue {
     /// An optional that holds the value.
     pub fn of(alloc: Global, value: Value) -> Result<OptionalValue, Refused>
-        ensures { IfOk result (λ o. optional_view o ≡ item (view value) no_items) }
+        ensures value { IfOk result (λ o. optional_view o ≡ item (view value) no_items) }
+        ensures memory { IfErr result (λ e. e ≡ Refused.Memory) }
     {
         Ok(OptionalValue {
             held: Some(Rc::new(alloc, value)?),
@@ -71,11 +75,12 @@ pub fn add_entry(
     key: Key,
     value: Value,
 ) -> Result<Result<(), ExecutionError>, Refused>
-    ensures { IfOk result (λ r. MatchResult r
+    ensures value { IfOk result (λ r. MatchResult r
         (λ _. (find (key_view key) (entries_view entries.old.entries) ≡ None)
         × (entries_view entries.new.entries ≡ put (key_view key) (view value) (entries_view entries.old.entries)))
         (λ e. (fault_view e ≡ duplicate_key)
         × IsSome (find (key_view key) (entries_view entries.old.entries)))) }
+    ensures memory { IfErr result (λ e. e ≡ Refused.Memory) }
 {
     match entries.insert(key, value)? {
         None => Ok(Ok(())),

@@ -1,5 +1,5 @@
 //! Copies of values, which share what they hold, and their kinds.
-ghost use Rattle.std.specs.Prelude.{◌≡◌, IfOk};
+ghost use Rattle.std.specs.Prelude.{◌≡◌, IfOk, IfErr};
 ghost use Rattle.cel_value.specs.View.{view, optional_view, kind_of};
 ghost use Rattle.cel_value.specs.Keys.{key_view};
 
@@ -11,7 +11,8 @@ use kube_types::Refused;
 impl Key {
     /// The same key. Its text is shared.
     pub fn try_clone(&self) -> Result<Key, Refused>
-        ensures { IfOk result (λ k. key_view k ≡ key_view self.now) }
+        ensures value { IfOk result (λ k. key_view k ≡ key_view self.now) }
+        ensures memory { IfErr result (λ e. e ≡ Refused.Memory) }
     {
         match self {
             Key::Bool(b) => Ok(Key::Bool(*b)),
@@ -25,7 +26,8 @@ impl Key {
 impl OptionalValue {
     /// The same optional. Its value is shared.
     pub fn try_clone(&self) -> Result<OptionalValue, Refused>
-        ensures { IfOk result (λ o. optional_view o ≡ optional_view self.now) }
+        ensures value { IfOk result (λ o. optional_view o ≡ optional_view self.now) }
+        ensures memory { IfErr result (λ e. e ≡ Refused.Memory) }
     {
         match &self.held {
             None => Ok(OptionalValue { held: None }),
@@ -39,7 +41,8 @@ impl OptionalValue {
 impl Value {
     /// The same value. What is large is shared, so it takes no memory.
     pub fn try_clone(&self) -> Result<Value, Refused>
-        ensures { IfOk result (λ v. view v ≡ view self.now) }
+        ensures value { IfOk result (λ v. view v ≡ view self.now) }
+        ensures memory { IfErr result (λ e. e ≡ Refused.Memory) }
     {
         match self {
             Value::Null => Ok(Value::Null),

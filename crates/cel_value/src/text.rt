@@ -1,5 +1,5 @@
 //! The texts of values, keys and errors.
-ghost use Rattle.std.specs.Prelude.{◌≡◌, ◌∷◌, ◌++◌, IfOk, OnOk, Some, string_bytes, option_map, true, false};
+ghost use Rattle.std.specs.Prelude.{◌≡◌, ◌∷◌, ◌++◌, IfOk, IfErr, OnOk, Some, string_bytes, option_map, true, false};
 ghost use Rattle.cel_value.specs.Keys.{key_view};
 ghost use Rattle.cel_value.specs.View.{view, items_view, entries_view};
 ghost use Rattle.cel_value.specs.Faults.{fault_view};
@@ -56,7 +56,8 @@ impl fmt::Display for ExecutionError {
 impl Value {
     /// The text that `%s` prints, or the kind of the first part that has none.
     pub fn text(&self, alloc: Global) -> Result<Result<String, Kind>, Refused>
-        ensures { IfOk result (λ r. shown r ≡ printed (view self.now)) }
+        ensures value { IfOk result (λ r. shown r ≡ printed (view self.now)) }
+        ensures memory { IfErr result (λ e. e ≡ Refused.Memory) }
     {
         match find_textless(self) {
             Some(kind) => Ok(Err(kind)),
@@ -113,8 +114,9 @@ fn find_textless_entry(entries: &Map) -> Option<Kind>
 }
 
 fn write_quoted(text: &str, out: &mut String) -> Result<(), Refused>
-    ensures { OnOk result (string_bytes out.new
+    ensures written { OnOk result (string_bytes out.new
         ≡ string_bytes out.old ++ quoted_if true text.now) }
+    ensures memory { IfErr result (λ e. e ≡ Refused.Memory) }
 {
     out.push_str("\"")?;
     out.push_str(text)?;
@@ -124,8 +126,9 @@ fn write_quoted(text: &str, out: &mut String) -> Result<(), Refused>
 
 // A key as it stands in a map's text.
 fn write_key(key: &Key, out: &mut String) -> Result<(), Refused>
-    ensures { OnOk result (string_bytes out.new
+    ensures written { OnOk result (string_bytes out.new
         ≡ string_bytes out.old ++ key_form true (key_view key.now)) }
+    ensures memory { IfErr result (λ e. e ≡ Refused.Memory) }
 {
     match key {
         Key::Bool(b) => write!(out, "{b}")?,
@@ -138,8 +141,9 @@ fn write_key(key: &Key, out: &mut String) -> Result<(), Refused>
 
 #[cycle(write)]
 fn write_value(value: &Value, inner: bool, out: &mut String) -> Result<(), Refused>
-    ensures { OnOk result (string_bytes out.new
+    ensures written { OnOk result (string_bytes out.new
         ≡ string_bytes out.old ++ text_form inner (view value.now)) }
+    ensures memory { IfErr result (λ e. e ≡ Refused.Memory) }
 {
     match value {
         Value::Null => Ok(out.push_str("null")?),
@@ -163,8 +167,9 @@ fn write_value(value: &Value, inner: bool, out: &mut String) -> Result<(), Refus
 
 #[cycle(write)]
 fn write_items(items: &Vec<Value>, out: &mut String) -> Result<(), Refused>
-    ensures { OnOk result (string_bytes out.new
+    ensures written { OnOk result (string_bytes out.new
         ≡ string_bytes out.old ++ (91 ∷ items_text false (items_view items.now.items))) }
+    ensures memory { IfErr result (λ e. e ≡ Refused.Memory) }
 {
     out.push_str("[")?;
     let mut later = false;
@@ -181,8 +186,9 @@ fn write_items(items: &Vec<Value>, out: &mut String) -> Result<(), Refused>
 
 #[cycle(write)]
 fn write_entries(entries: &Map, out: &mut String) -> Result<(), Refused>
-    ensures { OnOk result (string_bytes out.new
+    ensures written { OnOk result (string_bytes out.new
         ≡ string_bytes out.old ++ (123 ∷ entries_text false (entries_view entries.now.entries))) }
+    ensures memory { IfErr result (λ e. e ≡ Refused.Memory) }
 {
     out.push_str("{")?;
     let mut later = false;

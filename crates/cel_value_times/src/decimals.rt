@@ -2,11 +2,11 @@
 ghost use Rattle.std.specs.Prelude.{◌≡◌, ◌<◌, ◌≤◌, ◌^◌, ◌++◌, OnOk, string_bytes};
 ghost use Rattle.cel_value_times.specs.Digits.{places_text, decimals_text};
 
-use kube_types_refused::Refused;
+use std::alloc::AllocError;
 
 /// Writes a dot and the decimal places of `n` parts of ten to the power `places`, without zeros at
 /// the end, unless `n` is 0.
-pub(crate) fn write_decimals(places: u32, n: u64, out: &mut String) -> Result<(), Refused>
+pub(crate) fn write_decimals(places: u32, n: u64, out: &mut String) -> Result<(), AllocError>
     requires few { places ≤ 9 }
     requires part { n < 10 ^ places }
     ensures { OnOk result (string_bytes out.new ≡ string_bytes out.old ++ decimals_text places n) }
@@ -20,7 +20,7 @@ pub(crate) fn write_decimals(places: u32, n: u64, out: &mut String) -> Result<()
 
 /// Writes the decimal places up to the last that is not 0.
 #[tactic(auto, using(crate::proofs::DigitLemmas::places_zero, crate::proofs::DigitLemmas::places_some, crate::proofs::DigitLemmas::places_more, crate::proofs::DigitLemmas::place_bounds))]
-fn write_places(places: u32, n: u64, out: &mut String) -> Result<(), Refused>
+fn write_places(places: u32, n: u64, out: &mut String) -> Result<(), AllocError>
     requires few { places ≤ 9 }
     requires part { n < 10 ^ places }
     ensures { OnOk result (string_bytes out.new ≡ string_bytes out.old ++ places_text places n) }

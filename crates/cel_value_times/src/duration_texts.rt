@@ -1,6 +1,7 @@
 //! Texts of durations, read and printed.
-ghost use Rattle.std.specs.Prelude.{ℕ, ℤ, ◌≡◌, ◌+◌, ◌*◌, ◌<◌, ◌^◌, true, List, IsTrue, ◌↔◌, Some, None, IfSome, IsSome, IsSomeAnd, IfOk, OnOk, ◌++◌, string_bytes, codes};
+ghost use Rattle.std.specs.Prelude.{ℕ, ℤ, ◌≡◌, ◌+◌, ◌*◌, ◌<◌, ◌^◌, true, List, IsTrue, ◌↔◌, Some, None, IfSome, IsSome, IsSomeAnd, IfOk, IfErr, OnOk, ◌++◌, string_bytes, codes};
 ghost use Rattle.std.specs.Str.{all_ascii_digits};
+ghost use Rattle.kube_types_refused.specs.declared.Refused.TheVariants.{Memory};
 ghost use Rattle.cel_value_times.specs.Digits.{number, cut_part};
 ghost use Rattle.cel_value_times.specs.Fronts.{option_front, unit_at, amount_at};
 ghost use Rattle.cel_value_times.specs.DurationTexts.{AreAmounts, IsMagnitude, IsDurationText, duration_text, magnitude_text, small_text, hours_text, minutes_text, seconds_text};
@@ -9,7 +10,7 @@ use crate::Duration;
 use crate::decimals::write_decimals;
 use crate::fronts::{after, cut_part, digits, fraction, number};
 use kube_types_refused::Refused;
-use std::alloc::Global;
+use std::alloc::{AllocError, Global};
 use std::fmt::Write;
 
 const HOUR: u64 = 3_600_000_000_000;
@@ -40,7 +41,8 @@ impl Duration {
     /// The one printed text, as Go prints it: hours, minutes and seconds from one second on, and
     /// below that the greatest unit of which there is at least one.
     pub fn text(&self, alloc: Global) -> Result<String, Refused>
-        ensures { IfOk result (λ text. string_bytes text ≡ duration_text self.now.nanoseconds) }
+        ensures text { IfOk result (λ text. string_bytes text ≡ duration_text self.now.nanoseconds) }
+        ensures memory { IfErr result (λ e. e ≡ Memory) }
     {
         let mut out = String::new(alloc);
         if self.nanoseconds < 0 {
@@ -151,7 +153,7 @@ fn magnitude(text: &[u8]) -> Option<u64>
 }
 
 /// Writes a duration's text without its sign.
-fn write_magnitude(n: u64, out: &mut String) -> Result<(), Refused>
+fn write_magnitude(n: u64, out: &mut String) -> Result<(), AllocError>
     ensures { OnOk result (string_bytes out.new ≡ string_bytes out.old ++ magnitude_text n) }
 {
     if n == 0 {
@@ -167,7 +169,7 @@ fn write_magnitude(n: u64, out: &mut String) -> Result<(), Refused>
 }
 
 /// Writes the hours, if there are any.
-fn write_hours(n: u64, out: &mut String) -> Result<(), Refused>
+fn write_hours(n: u64, out: &mut String) -> Result<(), AllocError>
     ensures { OnOk result (string_bytes out.new ≡ string_bytes out.old ++ hours_text n) }
 {
     if n >= HOUR {
@@ -177,7 +179,7 @@ fn write_hours(n: u64, out: &mut String) -> Result<(), Refused>
 }
 
 /// Writes the minutes, if there are any or hours before them.
-fn write_minutes(n: u64, out: &mut String) -> Result<(), Refused>
+fn write_minutes(n: u64, out: &mut String) -> Result<(), AllocError>
     ensures { OnOk result (string_bytes out.new ≡ string_bytes out.old ++ minutes_text n) }
 {
     if n >= MINUTE {
@@ -187,7 +189,7 @@ fn write_minutes(n: u64, out: &mut String) -> Result<(), Refused>
 }
 
 /// Writes the seconds, with their fraction.
-fn write_seconds(n: u64, out: &mut String) -> Result<(), Refused>
+fn write_seconds(n: u64, out: &mut String) -> Result<(), AllocError>
     ensures { OnOk result (string_bytes out.new ≡ string_bytes out.old ++ seconds_text n) }
 {
     write!(out, "{}", n / SECOND % 60)?;
@@ -197,7 +199,7 @@ fn write_seconds(n: u64, out: &mut String) -> Result<(), Refused>
 }
 
 /// Writes less than a second, in the greatest unit of which there is at least one.
-fn write_small(n: u64, out: &mut String) -> Result<(), Refused>
+fn write_small(n: u64, out: &mut String) -> Result<(), AllocError>
     ensures { OnOk result (string_bytes out.new ≡ string_bytes out.old ++ small_text n) }
 {
     if n < MICROSECOND {

@@ -1,5 +1,6 @@
 //! Texts of timestamps, read and printed.
-ghost use Rattle.std.specs.Prelude.{ℕ, ℤ, ◌≡◌, ◌+◌, ◌*◌, ◌/◌, ◌%◌, ◌<◌, ◌≤◌, ◌++◌, pos, neg_ℤ, ◌≤ℤ◌, ◌+ℤ◌, ◌*ℤ◌, IfSome, IsSomeAnd, IsOk, ◌↔◌, IfOk, OnOk, option_map, string_bytes};
+ghost use Rattle.std.specs.Prelude.{ℕ, ℤ, ◌≡◌, ◌+◌, ◌*◌, ◌/◌, ◌%◌, ◌<◌, ◌≤◌, ◌++◌, pos, neg_ℤ, ◌≤ℤ◌, ◌+ℤ◌, ◌*ℤ◌, IfSome, IsSomeAnd, IsOk, ◌↔◌, IfOk, IfErr, OnOk, option_map, string_bytes};
+ghost use Rattle.kube_types_refused.specs.declared.Refused.TheVariants.{Memory};
 ghost use Rattle.cel_value_times.specs.Ranges.{IsSecond, IsOffset, local_second};
 ghost use Rattle.cel_value_times.specs.TimestampTexts as texts;
 ghost use Rattle.cel_value_times.specs.TimestampFronts as fronts;
@@ -11,7 +12,7 @@ use crate::fronts::{after, cut_part, fraction};
 use jiff::civil::Date;
 use jiff_core::{Error, civil};
 use kube_types_refused::Refused;
-use std::alloc::Global;
+use std::alloc::{AllocError, Global};
 
 const FIRST_SECOND: i64 = -62_135_596_800;
 
@@ -39,8 +40,9 @@ impl Timestamp {
     /// The one printed text: local time with `T`, the fewest of 0, 3, 6 and 9 digits that are
     /// exact, and the offset in digits.
     pub fn text(&self, alloc: Global) -> Result<String, Refused>
-        ensures { IfOk result (λ text. texts.IsPrintedTimestamp (string_bytes text)
+        ensures text { IfOk result (λ text. texts.IsPrintedTimestamp (string_bytes text)
             self.now.seconds self.now.nanoseconds self.now.offset_minutes) }
+        ensures memory { IfErr result (λ e. e ≡ Memory) }
     {
         let mut out = String::new(alloc);
         let (number, second) = day_and_second(self.local_second());
@@ -282,7 +284,7 @@ fn zone(text: &[u8]) -> Option<i16>
 }
 
 /// Writes a number in two digits.
-fn write_two(n: u8, out: &mut String) -> Result<(), Refused>
+fn write_two(n: u8, out: &mut String) -> Result<(), AllocError>
     requires { n < 100 }
     ensures { OnOk result (string_bytes out.new ≡ string_bytes out.old ++ texts.two_digits n) }
 {
@@ -292,7 +294,7 @@ fn write_two(n: u8, out: &mut String) -> Result<(), Refused>
 }
 
 /// Writes a number in three digits.
-fn write_three(n: u32, out: &mut String) -> Result<(), Refused>
+fn write_three(n: u32, out: &mut String) -> Result<(), AllocError>
     requires { n < 1_000 }
     ensures { OnOk result (string_bytes out.new ≡ string_bytes out.old ++ texts.three_digits n) }
 {
@@ -301,7 +303,7 @@ fn write_three(n: u32, out: &mut String) -> Result<(), Refused>
 }
 
 /// Writes a number in four digits.
-fn write_four(n: u16, out: &mut String) -> Result<(), Refused>
+fn write_four(n: u16, out: &mut String) -> Result<(), AllocError>
     requires { n < 10_000 }
     ensures { OnOk result (string_bytes out.new ≡ string_bytes out.old ++ texts.four_digits n) }
 {
@@ -310,7 +312,7 @@ fn write_four(n: u16, out: &mut String) -> Result<(), Refused>
 }
 
 /// Writes a date.
-fn write_date(year: u16, month: u8, day: u8, out: &mut String) -> Result<(), Refused>
+fn write_date(year: u16, month: u8, day: u8, out: &mut String) -> Result<(), AllocError>
     requires year { year < 10_000 }
     requires month { month < 100 }
     requires day { day < 100 }
@@ -325,7 +327,13 @@ fn write_date(year: u16, month: u8, day: u8, out: &mut String) -> Result<(), Ref
 }
 
 /// Writes a date, a capital T and the time of a second of the day.
-fn write_local(year: u16, month: u8, day: u8, second: u32, out: &mut String) -> Result<(), Refused>
+fn write_local(
+    year: u16,
+    month: u8,
+    day: u8,
+    second: u32,
+    out: &mut String,
+) -> Result<(), AllocError>
     requires year { year < 10_000 }
     requires month { month < 100 }
     requires day { day < 100 }
@@ -339,7 +347,7 @@ fn write_local(year: u16, month: u8, day: u8, second: u32, out: &mut String) -> 
 }
 
 /// Writes the time of a second of the day.
-fn write_clock(second: u32, out: &mut String) -> Result<(), Refused>
+fn write_clock(second: u32, out: &mut String) -> Result<(), AllocError>
     requires { second < 86_400 }
     ensures { OnOk result (string_bytes out.new ≡ string_bytes out.old
         ++ texts.time_text (second / 3600) (second / 60 % 60) (second % 60)) }
@@ -352,7 +360,7 @@ fn write_clock(second: u32, out: &mut String) -> Result<(), Refused>
 }
 
 /// Writes the nanoseconds in the fewest of 0, 3, 6 and 9 digits that are exact.
-fn write_nanoseconds(n: u32, out: &mut String) -> Result<(), Refused>
+fn write_nanoseconds(n: u32, out: &mut String) -> Result<(), AllocError>
     requires { n < 1_000_000_000 }
     ensures { OnOk result
         (string_bytes out.new ≡ string_bytes out.old ++ texts.nanoseconds_text n) }
@@ -373,7 +381,7 @@ fn write_nanoseconds(n: u32, out: &mut String) -> Result<(), Refused>
 }
 
 /// Writes the sign, the hours and the minutes of an offset.
-fn write_offset(offset_minutes: i16, out: &mut String) -> Result<(), Refused>
+fn write_offset(offset_minutes: i16, out: &mut String) -> Result<(), AllocError>
     requires { IsOffset offset_minutes }
     ensures { OnOk result
         (string_bytes out.new ≡ string_bytes out.old ++ texts.offset_text offset_minutes) }

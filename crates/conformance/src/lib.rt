@@ -2,7 +2,15 @@
 #![tactic(auto)]
 
 #[cfg(test)]
+mod addresses;
+#[cfg(test)]
 mod expressions;
+#[cfg(test)]
+mod formats;
+#[cfg(test)]
+mod language;
+#[cfg(test)]
+mod literals;
 #[cfg(test)]
 mod program;
 #[cfg(test)]
@@ -11,3 +19,9 @@ mod quantities;
 mod rules;
 #[cfg(test)]
 mod times;
+#[cfg(test)]
+mod tokens;
+#[cfg(test)]
+mod urls;
+#[cfg(test)]
+mod versions;

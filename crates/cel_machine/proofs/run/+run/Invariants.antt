@@ -13,14 +13,14 @@ decreases-run_loop g l = 2 * (l.finish - l.body) + 1
 abbrev pub decreases-run_to : goal.decreases-run_to
 decreases-run_to g l = 2 * (l.end - l.start)
 
-abbrev pub invariant-run_loop-loop-stop : goal.invariant-run_loop-loop-stop
-invariant-run_loop-loop-stop g l =
+abbrev pub invariant-run_loop-items : goal.invariant-run_loop-items
+invariant-run_loop-items g l =
     Walk (g.F.Functions.library (functions_of l.context)) (bindings_of l.context) (map op l.code) (entries_of l.initial.book) (entries_of l.book) (go l.body (values_of l.initial.stacks) (aside_of l.initial.stacks) (loops_of l.initial.stacks)) (go l.body (values_of l.stacks) (aside_of l.stacks) (loops_of l.stacks))
     × Top l.body l.finish (loops_of l.stacks)
     × (tail_of (loops_of l.stacks) ≡ tail_of (loops_of l.initial.stacks))
 
-abbrev pub decreases-run_loop-loop-stop : goal.decreases-run_loop-loop-stop
-decreases-run_loop-loop-stop g l = left (loops_of l.stacks)
+abbrev pub decreases-run_loop-items : goal.decreases-run_loop-items
+decreases-run_loop-items g l = left (loops_of l.stacks)
 
 abbrev pub invariant-run_to-loop-place : goal.invariant-run_to-loop-place
 invariant-run_to-loop-place g l =

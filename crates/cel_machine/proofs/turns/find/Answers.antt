@@ -10,13 +10,13 @@ pub returns-in_ok-try_clone-in-Some : goal.returns-in_ok-try_clone-in-Some
 returns-in_ok-try_clone-in-Some g c =
     let x = c.args.name.now in
     let d = view c.in-Some.item.now in
-    ap Ok c.in_ok-try_clone-in-Some.ensures ∙ loaded x (Some d) _ (bound_inside x (bindings_of c.args.context.now) (loops_view c.args.loops.now) d c.in-Some.ensures)
+    ap Ok c.in_ok-try_clone-in-Some.ensures.value ∙ loaded x (Some d) _ (bound_inside x (bindings_of c.args.context.now) (loops_view c.args.loops.now) d c.in-Some.ensures)
 
 pub returns-in_ok-try_clone-in-Some-get : goal.returns-in_ok-try_clone-in-Some-get
 returns-in_ok-try_clone-in-Some-get g c =
     let x = c.args.name.now in
     let d = view c.in-Some-get.value.now in
-    ap Ok c.in_ok-try_clone-in-Some-get.ensures ∙ loaded x (Some d) _ (bound_outside x (bindings_of c.args.context.now) (loops_view c.args.loops.now) (Some d) c.in-None.ensures c.in-Some-get.ensures)
+    ap Ok c.in_ok-try_clone-in-Some-get.ensures.value ∙ loaded x (Some d) _ (bound_outside x (bindings_of c.args.context.now) (loops_view c.args.loops.now) (Some d) c.in-None.ensures c.in-Some-get.ensures)
 
 pub returns-in_ok-from_str-in-None-get : goal.returns-in_ok-from_str-in-None-get
 returns-in_ok-from_str-in-None-get g c =

@@ -11,5 +11,5 @@ loop-key-preserved c =
     let e : Entry = (c.in-Some.key.now, c.in-Some.field-0-1.now) in (
       done ++ e ∷ [],
       l.invariant.1 ∙ ap (λ es. done ++ es) c.in-Some.ensures.steps ∙ sym (append_assoc done (e ∷ []) c.next.new.self),
-      ap (map view) c.in_ok-push.ensures.items ∙ map_push view l.values.items c.in_ok-key_value.field-0 ∙ rw (l.invariant.2, c.in_ok-key_value.ensures) (sym (keys_list-push done e)),
+      ap (map view) c.in_ok-push.ensures.items ∙ map_push view l.values.items c.in_ok-key_value.field-0 ∙ rw (l.invariant.2, c.in_ok-key_value.ensures.value) (sym (keys_list-push done e)),
     )

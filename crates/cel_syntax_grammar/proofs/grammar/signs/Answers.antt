@@ -1,25 +1,25 @@
 use Rattle.std.proofs.Common.{◌≡◌, sym, ◌∙◌, arith, true, false}
-use Rattle.cel_syntax_grammar.specs.Parser.{sees}
+use Rattle.cel_syntax_grammar.specs.Parser.{sees_sign}
 use Rattle.cel_syntax_grammar.specs.Cursor.{left}
 use Rattle.cel_syntax_grammar.proofs.Signs.{stops, goes, ended}
 use Rattle.cel_syntax_grammar.proofs.grammar.signs.Goals as goal
 
-pub returns-then-not-eat-clause-count : goal.returns-then-not-eat-clause-count
-returns-then-not-eat-clause-count c =
-    let no : sees c.sign_mark.result (left c.loop-turn.tokens) ≡ false = grind arith in
-    let h = stops c.args.sign c.sign_mark.result (left c.loop-turn.tokens) (left c.eat.new.self) c.sign_mark.ensures no c.eat.ensures.after in
+pub returns-then-not-sees_sign-clause-count : goal.returns-then-not-sees_sign-clause-count
+returns-then-not-sees_sign-clause-count c =
+    let no : sees_sign c.args.sign (left c.loop-turn.tokens) ≡ false = grind arith in
+    let h = stops c.args.sign (left c.loop-turn.tokens) no in
     omega (arith, h.0, c.loop-turn.invariant.0)
 
-pub returns-then-not-eat-clause-rest : goal.returns-then-not-eat-clause-rest
-returns-then-not-eat-clause-rest c =
-    let no : sees c.sign_mark.result (left c.loop-turn.tokens) ≡ false = grind arith in
-    let h = stops c.args.sign c.sign_mark.result (left c.loop-turn.tokens) (left c.eat.new.self) c.sign_mark.ensures no c.eat.ensures.after in
+pub returns-then-not-sees_sign-clause-rest : goal.returns-then-not-sees_sign-clause-rest
+returns-then-not-sees_sign-clause-rest c =
+    let no : sees_sign c.args.sign (left c.loop-turn.tokens) ≡ false = grind arith in
+    let h = stops c.args.sign (left c.loop-turn.tokens) no in
     sym (c.loop-turn.invariant.1 ∙ h.1)
 
 pub loop-turn-preserved : goal.loop-turn-preserved
 loop-turn-preserved c =
-    let yes : sees c.sign_mark.result (left c.loop-turn.tokens) ≡ true = grind arith in
-    let h = goes c.args.sign c.sign_mark.result (left c.loop-turn.tokens) (left c.eat.new.self) c.sign_mark.ensures yes c.eat.ensures.after in
+    let yes : sees_sign c.args.sign (left c.loop-turn.tokens) ≡ true = grind arith in
+    let h = goes c.args.sign (left c.loop-turn.tokens) (left c.next-sign.new.self) yes c.next-sign.ensures.rest in
     (omega (arith, h.0, c.loop-turn.invariant.0), c.loop-turn.invariant.1 ∙ h.1, omega (arith, h.2, c.loop-turn.invariant.2))
 
 pub returns-clause-count : goal.returns-clause-count

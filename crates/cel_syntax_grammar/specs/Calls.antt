@@ -1,0 +1,133 @@
+-- What a call stands for: a macro, a function whose name has a dot in it, or an ordinary call. Source: section "Macros" of the CEL
+-- language definition, and the names of the Kubernetes CEL libraries and of the CEL extension libraries.
+use Rattle.std.specs.Prelude.{ℕ, ◌-◌, nat_eq, length, Bool, ◌&&◌, ◌||◌, if◌then◌else◌, List, [], ◌∷◌, ◌++◌, Option, Some, None, codes}
+use Rattle.std.specs.List.{list_any}
+use Rattle.std.specs.Str.{bytes_eq}
+use Rattle.cel_syntax_tree.specs.Term as tree
+use Rattle.cel_syntax_tree.specs.Term.{Term, Terms, terms_of}
+use Rattle.cel_syntax_tree.specs.declared.expr.MacroKind.{MacroKind}
+use Rattle.cel_syntax_tree.specs.declared.expr.MacroKind.TheVariants as kind
+
+-- ---- names with a dot: the library before it, the function after it
+
+unfoldable pub is_of_lists : List ℕ → Bool
+is_of_lists w = list_any (bytes_eq w) (codes "range" ∷ [])
+
+unfoldable pub is_of_sets : List ℕ → Bool
+is_of_sets w = list_any (bytes_eq w) (codes "contains" ∷ codes "equivalent" ∷ codes "intersects" ∷ [])
+
+unfoldable pub is_of_strings : List ℕ → Bool
+is_of_strings w = list_any (bytes_eq w) (codes "quote" ∷ [])
+
+unfoldable pub is_bit_function : List ℕ → Bool
+is_bit_function w = list_any (bytes_eq w)
+    (codes "bitAnd" ∷ codes "bitOr" ∷ codes "bitXor" ∷ codes "bitNot" ∷ codes "bitShiftLeft" ∷ codes "bitShiftRight" ∷ [])
+
+unfoldable pub is_of_math : List ℕ → Bool
+is_of_math w = list_any (bytes_eq w) (codes "abs" ∷ codes "sign" ∷ codes "greatest" ∷ codes "least" ∷ []) || is_bit_function w
+
+unfoldable pub is_of_base64 : List ℕ → Bool
+is_of_base64 w = list_any (bytes_eq w) (codes "encode" ∷ codes "decode" ∷ [])
+
+unfoldable pub is_of_jsonpatch : List ℕ → Bool
+is_of_jsonpatch w = list_any (bytes_eq w) (codes "escapeKey" ∷ [])
+
+unfoldable pub is_of_ip : List ℕ → Bool
+is_of_ip w = list_any (bytes_eq w) (codes "isCanonical" ∷ [])
+
+unfoldable pub is_dns_format : List ℕ → Bool
+is_dns_format w = list_any (bytes_eq w)
+    (codes "dns1123Label" ∷ codes "dns1123Subdomain" ∷ codes "dns1035Label" ∷ codes "dns1123LabelPrefix" ∷ codes "dns1123SubdomainPrefix" ∷ codes "dns1035LabelPrefix" ∷ [])
+
+unfoldable pub is_other_format : List ℕ → Bool
+is_other_format w = list_any (bytes_eq w)
+    (codes "qualifiedName" ∷ codes "labelValue" ∷ codes "uri" ∷ codes "uuid" ∷ codes "byte" ∷ codes "date" ∷ codes "datetime" ∷ [])
+
+unfoldable pub is_of_format : List ℕ → Bool
+is_of_format w = list_any (bytes_eq w) (codes "named" ∷ []) || (is_dns_format w || is_other_format w)
+
+unfoldable pub is_value_function : List ℕ → List ℕ → Bool
+is_value_function x w =
+    (bytes_eq x (codes "lists") && is_of_lists w) || ((bytes_eq x (codes "sets") && is_of_sets w)
+    || ((bytes_eq x (codes "strings") && is_of_strings w) || (bytes_eq x (codes "math") && is_of_math w)))
+
+unfoldable pub is_text_function : List ℕ → List ℕ → Bool
+is_text_function x w =
+    (bytes_eq x (codes "base64") && is_of_base64 w) || ((bytes_eq x (codes "jsonpatch") && is_of_jsonpatch w)
+    || ((bytes_eq x (codes "ip") && is_of_ip w) || (bytes_eq x (codes "format") && is_of_format w)))
+
+-- whether the two, with a dot between them, are the name of a function
+unfoldable pub is_qualified : List ℕ → List ℕ → Bool
+is_qualified x w = is_value_function x w || is_text_function x w
+
+-- ---- ordinary calls
+
+-- the name of a plain identifier
+abbrev pub identifier_of : Term → Option (List ℕ)
+identifier_of (tree.ident x) = Some x
+identifier_of _ = None
+
+-- the name with a dot that the call of a method on an identifier has, if it is one of those
+abbrev pub dotted_by : Option (List ℕ) → List ℕ → Option (List ℕ)
+dotted_by None w = None
+dotted_by (Some x) w = if is_qualified x w then Some (x ++ (46 ∷ w)) else None
+
+abbrev pub call_by : Option (List ℕ) → Term → List ℕ → List Term → Term
+call_by None t w us = tree.call (tree.term_and t tree.no_terms) w (terms_of us)
+call_by (Some name) t w us = tree.qualified name (terms_of us)
+
+-- A call on an identifier that makes a name with a dot is a global one, whatever is bound.
+unfoldable pub plain_method : Term → List ℕ → List Term → Term
+plain_method t w us = call_by (dotted_by (identifier_of t) w) t w us
+
+-- ---- macros
+
+-- the macros with a variable and one expression
+unfoldable pub kind_of_two : List ℕ → Option MacroKind
+kind_of_two w =
+    if bytes_eq w (codes "all") then Some kind.All
+    else (if bytes_eq w (codes "exists") then Some kind.Exists
+    else (if bytes_eq w (codes "exists_one") then Some kind.ExistsOne
+    else (if bytes_eq w (codes "map") then Some kind.Map
+    else (if bytes_eq w (codes "filter") then Some kind.Filter else None))))
+
+-- and those with a variable, a filter and one expression
+unfoldable pub kind_of_three : List ℕ → Option MacroKind
+kind_of_three w = if bytes_eq w (codes "map") then Some kind.Map else None
+
+-- the macro of that name with so many arguments
+unfoldable pub kind_of : List ℕ → ℕ → Option MacroKind
+kind_of w n = if nat_eq n 2 then kind_of_two w else (if nat_eq n 3 then kind_of_three w else None)
+
+-- a macro, if its variable is an identifier
+abbrev pub macro_with : MacroKind → Term → Option (List ℕ) → Terms → Term → Option Term
+macro_with k range None filter body = None
+macro_with k range (Some x) filter body = Some (tree.macro k range x filter body)
+
+-- The variable is a plain identifier.
+abbrev pub macro_of : MacroKind → Term → List Term → Option Term
+macro_of k range (x ∷ body ∷ []) = macro_with k range (identifier_of x) tree.no_terms body
+macro_of k range (x ∷ filter ∷ body ∷ []) = macro_with k range (identifier_of x) (tree.term_and filter tree.no_terms) body
+macro_of k range us = None
+
+abbrev pub by_kind : Option MacroKind → Term → (MacroKind → Option Term) → Option Term
+by_kind None plain other = Some plain
+by_kind (Some k) plain other = other k
+
+-- the call of a method on a target, unless it is a macro that isn't well formed
+unfoldable pub method_of : Term → List ℕ → List Term → Option Term
+method_of t w us = by_kind (kind_of w (length us)) (plain_method t w us) (λ k. macro_of k t us)
+
+-- The argument of `has` is a selection.
+abbrev pub has_of : List Term → Option Term
+has_of (tree.select t w ∷ []) = Some (tree.has t w)
+has_of _ = None
+
+-- the call of a global function, unless it is a macro that isn't well formed
+unfoldable pub call_of : List ℕ → List Term → Option Term
+call_of w us = if bytes_eq w (codes "has") && nat_eq (length us) 1 then has_of us else Some (tree.call tree.no_terms w (terms_of us))
+
+-- The greatest level of a node's parts, by that of its arguments: the part of `has` is what it selects from, one level below its argument.
+abbrev pub parts_level : Term → ℕ → ℕ
+parts_level (tree.has t w) l = l - 1
+parts_level _ l = l

@@ -1,0 +1,22 @@
+-- Bytes that are texts.
+use Rattle.std.proofs.Common.{◌≡◌, ℕ, refl, rules, Bool, true, false, List}
+use Rattle.std.specs.Prelude.{string_bytes}
+use Rattle.cel_value.specs.Data.{text}
+use Rattle.cel_value.specs.View.{view}
+use Rattle.cel_value.specs.declared.value.Value.{the_lemmas}
+use Rattle.cel_value.specs.declared.value.Value.TheVariants as value
+use Rattle.std.specs.Str.{IsUtf8, is_utf8}
+use Rattle.std.proofs.lemmas.Str.{IsUtf8-from_is_utf8, is_utf8-from_IsUtf8}
+
+pub is_text : (w : List ℕ) → IsUtf8 w → is_utf8 w ≡ true
+is_text w u = is_utf8-from_IsUtf8 w u
+
+not_utf8 : (w : List ℕ) (b : Bool) → is_utf8 w ≡ b → ¬ (IsUtf8 w) → b ≡ false
+not_utf8 w true e none = absurd (none (IsUtf8-from_is_utf8 w e))
+not_utf8 w false e none = refl
+
+pub no_text : (w : List ℕ) → ¬ (IsUtf8 w) → is_utf8 w ≡ false
+no_text w none = not_utf8 w (is_utf8 w) refl none
+
+pub view_text : (s : _) → view (value.String s) ≡ text (string_bytes s.value)
+view_text s = search (rules, the_lemmas)

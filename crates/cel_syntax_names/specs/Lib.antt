@@ -1,0 +1,5 @@
+pub mod Calls
+pub mod Bound
+pub mod Outside
+pub mod Names
+pub mod References

@@ -1,0 +1,26 @@
+-- What clauses see of an address.
+use Rattle.std.specs.Prelude.{List, ℕ, Option, Result, Ok, Err, option_map}
+use Rattle.std.specs.Borrow.{Bor}
+use Rattle.std.specs.Net.Addr.{ipv4_octets, ipv6_segments}
+use Rattle.std.specs.declared.net.ip_addr.IpAddr.{IpAddr}
+use Rattle.std.specs.declared.net.ip_addr.IpAddr.TheVariants as Ip
+use Rattle.kube_types_address.specs.Addresses.{Address, four, six}
+use Rattle.kube_types_address.specs.declared.ip.KubeIP.{KubeIP}
+
+-- the octets or groups of an address of the standard library
+abbrev pub parts : IpAddr → Address
+parts (Ip.V4 a) = four (ipv4_octets a)
+parts (Ip.V6 a) = six (ipv6_segments a)
+
+-- the address that a value holds
+abbrev pub address : KubeIP → Address
+address ip = parts ip.address
+
+-- the address or the error's text
+abbrev pub ip_answer : Result KubeIP (Bor (List ℕ)) → Result Address (List ℕ)
+ip_answer (Ok ip) = Ok (address ip)
+ip_answer (Err text) = Err text.now
+
+-- two parts of a text
+abbrev pub part_texts : Option (Bor (List ℕ) × Bor (List ℕ)) → Option (List ℕ × List ℕ)
+part_texts o = option_map (λ p. (p.0.now, p.1.now)) o

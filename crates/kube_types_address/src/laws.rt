@@ -1,0 +1,48 @@
+//! Laws of addresses and CIDRs, over the definitions alone: each function here does nothing, and its contract is the law.
+ghost use Rattle.std.specs.Prelude.{◌≡◌, ◌≤◌, ◌↔◌, ℕ, List, true, false, Result, Ok};
+ghost use Rattle.kube_types_address.specs.Addresses.{Address, IsAddress, number, is_mapped};
+ghost use Rattle.kube_types_address.specs.CidrTexts.{IsCidrAnswer, cidr_of, cidr_text};
+ghost use Rattle.kube_types_address.specs.Prefixes.{Network, IsNetwork, holds, encloses, masked};
+ghost use Rattle.kube_types_address.specs.Texts.{IsIpAnswer, address_text, canonical_of, ip_of};
+
+/// A text has one answer: that of `ip_of` alone is right by the grammar.
+pub fn a_text_has_one_answer()
+    ensures { (text : List ℕ) (r : Result Address (List ℕ)) → IsIpAnswer text r ↔ (r ≡ ip_of text) }
+{}
+
+/// A text has one answer as a CIDR: that of `cidr_of` alone is right by the grammar.
+pub fn a_cidr_text_has_one_answer()
+    ensures { (text : List ℕ) (r : Result Network (List ℕ)) → IsCidrAnswer text r ↔ (r ≡ cidr_of text) }
+{}
+
+/// A CIDR contains another exactly where every address of the other is one of its own.
+pub fn containment_is_of_sets()
+    ensures { (outer inner : Network) → IsNetwork outer → IsNetwork inner → (encloses outer inner ≡ true)
+        ↔ ((a : Address) → IsAddress a → holds inner a ≡ true → holds outer a ≡ true) }
+{}
+
+/// The masked CIDR is masked.
+pub fn masked_twice_is_masked_once()
+    ensures { (c : Network) → IsNetwork c → masked (masked c) ≡ masked c }
+{}
+
+/// The masked address is the least of the set.
+pub fn masked_is_the_least()
+    ensures { (c : Network) → IsNetwork c → (holds c (masked c).ip ≡ true)
+        × ((a : Address) → holds c a ≡ true → number (masked c).ip ≤ number a) }
+{}
+
+/// A printed address is read as the same address.
+pub fn printed_addresses_mean_themselves()
+    ensures { (a : Address) → IsAddress a → is_mapped a ≡ false → ip_of (address_text a) ≡ Ok a }
+{}
+
+/// A printed CIDR is read as the same CIDR.
+pub fn printed_cidrs_mean_themselves()
+    ensures { (c : Network) → IsNetwork c → is_mapped c.ip ≡ false → cidr_of (cidr_text c) ≡ Ok c }
+{}
+
+/// Of all texts of one address the printed one alone is canonical.
+pub fn canonical_is_the_printed_text()
+    ensures { (text : List ℕ) (a : Address) → ip_of text ≡ Ok a → (canonical_of text ≡ Ok true) ↔ (text ≡ address_text a) }
+{}

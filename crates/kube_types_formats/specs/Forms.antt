@@ -1,0 +1,18 @@
+-- Texts of a fixed form, byte by byte.
+use Rattle.std.specs.Prelude.{ℕ, ◌+◌, ◌-◌, ◌*◌, ◌==◌, Bool, List, slice_index, if◌then◌else◌}
+use Rattle.std.specs.Char.{is_ascii_digit, is_ascii_hexdigit}
+use Rattle.std.specs.Cmp.Lexicographic.{pointwise}
+
+-- what a mark of a form stands for: `d` (100) for a decimal digit, `x` (120) for a hexadecimal digit of
+-- either case, any other byte for itself
+unfoldable pub fits_mark : ℕ → ℕ → Bool
+fits_mark mark c =
+    if mark == 100 then is_ascii_digit c else (if mark == 120 then is_ascii_hexdigit c else mark == c)
+
+-- the text has the form: as many bytes, and each fits its mark
+abbrev pub fits : List ℕ → List ℕ → Bool
+fits form text = pointwise fits_mark form text
+
+-- the number that the two decimal digits at this place write
+abbrev pub two_digits : List ℕ → ℕ → ℕ
+two_digits text place = (slice_index text place - 48) * 10 + (slice_index text (place + 1) - 48)

@@ -1,0 +1,10 @@
+pub mod Faults
+pub mod Found
+pub mod Places
+pub mod Forms
+pub mod Labels
+pub mod Names
+pub mod Uris
+pub mod Base64
+pub mod Dates
+pub mod Formats

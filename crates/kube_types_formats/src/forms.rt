@@ -1,0 +1,44 @@
+//! Texts of a fixed form, byte by byte.
+ghost use Rattle.std.specs.Prelude.{◌≡◌, ◌+◌, ◌<◌, length};
+ghost use Rattle.kube_types_formats.specs.Forms.{fits_mark, fits, two_digits};
+
+/// Whether a byte is what the mark stands for.
+#[tactic(auto, unfolding(crate::specs::Forms::fits_mark))]
+fn fits_mark(mark: u8, byte: u8) -> bool
+    ensures { result ≡ fits_mark mark byte }
+{
+    match mark {
+        b'd' => byte.is_ascii_digit(),
+        b'x' => byte.is_ascii_hexdigit(),
+        _ => mark == byte,
+    }
+}
+
+/// Whether a text has the form: as many bytes, each as its mark says.
+///
+/// `d` stands for a decimal digit, `x` for a hexadecimal one, and any other mark for itself.
+#[tactic(auto, using(crate::proofs::FormLemmas::fits_step, crate::proofs::FormLemmas::fits_lengths, crate::proofs::FormLemmas::fits_end))]
+pub(crate) fn fits(form: &[u8], text: &[u8]) -> bool
+    ensures { result ≡ fits form.now text.now }
+{
+    if form.len() != text.len() {
+        return false;
+    }
+    for (place, mark) in form.iter().enumerate() {
+        if !fits_mark(*mark, text[place]) {
+            return false;
+        }
+    }
+    true
+}
+
+/// The number that the two decimal digits at a place write.
+pub(crate) fn two_digits(text: &[u8], place: usize) -> u32
+    requires { place + 1 < length text.now }
+    ensures value { result ≡ two_digits text.now place }
+    ensures few { result < 10_000 }
+{
+    let tens = text[place].saturating_sub(b'0');
+    let ones = text[place + 1].saturating_sub(b'0');
+    u32::from(tens) * 10 + u32::from(ones)
+}

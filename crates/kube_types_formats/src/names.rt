@@ -1,0 +1,89 @@
+//! Qualified names and label values of Kubernetes.
+ghost use Rattle.std.specs.Prelude.{◌≡◌, ◌==◌, ◌++◌, length, OnOk, IfErr};
+ghost use Rattle.std.specs.List.{list_all};
+ghost use Rattle.kube_types_formats.specs.Found.{texts_of};
+ghost use Rattle.kube_types_formats.specs.Names.{is_name_byte, name_faults, name_prefix_faults, label_value_faults, qualified_name_faults};
+
+use crate::dns::{LABEL_LIMIT, first_byte, last_byte, too_long};
+use crate::fault::Fault;
+use crate::places::{cut, last_place};
+use crate::report::Report;
+use kube_types_refused::Refused;
+
+/// Whether all bytes are letters, digits, hyphens, underscores and dots.
+fn is_name_text(text: &[u8]) -> bool
+    ensures { result ≡ list_all is_name_byte text.now }
+{
+    text.iter().all(|byte| byte.is_ascii_alphanumeric() || matches!(*byte, b'-' | b'_' | b'.'))
+}
+
+impl Report {
+    /// Adds the faults of a name.
+    #[tactic(auto, unfolding(crate::specs::Names::name_faults))]
+    fn add_name(&mut self, place: &str, text: &[u8]) -> Result<(), Refused>
+        ensures added { OnOk result
+            (texts_of self.new ≡ texts_of self.old ++ name_faults place.now text.now) }
+        ensures memory { IfErr result (λ e. e ≡ Refused.Memory) }
+    {
+        if text.is_empty() {
+            return self.add(place, Fault::Empty);
+        }
+        let first_fault = !first_byte(text).is_ascii_alphanumeric();
+        let last_fault = !last_byte(text).is_ascii_alphanumeric();
+        self.add_chosen(
+            place,
+            &[
+                too_long(LABEL_LIMIT, text),
+                (!is_name_text(text), Fault::NotName),
+                (first_fault, Fault::FirstNotAlphanumeric),
+                (last_fault, Fault::LastNotAlphanumeric),
+            ],
+        )
+    }
+
+    /// Adds the faults of what stands before the slash of a qualified name.
+    #[tactic(auto, unfolding(crate::specs::Names::name_prefix_faults))]
+    fn add_name_prefix(&mut self, prefix: &[u8]) -> Result<(), Refused>
+        ensures added { OnOk result
+            (texts_of self.new ≡ texts_of self.old ++ name_prefix_faults prefix.now) }
+        ensures memory { IfErr result (λ e. e ≡ Refused.Memory) }
+    {
+        if prefix.is_empty() {
+            return self.add("", Fault::EmptyPrefix);
+        }
+        self.add_subdomain("prefix: ", prefix)
+    }
+
+    /// Adds the faults of a qualified name.
+    #[tactic(auto, unfolding(crate::specs::Names::qualified_name_faults, crate::specs::Names::faults_around))]
+    pub(crate) fn add_qualified_name(&mut self, text: &[u8]) -> Result<(), Refused>
+        ensures added { OnOk result
+            (texts_of self.new ≡ texts_of self.old ++ qualified_name_faults text.now) }
+        ensures memory { IfErr result (λ e. e ≡ Refused.Memory) }
+    {
+        if text.is_empty() {
+            return self.add("", Fault::Empty);
+        }
+        match last_place(b"/", text) {
+            None => self.add_name("", text),
+            Some(slash) => {
+                let (prefix, name) = cut(text, slash);
+                self.add_name_prefix(prefix)?;
+                self.add_name("name: ", name)
+            }
+        }
+    }
+
+    /// Adds the faults of a label's value.
+    #[tactic(auto, unfolding(crate::specs::Names::label_value_faults))]
+    pub(crate) fn add_label_value(&mut self, text: &[u8]) -> Result<(), Refused>
+        ensures added { OnOk result
+            (texts_of self.new ≡ texts_of self.old ++ label_value_faults text.now) }
+        ensures memory { IfErr result (λ e. e ≡ Refused.Memory) }
+    {
+        if text.is_empty() {
+            return Ok(());
+        }
+        self.add_name("", text)
+    }
+}

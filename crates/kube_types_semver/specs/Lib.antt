@@ -1,0 +1,4 @@
+pub mod Order
+pub mod OrderLaws
+pub mod Reading
+pub mod Shown

@@ -1,0 +1,126 @@
+//! Reading the text of a version, part by part.
+ghost use Rattle.semver.specs.Order.{parts as parts_between_dots};
+ghost use Rattle.std.specs.List.{list_all};
+ghost use Rattle.std.specs.Option.{option_map};
+ghost use Rattle.std.specs.Prelude.{◌≡◌, map, IfOk, IfErr, IsOk, string_bytes};
+ghost use Rattle.kube_types_refused.specs.declared.Refused.TheVariants.{Memory};
+ghost use Rattle.kube_types_semver.specs.Reading.{core_of, tail_of, without_v, is_number, number_text, full_text, normalized, strictly, IsPlain};
+ghost use Rattle.kube_types_semver.specs.Shown.{parts};
+
+use crate::version::KubeSemver;
+use kube_types_refused::Refused;
+use semver::Version;
+use std::alloc::{AllocError, Global};
+
+/// The version that a text is by SemVer 2.0, if it is one.
+#[tactic(auto, unfolding(crate::specs::Reading::strictly), using(crate::proofs::Texts::plain_read))]
+pub(crate) fn strict_version(alloc: Global, text: &str) -> Result<Option<KubeSemver>, Refused>
+    ensures answer { IfOk result (λ version. option_map parts version ≡ strictly text.now) }
+    ensures plain { IsPlain (strictly text.now) → IsOk result }
+    ensures memory { IfErr result (λ e. e ≡ Memory) }
+{
+    match Version::parse(alloc, text) {
+        Ok(version) => Ok(Some(KubeSemver { version })),
+        Err(error) => {
+            if error == semver::Error::from(AllocError) {
+                Err(Refused::Memory)
+            } else {
+                Ok(None)
+            }
+        }
+    }
+}
+
+/// The text without one leading `v` or `V`.
+pub(crate) fn without_v(text: &str) -> &str
+    ensures { result.now ≡ without_v text.now }
+{
+    if let Some(rest) = text.strip_prefix('v') {
+        return rest;
+    }
+    if let Some(rest) = text.strip_prefix('V') {
+        return rest;
+    }
+    text
+}
+
+/// The part before the first hyphen, and what follows that part.
+fn split_at_hyphen(text: &str) -> (&str, &str)
+    ensures core { result.0.now ≡ core_of text.now }
+    ensures tail { result.1.now ≡ tail_of text.now }
+{
+    match text.find('-') {
+        Some(place) => text.split_at(place),
+        None => (text, ""),
+    }
+}
+
+/// Whether a part is one digit or more, and nothing else.
+fn is_number(part: &str) -> bool
+    ensures { result ≡ is_number part.now }
+{
+    !part.is_empty() && part.as_bytes().iter().all(|byte| byte.is_ascii_digit())
+}
+
+/// Whether each part is one digit or more, and nothing else.
+fn are_numbers(parts: &[&str]) -> bool
+    ensures { result ≡ list_all (λ part. is_number part.now) parts.now }
+{
+    parts.iter().all(|part| is_number(part))
+}
+
+/// A number without its leading zeros.
+fn number_text(digits: &str) -> &str
+    ensures { result.now ≡ number_text digits.now }
+{
+    let number = digits.trim_start_matches('0');
+    if number.is_empty() { "0" } else { number }
+}
+
+/// The parts of a text between its dots.
+fn parts_of<'a>(alloc: Global, text: &'a str) -> Result<Vec<&'a str>, AllocError>
+    ensures { IfOk result (λ parts. map (λ part. part.now) parts.items ≡ parts_between_dots text.now) }
+{
+    text.split('.').collect(alloc)
+}
+
+/// Three numbers in full, and the tail after them. `None` for no part, and for more than three.
+fn full_text(alloc: Global, parts: &[&str], tail: &str) -> Result<Option<String>, AllocError>
+    ensures { IfOk result (λ text. option_map string_bytes text ≡ full_text (map (λ part. part.now) parts.now) tail.now) }
+{
+    match parts {
+        [major] => {
+            let major = number_text(major);
+            Ok(Some(format!(in alloc; "{major}.0.0{tail}")?))
+        }
+        [major, minor] => {
+            let major = number_text(major);
+            let minor = number_text(minor);
+            Ok(Some(format!(in alloc; "{major}.{minor}.0{tail}")?))
+        }
+        [major, minor, patch] => {
+            let major = number_text(major);
+            let minor = number_text(minor);
+            let patch = number_text(patch);
+            Ok(Some(format!(in alloc; "{major}.{minor}.{patch}{tail}")?))
+        }
+        [] => Ok(None),
+        [_, _, _, _, ..] => Ok(None),
+    }
+}
+
+/// The text in full that a text with no leading `v` stands for, if it stands for one.
+pub(crate) fn normalized(alloc: Global, text: &str) -> Result<Option<String>, Refused>
+    ensures answer { IfOk result (λ full. option_map string_bytes full ≡ normalized text.now) }
+    ensures memory { IfErr result (λ e. e ≡ Memory) }
+{
+    let (core, tail) = split_at_hyphen(text);
+    let parts = parts_of(alloc, core)?;
+    if are_numbers(parts.as_slice()) {
+        let full = full_text(alloc, parts.as_slice(), tail)?;
+        Ok(full)
+    } else {
+        let same = String::from_str(alloc, text)?;
+        Ok(Some(same))
+    }
+}

@@ -1,0 +1,4 @@
+pub mod Hosts
+pub mod OwnText
+pub mod Parsed
+pub mod Queries

@@ -1,0 +1,16 @@
+use Rattle.std.proofs.Common.{◌≡◌, lit<, ◌∙◌}
+use Rattle.kube_types_url.specs.Reading.{is_path}
+use Rattle.kube_types_url.proofs.Parsed.{read_some, read_none}
+use Rattle.kube_types_url.proofs.kube_url.KubeUrl.read.Goals as goal
+
+pub returns-in-Some : goal.returns-in-Some
+returns-in-Some c =
+    let text = c.args.text.now in
+    let flag : c.starts_with-is_path.result ≡ is_path text = c.starts_with-is_path.ensures.byte (lit< tt) (lit< tt) (λ w o x. x) in
+    let full = c.as_str.ensures.value ∙ c.in_ok-full.ensures.answer in
+    read_some text c.as_str.result.now c.in_ok-url.field-0 c.in-Some.url c.starts_with-is_path.result full flag c.in_ok-url.ensures c.in-Some.is
+
+pub returns : goal.returns
+returns c =
+    let full = c.as_str.ensures.value ∙ c.in_ok-full.ensures.answer in
+    read_none c.args.text.now c.as_str.result.now c.in_ok-url.field-0 full c.in_ok-url.ensures c.in-None.is

@@ -1,0 +1,14 @@
+-- Equality of URLs: by text, and by whether they were read from a path.
+use Rattle.std.specs.Cmp.{IsEquivalence, on_equiv, and_equiv, bool_eq_equiv}
+use Rattle.std.specs.Cmp.Lexicographic.{nat_list_eq_equiv}
+use Rattle.std.specs.Prelude.{◌&&◌, Bool}
+use Rattle.std.specs.Str.{bytes_eq}
+use Rattle.url.specs.Parts.{serialize}
+use mathlib.Core.Bool.{beq}
+use Rattle.kube_types_url.specs.Shown.{Shown}
+
+abbrev pub same_url : Shown → Shown → Bool
+same_url u v = bytes_eq (serialize u.0) (serialize v.0) && beq u.1 v.1
+
+pub same_url_equiv : IsEquivalence same_url
+same_url_equiv = and_equiv (on_equiv (λ (u : Shown). serialize u.0) nat_list_eq_equiv) (on_equiv (λ (u : Shown). u.1) bool_eq_equiv)

@@ -1,0 +1,4 @@
+pub mod Equality
+pub mod Query
+pub mod Reading
+pub mod Shown

@@ -1,0 +1,30 @@
+//! Laws of URLs, over the definitions alone: each function here does nothing, and its contract is the law.
+ghost use Rattle.std.specs.Cmp.{IsEquivalence};
+ghost use Rattle.std.specs.Prelude.{◌≡◌, ℕ, List, ◌++◌, ◌∷◌, [], true, false, Some, if◌then◌else◌};
+ghost use Rattle.std.specs.Str.{bytes_eq};
+ghost use Rattle.url.specs.Parts.{Parts, IsValid, kind_of, serialize};
+ghost use Rattle.url.specs.declared.scheme.SchemeType.TheVariants.{SpecialNotFile};
+ghost use Rattle.kube_types_url.specs.Equality.{same_url};
+ghost use Rattle.kube_types_url.specs.Query.{values_of, values_or_none};
+ghost use Rattle.kube_types_url.specs.Reading.{url_of};
+
+/// Equality of URLs is reflexive, symmetric and transitive.
+pub fn equality_is_an_equivalence()
+    ensures { IsEquivalence same_url }
+{}
+
+/// A path is no URL's equal, also where both have one text.
+pub fn paths_differ_from_urls()
+    ensures { (path url : Parts) → same_url (path, true) (url, false) ≡ false }
+{}
+
+/// One pair more adds its value after those of its name, and leaves the values of every other name.
+pub fn a_pair_adds_one_value()
+    ensures { (pairs : List (List ℕ × List ℕ)) (name value other : List ℕ) → values_of (pairs ++ (name, value) ∷ []) other
+        ≡ (if bytes_eq other name then Some (values_or_none (values_of pairs other) ++ value ∷ []) else values_of pairs other) }
+{}
+
+/// The text of an `http`, `https`, `ws`, `wss` or `ftp` URL is read as that URL, and as no path.
+pub fn web_urls_read_back()
+    ensures { (url : Parts) → IsValid url → kind_of url ≡ SpecialNotFile → url_of (serialize url) ≡ Some (url, false) }
+{}

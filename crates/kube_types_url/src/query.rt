@@ -1,0 +1,86 @@
+//! The query of a URL: its pieces, and the map from names to values.
+ghost use Rattle.form_urlencoded.specs.Form.{decode};
+ghost use Rattle.std.specs.BTreeMap.{get_by_text};
+ghost use Rattle.std.specs.List.{slice_split};
+ghost use Rattle.std.specs.Option.{option_map};
+ghost use Rattle.std.specs.Prelude.{◌≡◌, ◌==◌, ◌++◌, ◌∷◌, [], ℕ, List, map, IfOk, IfErr, OnOk, Some, string_bytes, if◌then◌else◌};
+ghost use Rattle.std.specs.Str.{bytes_eq};
+ghost use Rattle.kube_types_refused.specs.declared.Refused.TheVariants.{Memory};
+ghost use Rattle.kube_types_url.specs.Query.{decoded, name_of, value_of, pairs_of, values_of, values_or_none};
+ghost use Rattle.kube_types_url.specs.Shown.{pair_texts, texts};
+
+use kube_types_refused::Refused;
+use std::alloc::{AllocError, Global};
+use std::collections::BTreeMap;
+
+/// What a name or a value stands for, in UTF-8.
+fn decoded(alloc: Global, text: &str) -> Result<String, AllocError>
+    ensures { IfOk result (λ plain. string_bytes plain ≡ decoded text.now) }
+{
+    form_urlencoded::decode(alloc, text.as_bytes())?.into_owned(alloc)
+}
+
+/// The pieces of a query between `&`.
+fn pieces<'a>(alloc: Global, query: &'a str) -> Result<Vec<&'a str>, AllocError>
+    ensures { IfOk result (λ pieces. map (λ piece. piece.now) pieces.items ≡ slice_split (λ b. b == 38) query.now) }
+{
+    query.split('&').collect(alloc)
+}
+
+/// The name and the value of a piece, as they are written.
+fn name_and_value(piece: &str) -> (&str, &str)
+    ensures name { result.0.now ≡ name_of piece.now }
+    ensures value { result.1.now ≡ value_of piece.now }
+{
+    match piece.split_once('=') {
+        Some((name, value)) => (name, value),
+        None => (piece, ""),
+    }
+}
+
+/// The names and values of a query, in the order in which they stand.
+pub(crate) fn pairs(alloc: Global, query: &str) -> Result<Vec<(String, String)>, Refused>
+    ensures answer { IfOk result (λ pairs. map pair_texts pairs.items ≡ pairs_of query.now) }
+    ensures memory { IfErr result (λ e. e ≡ Memory) }
+{
+    let pieces = pieces(alloc, query)?;
+    let mut pairs = Vec::new(alloc);
+    for piece in &pieces {
+        if !piece.is_empty() {
+            let (name, value) = name_and_value(piece);
+            pairs.push((decoded(alloc, name)?, decoded(alloc, value)?))?;
+        }
+    }
+    Ok(pairs)
+}
+
+/// Adds a value after those of its name.
+fn add_value(
+    query: &mut BTreeMap<String, Vec<String>>,
+    alloc: Global,
+    name: String,
+    value: String,
+) -> Result<(), Refused>
+    ensures answer { OnOk result ((other : List ℕ) → option_map texts (get_by_text query.new other)
+        ≡ (if bytes_eq other (string_bytes name) then Some (values_or_none (option_map texts (get_by_text query.old other)) ++ string_bytes value ∷ [])
+        else option_map texts (get_by_text query.old other))) }
+    ensures memory { IfErr result (λ e. e ≡ Memory) }
+{
+    query.entry(name)?.or_insert(Vec::new(alloc)).push(value)?;
+    Ok(())
+}
+
+/// The values of each name, in order.
+pub(crate) fn grouped(
+    alloc: Global,
+    pairs: Vec<(String, String)>,
+) -> Result<BTreeMap<String, Vec<String>>, Refused>
+    ensures answer { IfOk result (λ query. (name : List ℕ) → option_map texts (get_by_text query name) ≡ values_of (map pair_texts pairs.items) name) }
+    ensures memory { IfErr result (λ e. e ≡ Memory) }
+{
+    let mut query = BTreeMap::new(alloc);
+    for (name, value) in pairs {
+        add_value(&mut query, alloc, name, value)?;
+    }
+    Ok(query)
+}

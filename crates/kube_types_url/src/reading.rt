@@ -1,0 +1,59 @@
+//! Reading a URL, and cutting the brackets off a host.
+ghost use Rattle.std.specs.Prelude.{◌≡◌, ◌++◌, ℕ, List, None, codes, IfOk, IfErr, string_bytes};
+ghost use Rattle.std.specs.Result.{result_ok};
+ghost use Rattle.url.specs.Parser.{parse_url};
+ghost use Rattle.kube_types_refused.specs.declared.Refused.TheVariants.{Memory};
+ghost use Rattle.kube_types_url.specs.Reading.{full_text, refusal_of};
+
+use kube_types_refused::Refused;
+use std::alloc::Global;
+use url::{ParseError, Url};
+
+/// The refusal that an error of the parser stands for, if it stands for one.
+fn refusal(error: ParseError) -> Option<Refused>
+    ensures { result ≡ refusal_of error }
+{
+    match error {
+        ParseError::OutOfMemory => Some(Refused::Memory),
+        ParseError::Overflow => Some(Refused::TooLarge),
+        _ => None,
+    }
+}
+
+/// The text that is parsed: that of a path has `http://localhost` before it.
+pub(crate) fn full_text(alloc: Global, text: &str) -> Result<String, Refused>
+    ensures answer { IfOk result (λ full. string_bytes full ≡ full_text text.now) }
+    ensures memory { IfErr result (λ e. e ≡ Memory) }
+{
+    if text.starts_with('/') {
+        Ok(format!(in alloc; "http://localhost{text}")?)
+    } else {
+        Ok(String::from_str(alloc, text)?)
+    }
+}
+
+/// The URL that a text is by the URL Standard, if it is one.
+pub(crate) fn parsed(alloc: Global, text: &str) -> Result<Option<Url>, Refused>
+    ensures { IfOk result (λ url. url ≡ result_ok (parse_url None text.now)) }
+{
+    match Url::parse(alloc, text) {
+        Ok(url) => Ok(Some(url)),
+        Err(error) => match refusal(error) {
+            Some(refused) => Err(refused),
+            None => Ok(None),
+        },
+    }
+}
+
+/// What stands between the brackets of a host.
+pub(crate) fn without_brackets(host: &str) -> &str
+    ensures { (inner : List ℕ) → host.now ≡ codes "[" ++ inner ++ codes "]" → result.now ≡ inner }
+{
+    let Some(rest) = host.strip_prefix('[') else {
+        return host;
+    };
+    let Some(inner) = rest.strip_suffix(']') else {
+        return host;
+    };
+    inner
+}
