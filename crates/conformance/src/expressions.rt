@@ -241,6 +241,14 @@ fn levels_are_limited(rt: HostRuntime) -> Result<(), Fail> {
         ("!", "true", ""),
         ("", "a", ".b"),
         ("", "1", "<1"),
+        ("-", "x", ""),
+        ("[", "1", "]"),
+        ("f(", "x", ")"),
+        ("", "a", "[0]"),
+        ("", "a", ".f()"),
+        ("", "1", " + 1"),
+        ("a.all(x, ", "true", ")"),
+        ("a ? b : ", "c", ""),
     ];
     for (before, middle, after) in forms {
         for (count, read) in [(1usize, true), (250, true), (251, false), (100_000, false)] {

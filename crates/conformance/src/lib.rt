@@ -16,11 +16,15 @@ mod program;
 #[cfg(test)]
 mod quantities;
 #[cfg(test)]
+mod refused_texts;
+#[cfg(test)]
 mod rules;
 #[cfg(test)]
 mod times;
 #[cfg(test)]
 mod tokens;
+#[cfg(test)]
+mod trees;
 #[cfg(test)]
 mod urls;
 #[cfg(test)]
