@@ -1,6 +1,8 @@
 //! Rows of IP addresses and CIDRs, by the types' own calls.
 
 use kube_types::{KubeCIDR, KubeIP};
+use std::alloc::Global;
+use std::process::Abort;
 use std::test::Fail;
 
 /// A text with what the address prints.
@@ -38,22 +40,29 @@ const REFUSED: [(&str, &str); 13] = [
     ),
 ];
 
-#[test]
-fn addresses_are_read_and_printed(rt: HostRuntime) -> Result<(), Fail> {
-    let alloc = rt.alloc();
-    for (text, want) in READ {
-        let Ok(address) = KubeIP::read(text) else {
-            return Err(Fail::from(text));
+/// What the address of a text prints, and whether the text is that.
+fn printed(alloc: Global, text: &str) -> Result<Option<(String, bool)>, Fail> {
+    match (KubeIP::read(text), KubeIP::is_canonical(text)) {
+        (Ok(address), Ok(is_canonical)) => Ok(Some((address.to_string(alloc)?, is_canonical))),
+        _ => Ok(None),
+    }
+}
+
+/// Each text is an address that prints so.
+fn print_as_told(rt: &impl Abort, alloc: Global, rows: &[(&str, &str)]) -> Result<(), Fail> {
+    for (text, want) in rows {
+        let Some((found, is_canonical)) = printed(alloc, text)? else {
+            return Err(Fail::from("a text that is no address"));
         };
-        let printed = address.to_string(alloc)?;
-        let is_wanted = printed.as_str() == want;
-        assert!(rt; is_wanted, "{text} prints as it should");
-        match KubeIP::is_canonical(text) {
-            Ok(found) => assert_eq!(rt; found, text == want, "{text}"),
-            Err(_) => return Err(Fail::from(text)),
-        }
+        assert_eq!(rt; found.as_str(), *want, "{text}");
+        assert_eq!(rt; is_canonical, *text == *want, "{text}");
     }
     Ok(())
+}
+
+#[test]
+fn addresses_are_read_and_printed(rt: HostRuntime) -> Result<(), Fail> {
+    print_as_told(&rt, rt.alloc(), &READ)
 }
 
 #[test]
