@@ -2,8 +2,8 @@
 ghost use Rattle.std.specs.BTreeMap.{get_by_text};
 ghost use Rattle.std.specs.Cmp.{on_per, on_equiv, partial_equiv_from_equiv};
 ghost use Rattle.std.specs.Option.{option_map};
-ghost use Rattle.std.specs.Prelude.{◌≡◌, [], ℕ, List, IfOk, IfErr, string_bytes, unwrap_or};
-ghost use Rattle.kube_types_refused.specs.declared.Refused.TheVariants.{Memory};
+ghost use Rattle.std.specs.Prelude.{◌≡◌, ◌≤◌, length, [], ℕ, List, IfOk, IfErr, string_bytes, unwrap_or};
+ghost use Rattle.kube_types_refused.specs.declared.Refused.TheVariants.{Memory, TooLarge};
 ghost use Rattle.kube_types_url.specs.Equality.{same_url, same_url_equiv};
 ghost use Rattle.kube_types_url.specs.Query.{pairs_of, values_of};
 ghost use Rattle.kube_types_url.specs.Reading.{url_of};
@@ -29,13 +29,14 @@ impl KubeUrl {
     /// A text that begins with `/` is a path: it is read as `http://localhost` and the text.
     ///
     /// Answers `Refused::Memory` where memory is refused, and `Refused::TooLarge` where `url` answers `Overflow`: the text of
-    /// the URL would take 4 GB or more.
+    /// the URL would take 4 GB or more. No text of less than 256 MiB is told to be too large.
     pub fn read(alloc: Global, text: &str) -> Result<Option<KubeUrl>, Refused>
-        ensures { IfOk result (λ url. option_map shown url ≡ url_of text.now) }
+        ensures url { IfOk result (λ url. option_map shown url ≡ url_of text.now) }
+        ensures large { IfErr result (λ e. e ≡ TooLarge → 268_435_456 ≤ length text.now) }
     {
         let is_path = text.starts_with('/');
         let full = full_text(alloc, text)?;
-        match parsed(alloc, full.as_str())? {
+        match parsed(alloc, full.as_str(), text.len())? {
             Some(url) => Ok(Some(KubeUrl { url, is_path })),
             None => Ok(None),
         }

@@ -1,8 +1,8 @@
 //! Reading a URL, and cutting the brackets off a host.
-ghost use Rattle.std.specs.Prelude.{◌≡◌, ◌++◌, ℕ, List, None, codes, IfOk, IfErr, string_bytes};
+ghost use Rattle.std.specs.Prelude.{◌≡◌, ◌≤◌, ◌++◌, ℕ, List, None, codes, IfOk, IfErr, string_bytes};
 ghost use Rattle.std.specs.Result.{result_ok};
 ghost use Rattle.url.specs.Parser.{parse_url};
-ghost use Rattle.kube_types_refused.specs.declared.Refused.TheVariants.{Memory};
+ghost use Rattle.kube_types_refused.specs.declared.Refused.TheVariants.{Memory, TooLarge};
 ghost use Rattle.kube_types_url.specs.Reading.{full_text, refusal_of};
 
 use kube_types_refused::Refused;
@@ -20,6 +20,19 @@ fn refusal(error: ParseError) -> Option<Refused>
     }
 }
 
+/// The least length of a text, in bytes, whose URL may be too large. `url` holds texts of less than 4 GB, and writes no byte as so many.
+const LEAST_TOO_LARGE: usize = 268_435_456;
+
+/// What is told of a refusal of a text of this length: no short text is too large.
+fn told(refused: Refused, length: usize) -> Refused
+    ensures { result ≡ TooLarge → 268_435_456 ≤ length }
+{
+    if length < LEAST_TOO_LARGE {
+        return Refused::Memory;
+    }
+    refused
+}
+
 /// The text that is parsed: that of a path has `http://localhost` before it.
 pub(crate) fn full_text(alloc: Global, text: &str) -> Result<String, Refused>
     ensures answer { IfOk result (λ full. string_bytes full ≡ full_text text.now) }
@@ -32,14 +45,15 @@ pub(crate) fn full_text(alloc: Global, text: &str) -> Result<String, Refused>
     }
 }
 
-/// The URL that a text is by the URL Standard, if it is one.
-pub(crate) fn parsed(alloc: Global, text: &str) -> Result<Option<Url>, Refused>
-    ensures { IfOk result (λ url. url ≡ result_ok (parse_url None text.now)) }
+/// The URL that a text is by the URL Standard, if it is one. The length is that of the text that was given to be read.
+pub(crate) fn parsed(alloc: Global, text: &str, length: usize) -> Result<Option<Url>, Refused>
+    ensures url { IfOk result (λ url. url ≡ result_ok (parse_url None text.now)) }
+    ensures large { IfErr result (λ e. e ≡ TooLarge → 268_435_456 ≤ length) }
 {
     match Url::parse(alloc, text) {
         Ok(url) => Ok(Some(url)),
         Err(error) => match refusal(error) {
-            Some(refused) => Err(refused),
+            Some(refused) => Err(told(refused, length)),
             None => Ok(None),
         },
     }

@@ -8,9 +8,9 @@ returns-in-Some c =
     let text = c.args.text.now in
     let flag : c.starts_with-is_path.result ≡ is_path text = c.starts_with-is_path.ensures.byte (lit< tt) (lit< tt) (λ w o x. x) in
     let full = c.as_str.ensures.value ∙ c.in_ok-full.ensures.answer in
-    read_some text c.as_str.result.now c.in_ok-url.field-0 c.in-Some.url c.starts_with-is_path.result full flag c.in_ok-url.ensures c.in-Some.is
+    record { url = read_some text c.as_str.result.now c.in_ok-url.field-0 c.in-Some.url c.starts_with-is_path.result full flag c.in_ok-url.ensures.url c.in-Some.is; large = tt }
 
 pub returns : goal.returns
 returns c =
     let full = c.as_str.ensures.value ∙ c.in_ok-full.ensures.answer in
-    read_none c.args.text.now c.as_str.result.now c.in_ok-url.field-0 full c.in_ok-url.ensures c.in-None.is
+    record { url = read_none c.args.text.now c.as_str.result.now c.in_ok-url.field-0 full c.in_ok-url.ensures.url c.in-None.is; large = tt }
