@@ -1,5 +1,5 @@
 //! Reading a URL, and cutting the brackets off a host.
-ghost use Rattle.std.specs.Prelude.{◌≡◌, ◌≤◌, ◌++◌, ℕ, List, None, codes, IfOk, IfErr, string_bytes};
+ghost use Rattle.std.specs.Prelude.{◌≡◌, ◌≤◌, ◌<◌, ◌++◌, ℕ, List, None, codes, IfOk, IfErr, string_bytes};
 ghost use Rattle.std.specs.Result.{result_ok};
 ghost use Rattle.url.specs.Parser.{parse_url};
 ghost use Rattle.kube_types_refused.specs.declared.Refused.TheVariants.{Memory, TooLarge};
@@ -25,7 +25,9 @@ const LEAST_TOO_LARGE: usize = 268_435_456;
 
 /// What is told of a refusal of a text of this length: no short text is too large.
 fn told(refused: Refused, length: usize) -> Refused
-    ensures { result ≡ TooLarge → 268_435_456 ≤ length }
+    ensures large { result ≡ TooLarge → 268_435_456 ≤ length }
+    ensures short { length < 268_435_456 → result ≡ Memory }
+    ensures same { 268_435_456 ≤ length → result ≡ refused }
 {
     if length < LEAST_TOO_LARGE {
         return Refused::Memory;
