@@ -141,5 +141,10 @@ fn quantities_are_integers_or_not(rt: HostRuntime) -> Result<(), Fail> {
         let quantity = KubeQuantity::read(text).ok_or("a quantity")?;
         assert_eq!(rt; quantity.sign(), want, "{text}");
     }
+    let alloc = rt.alloc();
+    let told = IntegerError::NotAnInteger.to_string(alloc)?;
+    assert_eq!(rt; told.as_str(), "quantity is not an integer");
+    let told = IntegerError::TooLargeForInteger.to_string(alloc)?;
+    assert_eq!(rt; told.as_str(), "quantity too large for integer");
     Ok(())
 }

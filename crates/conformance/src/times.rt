@@ -171,5 +171,8 @@ fn times_are_added_and_compared(rt: HostRuntime) -> Result<(), Fail> {
     assert!(rt; most.checked_add(one).is_none());
     assert!(rt; most.checked_sub(one).is_some());
     assert!(rt; one.cmp(&most) == Ordering::Less);
+    let longer = Duration::read("1.5h").ok_or("a duration")?;
+    assert!(rt; Duration::read("90m") == Some(longer));
+    assert!(rt; Duration::read("1.9ns") == Some(one));
     Ok(())
 }

@@ -1,5 +1,6 @@
 -- The named formats of Kubernetes' CEL library `format`: their names, and the faults that a text has as each.
 use Rattle.std.specs.Prelude.{ℕ, List, [], codes, Option, Some, None, if◌then◌else◌}
+use Rattle.kube_types_formats.specs.declared.dns.Label.TheVariants.{Rfc1123, Rfc1123Prefix, Rfc1035, Rfc1035Prefix}
 use Rattle.kube_types_formats.specs.declared.fault.Fault.{Fault}
 use Rattle.kube_types_formats.specs.declared.fault.Fault.TheVariants.{NotUuid, NotBase64}
 use Rattle.kube_types_formats.specs.declared.format.KubeFormat.{KubeFormat}
@@ -7,7 +8,7 @@ use Rattle.kube_types_formats.specs.declared.kind.FormatKind.{FormatKind}
 use Rattle.kube_types_formats.specs.declared.kind.FormatKind.TheVariants.{Dns1123Label, Dns1035Label, Dns1035LabelPrefix, Dns1123LabelPrefix, Dns1123Subdomain, Dns1123SubdomainPrefix, QualifiedName, LabelValue, Uri, Uuid, Byte, Date, DateTime}
 use Rattle.kube_types_formats.specs.Found.{only}
 use Rattle.kube_types_formats.specs.Forms.{fits}
-use Rattle.kube_types_formats.specs.Labels.{label_faults, label_prefix_faults, letter_label_faults, letter_label_prefix_faults, subdomain_faults, subdomain_prefix_faults}
+use Rattle.kube_types_formats.specs.Labels.{label_faults, subdomain_faults}
 use Rattle.kube_types_formats.specs.Names.{qualified_name_faults, label_value_faults}
 use Rattle.kube_types_formats.specs.Uris.{uri_fault}
 use Rattle.kube_types_formats.specs.Base64.{is_base64}
@@ -42,12 +43,12 @@ kind_of format = format.kind
 
 -- the faults of a text, in order
 unfoldable pub faults_of : FormatKind → List ℕ → List (List ℕ)
-faults_of Dns1123Label text = label_faults [] text
-faults_of Dns1035Label text = letter_label_faults [] text
-faults_of Dns1035LabelPrefix text = letter_label_prefix_faults [] text
-faults_of Dns1123LabelPrefix text = label_prefix_faults [] text
-faults_of Dns1123Subdomain text = subdomain_faults [] text
-faults_of Dns1123SubdomainPrefix text = subdomain_prefix_faults [] text
+faults_of Dns1123Label text = label_faults Rfc1123 [] text
+faults_of Dns1035Label text = label_faults Rfc1035 [] text
+faults_of Dns1035LabelPrefix text = label_faults Rfc1035Prefix [] text
+faults_of Dns1123LabelPrefix text = label_faults Rfc1123Prefix [] text
+faults_of Dns1123Subdomain text = subdomain_faults Rfc1123 [] text
+faults_of Dns1123SubdomainPrefix text = subdomain_faults Rfc1123Prefix [] text
 faults_of QualifiedName text = qualified_name_faults text
 faults_of LabelValue text = label_value_faults text
 faults_of Uri text = only [] (uri_fault text)

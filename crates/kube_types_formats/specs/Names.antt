@@ -3,6 +3,7 @@
 use Rattle.std.specs.Prelude.{ℕ, ◌+◌, ◌==◌, Bool, not, ◌||◌, nat_lt, List, [], ◌∷◌, ◌++◌, length, take, drop, codes, Option, Some, None, if◌then◌else◌}
 use Rattle.std.specs.Char.{is_ascii_alphanumeric}
 use Rattle.std.specs.List.{list_all}
+use Rattle.kube_types_formats.specs.declared.dns.Label.TheVariants.{Rfc1123}
 use Rattle.kube_types_formats.specs.declared.fault.Fault.TheVariants.{TooLong, NotName, FirstNotAlphanumeric, LastNotAlphanumeric, EmptyPrefix}
 use Rattle.kube_types_formats.specs.Found.{chosen, said}
 use Rattle.kube_types_formats.specs.Labels.{first_byte, last_byte, unless_empty, subdomain_faults}
@@ -27,7 +28,7 @@ label_value_faults text = if length text == 0 then [] else name_faults [] text
 -- what stands before the slash
 unfoldable pub name_prefix_faults : List ℕ → List (List ℕ)
 name_prefix_faults prefix =
-    if length prefix == 0 then said [] EmptyPrefix ∷ [] else subdomain_faults (codes "prefix: ") prefix
+    if length prefix == 0 then said [] EmptyPrefix ∷ [] else subdomain_faults Rfc1123 (codes "prefix: ") prefix
 
 -- the text, cut at the place of its last slash (47)
 unfoldable pub faults_around : Option ℕ → List ℕ → List (List ℕ)

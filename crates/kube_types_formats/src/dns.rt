@@ -1,8 +1,8 @@
 //! DNS labels and subdomains, by RFC 1035 and RFC 1123.
 ghost use Rattle.std.specs.Prelude.{ℕ, List, ◌≡◌, ◌<◌, ◌++◌, length, nat_lt, OnOk, IfOk, IfErr};
 ghost use Rattle.std.specs.List.{list_all};
-ghost use Rattle.kube_types_formats.specs.Found.{texts_of};
-ghost use Rattle.kube_types_formats.specs.Labels.{is_label_byte, first_byte, last_byte, label_faults, label_prefix_faults, letter_label_faults, letter_label_prefix_faults, subdomain_faults, subdomain_prefix_faults, parts_of, faults_of_parts};
+ghost use Rattle.kube_types_formats.specs.Found.{chosen, texts_of};
+ghost use Rattle.kube_types_formats.specs.Labels.{is_label_byte, first_byte, last_byte, empty_fault, end_tests, label_faults, subdomain_faults, parts_of, faults_of_parts};
 
 use crate::fault::Fault;
 use crate::places::{cut, first_place};
@@ -14,6 +14,29 @@ pub(crate) const LABEL_LIMIT: usize = 63;
 
 /// The most bytes of a subdomain.
 const SUBDOMAIN_LIMIT: usize = 253;
+
+/// What a label has to be.
+#[derive(Clone, Copy)]
+pub(crate) enum Label {
+    /// A label of RFC 1123.
+    Rfc1123,
+    /// What a label of RFC 1123 begins with.
+    Rfc1123Prefix,
+    /// A label of RFC 1035.
+    Rfc1035,
+    /// What a label of RFC 1035 begins with, which may be nothing.
+    Rfc1035Prefix,
+}
+
+/// The fault of an empty text as a label.
+fn empty_fault(label: Label) -> Option<Fault>
+    ensures { result ≡ empty_fault label }
+{
+    match label {
+        Label::Rfc1123 | Label::Rfc1123Prefix | Label::Rfc1035 => Some(Fault::Empty),
+        Label::Rfc1035Prefix => None,
+    }
+}
 
 /// Whether all bytes are lower case letters, digits and hyphens.
 fn is_label_text(text: &[u8]) -> bool
@@ -47,137 +70,94 @@ pub(crate) fn too_long(limit: usize, text: &[u8]) -> (bool, Fault)
 }
 
 impl Report {
-    /// Adds the faults of a label of RFC 1123.
-    #[tactic(auto, unfolding(crate::specs::Labels::label_faults))]
-    pub(crate) fn add_label(&mut self, place: &str, text: &[u8]) -> Result<(), Refused>
+    /// Adds the faults of a label's ends.
+    #[tactic(auto, unfolding(crate::specs::Labels::end_tests))]
+    fn add_end_faults(&mut self, label: Label, place: &str, text: &[u8]) -> Result<(), Refused>
+        requires { 0 < length text.now }
         ensures added { OnOk result
-            (texts_of self.new ≡ texts_of self.old ++ label_faults place.now text.now) }
+            (texts_of self.new ≡ texts_of self.old ++ chosen place.now (end_tests label text.now)) }
         ensures memory { IfErr result (λ e. e ≡ Refused.Memory) }
     {
-        if text.is_empty() {
-            return self.add(place, Fault::Empty);
-        }
-        let hyphen_ends = first_byte(text) == b'-' || last_byte(text) == b'-';
-        self.add_chosen(
-            place,
-            &[
-                too_long(LABEL_LIMIT, text),
-                (!is_label_text(text), Fault::NotLabel),
-                (hyphen_ends, Fault::EndNotAlphanumeric),
-            ],
-        )
-    }
-
-    /// Adds the faults of what a label of RFC 1123 begins with.
-    #[tactic(auto, unfolding(crate::specs::Labels::label_prefix_faults))]
-    pub(crate) fn add_label_prefix(&mut self, place: &str, text: &[u8]) -> Result<(), Refused>
-        ensures added { OnOk result
-            (texts_of self.new ≡ texts_of self.old ++ label_prefix_faults place.now text.now) }
-        ensures memory { IfErr result (λ e. e ≡ Refused.Memory) }
-    {
-        if text.is_empty() {
-            return self.add(place, Fault::Empty);
-        }
-        self.add_chosen(
-            place,
-            &[
-                too_long(LABEL_LIMIT, text),
-                (!is_label_text(text), Fault::NotLabel),
-                (first_byte(text) == b'-', Fault::FirstNotAlphanumeric),
-            ],
-        )
-    }
-
-    /// Adds the faults of a label of RFC 1035.
-    #[tactic(auto, unfolding(crate::specs::Labels::letter_label_faults))]
-    pub(crate) fn add_letter_label(&mut self, place: &str, text: &[u8]) -> Result<(), Refused>
-        ensures added { OnOk result
-            (texts_of self.new ≡ texts_of self.old ++ letter_label_faults place.now text.now) }
-        ensures memory { IfErr result (λ e. e ≡ Refused.Memory) }
-    {
-        if text.is_empty() {
-            return self.add(place, Fault::Empty);
-        }
+        let hyphen_first = first_byte(text) == b'-';
+        let hyphen_last = last_byte(text) == b'-';
         let no_letter_first = !first_byte(text).is_ascii_lowercase();
-        self.add_chosen(
-            place,
-            &[
-                too_long(LABEL_LIMIT, text),
-                (!is_label_text(text), Fault::NotLabel),
-                (no_letter_first, Fault::FirstNotLetter),
-                (last_byte(text) == b'-', Fault::LastNotAlphanumeric),
-            ],
-        )
+        match label {
+            Label::Rfc1123 => {
+                let hyphen_ends = hyphen_first || hyphen_last;
+                self.add_chosen(place, &[(hyphen_ends, Fault::EndNotAlphanumeric)])
+            }
+            Label::Rfc1123Prefix => {
+                self.add_chosen(place, &[(hyphen_first, Fault::FirstNotAlphanumeric)])
+            }
+            Label::Rfc1035 => self.add_chosen(
+                place,
+                &[
+                    (no_letter_first, Fault::FirstNotLetter),
+                    (hyphen_last, Fault::LastNotAlphanumeric),
+                ],
+            ),
+            Label::Rfc1035Prefix => {
+                self.add_chosen(place, &[(no_letter_first, Fault::FirstNotLetter)])
+            }
+        }
     }
 
-    /// Adds the faults of what a label of RFC 1035 begins with.
-    #[tactic(auto, unfolding(crate::specs::Labels::letter_label_prefix_faults))]
-    pub(crate) fn add_letter_label_prefix(
+    /// Adds the faults of a label.
+    #[tactic(auto, unfolding(crate::specs::Labels::label_faults))]
+    pub(crate) fn add_label(
         &mut self,
+        label: Label,
         place: &str,
         text: &[u8],
     ) -> Result<(), Refused>
         ensures added { OnOk result
-            (texts_of self.new ≡ texts_of self.old ++ letter_label_prefix_faults place.now text.now) }
+            (texts_of self.new ≡ texts_of self.old ++ label_faults label place.now text.now) }
         ensures memory { IfErr result (λ e. e ≡ Refused.Memory) }
     {
         if text.is_empty() {
-            return Ok(());
+            return self.add_found(place, empty_fault(label));
         }
-        let no_letter_first = !first_byte(text).is_ascii_lowercase();
+        let not_label = !is_label_text(text);
         self.add_chosen(
             place,
-            &[
-                too_long(LABEL_LIMIT, text),
-                (!is_label_text(text), Fault::NotLabel),
-                (no_letter_first, Fault::FirstNotLetter),
-            ],
-        )
+            &[too_long(LABEL_LIMIT, text), (not_label, Fault::NotLabel)],
+        )?;
+        self.add_end_faults(label, place, text)
     }
 
     /// Adds the faults of each part before the last dot, and gives the part after it.
     fn add_front_parts<'a>(&mut self, place: &str, text: &'a [u8]) -> Result<&'a [u8], Refused>
         ensures added { IfOk result (λ last_part.
             (last : List ℕ → List (List ℕ)) → texts_of self.new ++ last last_part.now
-            ≡ texts_of self.old ++ faults_of_parts (label_faults place.now) last (parts_of text.now)) }
+            ≡ texts_of self.old ++ faults_of_parts (label_faults Label.Rfc1123 place.now) last (parts_of text.now)) }
         ensures memory { IfErr result (λ e. e ≡ Refused.Memory) }
     {
         let mut rest = text;
         while let Some(dot) = first_place(b".", rest) {
             let (part, after) = cut(rest, dot);
-            self.add_label(place, part)?;
+            self.add_label(Label::Rfc1123, place, part)?;
             rest = after;
         }
         Ok(rest)
     }
 
-    /// Adds the faults of a subdomain of RFC 1123.
+    /// Adds the faults of a subdomain of RFC 1123, whose last label has a rule of its own.
     #[tactic(auto, unfolding(crate::specs::Labels::subdomain_faults))]
-    pub(crate) fn add_subdomain(&mut self, place: &str, text: &[u8]) -> Result<(), Refused>
+    pub(crate) fn add_subdomain(
+        &mut self,
+        last: Label,
+        place: &str,
+        text: &[u8],
+    ) -> Result<(), Refused>
         ensures added { OnOk result
-            (texts_of self.new ≡ texts_of self.old ++ subdomain_faults place.now text.now) }
+            (texts_of self.new ≡ texts_of self.old ++ subdomain_faults last place.now text.now) }
         ensures memory { IfErr result (λ e. e ≡ Refused.Memory) }
     {
         if text.is_empty() {
             return self.add(place, Fault::Empty);
         }
         self.add_chosen(place, &[too_long(SUBDOMAIN_LIMIT, text)])?;
-        let last = self.add_front_parts(place, text)?;
-        self.add_label(place, last)
-    }
-
-    /// Adds the faults of what a subdomain of RFC 1123 begins with.
-    #[tactic(auto, unfolding(crate::specs::Labels::subdomain_prefix_faults))]
-    pub(crate) fn add_subdomain_prefix(&mut self, place: &str, text: &[u8]) -> Result<(), Refused>
-        ensures added { OnOk result
-            (texts_of self.new ≡ texts_of self.old ++ subdomain_prefix_faults place.now text.now) }
-        ensures memory { IfErr result (λ e. e ≡ Refused.Memory) }
-    {
-        if text.is_empty() {
-            return self.add(place, Fault::Empty);
-        }
-        self.add_chosen(place, &[too_long(SUBDOMAIN_LIMIT, text)])?;
-        let last = self.add_front_parts(place, text)?;
-        self.add_label_prefix(place, last)
+        let last_part = self.add_front_parts(place, text)?;
+        self.add_label(last, place, last_part)
     }
 }

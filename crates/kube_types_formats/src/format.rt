@@ -6,6 +6,7 @@ ghost use Rattle.kube_types_formats.specs.declared.kind.FormatKind.{FormatKind};
 
 use crate::base64::is_base64;
 use crate::dates::{date_fault, date_time_fault};
+use crate::dns::Label;
 use crate::fault::Fault;
 use crate::forms::fits;
 use crate::kind::FormatKind;
@@ -69,12 +70,16 @@ impl Report {
         ensures memory { IfErr result (λ e. e ≡ Refused.Memory) }
     {
         match kind {
-            FormatKind::Dns1123Label => self.add_label("", text),
-            FormatKind::Dns1035Label => self.add_letter_label("", text),
-            FormatKind::Dns1035LabelPrefix => self.add_letter_label_prefix("", text),
-            FormatKind::Dns1123LabelPrefix => self.add_label_prefix("", text),
-            FormatKind::Dns1123Subdomain => self.add_subdomain("", text),
-            FormatKind::Dns1123SubdomainPrefix => self.add_subdomain_prefix("", text),
+            FormatKind::Dns1123Label => self.add_label(Label::Rfc1123, "", text),
+            FormatKind::Dns1035Label => self.add_label(Label::Rfc1035, "", text),
+            FormatKind::Dns1035LabelPrefix => self.add_label(Label::Rfc1035Prefix, "", text),
+            FormatKind::Dns1123LabelPrefix => self.add_label(Label::Rfc1123Prefix, "", text),
+            FormatKind::Dns1123Subdomain => self.add_subdomain(Label::Rfc1123, "", text),
+            FormatKind::Dns1123SubdomainPrefix => self.add_subdomain(
+                Label::Rfc1123Prefix,
+                "",
+                text,
+            ),
             FormatKind::QualifiedName => self.add_qualified_name(text),
             FormatKind::LabelValue => self.add_label_value(text),
             FormatKind::Uri => self.add_found("", uri_fault(text)),

@@ -4,7 +4,7 @@ ghost use Rattle.std.specs.List.{list_all};
 ghost use Rattle.kube_types_formats.specs.Found.{texts_of};
 ghost use Rattle.kube_types_formats.specs.Names.{is_name_byte, name_faults, name_prefix_faults, label_value_faults, qualified_name_faults};
 
-use crate::dns::{LABEL_LIMIT, first_byte, last_byte, too_long};
+use crate::dns::{LABEL_LIMIT, Label, first_byte, last_byte, too_long};
 use crate::fault::Fault;
 use crate::places::{cut, last_place};
 use crate::report::Report;
@@ -51,7 +51,7 @@ impl Report {
         if prefix.is_empty() {
             return self.add("", Fault::EmptyPrefix);
         }
-        self.add_subdomain("prefix: ", prefix)
+        self.add_subdomain(Label::Rfc1123, "prefix: ", prefix)
     }
 
     /// Adds the faults of a qualified name.

@@ -8,7 +8,7 @@ use Rattle.std.specs.Str.Parse.{AllDigits, digits_value, starts_with_minus, with
 use Rattle.kube_types_quantity.specs.Decimal.{Decimal, aligned, with_sign}
 use Rattle.kube_types_quantity.specs.Normal.{fits, held}
 use Rattle.kube_types_quantity.specs.Reading.{leading_digits, has_point, after_point, fraction_digits, suffix_of, factor_of, value_of, unsigned_quantity, quantity_of}
-use Rattle.kube_types_quantity.specs.Sums.{decimal_at, sum_of, difference_of}
+use Rattle.kube_types_quantity.specs.Sums.{decimal_at, combined, sum_of, difference_of}
 use Rattle.kube_types_quantity.specs.declared.reading.Factor.{Factor}
 use Rattle.kube_types_quantity.proofs.Digits.{leading_are_digits}
 use Rattle.kube_types_quantity.proofs.Forms.{fits_128}
@@ -67,24 +67,24 @@ meaning_is text negative unsigned whole fraction suffix factor size mantissa sca
     (λ i. held (decimal_at (m i) (s i))) ∙ sym value ∙ sym parts
     ∙ (λ i. unsigned_quantity (p.sign i) (p.rest i))
 
+-- what an operation gives where it fits
+combined_is : (op : ℤ → ℤ → ℤ) (x y : Decimal) (left right result : ℤ) → FitsSigned w128 (aligned x y) → left ≡ aligned x y → FitsSigned w128 (aligned y x) → right ≡ aligned y x
+    → FitsSigned w128 (op left right) → result ≡ op left right → held (decimal_at result (int_min x.scale y.scale)) ≡ combined op x y
+combined_is op x y left right result f e g h k s =
+    let total : op left right ≡ op (aligned x y) (aligned y x) = λ i. op (e i) (h i) in
+    let all : (fits 127 (aligned x y) && (fits 127 (aligned y x) && fits 127 (op (aligned x y) (aligned y x)))) ≡ true =
+    λ i. fits_128 (aligned x y) f i && (fits_128 (aligned y x) g i && (ap (fits 127) (sym total) ∙ fits_128 (op left right) k) i) in
+    (λ i. held (decimal_at ((s ∙ total) i) (int_min x.scale y.scale)))
+    ∙ sym (ap (λ b. cond b (held (decimal_at (op (aligned x y) (aligned y x)) (int_min x.scale y.scale))) None) all)
+
 -- a sum whose parts fit
-pub sum_is : (x y : Decimal) (left right sum scale : ℤ) → FitsSigned w128 (aligned x y) → left ≡ aligned x y → FitsSigned w128 (aligned y x) → right ≡ aligned y x
-    → FitsSigned w128 (left +ℤ right) → sum ≡ left +ℤ right → scale ≡ int_min x.scale y.scale → held (decimal_at sum scale) ≡ sum_of x y
+pub sum_is : (x y : Decimal) (left right sum : ℤ) → FitsSigned w128 (aligned x y) → left ≡ aligned x y → FitsSigned w128 (aligned y x) → right ≡ aligned y x
+    → FitsSigned w128 (left +ℤ right) → sum ≡ left +ℤ right → held (decimal_at sum (int_min x.scale y.scale)) ≡ sum_of x y
 unfolding sum_of
-sum_is x y left right sum scale f e g h k s t =
-    let total : left +ℤ right ≡ aligned x y +ℤ aligned y x = λ i. e i +ℤ h i in
-    let all : (fits 127 (aligned x y) && (fits 127 (aligned y x) && fits 127 (aligned x y +ℤ aligned y x))) ≡ true =
-    λ i. fits_128 (aligned x y) f i && (fits_128 (aligned y x) g i && (ap (fits 127) (sym total) ∙ fits_128 (left +ℤ right) k) i) in
-    (λ i. held (decimal_at ((s ∙ total) i) (t i)))
-    ∙ sym (ap (λ b. cond b (held (decimal_at (aligned x y +ℤ aligned y x) (int_min x.scale y.scale))) None) all)
+sum_is = combined_is (λ a b. a +ℤ b)
 
 -- a difference whose parts fit
-pub difference_is : (x y : Decimal) (left right difference scale : ℤ) → FitsSigned w128 (aligned x y) → left ≡ aligned x y → FitsSigned w128 (aligned y x) → right ≡ aligned y x
-    → FitsSigned w128 (left -ℤ right) → difference ≡ left -ℤ right → scale ≡ int_min x.scale y.scale → held (decimal_at difference scale) ≡ difference_of x y
+pub difference_is : (x y : Decimal) (left right difference : ℤ) → FitsSigned w128 (aligned x y) → left ≡ aligned x y → FitsSigned w128 (aligned y x) → right ≡ aligned y x
+    → FitsSigned w128 (left -ℤ right) → difference ≡ left -ℤ right → held (decimal_at difference (int_min x.scale y.scale)) ≡ difference_of x y
 unfolding difference_of
-difference_is x y left right difference scale f e g h k s t =
-    let total : left -ℤ right ≡ aligned x y -ℤ aligned y x = λ i. e i -ℤ h i in
-    let all : (fits 127 (aligned x y) && (fits 127 (aligned y x) && fits 127 (aligned x y -ℤ aligned y x))) ≡ true =
-    λ i. fits_128 (aligned x y) f i && (fits_128 (aligned y x) g i && (ap (fits 127) (sym total) ∙ fits_128 (left -ℤ right) k) i) in
-    (λ i. held (decimal_at ((s ∙ total) i) (t i)))
-    ∙ sym (ap (λ b. cond b (held (decimal_at (aligned x y -ℤ aligned y x) (int_min x.scale y.scale))) None) all)
+difference_is = combined_is (λ a b. a -ℤ b)

@@ -8,12 +8,16 @@ use Rattle.kube_types_quantity.specs.Normal.{fits, held}
 abbrev pub decimal_at : ℤ → ℤ → Decimal
 decimal_at m s = record { mantissa = m; scale = s }
 
--- The exact sum, where 128 bits hold both mantissas at the smaller scale and their sum, and 32 bits the scale of its normal form.
-unfoldable pub sum_of : Decimal → Decimal → Option Decimal
-sum_of x y = if fits 127 (aligned x y) && (fits 127 (aligned y x) && fits 127 (aligned x y +ℤ aligned y x))
-    then held (decimal_at (aligned x y +ℤ aligned y x) (int_min x.scale y.scale)) else None
+-- The number whose mantissa this operation gives of both mantissas at the smaller scale, where 128 bits hold these and what it gives,
+-- and 32 bits the scale of the normal form.
+abbrev pub combined : (ℤ → ℤ → ℤ) → Decimal → Decimal → Option Decimal
+combined op x y = if fits 127 (aligned x y) && (fits 127 (aligned y x) && fits 127 (op (aligned x y) (aligned y x)))
+    then held (decimal_at (op (aligned x y) (aligned y x)) (int_min x.scale y.scale)) else None
 
--- The exact difference, where the same holds of the mantissas and their difference.
+-- the exact sum
+unfoldable pub sum_of : Decimal → Decimal → Option Decimal
+sum_of x y = combined (λ a b. a +ℤ b) x y
+
+-- the exact difference
 unfoldable pub difference_of : Decimal → Decimal → Option Decimal
-difference_of x y = if fits 127 (aligned x y) && (fits 127 (aligned y x) && fits 127 (aligned x y -ℤ aligned y x))
-    then held (decimal_at (aligned x y -ℤ aligned y x) (int_min x.scale y.scale)) else None
+difference_of x y = combined (λ a b. a -ℤ b) x y

@@ -1,5 +1,5 @@
 //! `KubeQuantity`: its number, its order, sums and integers.
-ghost use Rattle.std.specs.Int.{w128};
+ghost use Rattle.std.specs.Int.{w128, int_min};
 ghost use Rattle.std.specs.Option.{option_map, SomeIff};
 ghost use Rattle.std.specs.Prelude.{◌≡◌, true, Some, pos, FitsSigned, is_ok};
 ghost use Rattle.kube_types_quantity.specs.Normal.{is_normal, held};
@@ -81,7 +81,7 @@ impl KubeQuantity {
         let left = self.aligned_to(other)?;
         let right = other.aligned_to(self)?;
         let sum = left.checked_add(right)?;
-        normalised(sum, i128::from(self.scale.min(other.scale)))
+        self.at_smaller_scale(other, sum)
     }
 
     /// The exact difference. `None` as for `add`.
@@ -92,7 +92,7 @@ impl KubeQuantity {
         let left = self.aligned_to(other)?;
         let right = other.aligned_to(self)?;
         let difference = left.checked_sub(right)?;
-        normalised(difference, i128::from(self.scale.min(other.scale)))
+        self.at_smaller_scale(other, difference)
     }
 
     /// Whether `as_integer` gives an integer.
@@ -129,5 +129,12 @@ impl KubeQuantity {
         } else {
             scaled(self.mantissa, self.scale.abs_diff(other.scale))
         }
+    }
+
+    /// The quantity of a mantissa at the smaller of the two scales, if its normal form has a scale of 32 bits.
+    fn at_smaller_scale(&self, other: &KubeQuantity, mantissa: i128) -> Option<KubeQuantity>
+        ensures { option_map number result ≡ held (decimal_at mantissa (int_min (number self.now).scale (number other.now).scale)) }
+    {
+        normalised(mantissa, i128::from(self.scale.min(other.scale)))
     }
 }
