@@ -117,6 +117,9 @@ fn quantities_are_added(rt: HostRuntime) -> Result<(), Fail> {
     let huge = KubeQuantity::read("1e2147483647").ok_or("a quantity")?;
     let nano = KubeQuantity::read("1n").ok_or("a quantity")?;
     assert!(rt; huge.add(&nano).is_none());
+    // Its mantissa is 1610612736, at the scale 0.
+    let binary = KubeQuantity::read("1.5Gi").ok_or("a quantity")?;
+    assert!(rt; binary == KubeQuantity::from_integer(1_610_612_736));
     Ok(())
 }
 

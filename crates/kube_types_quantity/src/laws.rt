@@ -1,11 +1,10 @@
 //! Laws of quantities, over the definitions alone: each function here does nothing, and its contract is the law.
 ghost use Rattle.std.specs.Cmp.{IsTotalOrder};
 ghost use Rattle.std.specs.Int.{is_negative};
-ghost use Rattle.std.specs.Prelude.{◌≡◌, ◌↔◌, false, ℤ, pos, codes, Some};
+ghost use Rattle.std.specs.Prelude.{◌≡◌, ◌↔◌, false, ℤ, pos};
 ghost use Rattle.std.specs.declared.cmp.Ordering.TheVariants.{Equal};
 ghost use Rattle.kube_types_quantity.specs.Decimal.{Decimal, SameNumber, decimal_cmp, natural, times_ten_to};
 ghost use Rattle.kube_types_quantity.specs.Normal.{IsNormal, normal_form};
-ghost use Rattle.kube_types_quantity.specs.Reading.{quantity_of};
 ghost use Rattle.kube_types_quantity.specs.Sums.{decimal_at};
 
 /// The order of numbers is a total one, at every scale.
@@ -32,9 +31,4 @@ pub fn normal_form_keeps_the_number()
 pub fn integers_have_no_places()
     ensures { (x : Decimal) (z : ℤ) → IsNormal x → SameNumber x (decimal_at z (pos 0))
         ↔ ((is_negative x.scale ≡ false) × (z ≡ times_ten_to x.mantissa (natural x.scale))) }
-{}
-
-/// `1.5Gi` means 1610612736 at the scale 0.
-pub fn binary_suffixes_scale_the_mantissa()
-    ensures { quantity_of (codes "1.5Gi") ≡ Some (decimal_at (pos 1_610_612_736) (pos 0)) }
 {}

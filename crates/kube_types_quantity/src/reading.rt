@@ -169,7 +169,18 @@ pub(crate) fn suffix_factor(suffix: &[u8]) -> Option<Factor>
     }
 }
 
-/// The digits of a numeral as one number, times a whole number, if the product is below 2 to the 127.
+/// The digits of a numeral as one number, if it is below 2 to the 127.
+fn numeral_digits(whole: &[u8], fraction: &[u8]) -> Option<u128>
+    requires whole_digits { AllDigits 10 whole.now }
+    requires fraction_digits { AllDigits 10 fraction.now }
+    ensures { SomeIff result (digits_value 10 (whole.now ++ fraction.now) < 2 ^ 127)
+        (digits_value 10 (whole.now ++ fraction.now)) }
+{
+    let start = digits_number(0, whole)?;
+    digits_number(start, fraction)
+}
+
+/// That number times a whole number, if the product is below 2 to the 127.
 pub(crate) fn numeral_size(whole: &[u8], fraction: &[u8], times: u64) -> Option<u128>
     requires whole_digits { AllDigits 10 whole.now }
     requires fraction_digits { AllDigits 10 fraction.now }
@@ -177,8 +188,7 @@ pub(crate) fn numeral_size(whole: &[u8], fraction: &[u8], times: u64) -> Option<
     ensures { SomeIff result (digits_value 10 (whole.now ++ fraction.now) * times < 2 ^ 127)
         (digits_value 10 (whole.now ++ fraction.now) * times) }
 {
-    let start = digits_number(0, whole)?;
-    let digits = digits_number(start, fraction)?;
+    let digits = numeral_digits(whole, fraction)?;
     let size = digits.checked_mul(u128::from(times))?;
     if size < 1 << 127 { Some(size) } else { None }
 }

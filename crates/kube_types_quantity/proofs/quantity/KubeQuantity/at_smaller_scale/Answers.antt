@@ -7,6 +7,7 @@ use Rattle.kube_types_quantity.proofs.quantity.KubeQuantity.at_smaller_scale.Goa
 
 pub returns : goal.returns
 returns c =
+    let n_fits : FitsSigned w128 c.args.mantissa = search rules in
     let f_fits : FitsSigned w128 c.from.result = search rules in
     let m_fits : FitsSigned w32 c.min.result = search rules in
     let s_fits : FitsSigned w32 c.args.self.now.scale = search rules in
