@@ -12,6 +12,8 @@ use Rattle.semver.specs.Parse.{Parts}
 use Rattle.url.specs.Parts.{serialize}
 use Rattle.cel_value.specs.Data.{KeyData, Data, null, bool, int, uint, double, text, bytes, list, map_of, timestamp, duration, optional, ip, cidr, quantity, semver, url, format, Items, no_items, item, Entries, no_entries, entry}
 use Rattle.cel_value.specs.Keys.{key_order}
+use Rattle.cel_value.specs.declared.kind.Kind.{Kind}
+use Rattle.cel_value.specs.declared.kind.Kind.TheVariants as kind
 
 mutual
   -- a class, the numbers and the text in it, and the shapes inside
@@ -85,7 +87,7 @@ abbrev mutual
 abbrev pub same : Data → Data → Bool
 same a b = same_shape (shape a) (shape b)
 
--- the classes 1 to 6 have an order
+-- the classes 1 to 6, of bools, numbers, strings, bytes, timestamps and durations, have an order
 abbrev pub is_ordered : ℕ → Bool
 is_ordered k = nat_lt 0 k && nat_lt k 7
 
@@ -95,6 +97,17 @@ shape_order (shape_of k ns s p) (shape_of l ms t q) =
 
 abbrev pub compared : Data → Data → Option Ordering
 compared a b = shape_order (shape a) (shape b)
+
+-- the kinds whose values have an order
+abbrev pub is_ordered_kind : Kind → Bool
+is_ordered_kind kind.Bool = true
+is_ordered_kind kind.Int = true
+is_ordered_kind kind.UInt = true
+is_ordered_kind kind.String = true
+is_ordered_kind kind.Bytes = true
+is_ordered_kind kind.Timestamp = true
+is_ordered_kind kind.Duration = true
+is_ordered_kind _ = false
 
 -- whether values of this kind have an order
 abbrev pub class_of : Shape → ℕ
