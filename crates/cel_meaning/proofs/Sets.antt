@@ -5,7 +5,8 @@ use Rattle.std.proofs.Math.IntN.{ℤ_set}
 use Rattle.std.proofs.Math.Nat.{ℕ_set}
 use mathlib.Core.HLevel.{collapsible→set}
 use mathlib.Core.List.{is_set}
-use Rattle.std.specs.Coded.{Coded-set, coded_ℕ, coded_list, coded⊎, coded_via, code_by}
+use base.Stored.{coded_via}
+use Rattle.std.specs.Coded.{Coded-set, coded_ℕ, coded_list, coded⊎, code_by}
 use Rattle.std.specs.Prelude.{◌⊎◌}
 use Rattle.std.proofs.Common.{inl, inr}
 use Rattle.kube_types_address.specs.Addresses.{Address, four, six}
