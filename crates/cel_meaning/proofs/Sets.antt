@@ -5,16 +5,17 @@ use Rattle.std.proofs.Math.IntN.{ℤ_set}
 use Rattle.std.proofs.Math.Nat.{ℕ_set}
 use mathlib.Core.HLevel.{collapsible→set}
 use mathlib.Core.List.{is_set}
-use base.Stored.{coded_via}
-use Rattle.std.specs.Coded.{Coded-set, coded_ℕ, coded_list, coded⊎, code_by}
-use Rattle.std.specs.Prelude.{◌⊎◌}
-use Rattle.std.proofs.Common.{inl, inr}
-use Rattle.kube_types_address.specs.Addresses.{Address, four, six}
-use Rattle.kube_types_formats.proofs.KindLemmas.{names_apart}
-use Rattle.kube_types_formats.specs.Formats.{name_of}
-use Rattle.kube_types_formats.specs.declared.kind.FormatKind.{FormatKind}
-use Rattle.url.specs.Parts.{Parts, parts_code}
+use mathlib.Core.Sum.{⊎_set}
+use Rattle.std.specs.Coded.{Coded-set}
 use Rattle.cel_value.specs.Data.{KeyData, bool_key, int_key, uint_key, text_key, Data, null, bool, int, uint, double, text, bytes, list, map_of, timestamp, duration, optional, ip, cidr, quantity, semver, url, format, Items, no_items, item, Entries, no_entries, entry}
+use Rattle.kube_types_address.specs.Addresses.{Address}
+use Rattle.kube_types_address.specs.Prefixes.{Network}
+use Rattle.kube_types_formats.specs.contracts.kind.FormatKind as format_kind
+use Rattle.kube_types_formats.specs.declared.kind.FormatKind.{FormatKind}
+use Rattle.kube_types_quantity.specs.Decimal.{Decimal}
+use Rattle.kube_types_url.specs.Shown.{Shown}
+use Rattle.semver.specs.Parse.{Parts}
+use Rattle.url.specs.Parts.{parts_code}
 
 -- a type that maps into a set and back is a set
 pub retract_set : {A B : Type 0} (to : A → B) (from : B → A) → ((x : A) → from (to x) ≡ x) → IsSet B → IsSet A
@@ -23,24 +24,6 @@ retract_set to from back set = collapsible→set (λ x y p. sym (back x) ∙ ap 
 
 pub List-set : {A : Type 0} → IsSet A → IsSet (List A)
 List-set set = is_set set
-
-abbrev address_cases : Address → List ℕ ⊎ List ℕ
-address_cases (four octets) = inl octets
-address_cases (six groups) = inr groups
-
-abbrev address_of : List ℕ ⊎ List ℕ → Address
-address_of (inl octets) = four octets
-address_of (inr groups) = six groups
-
-address_back : (a : Address) → address_of (address_cases a) ≡ a
-address_back (four octets) = refl
-address_back (six groups) = refl
-
-Address-set : IsSet Address
-Address-set = Coded-set (code_by (List ℕ ⊎ List ℕ) (coded⊎ (coded_list coded_ℕ) (coded_list coded_ℕ)) address_cases address_of address_back)
-
-FormatKind-set : IsSet FormatKind
-FormatKind-set = Coded-set (coded_via (coded_list coded_ℕ) name_of names_apart)
 
 -- values, items, entries and keys in one type
 data Plain : Type 0 where
@@ -57,10 +40,10 @@ data Plain : Type 0 where
   p_duration : ℤ → Plain
   p_optional : Plain → Plain
   p_ip : Address → Plain
-  p_cidr : Address → ℕ → Plain
-  p_quantity : ℤ → ℤ → Plain
-  p_semver : ℕ → ℕ → ℕ → List ℕ → List ℕ → Plain
-  p_url : Parts → Bool → Plain
+  p_cidr : Network → Plain
+  p_quantity : Decimal → Plain
+  p_semver : Parts → Plain
+  p_url : Shown → Plain
   p_format : FormatKind → Plain
   p_end : Plain
   p_item : Plain → Plain → Plain
@@ -84,14 +67,14 @@ abbrev mutual
   to_plain (bytes s) = p_bytes s
   to_plain (list ds) = p_list (to_items ds)
   to_plain (map_of es) = p_map (to_entries es)
-  to_plain (timestamp t o) = p_timestamp t o
+  to_plain (timestamp t offset) = p_timestamp t offset
   to_plain (duration n) = p_duration n
   to_plain (optional ds) = p_optional (to_items ds)
   to_plain (ip a) = p_ip a
-  to_plain (cidr c) = p_cidr c.ip c.prefix
-  to_plain (quantity q) = p_quantity q.mantissa q.scale
-  to_plain (semver v) = p_semver v.0 v.1 v.2 v.3 v.4
-  to_plain (url u) = p_url u.0 u.1
+  to_plain (cidr c) = p_cidr c
+  to_plain (quantity q) = p_quantity q
+  to_plain (semver v) = p_semver v
+  to_plain (url u) = p_url u
   to_plain (format f) = p_format f
 
   to_items : Items → Plain
@@ -113,14 +96,14 @@ back (p_text s) = (text s, no_items, no_entries, text_key s)
 back (p_bytes s) = (bytes s, no_items, no_entries, bool_key false)
 back (p_list p) = (list (back p).1, no_items, no_entries, bool_key false)
 back (p_map p) = (map_of (back p).2, no_items, no_entries, bool_key false)
-back (p_timestamp t o) = (timestamp t o, no_items, no_entries, bool_key false)
+back (p_timestamp t offset) = (timestamp t offset, no_items, no_entries, bool_key false)
 back (p_duration n) = (duration n, no_items, no_entries, bool_key false)
 back (p_optional p) = (optional (back p).1, no_items, no_entries, bool_key false)
 back (p_ip a) = (ip a, no_items, no_entries, bool_key false)
-back (p_cidr a n) = (cidr (record { ip = a; prefix = n }), no_items, no_entries, bool_key false)
-back (p_quantity m s) = (quantity (record { mantissa = m; scale = s }), no_items, no_entries, bool_key false)
-back (p_semver a b c p m) = (semver (a, b, c, p, m), no_items, no_entries, bool_key false)
-back (p_url u b) = (url (u, b), no_items, no_entries, bool_key false)
+back (p_cidr c) = (cidr c, no_items, no_entries, bool_key false)
+back (p_quantity q) = (quantity q, no_items, no_entries, bool_key false)
+back (p_semver v) = (semver v, no_items, no_entries, bool_key false)
+back (p_url u) = (url u, no_items, no_entries, bool_key false)
 back (p_format f) = (format f, no_items, no_entries, bool_key false)
 back p_end = (null, no_items, no_entries, bool_key false)
 back (p_item p q) = (null, item (back p).0 (back q).1, no_entries, bool_key false)
@@ -143,7 +126,7 @@ mutual
   plain_back (bytes s) = refl
   plain_back (list ds) = ap list (items_back ds)
   plain_back (map_of es) = ap map_of (entries_back es)
-  plain_back (timestamp t o) = refl
+  plain_back (timestamp t offset) = refl
   plain_back (duration n) = refl
   plain_back (optional ds) = ap optional (items_back ds)
   plain_back (ip a) = refl
@@ -161,8 +144,29 @@ mutual
   entries_back no_entries = refl
   entries_back (entry k d es) = λ i. entry (key_back k i) (plain_back d i) (entries_back es i)
 
+text_set : IsSet (List ℕ)
+text_set = List-set ℕ_set
+
+address_set : IsSet Address
+address_set = hlevel (⊎_set, text_set)
+
+network_set : IsSet Network
+network_set = hlevel (address_set, ℕ_set)
+
+decimal_set : IsSet Decimal
+decimal_set = hlevel ℤ_set
+
+version_set : IsSet Parts
+version_set = hlevel (ℕ_set, text_set)
+
+shown_set : IsSet Shown
+shown_set = hlevel (Coded-set parts_code, Bool-set)
+
+format_set : IsSet FormatKind
+format_set = Coded-set (format_kind.the_row).coded
+
 plain_set : IsSet Plain
-plain_set = Plain-set Bool-set ℤ_set ℕ_set (List-set ℕ_set) Address-set (Coded-set parts_code) FormatKind-set
+plain_set = Plain-set Bool-set ℤ_set ℕ_set text_set address_set network_set decimal_set version_set shown_set format_set
 
 pub Data-set : IsSet Data
 Data-set = retract_set to_plain (λ p. (back p).0) plain_back plain_set
