@@ -1,9 +1,7 @@
 use Rattle.std.proofs.Common.{sym, ap, ◌∙◌}
 use Rattle.cel_value.specs.View.{view, entries_view}
 use Rattle.cel_value.specs.Same.{same, same_shapes, entry_shapes}
-use denote.Enum.Bare.{sameb}
 use Rattle.kube_types_formats.specs.Formats.{kind_of}
-use Rattle.kube_types_formats.specs.contracts.kind.FormatKind.{the_type}
 use Rattle.kube_types_semver.specs.Order.{same_parts}
 use Rattle.kube_types_semver.specs.Shown.{parts}
 use Rattle.kube_types_url.specs.Equality.{same_url}
