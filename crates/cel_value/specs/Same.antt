@@ -1,5 +1,6 @@
--- When two values are equal, and how they compare. Each value has a shape, in which an int and a uint are their number,
--- a timestamp is its instant and a quantity its number; two values are equal where their shapes are.
+-- When two values are equal, and how they compare (CEL language definition, "Equality", "Ordering"; Kubernetes documentation, CEL
+-- libraries). Each value has a shape, in which an int and a uint are their number, a timestamp is its instant and a quantity its number;
+-- two values are equal where their shapes are.
 use Rattle.std.specs.Prelude.{ℕ, ℤ, pos, ◌&&◌, ◌==◌, List, [], ◌∷◌, Bool, true, false, if◌then◌else◌, Option, None, Some, nat_eq, nat_lt}
 use Rattle.std.specs.declared.cmp.Ordering.{Ordering}
 use Rattle.std.specs.Ordering.{int_eq, int_cmp, nat_cmp, eq_by_cmp, ordering_then}

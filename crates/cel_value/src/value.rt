@@ -58,3 +58,6 @@ pub enum Value {
     /// A named format of texts.
     Format(KubeFormat),
 }
+
+// What a copy of a value moves: its kind and two words.
+const _: () = prove!(size_of::<Value>() == 24);
