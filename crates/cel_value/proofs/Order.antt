@@ -4,8 +4,9 @@ use Rattle.std.proofs.lemmas.Bool.{false≢true}
 use Rattle.std.proofs.lemmas.Bool.Decides.{nat_tests}
 use Rattle.std.specs.Ordering.{is_some_and, is_eq, int_cmp, nat_cmp, ordering_then}
 use Rattle.std.specs.Cmp.Lexicographic.{slice_cmp, lists_ties, texts_ties}
-use Rattle.cel_value.specs.Data.{Data, null, bool, int, uint, double, text, bytes, list, map_of, optional}
-use Rattle.cel_value.specs.Same.{Shape, shape_of, Shapes, no_shapes, shape, same_shape, same_shapes, same, class_of, is_ordered, has_order, shape_order, compared}
+use Rattle.cel_value.specs.Data.{Data, null, bool, int, uint, double, text, bytes, list, map_of, timestamp, duration, optional, ip, cidr, quantity, semver, url, format}
+use Rattle.cel_value.specs.View.{kind_of}
+use Rattle.cel_value.specs.Same.{Shape, shape_of, Shapes, no_shapes, shape, same_shape, same_shapes, same, class_of, is_ordered, is_ordered_kind, has_order, shape_order, compared}
 
 abbrev parts_of : Shape → Shapes
 parts_of (shape_of k ns s p) = p
@@ -21,7 +22,15 @@ ordered_flat (text s) h = refl
 ordered_flat (bytes s) h = refl
 ordered_flat (list ds) h = absurd (false≢true h)
 ordered_flat (map_of es) h = absurd (false≢true h)
+ordered_flat (timestamp t o) h = refl
+ordered_flat (duration n) h = refl
 ordered_flat (optional ds) h = absurd (false≢true h)
+ordered_flat (ip a) h = refl
+ordered_flat (cidr c) h = refl
+ordered_flat (quantity q) h = refl
+ordered_flat (semver v) h = absurd (false≢true h)
+ordered_flat (url u) h = refl
+ordered_flat (format f) h = refl
 
 is_eq-then : (o p : Ordering) → is_eq (ordering_then o p) ≡ (is_eq o && is_eq p)
 is_eq-then Less p = refl
@@ -55,3 +64,23 @@ agree (shape_of k ns s p) (shape_of l ms t q) f g =
 
 pub equal_where_same : (a b : Data) → is_some_and is_eq (compared a b) ≡ (has_order a && (has_order b && same a b))
 equal_where_same a b = agree (shape a) (shape b) (ordered_flat a) (ordered_flat b)
+
+pub order_goes_by_kind : (d : Data) → has_order d ≡ is_ordered_kind (kind_of d)
+order_goes_by_kind null = refl
+order_goes_by_kind (bool b) = refl
+order_goes_by_kind (int n) = refl
+order_goes_by_kind (uint n) = refl
+order_goes_by_kind double = refl
+order_goes_by_kind (text s) = refl
+order_goes_by_kind (bytes s) = refl
+order_goes_by_kind (list ds) = refl
+order_goes_by_kind (map_of es) = refl
+order_goes_by_kind (timestamp t o) = refl
+order_goes_by_kind (duration n) = refl
+order_goes_by_kind (optional ds) = refl
+order_goes_by_kind (ip a) = refl
+order_goes_by_kind (cidr c) = refl
+order_goes_by_kind (quantity q) = refl
+order_goes_by_kind (semver v) = refl
+order_goes_by_kind (url u) = refl
+order_goes_by_kind (format f) = refl

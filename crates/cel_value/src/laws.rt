@@ -1,9 +1,18 @@
 //! Laws of equality and order, each the contract of a call that does nothing.
-ghost use Rattle.std.specs.Prelude.{◌≡◌, ◌&&◌, ℕ, ℤ, pos};
+ghost use Rattle.std.specs.Prelude.{◌≡◌, ◌↔◌, ◌&&◌, ℕ, ℤ, pos, true};
 ghost use Rattle.std.specs.Ordering.{is_some_and, is_eq, int_eq};
 ghost use Rattle.std.specs.Cmp.{IsEquivalence};
-ghost use Rattle.cel_value.specs.Data.{Data, int, uint};
-ghost use Rattle.cel_value.specs.Same.{same, compared, has_order};
+ghost use Rattle.kube_types_address.specs.Addresses.{Address};
+ghost use Rattle.kube_types_address.specs.Prefixes.{Network};
+ghost use Rattle.kube_types_formats.specs.declared.kind.FormatKind.{FormatKind};
+ghost use Rattle.kube_types_quantity.specs.Decimal.{Decimal, SameNumber};
+ghost use Rattle.kube_types_semver.specs.Order.{same_parts};
+ghost use Rattle.kube_types_url.specs.Equality.{same_url};
+ghost use Rattle.kube_types_url.specs.Shown.{Shown};
+ghost use Rattle.semver.specs.Parse.{Parts};
+ghost use Rattle.cel_value.specs.Data.{Data, int, uint, timestamp, ip, cidr, quantity, semver, url, format};
+ghost use Rattle.cel_value.specs.Same.{same, compared, has_order, is_ordered_kind};
+ghost use Rattle.cel_value.specs.View.{kind_of};
 
 /// Equality is reflexive, symmetric and transitive.
 pub fn equality_is_an_equivalence()
@@ -16,7 +25,43 @@ pub fn equal_where_same()
         → is_some_and is_eq (compared a b) ≡ (has_order a && (has_order b && same a b)) }
 {}
 
+/// Values have an order by their kind: bools, numbers, strings, bytes, timestamps and durations.
+pub fn order_goes_by_kind()
+    ensures { (d : Data) → has_order d ≡ is_ordered_kind (kind_of d) }
+{}
+
 /// An int and a uint are equal where they are one number.
 pub fn int_and_uint_by_number()
     ensures { (m : ℤ) (n : ℕ) → same (int m) (uint n) ≡ int_eq m (pos n) }
+{}
+
+/// Timestamps are equal where their instants are, whatever their offsets.
+pub fn timestamps_by_instant()
+    ensures { (s t o p : ℤ) → same (timestamp s o) (timestamp t p) ≡ int_eq s t }
+{}
+
+/// Quantities are equal exactly where they are one number, at every scale.
+pub fn quantities_by_number()
+    ensures { (x y : Decimal) → (same (quantity x) (quantity y) ≡ true) ↔ SameNumber x y }
+{}
+
+/// Addresses are equal exactly where they are one address, and CIDRs where address and length are the same.
+pub fn addresses_by_parts()
+    ensures address { (a b : Address) → (same (ip a) (ip b) ≡ true) ↔ (a ≡ b) }
+    ensures cidr { (c d : Network) → (same (cidr c) (cidr d) ≡ true) ↔ (c ≡ d) }
+{}
+
+/// Versions are equal where all their parts are, build metadata included.
+pub fn versions_by_parts()
+    ensures { (v w : Parts) → same (semver v) (semver w) ≡ same_parts v w }
+{}
+
+/// URLs are equal where their texts are, and both or neither were read from a path.
+pub fn urls_by_text()
+    ensures { (u v : Shown) → same (url u) (url v) ≡ same_url u v }
+{}
+
+/// Formats are equal exactly where their kinds are.
+pub fn formats_by_kind()
+    ensures { (f g : FormatKind) → (same (format f) (format g) ≡ true) ↔ (f ≡ g) }
 {}

@@ -28,4 +28,6 @@ mod trees;
 #[cfg(test)]
 mod urls;
 #[cfg(test)]
+mod values;
+#[cfg(test)]
 mod versions;
