@@ -4,3 +4,5 @@ pub mod Sets
 pub mod Numbers
 pub mod MapCopies
 pub mod Items
+pub mod SameBindings
+pub mod Instants

@@ -7,7 +7,7 @@ use Rattle.std.specs.Ordering.{ordering_reverse}
 use Rattle.std.specs.BTreeMap.{insert_entry}
 use Rattle.std.proofs.lemmas.Map.Keys.{sorted_head, sorted_tail}
 use Rattle.std.specs.Option.{option_map_or}
-use Rattle.cel_value.specs.Data.{KeyData, bool_key, int_key, uint_key, text_key, Data, null, bool, int, uint, double, text, bytes, list, map_of, optional, Entries, entry}
+use Rattle.cel_value.specs.Data.{KeyData, bool_key, int_key, uint_key, text_key, Data, null, bool, int, uint, double, text, bytes, list, map_of, timestamp, duration, optional, ip, cidr, quantity, semver, url, format, Entries, entry}
 use Rattle.cel_value.specs.Faults.{no_key, duplicate_key}
 use Rattle.cel_value.specs.Find.{find}
 use Rattle.cel_value.specs.Keys.{key_view, put, key_total}
@@ -62,7 +62,15 @@ indexed_at_key es (text s) k h = let e : k ≡ text_key s = cc in rw e
 indexed_at_key es (bytes s) k h = cc
 indexed_at_key es (list ds) k h = cc
 indexed_at_key es (map_of fs) k h = cc
+indexed_at_key es (timestamp t offset) k h = cc
+indexed_at_key es (duration n) k h = cc
 indexed_at_key es (optional ds) k h = cc
+indexed_at_key es (ip a) k h = cc
+indexed_at_key es (cidr c) k h = cc
+indexed_at_key es (quantity q) k h = cc
+indexed_at_key es (semver v) k h = cc
+indexed_at_key es (url u) k h = cc
+indexed_at_key es (format f) k h = cc
 
 pub indexed_at_none : (es : Entries) (d : Data) → None ≡ key_of d → Err (not_key d) ≡ map_indexed es d
 indexed_at_none es null h = refl
@@ -74,7 +82,15 @@ indexed_at_none es (text s) h = cc
 indexed_at_none es (bytes s) h = refl
 indexed_at_none es (list ds) h = refl
 indexed_at_none es (map_of fs) h = refl
+indexed_at_none es (timestamp t offset) h = refl
+indexed_at_none es (duration n) h = refl
 indexed_at_none es (optional ds) h = refl
+indexed_at_none es (ip a) h = refl
+indexed_at_none es (cidr c) h = refl
+indexed_at_none es (quantity q) h = refl
+indexed_at_none es (semver v) h = refl
+indexed_at_none es (url u) h = refl
+indexed_at_none es (format f) h = refl
 
 pub put_at_none : (es : Entries) (d v : Data) → None ≡ key_of d → Err (not_key d) ≡ put_in (map_of es) d v
 put_at_none es null v h = refl
@@ -86,7 +102,15 @@ put_at_none es (text s) v h = cc
 put_at_none es (bytes s) v h = refl
 put_at_none es (list ds) v h = refl
 put_at_none es (map_of fs) v h = refl
+put_at_none es (timestamp t offset) v h = refl
+put_at_none es (duration n) v h = refl
 put_at_none es (optional ds) v h = refl
+put_at_none es (ip a) v h = refl
+put_at_none es (cidr c) v h = refl
+put_at_none es (quantity q) v h = refl
+put_at_none es (semver w) v h = refl
+put_at_none es (url u) v h = refl
+put_at_none es (format f) v h = refl
 
 pub put_at_key : (es : Entries) (d v : Data) (k : KeyData) → Some k ≡ key_of d → new_entry es v (find k es) k ≡ put_in (map_of es) d v
 put_at_key es null v k h = cc
@@ -98,4 +122,12 @@ put_at_key es (text s) v k h = let e : k ≡ text_key s = cc in rw e
 put_at_key es (bytes s) v k h = cc
 put_at_key es (list ds) v k h = cc
 put_at_key es (map_of fs) v k h = cc
+put_at_key es (timestamp t offset) v k h = cc
+put_at_key es (duration n) v k h = cc
 put_at_key es (optional ds) v k h = cc
+put_at_key es (ip a) v k h = cc
+put_at_key es (cidr c) v k h = cc
+put_at_key es (quantity q) v k h = cc
+put_at_key es (semver w) v k h = cc
+put_at_key es (url u) v k h = cc
+put_at_key es (format f) v k h = cc

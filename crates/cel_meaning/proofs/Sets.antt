@@ -5,7 +5,17 @@ use Rattle.std.proofs.Math.IntN.{ℤ_set}
 use Rattle.std.proofs.Math.Nat.{ℕ_set}
 use mathlib.Core.HLevel.{collapsible→set}
 use mathlib.Core.List.{is_set}
-use Rattle.cel_value.specs.Data.{KeyData, bool_key, int_key, uint_key, text_key, Data, null, bool, int, uint, double, text, bytes, list, map_of, optional, Items, no_items, item, Entries, no_entries, entry}
+use mathlib.Core.Sum.{⊎_set}
+use Rattle.std.specs.Coded.{Coded-set}
+use Rattle.cel_value.specs.Data.{KeyData, bool_key, int_key, uint_key, text_key, Data, null, bool, int, uint, double, text, bytes, list, map_of, timestamp, duration, optional, ip, cidr, quantity, semver, url, format, Items, no_items, item, Entries, no_entries, entry}
+use Rattle.kube_types_address.specs.Addresses.{Address}
+use Rattle.kube_types_address.specs.Prefixes.{Network}
+use Rattle.kube_types_formats.specs.contracts.kind.FormatKind as format_kind
+use Rattle.kube_types_formats.specs.declared.kind.FormatKind.{FormatKind}
+use Rattle.kube_types_quantity.specs.Decimal.{Decimal}
+use Rattle.kube_types_url.specs.Shown.{Shown}
+use Rattle.semver.specs.Parse.{Parts}
+use Rattle.url.specs.Parts.{parts_code}
 
 -- a type that maps into a set and back is a set
 pub retract_set : {A B : Type 0} (to : A → B) (from : B → A) → ((x : A) → from (to x) ≡ x) → IsSet B → IsSet A
@@ -26,7 +36,15 @@ data Plain : Type 0 where
   p_bytes : List ℕ → Plain
   p_list : Plain → Plain
   p_map : Plain → Plain
+  p_timestamp : ℤ → ℤ → Plain
+  p_duration : ℤ → Plain
   p_optional : Plain → Plain
+  p_ip : Address → Plain
+  p_cidr : Network → Plain
+  p_quantity : Decimal → Plain
+  p_semver : Parts → Plain
+  p_url : Shown → Plain
+  p_format : FormatKind → Plain
   p_end : Plain
   p_item : Plain → Plain → Plain
   p_entry : Plain → Plain → Plain → Plain
@@ -49,7 +67,15 @@ abbrev mutual
   to_plain (bytes s) = p_bytes s
   to_plain (list ds) = p_list (to_items ds)
   to_plain (map_of es) = p_map (to_entries es)
+  to_plain (timestamp t offset) = p_timestamp t offset
+  to_plain (duration n) = p_duration n
   to_plain (optional ds) = p_optional (to_items ds)
+  to_plain (ip a) = p_ip a
+  to_plain (cidr c) = p_cidr c
+  to_plain (quantity q) = p_quantity q
+  to_plain (semver v) = p_semver v
+  to_plain (url u) = p_url u
+  to_plain (format f) = p_format f
 
   to_items : Items → Plain
   to_items no_items = p_end
@@ -70,7 +96,15 @@ back (p_text s) = (text s, no_items, no_entries, text_key s)
 back (p_bytes s) = (bytes s, no_items, no_entries, bool_key false)
 back (p_list p) = (list (back p).1, no_items, no_entries, bool_key false)
 back (p_map p) = (map_of (back p).2, no_items, no_entries, bool_key false)
+back (p_timestamp t offset) = (timestamp t offset, no_items, no_entries, bool_key false)
+back (p_duration n) = (duration n, no_items, no_entries, bool_key false)
 back (p_optional p) = (optional (back p).1, no_items, no_entries, bool_key false)
+back (p_ip a) = (ip a, no_items, no_entries, bool_key false)
+back (p_cidr c) = (cidr c, no_items, no_entries, bool_key false)
+back (p_quantity q) = (quantity q, no_items, no_entries, bool_key false)
+back (p_semver v) = (semver v, no_items, no_entries, bool_key false)
+back (p_url u) = (url u, no_items, no_entries, bool_key false)
+back (p_format f) = (format f, no_items, no_entries, bool_key false)
 back p_end = (null, no_items, no_entries, bool_key false)
 back (p_item p q) = (null, item (back p).0 (back q).1, no_entries, bool_key false)
 back (p_entry k p q) = (null, no_items, entry (back k).3 (back p).0 (back q).2, bool_key false)
@@ -92,7 +126,15 @@ mutual
   plain_back (bytes s) = refl
   plain_back (list ds) = ap list (items_back ds)
   plain_back (map_of es) = ap map_of (entries_back es)
+  plain_back (timestamp t offset) = refl
+  plain_back (duration n) = refl
   plain_back (optional ds) = ap optional (items_back ds)
+  plain_back (ip a) = refl
+  plain_back (cidr c) = refl
+  plain_back (quantity q) = refl
+  plain_back (semver v) = refl
+  plain_back (url u) = refl
+  plain_back (format f) = refl
 
   items_back : (ds : Items) → (back (to_items ds)).1 ≡ ds
   items_back no_items = refl
@@ -102,8 +144,29 @@ mutual
   entries_back no_entries = refl
   entries_back (entry k d es) = λ i. entry (key_back k i) (plain_back d i) (entries_back es i)
 
+text_set : IsSet (List ℕ)
+text_set = List-set ℕ_set
+
+address_set : IsSet Address
+address_set = hlevel (⊎_set, text_set)
+
+network_set : IsSet Network
+network_set = hlevel (address_set, ℕ_set)
+
+decimal_set : IsSet Decimal
+decimal_set = hlevel ℤ_set
+
+version_set : IsSet Parts
+version_set = hlevel (ℕ_set, text_set)
+
+shown_set : IsSet Shown
+shown_set = hlevel (Coded-set parts_code, Bool-set)
+
+format_set : IsSet FormatKind
+format_set = Coded-set (format_kind.the_row).coded
+
 plain_set : IsSet Plain
-plain_set = Plain-set Bool-set ℤ_set ℕ_set (List-set ℕ_set)
+plain_set = Plain-set Bool-set ℤ_set ℕ_set text_set address_set network_set decimal_set version_set shown_set format_set
 
 pub Data-set : IsSet Data
 Data-set = retract_set to_plain (λ p. (back p).0) plain_back plain_set
