@@ -4,7 +4,7 @@ use Rattle.std.proofs.lemmas.Bool.{false≢true}
 use Rattle.std.proofs.lemmas.Bool.Decides.{nat_tests}
 use Rattle.std.specs.Ordering.{is_some_and, is_eq, int_cmp, nat_cmp, ordering_then}
 use Rattle.std.specs.Cmp.Lexicographic.{slice_cmp, lists_ties, texts_ties}
-use Rattle.cel_value.specs.Data.{Data, null, bool, int, uint, double, text, bytes, list, map_of, optional}
+use Rattle.cel_value.specs.Data.{Data, null, bool, int, uint, double, text, bytes, list, map_of, timestamp, duration, optional, ip, cidr, quantity, semver, url, format}
 use Rattle.cel_value.specs.Same.{Shape, shape_of, Shapes, no_shapes, shape, same_shape, same_shapes, same, class_of, is_ordered, has_order, shape_order, compared}
 
 abbrev parts_of : Shape → Shapes
@@ -21,7 +21,15 @@ ordered_flat (text s) h = refl
 ordered_flat (bytes s) h = refl
 ordered_flat (list ds) h = absurd (false≢true h)
 ordered_flat (map_of es) h = absurd (false≢true h)
+ordered_flat (timestamp t o) h = refl
+ordered_flat (duration n) h = refl
 ordered_flat (optional ds) h = absurd (false≢true h)
+ordered_flat (ip a) h = refl
+ordered_flat (cidr c) h = refl
+ordered_flat (quantity q) h = refl
+ordered_flat (semver v) h = absurd (false≢true h)
+ordered_flat (url u) h = refl
+ordered_flat (format f) h = refl
 
 is_eq-then : (o p : Ordering) → is_eq (ordering_then o p) ≡ (is_eq o && is_eq p)
 is_eq-then Less p = refl

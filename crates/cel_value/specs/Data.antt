@@ -1,5 +1,11 @@
 -- What a value and a key are, without their memory.
 use Rattle.std.specs.Prelude.{ℕ, ℤ, List, Bool}
+use Rattle.kube_types_address.specs.Addresses.{Address}
+use Rattle.kube_types_address.specs.Prefixes.{Network}
+use Rattle.kube_types_formats.specs.declared.kind.FormatKind.{FormatKind}
+use Rattle.kube_types_quantity.specs.Decimal.{Decimal}
+use Rattle.kube_types_url.specs.Shown.{Shown}
+use Rattle.semver.specs.Parse.{Parts}
 
 pub data KeyData : Type 0 where
   bool_key : Bool → KeyData
@@ -18,8 +24,19 @@ mutual
     bytes : List ℕ → Data
     list : Items → Data
     map_of : Entries → Data
+    -- the nanoseconds since 1970-01-01T00:00:00Z, and the minutes that the local clock is ahead of UTC
+    timestamp : ℤ → ℤ → Data
+    -- its nanoseconds
+    duration : ℤ → Data
     -- at most one value
     optional : Items → Data
+    ip : Address → Data
+    cidr : Network → Data
+    quantity : Decimal → Data
+    semver : Parts → Data
+    -- its parts, and whether it was read from a path
+    url : Shown → Data
+    format : FormatKind → Data
 
   pub data Items : Type 0 where
     no_items : Items

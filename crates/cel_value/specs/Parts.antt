@@ -1,6 +1,12 @@
 -- What is inside a value of one kind.
 use Rattle.std.specs.Prelude.{ℕ, ℤ, pos, List, Bool, Option, None, Some}
-use Rattle.cel_value.specs.Data.{Data, bool, int, uint, text, bytes, list, map_of, optional, Items, Entries}
+use Rattle.cel_value.specs.Data.{Data, bool, int, uint, text, bytes, list, map_of, timestamp, duration, optional, ip, cidr, quantity, semver, url, format, Items, Entries}
+use Rattle.kube_types_address.specs.Addresses.{Address}
+use Rattle.kube_types_address.specs.Prefixes.{Network}
+use Rattle.kube_types_formats.specs.declared.kind.FormatKind.{FormatKind}
+use Rattle.kube_types_quantity.specs.Decimal.{Decimal}
+use Rattle.kube_types_url.specs.Shown.{Shown}
+use Rattle.semver.specs.Parse.{Parts}
 
 -- the number of an int or a uint
 abbrev pub number_in : Data → Option ℤ
@@ -31,3 +37,37 @@ entries_in _ = None
 abbrev pub held_in : Data → Option Items
 held_in (optional ds) = Some ds
 held_in _ = None
+
+-- the instant and the offset of a timestamp
+abbrev pub timestamp_in : Data → Option (ℤ × ℤ)
+timestamp_in (timestamp t o) = Some (t, o)
+timestamp_in _ = None
+
+-- the nanoseconds of a duration
+abbrev pub duration_in : Data → Option ℤ
+duration_in (duration n) = Some n
+duration_in _ = None
+
+abbrev pub ip_in : Data → Option Address
+ip_in (ip a) = Some a
+ip_in _ = None
+
+abbrev pub cidr_in : Data → Option Network
+cidr_in (cidr c) = Some c
+cidr_in _ = None
+
+abbrev pub quantity_in : Data → Option Decimal
+quantity_in (quantity q) = Some q
+quantity_in _ = None
+
+abbrev pub semver_in : Data → Option Parts
+semver_in (semver v) = Some v
+semver_in _ = None
+
+abbrev pub url_in : Data → Option Shown
+url_in (url u) = Some u
+url_in _ = None
+
+abbrev pub format_in : Data → Option FormatKind
+format_in (format f) = Some f
+format_in _ = None

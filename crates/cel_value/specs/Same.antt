@@ -4,7 +4,13 @@ use Rattle.std.specs.Prelude.{ℕ, ℤ, pos, ◌&&◌, ◌==◌, List, [], ◌�
 use Rattle.std.specs.declared.cmp.Ordering.{Ordering}
 use Rattle.std.specs.Ordering.{int_eq, int_cmp, nat_cmp, eq_by_cmp, ordering_then}
 use Rattle.std.specs.Cmp.Lexicographic.{slice_cmp, pointwise}
-use Rattle.cel_value.specs.Data.{KeyData, Data, null, bool, int, uint, double, text, bytes, list, map_of, optional, Items, no_items, item, Entries, no_entries, entry}
+use Rattle.kube_types_address.specs.Addresses.{Address, four, six, family}
+use Rattle.kube_types_formats.specs.Formats.{name_of}
+use Rattle.kube_types_quantity.specs.Decimal.{Decimal}
+use Rattle.kube_types_quantity.specs.Normal.{normal_form}
+use Rattle.semver.specs.Parse.{Parts}
+use Rattle.url.specs.Parts.{serialize}
+use Rattle.cel_value.specs.Data.{KeyData, Data, null, bool, int, uint, double, text, bytes, list, map_of, timestamp, duration, optional, ip, cidr, quantity, semver, url, format, Items, no_items, item, Entries, no_entries, entry}
 use Rattle.cel_value.specs.Keys.{key_order}
 
 mutual
@@ -24,6 +30,19 @@ bool_number false = pos 0
 abbrev pub leaf : ℕ → List ℤ → List ℕ → Shape
 leaf k ns s = shape_of k ns s no_shapes
 
+-- the mantissa and the scale of a number's normal form
+abbrev pub amount : Decimal → List ℤ
+amount q = (normal_form q).mantissa ∷ (normal_form q).scale ∷ []
+
+-- the octets or the groups of an address
+abbrev pub address_parts : Address → List ℕ
+address_parts (four octets) = octets
+address_parts (six groups) = groups
+
+-- the numbers of a version with its pre-release, and its build metadata
+abbrev pub version_shape : Parts → Shape
+version_shape v = shape_of 14 [] [] (shape_and (leaf 0 (pos v.0 ∷ pos v.1 ∷ pos v.2 ∷ []) v.3) (shape_and (leaf 0 [] v.4) no_shapes))
+
 abbrev mutual
   pub shape : Data → Shape
   shape null = leaf 0 [] []
@@ -32,10 +51,18 @@ abbrev mutual
   shape (uint n) = leaf 2 (pos n ∷ []) []
   shape (text s) = leaf 3 [] s
   shape (bytes s) = leaf 4 [] s
+  shape (timestamp t o) = leaf 5 (t ∷ []) []
+  shape (duration n) = leaf 6 (n ∷ []) []
   shape double = leaf 7 [] []
+  shape (quantity q) = leaf 8 (amount q) []
   shape (list ds) = shape_of 9 [] [] (shapes ds)
   shape (map_of es) = shape_of 10 [] [] (entry_shapes es)
   shape (optional ds) = shape_of 11 [] [] (shapes ds)
+  shape (ip a) = leaf 12 (pos (family a) ∷ []) (address_parts a)
+  shape (cidr c) = leaf 13 (pos (family c.ip) ∷ pos c.prefix ∷ []) (address_parts c.ip)
+  shape (semver v) = version_shape v
+  shape (url u) = leaf 15 (bool_number u.1 ∷ []) (serialize u.0)
+  shape (format f) = leaf 16 [] (name_of f)
 
   pub shapes : Items → Shapes
   shapes no_items = no_shapes

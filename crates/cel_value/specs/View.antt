@@ -2,12 +2,19 @@
 use Rattle.std.specs.Prelude.{List, [], ◌∷◌, map, string_bytes}
 use Rattle.std.specs.Option.{option_map_or}
 use Rattle.cel_value.specs.Keys.{key_view}
-use Rattle.cel_value.specs.Data.{Data, null, bool, int, uint, double, text, bytes, list, map_of, optional, Items, no_items, item, Entries, no_entries, entry}
+use Rattle.cel_value.specs.Data.{Data, null, bool, int, uint, double, text, bytes, list, map_of, timestamp, duration, optional, ip, cidr, quantity, semver, url, format, Items, no_items, item, Entries, no_entries, entry}
 use Rattle.cel_value.specs.declared.key.Key.{Key}
 use Rattle.cel_value.specs.declared.kind.Kind.{Kind}
 use Rattle.cel_value.specs.declared.kind.Kind.TheVariants as kind
 use Rattle.cel_value.specs.declared.value.Value.{Value, fold-Value}
 use Rattle.cel_value.specs.declared.value.Value.TheOpen.{Value-F}
+use Rattle.cel_value_times.specs.Instants.{instant}
+use Rattle.kube_types_address.specs.Networks.{network}
+use Rattle.kube_types_address.specs.Shown.{address}
+use Rattle.kube_types_formats.specs.Formats as formats
+use Rattle.kube_types_quantity.specs.Shown.{number}
+use Rattle.kube_types_semver.specs.Shown.{parts}
+use Rattle.kube_types_url.specs.Shown.{shown}
 use Rattle.cel_value.specs.declared.value.OptionalValue.{OptionalValue, fold-OptionalValue, OptionalValue-F}
 
 abbrev pub items_of : List Data → Items
@@ -32,7 +39,15 @@ view_step (Value-F.String s) = text (string_bytes s.value)
 view_step (Value-F.Bytes s) = bytes s.value.items
 view_step (Value-F.List v) = list (items_of v.value.items)
 view_step (Value-F.Map m) = map_of (entries_of m.value.entries)
+view_step (Value-F.Timestamp t) = timestamp (instant t) t.offset_minutes
+view_step (Value-F.Duration d) = duration d.nanoseconds
 view_step (Value-F.Optional o) = optional o
+view_step (Value-F.Ip a) = ip (address a.value)
+view_step (Value-F.Cidr c) = cidr (network c.value)
+view_step (Value-F.Quantity q) = quantity (number q.value)
+view_step (Value-F.Semver v) = semver (parts v.value)
+view_step (Value-F.Url u) = url (shown u.value)
+view_step (Value-F.Format f) = format (formats.kind_of f)
 
 abbrev pub view : Value → Data
 view = fold-Value Data Items view_step optional_step
@@ -56,4 +71,12 @@ kind_of (text s) = kind.String
 kind_of (bytes s) = kind.Bytes
 kind_of (list ds) = kind.List
 kind_of (map_of es) = kind.Map
+kind_of (timestamp t o) = kind.Timestamp
+kind_of (duration n) = kind.Duration
 kind_of (optional ds) = kind.Optional
+kind_of (ip a) = kind.Ip
+kind_of (cidr c) = kind.Cidr
+kind_of (quantity q) = kind.Quantity
+kind_of (semver v) = kind.Semver
+kind_of (url u) = kind.Url
+kind_of (format f) = kind.Format

@@ -8,7 +8,8 @@ use std::cmp::Ordering;
 
 impl Value {
     /// How two values compare, or none where they have no order: bools (false first), numbers (an int with a uint),
-    /// strings by code points, bytes, each class within itself (CEL language definition, "Ordering").
+    /// strings by code points, bytes, timestamps by their instants, durations, each class within itself (CEL language
+    /// definition, "Ordering").
     pub fn compare(&self, other: &Value) -> Option<Ordering>
         ensures { result ≡ compared (view self.now) (view other.now) }
     {
@@ -33,11 +34,25 @@ impl Value {
                 Some(y) => Some(x.as_slice().cmp(y)),
                 None => None,
             },
+            Value::Timestamp(x) => match other.as_timestamp() {
+                Some(y) => Some(x.cmp(&y)),
+                None => None,
+            },
+            Value::Duration(x) => match other.as_duration() {
+                Some(y) => Some(x.cmp(&y)),
+                None => None,
+            },
             Value::Null => None,
             Value::Float => None,
             Value::List(_) => None,
             Value::Map(_) => None,
             Value::Optional(_) => None,
+            Value::Ip(_) => None,
+            Value::Cidr(_) => None,
+            Value::Quantity(_) => None,
+            Value::Semver(_) => None,
+            Value::Url(_) => None,
+            Value::Format(_) => None,
         }
     }
 }

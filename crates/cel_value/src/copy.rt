@@ -54,7 +54,15 @@ impl Value {
             Value::Bytes(bytes) => Ok(Value::Bytes(bytes.clone()?)),
             Value::List(items) => Ok(Value::List(items.clone()?)),
             Value::Map(entries) => Ok(Value::Map(entries.clone()?)),
+            Value::Timestamp(t) => Ok(Value::Timestamp(*t)),
+            Value::Duration(d) => Ok(Value::Duration(*d)),
             Value::Optional(o) => Ok(Value::Optional(o.try_clone()?)),
+            Value::Ip(ip) => Ok(Value::Ip(ip.clone()?)),
+            Value::Cidr(cidr) => Ok(Value::Cidr(cidr.clone()?)),
+            Value::Quantity(quantity) => Ok(Value::Quantity(quantity.clone()?)),
+            Value::Semver(version) => Ok(Value::Semver(version.clone()?)),
+            Value::Url(url) => Ok(Value::Url(url.clone()?)),
+            Value::Format(format) => Ok(Value::Format(*format)),
         }
     }
 
@@ -72,7 +80,15 @@ impl Value {
             Value::Bytes(_) => Kind::Bytes,
             Value::List(_) => Kind::List,
             Value::Map(_) => Kind::Map,
+            Value::Timestamp(_) => Kind::Timestamp,
+            Value::Duration(_) => Kind::Duration,
             Value::Optional(_) => Kind::Optional,
+            Value::Ip(_) => Kind::Ip,
+            Value::Cidr(_) => Kind::Cidr,
+            Value::Quantity(_) => Kind::Quantity,
+            Value::Semver(_) => Kind::Semver,
+            Value::Url(_) => Kind::Url,
+            Value::Format(_) => Kind::Format,
         }
     }
 }

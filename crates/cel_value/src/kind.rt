@@ -22,8 +22,24 @@ pub enum Kind {
     List,
     /// `map`
     Map,
+    /// `timestamp`
+    Timestamp,
+    /// `duration`
+    Duration,
     /// `optional`
     Optional,
+    /// `net.IP`
+    Ip,
+    /// `net.CIDR`
+    Cidr,
+    /// `kubernetes.Quantity`
+    Quantity,
+    /// `kubernetes.Semver`
+    Semver,
+    /// `kubernetes.URL`
+    Url,
+    /// `kubernetes.Format`
+    Format,
 }
 
 impl fmt::Display for Kind {
@@ -43,7 +59,15 @@ impl fmt::Display for Kind {
             Kind::Bytes => f.write_str("bytes"),
             Kind::List => f.write_str("list"),
             Kind::Map => f.write_str("map"),
+            Kind::Timestamp => f.write_str("timestamp"),
+            Kind::Duration => f.write_str("duration"),
             Kind::Optional => f.write_str("optional"),
+            Kind::Ip => f.write_str("net.IP"),
+            Kind::Cidr => f.write_str("net.CIDR"),
+            Kind::Quantity => f.write_str("kubernetes.Quantity"),
+            Kind::Semver => f.write_str("kubernetes.Semver"),
+            Kind::Url => f.write_str("kubernetes.URL"),
+            Kind::Format => f.write_str("kubernetes.Format"),
         }
     }
 }

@@ -1,9 +1,18 @@
 //! What is inside a value of one kind.
 ghost use Rattle.std.specs.Prelude.{◌≡◌, option_map, string_bytes};
 ghost use Rattle.cel_value.specs.View.{view, items_view, entries_view, optional_view};
-ghost use Rattle.cel_value.specs.Parts.{number_in, bool_in, text_in, bytes_in, items_in, entries_in, held_in};
+ghost use Rattle.cel_value.specs.Parts.{number_in, bool_in, text_in, bytes_in, items_in, entries_in, held_in, timestamp_in, duration_in, ip_in, cidr_in, quantity_in, semver_in, url_in, format_in};
+ghost use Rattle.cel_value_times.specs.Instants.{instant};
+ghost use Rattle.kube_types_address.specs.Networks.{network};
+ghost use Rattle.kube_types_address.specs.Shown.{address};
+ghost use Rattle.kube_types_formats.specs.Formats.{kind_of};
+ghost use Rattle.kube_types_quantity.specs.Shown.{number};
+ghost use Rattle.kube_types_semver.specs.Shown.{parts};
+ghost use Rattle.kube_types_url.specs.Shown.{shown};
 
 use crate::value::{Map, OptionalValue, Value};
+use cel_value_times::{Duration, Timestamp};
+use kube_types::{KubeCIDR, KubeFormat, KubeIP, KubeQuantity, KubeSemver, KubeUrl};
 
 impl Value {
     /// The bool that it is.
@@ -73,6 +82,86 @@ impl Value {
     {
         match self {
             Value::Optional(o) => Some(o),
+            _ => None,
+        }
+    }
+
+    /// The timestamp that it is.
+    pub fn as_timestamp(&self) -> Option<Timestamp>
+        ensures { option_map (λ t. (instant t, t.offset_minutes)) result ≡ timestamp_in (view self.now) }
+    {
+        match self {
+            Value::Timestamp(t) => Some(*t),
+            _ => None,
+        }
+    }
+
+    /// The duration that it is.
+    pub fn as_duration(&self) -> Option<Duration>
+        ensures { option_map (λ d. d.nanoseconds) result ≡ duration_in (view self.now) }
+    {
+        match self {
+            Value::Duration(d) => Some(*d),
+            _ => None,
+        }
+    }
+
+    /// The address that it is.
+    pub fn as_ip(&self) -> Option<&KubeIP>
+        ensures { option_map (λ x. address x.now) result ≡ ip_in (view self.now) }
+    {
+        match self {
+            Value::Ip(ip) => Some(ip.as_ref()),
+            _ => None,
+        }
+    }
+
+    /// The CIDR that it is.
+    pub fn as_cidr(&self) -> Option<&KubeCIDR>
+        ensures { option_map (λ x. network x.now) result ≡ cidr_in (view self.now) }
+    {
+        match self {
+            Value::Cidr(cidr) => Some(cidr.as_ref()),
+            _ => None,
+        }
+    }
+
+    /// The quantity that it is.
+    pub fn as_quantity(&self) -> Option<&KubeQuantity>
+        ensures { option_map (λ x. number x.now) result ≡ quantity_in (view self.now) }
+    {
+        match self {
+            Value::Quantity(quantity) => Some(quantity.as_ref()),
+            _ => None,
+        }
+    }
+
+    /// The version that it is.
+    pub fn as_semver(&self) -> Option<&KubeSemver>
+        ensures { option_map (λ x. parts x.now) result ≡ semver_in (view self.now) }
+    {
+        match self {
+            Value::Semver(version) => Some(version.as_ref()),
+            _ => None,
+        }
+    }
+
+    /// The URL that it is.
+    pub fn as_url(&self) -> Option<&KubeUrl>
+        ensures { option_map (λ x. shown x.now) result ≡ url_in (view self.now) }
+    {
+        match self {
+            Value::Url(url) => Some(url.as_ref()),
+            _ => None,
+        }
+    }
+
+    /// The format that it is.
+    pub fn as_format(&self) -> Option<KubeFormat>
+        ensures { option_map kind_of result ≡ format_in (view self.now) }
+    {
+        match self {
+            Value::Format(format) => Some(*format),
             _ => None,
         }
     }

@@ -59,8 +59,40 @@ pub(crate) fn is_same(a: &Value, b: &Value) -> bool
             Some(y) => entries_same(x.as_ref(), y),
             None => false,
         },
+        Value::Timestamp(x) => match b.as_timestamp() {
+            Some(y) => *x == y,
+            None => false,
+        },
+        Value::Duration(x) => match b.as_duration() {
+            Some(y) => *x == y,
+            None => false,
+        },
         Value::Optional(x) => match b.as_optional() {
             Some(y) => held_same(x, y),
+            None => false,
+        },
+        Value::Ip(x) => match b.as_ip() {
+            Some(y) => x.as_ref() == y,
+            None => false,
+        },
+        Value::Cidr(x) => match b.as_cidr() {
+            Some(y) => x.as_ref() == y,
+            None => false,
+        },
+        Value::Quantity(x) => match b.as_quantity() {
+            Some(y) => x.as_ref() == y,
+            None => false,
+        },
+        Value::Semver(x) => match b.as_semver() {
+            Some(y) => x.as_ref() == y,
+            None => false,
+        },
+        Value::Url(x) => match b.as_url() {
+            Some(y) => x.as_ref() == y,
+            None => false,
+        },
+        Value::Format(x) => match b.as_format() {
+            Some(y) => *x == y,
             None => false,
         },
     }

@@ -85,7 +85,15 @@ fn find_textless(value: &Value) -> Option<Kind>
         Value::Map(entries) => find_textless_entry(entries.as_ref()),
         Value::Float => Some(Kind::Float),
         Value::Bytes(_) => Some(Kind::Bytes),
+        Value::Timestamp(_) => Some(Kind::Timestamp),
+        Value::Duration(_) => Some(Kind::Duration),
         Value::Optional(_) => Some(Kind::Optional),
+        Value::Ip(_) => Some(Kind::Ip),
+        Value::Cidr(_) => Some(Kind::Cidr),
+        Value::Quantity(_) => Some(Kind::Quantity),
+        Value::Semver(_) => Some(Kind::Semver),
+        Value::Url(_) => Some(Kind::Url),
+        Value::Format(_) => Some(Kind::Format),
     }
 }
 
@@ -161,7 +169,15 @@ fn write_value(value: &Value, inner: bool, out: &mut String) -> Result<(), Refus
         Value::Map(entries) => write_entries(entries.as_ref(), out),
         Value::Float => Ok(()),
         Value::Bytes(_) => Ok(()),
+        Value::Timestamp(_) => Ok(()),
+        Value::Duration(_) => Ok(()),
         Value::Optional(_) => Ok(()),
+        Value::Ip(_) => Ok(()),
+        Value::Cidr(_) => Ok(()),
+        Value::Quantity(_) => Ok(()),
+        Value::Semver(_) => Ok(()),
+        Value::Url(_) => Ok(()),
+        Value::Format(_) => Ok(()),
     }
 }
 

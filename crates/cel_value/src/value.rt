@@ -1,6 +1,8 @@
 //! The values of CEL. What is large is shared, so that a copy takes no memory.
 
 use crate::key::Key;
+use cel_value_times::{Duration, Timestamp};
+use kube_types::{KubeCIDR, KubeFormat, KubeIP, KubeQuantity, KubeSemver, KubeUrl};
 use std::collections::BTreeMap;
 use std::rc::Rc;
 
@@ -37,6 +39,22 @@ pub enum Value {
     List(Rc<Vec<Value>>),
     /// A map, in key order.
     Map(Rc<Map>),
+    /// An instant, with the offset of a local clock.
+    Timestamp(Timestamp),
+    /// A length of time.
+    Duration(Duration),
     /// A value, or none.
     Optional(OptionalValue),
+    /// An IP address.
+    Ip(Rc<KubeIP>),
+    /// The IP addresses that begin alike.
+    Cidr(Rc<KubeCIDR>),
+    /// An exact decimal number.
+    Quantity(Rc<KubeQuantity>),
+    /// A version.
+    Semver(Rc<KubeSemver>),
+    /// A URL, or an absolute path.
+    Url(Rc<KubeUrl>),
+    /// A named format of texts.
+    Format(KubeFormat),
 }
