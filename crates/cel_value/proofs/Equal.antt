@@ -24,6 +24,7 @@ use Rattle.kube_types_url.specs.Equality.{same_url}
 use Rattle.kube_types_url.specs.Shown.{Shown}
 use Rattle.semver.specs.OrderLaws.{same_text}
 use Rattle.semver.specs.Parse.{Parts}
+use Rattle.url.specs.Parts.{serialize}
 use Rattle.cel_value.specs.Data.{Data, map_of, quantity, semver, url, format, Entries}
 use Rattle.cel_value.specs.Parts.{entries_in, quantity_in, semver_in, url_in, format_in}
 use Rattle.cel_value.specs.Same.{same, same_shapes, entry_shapes, bool_number, amount}
@@ -53,7 +54,7 @@ two_trues true true = refl
 pub same_quantities : (x : KubeQuantity) (b : Data) (y : KubeQuantity) → Some (number y) ≡ quantity_in b → same (quantity (number x)) b ≡ same_fields x y
 same_quantities x (quantity q) y h =
     let held : q ≡ number y = cc in
-    (λ i. (pointwise int_eq (amount_held x i) ((ap amount held ∙ amount_held y) i)) && true) ∙ two_trues _ _
+    (λ i. (pointwise int_eq (amount_held x i) ((ap amount held ∙ amount_held y) i)) && true) ∙ two_trues (int_eq x.mantissa y.mantissa) (int_eq x.scale y.scale)
 same_quantities x _ y h = grind arith
 
 pos_eq : (m n : ℕ) → int_eq (pos m) (pos n) ≡ (m == n)
@@ -74,7 +75,7 @@ five_tests true true true true true = refl
 pub same_versions : (v : Parts) (b : Data) (w : Parts) → Some w ≡ semver_in b → same (semver v) b ≡ same_parts v w
 same_versions v (semver u) w h =
     let held : u ≡ w = cc in
-    ap (λ p. same (semver v) (semver p)) held ∙ five_tests _ _ _ _ _
+    ap (λ p. same (semver v) (semver p)) held ∙ five_tests (int_eq (pos v.0) (pos w.0)) (int_eq (pos v.1) (pos w.1)) (int_eq (pos v.2) (pos w.2)) (pointwise nat_eq v.3 w.3) (pointwise nat_eq v.4 w.4)
     ∙ (λ i. pos_eq v.0 w.0 i && (pos_eq v.1 w.1 i && (pos_eq v.2 w.2 i && (pointwise nat_eq v.3 w.3 && pointwise nat_eq v.4 w.4))))
 same_versions v _ w h = grind arith
 
@@ -91,7 +92,7 @@ path_tests true true true = refl
 pub same_urls : (u : Shown) (b : Data) (w : Shown) → Some w ≡ url_in b → same (url u) b ≡ same_url u w
 same_urls u (url v) w h =
     let held : v ≡ w = cc in
-    ap (λ p. same (url u) (url p)) held ∙ path_tests u.1 w.1 _
+    ap (λ p. same (url u) (url p)) held ∙ path_tests u.1 w.1 (pointwise nat_eq (serialize u.0) (serialize w.0))
 same_urls u _ w h = grind arith
 
 -- formats are told apart by their names

@@ -26,15 +26,15 @@ pub is_same-returns-in-Some-as_semver : goal.is_same-returns-in-Some-as_semver
 is_same-returns-in-Some-as_semver t c =
     let y = c.in-Some-as_semver.y.now in
     c.eq-in-Some-as_semver.ensures ∙ ap (λ v. same_parts (parts v) (parts y)) c.as_ref-in-Some-as_semver.ensures
-    ∙ sym (ap (λ d. same d (view c.args.b.now)) (ap view c.in-Semver.is ∙ view_semver c.in-Semver.x) ∙ same_versions _ (view c.args.b.now) _ c.in-Some-as_semver.ensures)
+    ∙ sym (ap (λ d. same d (view c.args.b.now)) (ap view c.in-Semver.is ∙ view_semver c.in-Semver.x) ∙ same_versions (parts c.in-Semver.x.value) (view c.args.b.now) (parts y) c.in-Some-as_semver.ensures)
 
 pub is_same-returns-in-Some-as_url : goal.is_same-returns-in-Some-as_url
 is_same-returns-in-Some-as_url t c =
     let y = c.in-Some-as_url.y.now in
     c.eq-in-Some-as_url.ensures ∙ ap (λ u. same_url (shown u) (shown y)) c.as_ref-in-Some-as_url.ensures
-    ∙ sym (ap (λ d. same d (view c.args.b.now)) (ap view c.in-Url.is ∙ view_url c.in-Url.x) ∙ same_urls _ (view c.args.b.now) _ c.in-Some-as_url.ensures)
+    ∙ sym (ap (λ d. same d (view c.args.b.now)) (ap view c.in-Url.is ∙ view_url c.in-Url.x) ∙ same_urls (shown c.in-Url.x.value) (view c.args.b.now) (shown y) c.in-Some-as_url.ensures)
 
 pub is_same-returns-in-Some-as_format : goal.is_same-returns-in-Some-as_format
 is_same-returns-in-Some-as_format t c =
     c.eq-in-Some-as_format.ensures
-    ∙ sym (ap (λ d. same d (view c.args.b.now)) (ap view c.in-Format.is ∙ view_format c.in-Format.x) ∙ same_formats _ (view c.args.b.now) _ c.in-Some-as_format.ensures)
+    ∙ sym (ap (λ d. same d (view c.args.b.now)) (ap view c.in-Format.is ∙ view_format c.in-Format.x) ∙ same_formats (kind_of c.in-Format.x) (view c.args.b.now) (kind_of c.in-Some-as_format.y) c.in-Some-as_format.ensures)
