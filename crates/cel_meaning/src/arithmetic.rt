@@ -7,7 +7,9 @@ ghost use Rattle.cel_meaning.specs.Outcome.{outcome_view};
 
 use crate::operators::{Answer, no_such_overload};
 use crate::ranges::push_copies;
-use crate::times::{add_to_duration, add_to_timestamp, subtract_from_duration, subtract_from_timestamp};
+use crate::times::{
+    add_to_duration, add_to_timestamp, subtract_from_duration, subtract_from_timestamp,
+};
 use cel_value::{ExecutionError, Refused, Value};
 use std::alloc::Global;
 use std::rc::Rc;
