@@ -4,3 +4,4 @@ pub mod Sets
 pub mod Numbers
 pub mod MapCopies
 pub mod Items
+pub mod Instants

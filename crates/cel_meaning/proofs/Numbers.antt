@@ -18,11 +18,11 @@ lt_false : (m n : ℕ) → (m < n → ⊥) → nat_lt m n ≡ false
 lt_false m n h = not_true (nat_lt m n) (λ e. h (ltb-true m n e))
 
 -- a number fits 64 bits with a sign exactly where it is an int
-is_int-fits : (z : ℤ) → FitsSigned w64 z → is_int z ≡ true
+pub is_int-fits : (z : ℤ) → FitsSigned w64 z → is_int z ≡ true
 is_int-fits (pos n) h = lt_true n (2 ^ 63) h.sfits
 is_int-fits (negsuc n) h = lt_true n (2 ^ 63) h.sfits
 
-is_int-past : (z : ℤ) → (FitsSigned w64 z → ⊥) → is_int z ≡ false
+pub is_int-past : (z : ℤ) → (FitsSigned w64 z → ⊥) → is_int z ≡ false
 is_int-past (pos n) h = lt_false n (2 ^ 63) (λ g. h (record { sfits = g }))
 is_int-past (negsuc n) h = lt_false n (2 ^ 63) (λ g. h (record { sfits = g }))
 

@@ -7,6 +7,9 @@ ghost use Rattle.cel_meaning.specs.Outcome.{outcome_view};
 
 use crate::operators::{Answer, no_such_overload};
 use crate::ranges::push_copies;
+use crate::times::{
+    add_to_duration, add_to_timestamp, subtract_from_duration, subtract_from_timestamp,
+};
 use cel_value::{ExecutionError, Refused, Value};
 use std::alloc::Global;
 use std::rc::Rc;
@@ -209,6 +212,8 @@ pub(crate) fn add(alloc: Global, left: &Value, right: &Value) -> Result<Answer, 
             Some(more) => join_lists(alloc, items.as_ref(), more),
             None => Ok(Err(no_such_overload(alloc, "+")?)),
         },
+        Value::Timestamp(start) => add_to_timestamp(alloc, *start, right),
+        Value::Duration(duration) => add_to_duration(alloc, *duration, right),
         _ => Ok(Err(no_such_overload(alloc, "+")?)),
     }
 }
@@ -227,6 +232,8 @@ pub(crate) fn subtract(alloc: Global, left: &Value, right: &Value) -> Result<Ans
             Some(n) => Ok(subtract_uints(*m, n)),
             None => Ok(Err(no_such_overload(alloc, "-")?)),
         },
+        Value::Timestamp(end) => subtract_from_timestamp(alloc, *end, right),
+        Value::Duration(duration) => subtract_from_duration(alloc, *duration, right),
         _ => Ok(Err(no_such_overload(alloc, "-")?)),
     }
 }

@@ -12,6 +12,7 @@ pub mod operators;
 pub mod ranges;
 pub mod scope;
 pub mod standard;
+mod times;
 
 pub use context::Context;
 pub use functions::{Form, Functions};

@@ -61,20 +61,35 @@ pub fn absorb(
     ensures memory { IfErr result (λ e. e ≡ Refused.Memory) }
 {
     match answer {
-        Ok(Value::Bool(b)) => {
-            if b == stop {
+        Ok(value) => absorb_value(alloc, stop, name, fault, &value),
+        Err(e) => match fault {
+            Some(first) => Ok(Progress::Open(Some(first))),
+            None => Ok(Progress::Open(Some(e))),
+        },
+    }
+}
+
+fn absorb_value(
+    alloc: Global,
+    stop: bool,
+    name: &str,
+    fault: Option<ExecutionError>,
+    value: &Value,
+) -> Result<Progress, Refused>
+    ensures value { IfOk result (λ p. Absorbs stop name.now (option_map fault_view fault) (Ok (view value.now)) p) }
+    ensures memory { IfErr result (λ e. e ≡ Refused.Memory) }
+{
+    match value {
+        Value::Bool(b) => {
+            if *b == stop {
                 Ok(Progress::Decided)
             } else {
                 Ok(Progress::Open(fault))
             }
         }
-        Ok(_) => match fault {
+        _ => match fault {
             Some(first) => Ok(Progress::Open(Some(first))),
             None => Ok(Progress::Open(Some(no_such_overload(alloc, name)?))),
-        },
-        Err(e) => match fault {
-            Some(first) => Ok(Progress::Open(Some(first))),
-            None => Ok(Progress::Open(Some(e))),
         },
     }
 }

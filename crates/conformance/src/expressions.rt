@@ -129,7 +129,7 @@ const NOT_READ: [&str; 32] = [
 ];
 
 /// The text of an answer.
-fn printed(alloc: Global, answer: Answer) -> Result<String, Fail> {
+pub(crate) fn printed(alloc: Global, answer: Answer) -> Result<String, Fail> {
     match answer {
         Err(error) => Ok(error.to_string(alloc)?),
         Ok(value) => match value.text(alloc)? {

@@ -1,7 +1,11 @@
-//! Rows of timestamps and durations, by the types' own calls.
+//! Rows of timestamps and durations, by the types' own calls and in expressions.
 
-use cel_value::{Duration, Timestamp};
+use crate::expressions::{compiled, printed};
+use cel::{Answer, Context, StandardFunctions};
+use cel_value::{Duration, Timestamp, Value};
+use std::alloc::Global;
 use std::cmp::Ordering;
+use std::process::Abort;
 use std::test::Fail;
 
 /// A text with what the duration prints, or nothing where the text is none.
@@ -175,4 +179,127 @@ fn times_are_added_and_compared(rt: HostRuntime) -> Result<(), Fail> {
     assert!(rt; Duration::read("90m") == Some(longer));
     assert!(rt; Duration::read("1.9ns") == Some(one));
     Ok(())
+}
+
+/// Names with the timestamps that they are bound to.
+const MOMENTS: [(&str, &str); 7] = [
+    ("leap", "2024-02-29T23:59:59Z"),
+    ("march", "2024-03-01T00:00:00Z"),
+    // An hour before `march`.
+    ("paris", "2024-03-01T00:00:00+01:00"),
+    ("first", "0001-01-01T00:00:00Z"),
+    ("last", "9999-12-31T23:59:59Z"),
+    // The local clock is half an hour into the first year, and two hours before the end of the last.
+    ("early", "0001-01-01T00:30:00-01:00"),
+    ("late", "9999-12-31T22:00:00+01:00"),
+];
+
+/// Names with the durations that they are bound to.
+const LENGTHS: [(&str, &str); 6] = [
+    ("nanosecond", "1ns"),
+    ("second", "1s"),
+    ("hour", "1h"),
+    ("hours", "2h"),
+    ("most", "9223372036854775807ns"),
+    ("least", "-9223372036854775808ns"),
+];
+
+/// A sum or a difference with what it prints.
+const ARITHMETIC: [(&str, &str); 23] = [
+    ("leap + second", "2024-03-01T00:00:00+00:00"),
+    ("second + leap", "2024-03-01T00:00:00+00:00"),
+    ("march - second", "2024-02-29T23:59:59+00:00"),
+    // The local clock is kept.
+    ("paris - nanosecond", "2024-02-29T23:59:59.999999999+01:00"),
+    ("hour + paris", "2024-03-01T01:00:00+01:00"),
+    // The instant is past the range.
+    ("first - nanosecond", "integer overflow"),
+    ("last + second", "integer overflow"),
+    // The local year is past the range, and the instant is not.
+    ("late + hours", "integer overflow"),
+    ("hours + late", "integer overflow"),
+    ("early - hour", "integer overflow"),
+    ("late + hour", "9999-12-31T23:00:00+01:00"),
+    // What lies between two timestamps, whatever their local clocks are.
+    ("march - leap", "1s"),
+    ("leap - march", "-1s"),
+    ("march - paris", "1h0m0s"),
+    ("last - first", "integer overflow"),
+    // Durations.
+    ("second + hours", "2h0m1s"),
+    ("hours - second", "1h59m59s"),
+    ("second - hours", "-1h59m59s"),
+    ("most + nanosecond", "integer overflow"),
+    ("most - nanosecond", "2562047h47m16.854775806s"),
+    ("least - nanosecond", "integer overflow"),
+    ("least + most", "-1ns"),
+    ("nanosecond - least", "integer overflow"),
+];
+
+/// What else an operator makes of times.
+const RELATIONS: [(&str, &str); 22] = [
+    ("march + march", "no such overload: +"),
+    ("march + 1", "no such overload: +"),
+    ("1 + second", "no such overload: +"),
+    ("second + 1", "no such overload: +"),
+    ("second - march", "no such overload: -"),
+    ("march - 's'", "no such overload: -"),
+    ("march * second", "no such overload: *"),
+    ("hour / second", "no such overload: /"),
+    ("-second", "no such overload: -"),
+    ("!second", "no such overload: !"),
+    ("leap + second == march", "true"),
+    ("leap == march", "false"),
+    // Two timestamps of one instant are equal.
+    ("paris + hour == march", "true"),
+    ("paris < march", "true"),
+    ("second < hour", "true"),
+    ("least > second", "false"),
+    ("march < second", "no such overload: <"),
+    ("march == second", "false"),
+    ("march in [leap, leap + second]", "true"),
+    // A timestamp is no key.
+    ("march in {1: 2}", "false"),
+    ("{march: 1}", "unsupported map key"),
+    ("{1: 2}[second]", "unsupported map key"),
+];
+
+/// The text of an answer that may be a timestamp or a duration.
+fn shown(alloc: Global, answer: Answer) -> Result<String, Fail> {
+    match answer {
+        Ok(Value::Timestamp(timestamp)) => Ok(timestamp.text(alloc)?),
+        Ok(Value::Duration(duration)) => Ok(duration.text(alloc)?),
+        other => printed(alloc, other),
+    }
+}
+
+/// Each text gives what it is told to print.
+fn give_as_told(
+    rt: &impl Abort,
+    alloc: Global,
+    context: &Context<'_, StandardFunctions>,
+    rows: &[(&str, &str)],
+) -> Result<(), Fail> {
+    for (text, want) in rows {
+        let program = compiled(alloc, text)?;
+        let found = shown(alloc, program.execute(alloc, context)?)?;
+        assert_eq!(rt; found.as_str(), *want, "{text}");
+    }
+    Ok(())
+}
+
+#[test]
+fn times_are_added_in_expressions(rt: HostRuntime) -> Result<(), Fail> {
+    let alloc = rt.alloc();
+    let mut context: Context<'_, StandardFunctions> = Context::default(alloc);
+    for (name, text) in MOMENTS {
+        let timestamp = Timestamp::read(text).ok_or("a timestamp")?;
+        context.add_variable(name, Value::Timestamp(timestamp))?;
+    }
+    for (name, text) in LENGTHS {
+        let duration = Duration::read(text).ok_or("a duration")?;
+        context.add_variable(name, Value::Duration(duration))?;
+    }
+    give_as_told(&rt, alloc, &context, &ARITHMETIC)?;
+    give_as_told(&rt, alloc, &context, &RELATIONS)
 }
