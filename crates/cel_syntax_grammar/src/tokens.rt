@@ -7,7 +7,6 @@ ghost use Rattle.cel_syntax_grammar.specs.Parser as spec;
 ghost use Rattle.cel_syntax_grammar.specs.Cursor.{left, Expects};
 
 use crate::error::SyntaxError;
-use crate::words::is_word;
 use cel_syntax_literals::takes_minus;
 use cel_syntax_tokens::mark::Mark;
 use cel_syntax_tokens::token::Token;
@@ -50,7 +49,8 @@ fn operator_of(mark: Mark) -> Option<(u8, BinaryOperator)>
 fn word_operator(word: &[u8]) -> Option<(u8, BinaryOperator)>
     ensures { result ≡ operators.word_operator word.now }
 {
-    if is_word(word, b"in") {
+    let name: &[u8] = b"in";
+    if word == name {
         Some((3, BinaryOperator::In))
     } else {
         None
