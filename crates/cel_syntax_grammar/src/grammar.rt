@@ -152,7 +152,9 @@ impl<F: Fn(Global, &mut Tokens<'_>, u8) -> Result<(Expr, usize), SyntaxError>> G
         ensures { ReadsPair (spec.pair self.now.limit (spec.below self.now.limit) (left tokens.old)) result (left tokens.new) }
     {
         let key = self.sub(tokens)?;
-        tokens.expect(Mark::Colon)?;
+        if !tokens.eat(Mark::Colon) {
+            return Err(SyntaxError::Invalid);
+        }
         let value = self.sub(tokens)?;
         Ok(((key.0, value.0), key.1.max(value.1)))
     }

@@ -4,9 +4,8 @@ ghost use Rattle.std.specs.Prelude.{◌≡◌, ◌∷◌, [], MatchOption, drop,
 ghost use Rattle.cel_syntax_tokens.specs.Token.{token_of};
 ghost use Rattle.cel_syntax_grammar.specs.Operator as operators;
 ghost use Rattle.cel_syntax_grammar.specs.Parser as spec;
-ghost use Rattle.cel_syntax_grammar.specs.Cursor.{left, Expects};
+ghost use Rattle.cel_syntax_grammar.specs.Cursor.{left};
 
-use crate::error::SyntaxError;
 use cel_syntax_literals::takes_minus;
 use cel_syntax_tokens::mark::Mark;
 use cel_syntax_tokens::token::Token;
@@ -160,15 +159,5 @@ impl<'a> Tokens<'a> {
             let _mark = self.next();
         }
         found
-    }
-
-    pub fn expect(&mut self, mark: Mark) -> Result<(), SyntaxError>
-        ensures { Expects (spec.expect mark (left self.old)) result (left self.new) }
-    {
-        if self.eat(mark) {
-            Ok(())
-        } else {
-            Err(SyntaxError::Invalid)
-        }
     }
 }
