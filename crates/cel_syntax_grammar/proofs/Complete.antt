@@ -14,7 +14,7 @@ use Rattle.cel_syntax_tree.specs.declared.expr.UnaryOperator.TheVariants as u
 use Rattle.cel_syntax_tree.specs.declared.expr.BinaryOperator.{BinaryOperator}
 use Rattle.cel_syntax_literals.specs.Literal.{literal_value}
 use Rattle.cel_syntax_grammar.specs.Operator.{sign, operator, operator_of, is_operator_before}
-use Rattle.cel_syntax_grammar.specs.Calls.{parts_level}
+use Rattle.cel_syntax_nodes.specs.Calls.{parts_level}
 use Rattle.cel_syntax_grammar.specs.Grammar.{OptionalComma, without, with_comma, Expression, plain, conditional, Chain, operand, tighter, binary, Prefixed, prefixed, Signed, unsigned, signed, Member, primary, select, method, index, Primary, ident, call, round, list, map, literal, negative, Items, no_items, items, SomeItems, last_item, more_items, Entries, no_entries, entries, SomeEntries, last_entry, more_entries, Pair, pair, Derives}
 use Rattle.cel_syntax_grammar.specs.Parser as p
 use Rattle.cel_syntax_grammar.specs.Parser.{Outcome, Parser, Found, and_then, same_mark, sees, sees_end, goes_on, slack, above, operator_at, sees_sign}

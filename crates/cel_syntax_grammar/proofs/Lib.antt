@@ -1,10 +1,8 @@
 pub mod Turns
-pub mod Names
 pub mod Signs
 pub mod Steps
 pub mod Rows
 pub mod Levels
-pub mod Arguments
 pub mod Complete
 pub mod Sound
 pub mod Last

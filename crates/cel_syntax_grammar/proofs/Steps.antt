@@ -12,7 +12,7 @@ use Rattle.cel_syntax_tokens.specs.declared.mark.Mark.{Mark}
 use Rattle.cel_syntax_tokens.specs.Token.{Token, word, mark}
 use Rattle.cel_syntax_tree.specs.Term.{Term}
 use Rattle.cel_syntax_tree.specs.declared.expr.BinaryOperator.{BinaryOperator}
-use Rattle.cel_syntax_grammar.specs.Words.{is_identifier, is_selector, is_literal, is_kept}
+use Rattle.cel_syntax_nodes.specs.Words.{is_identifier, is_selector, is_literal, is_kept}
 use Rattle.cel_syntax_literals.specs.Literal.{word_value, literal_value}
 use Rattle.cel_syntax_grammar.specs.Operator.{operator, operator_of}
 use Rattle.cel_syntax_grammar.specs.Parser.{Outcome, Parser, Found, and_then, same_mark, sees, above, slack, operator_at, if_level, is_end, sees_end}

@@ -12,13 +12,7 @@ use Rattle.cel_syntax_grammar.specs.declared.tokens.Tokens.{Tokens}
 abbrev pub left : Tokens → List Token
 left t = map token_of t.rest.now
 
--- what a function that expects something ensures: the parser's outcome, unless memory runs out
-abbrev pub Expects : Outcome (Unit {0}) → Result (Unit {0}) SyntaxError → List Token → Type 0
-Expects outcome (Ok a) new = outcome ≡ Some (a, new)
-Expects outcome (Err Memory) new = Unit {0}
-Expects outcome (Err Invalid) new = outcome ≡ None
-
--- the same of a function that reads a tree
+-- what a function that reads a tree ensures: the parser's outcome, unless memory runs out
 abbrev pub Reads : Outcome Found → Result (Expr × ℕ) SyntaxError → List Token → Type 0
 Reads outcome (Ok x) new = outcome ≡ Some ((term x.0, x.1), new)
 Reads outcome (Err Memory) new = Unit {0}

@@ -11,9 +11,9 @@ use Rattle.cel_syntax_tree.specs.Term.{Term, terms_of, pairs_of}
 use Rattle.cel_syntax_tree.specs.declared.expr.UnaryOperator.{UnaryOperator}
 use Rattle.cel_syntax_tree.specs.declared.expr.BinaryOperator.{BinaryOperator}
 use Rattle.cel_syntax_literals.specs.Literal.{takes_minus, literal_value}
-use Rattle.cel_syntax_grammar.specs.Words.{is_identifier, is_selector}
+use Rattle.cel_syntax_nodes.specs.Words.{is_identifier, is_selector}
 use Rattle.cel_syntax_grammar.specs.Operator.{sign, operator, is_operator_before}
-use Rattle.cel_syntax_grammar.specs.Calls.{call_of, method_of, parts_level}
+use Rattle.cel_syntax_nodes.specs.Calls.{call_of, method_of, parts_level}
 
 -- a comma that may be there
 pub data OptionalComma : List Token → List Token → Type 0 where

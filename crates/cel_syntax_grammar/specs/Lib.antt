@@ -1,6 +1,4 @@
-pub mod Words
 pub mod Operator
-pub mod Calls
 pub mod Grammar
 pub mod Parser
 pub mod Cursor

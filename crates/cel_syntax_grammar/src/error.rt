@@ -4,7 +4,7 @@ ghost use Rattle.std.specs.Prelude.{◌≡◌};
 ghost use Rattle.cel_syntax_grammar.specs.declared.error.SyntaxError.TheVariants.{Memory};
 
 use kube_types_refused::Refused;
-use std::alloc::{AllocError, AllocFailed};
+use std::alloc::AllocFailed;
 
 #[derive(Clone, Copy, Debug, PartialEq, Eq)]
 pub enum SyntaxError {
@@ -12,14 +12,6 @@ pub enum SyntaxError {
     Memory,
     /// The tokens derive none.
     Invalid,
-}
-
-impl From<AllocError> for SyntaxError {
-    ghost from_gives = { λ _ e. e ≡ Memory };
-
-    fn from(_error: AllocError) -> SyntaxError {
-        SyntaxError::Memory
-    }
 }
 
 impl<T: Drop> From<AllocFailed<T>> for SyntaxError {

@@ -6,17 +6,19 @@ ghost use Rattle.cel_syntax_tree.specs.Term as tree;
 ghost use Rattle.cel_syntax_tree.specs.Term.{term};
 ghost use Rattle.cel_syntax_tokens.specs.declared.mark.Mark.TheVariants.{CloseSquare as close_square};
 ghost use Rattle.cel_syntax_grammar.specs.Operator.{sign as sign_of, is_operator_before as is_operator_before_lem};
-ghost use Rattle.cel_syntax_grammar.specs.Calls as calls;
+ghost use Rattle.cel_syntax_nodes.specs.Calls as calls;
 ghost use Rattle.cel_syntax_grammar.specs.Parser as spec;
 ghost use Rattle.cel_syntax_grammar.specs.Cursor.{left, left as spec_left, Reads, ReadsItems, ReadsEntries, ReadsPair};
 ghost use Rattle.cel_syntax_grammar.specs.Nests.{Nests};
 ghost use Rattle.cel_syntax_grammar.specs.declared.error.SyntaxError.TheVariants.{Memory};
 
-use crate::calls::{call, method, parts_level};
 use crate::error::SyntaxError;
 use crate::tokens::Tokens;
-use crate::words::{identifier, selector, shared};
 use cel_syntax_literals::{literal, takes_minus};
+use cel_syntax_nodes::{
+    binary, call, conditional, ident, identifier, index, method, parts_level, select, selector,
+    unary,
+};
 use cel_syntax_tokens::mark::Mark;
 use cel_syntax_tokens::token::Token;
 use cel_syntax_tree::{BinaryOperator, Expr, UnaryOperator};
@@ -75,46 +77,6 @@ fn slack(tree: &Expr) -> usize
         Expr::Select(_, _) => 1,
         _ => 0,
     }
-}
-
-fn unary(alloc: Global, operator: UnaryOperator, operand: Expr) -> Result<Expr, SyntaxError>
-    ensures { MatchResult result (λ e. term e ≡ tree.unary operator (term operand)) (λ error. error ≡ Memory) }
-{
-    Ok(Expr::Unary(operator, Box::new(alloc, operand)?))
-}
-
-fn select(alloc: Global, operand: Expr, name: &str) -> Result<Expr, SyntaxError>
-    ensures { MatchResult result (λ e. term e ≡ tree.select (term operand) name.now) (λ error. error ≡ Memory) }
-{
-    let operand = Box::new(alloc, operand)?;
-    Ok(Expr::Select(operand, shared(alloc, name)?))
-}
-
-fn binary(
-    alloc: Global,
-    operator: BinaryOperator,
-    left: Expr,
-    right: Expr,
-) -> Result<Expr, SyntaxError>
-    ensures { MatchResult result (λ e. term e ≡ tree.binary operator (term left) (term right)) (λ error. error ≡ Memory) }
-{
-    let left = Box::new(alloc, left)?;
-    Ok(Expr::Binary(operator, left, Box::new(alloc, right)?))
-}
-
-fn index(alloc: Global, target: Expr, index: Expr) -> Result<Expr, SyntaxError>
-    ensures { MatchResult result (λ e. term e ≡ tree.index (term target) (term index)) (λ error. error ≡ Memory) }
-{
-    let target = Box::new(alloc, target)?;
-    Ok(Expr::Index(target, Box::new(alloc, index)?))
-}
-
-fn conditional(alloc: Global, test: Expr, yes: Expr, no: Expr) -> Result<Expr, SyntaxError>
-    ensures { MatchResult result (λ e. term e ≡ tree.choice (term test) (term yes) (term no)) (λ error. error ≡ Memory) }
-{
-    let test = Box::new(alloc, test)?;
-    let yes = Box::new(alloc, yes)?;
-    Ok(Expr::Cond(test, yes, Box::new(alloc, no)?))
 }
 
 fn wrap(alloc: Global, sign: UnaryOperator, count: usize, inside: Expr) -> Result<Expr, SyntaxError>
@@ -190,7 +152,9 @@ impl<F: Fn(Global, &mut Tokens<'_>, u8) -> Result<(Expr, usize), SyntaxError>> G
         ensures { ReadsPair (spec.pair self.now.limit (spec.below self.now.limit) (left tokens.old)) result (left tokens.new) }
     {
         let key = self.sub(tokens)?;
-        tokens.expect(Mark::Colon)?;
+        if !tokens.eat(Mark::Colon) {
+            return Err(SyntaxError::Invalid);
+        }
         let value = self.sub(tokens)?;
         Ok(((key.0, value.0), key.1.max(value.1)))
     }
@@ -323,7 +287,7 @@ impl<F: Fn(Global, &mut Tokens<'_>, u8) -> Result<(Expr, usize), SyntaxError>> G
         if tokens.eat(Mark::OpenRound) {
             self.called(tokens, name)
         } else {
-            Ok((Expr::Ident(shared(self.alloc, name)?), 0))
+            Ok((ident(self.alloc, name)?, 0))
         }
     }
 

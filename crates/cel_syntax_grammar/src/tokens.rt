@@ -4,10 +4,8 @@ ghost use Rattle.std.specs.Prelude.{◌≡◌, ◌∷◌, [], MatchOption, drop,
 ghost use Rattle.cel_syntax_tokens.specs.Token.{token_of};
 ghost use Rattle.cel_syntax_grammar.specs.Operator as operators;
 ghost use Rattle.cel_syntax_grammar.specs.Parser as spec;
-ghost use Rattle.cel_syntax_grammar.specs.Cursor.{left, Expects};
+ghost use Rattle.cel_syntax_grammar.specs.Cursor.{left};
 
-use crate::error::SyntaxError;
-use crate::words::is_word;
 use cel_syntax_literals::takes_minus;
 use cel_syntax_tokens::mark::Mark;
 use cel_syntax_tokens::token::Token;
@@ -50,7 +48,8 @@ fn operator_of(mark: Mark) -> Option<(u8, BinaryOperator)>
 fn word_operator(word: &[u8]) -> Option<(u8, BinaryOperator)>
     ensures { result ≡ operators.word_operator word.now }
 {
-    if is_word(word, b"in") {
+    let name: &[u8] = b"in";
+    if word == name {
         Some((3, BinaryOperator::In))
     } else {
         None
@@ -160,15 +159,5 @@ impl<'a> Tokens<'a> {
             let _mark = self.next();
         }
         found
-    }
-
-    pub fn expect(&mut self, mark: Mark) -> Result<(), SyntaxError>
-        ensures { Expects (spec.expect mark (left self.old)) result (left self.new) }
-    {
-        if self.eat(mark) {
-            Ok(())
-        } else {
-            Err(SyntaxError::Invalid)
-        }
     }
 }

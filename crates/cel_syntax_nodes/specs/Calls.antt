@@ -1,6 +1,6 @@
 -- What a call stands for: a macro, a function whose name has a dot in it, or an ordinary call. Source: section "Macros" of the CEL
 -- language definition, and the names of the Kubernetes CEL libraries and of the CEL extension libraries.
-use Rattle.std.specs.Prelude.{ℕ, ◌-◌, nat_eq, length, Bool, ◌&&◌, ◌||◌, if◌then◌else◌, List, [], ◌∷◌, ◌++◌, Option, Some, None, codes}
+use Rattle.std.specs.Prelude.{ℕ, ◌-◌, nat_eq, length, Bool, ◌&&◌, if◌then◌else◌, List, [], ◌∷◌, ◌++◌, Option, Some, None, codes}
 use Rattle.std.specs.List.{list_any}
 use Rattle.std.specs.Str.{bytes_eq}
 use Rattle.cel_syntax_tree.specs.Term as tree
@@ -10,55 +10,25 @@ use Rattle.cel_syntax_tree.specs.declared.expr.MacroKind.TheVariants as kind
 
 -- ---- names with a dot: the library before it, the function after it
 
-unfoldable pub is_of_lists : List ℕ → Bool
-is_of_lists w = list_any (bytes_eq w) (codes "range" ∷ [])
-
-unfoldable pub is_of_sets : List ℕ → Bool
-is_of_sets w = list_any (bytes_eq w) (codes "contains" ∷ codes "equivalent" ∷ codes "intersects" ∷ [])
-
-unfoldable pub is_of_strings : List ℕ → Bool
-is_of_strings w = list_any (bytes_eq w) (codes "quote" ∷ [])
-
-unfoldable pub is_bit_function : List ℕ → Bool
-is_bit_function w = list_any (bytes_eq w)
-    (codes "bitAnd" ∷ codes "bitOr" ∷ codes "bitXor" ∷ codes "bitNot" ∷ codes "bitShiftLeft" ∷ codes "bitShiftRight" ∷ [])
-
-unfoldable pub is_of_math : List ℕ → Bool
-is_of_math w = list_any (bytes_eq w) (codes "abs" ∷ codes "sign" ∷ codes "greatest" ∷ codes "least" ∷ []) || is_bit_function w
-
-unfoldable pub is_of_base64 : List ℕ → Bool
-is_of_base64 w = list_any (bytes_eq w) (codes "encode" ∷ codes "decode" ∷ [])
-
-unfoldable pub is_of_jsonpatch : List ℕ → Bool
-is_of_jsonpatch w = list_any (bytes_eq w) (codes "escapeKey" ∷ [])
-
-unfoldable pub is_of_ip : List ℕ → Bool
-is_of_ip w = list_any (bytes_eq w) (codes "isCanonical" ∷ [])
-
-unfoldable pub is_dns_format : List ℕ → Bool
-is_dns_format w = list_any (bytes_eq w)
-    (codes "dns1123Label" ∷ codes "dns1123Subdomain" ∷ codes "dns1035Label" ∷ codes "dns1123LabelPrefix" ∷ codes "dns1123SubdomainPrefix" ∷ codes "dns1035LabelPrefix" ∷ [])
-
-unfoldable pub is_other_format : List ℕ → Bool
-is_other_format w = list_any (bytes_eq w)
-    (codes "qualifiedName" ∷ codes "labelValue" ∷ codes "uri" ∷ codes "uuid" ∷ codes "byte" ∷ codes "date" ∷ codes "datetime" ∷ [])
-
-unfoldable pub is_of_format : List ℕ → Bool
-is_of_format w = list_any (bytes_eq w) (codes "named" ∷ []) || (is_dns_format w || is_other_format w)
-
-unfoldable pub is_value_function : List ℕ → List ℕ → Bool
-is_value_function x w =
-    (bytes_eq x (codes "lists") && is_of_lists w) || ((bytes_eq x (codes "sets") && is_of_sets w)
-    || ((bytes_eq x (codes "strings") && is_of_strings w) || (bytes_eq x (codes "math") && is_of_math w)))
-
-unfoldable pub is_text_function : List ℕ → List ℕ → Bool
-is_text_function x w =
-    (bytes_eq x (codes "base64") && is_of_base64 w) || ((bytes_eq x (codes "jsonpatch") && is_of_jsonpatch w)
-    || ((bytes_eq x (codes "ip") && is_of_ip w) || (bytes_eq x (codes "format") && is_of_format w)))
+-- the functions of a library
+unfoldable pub functions_of : List ℕ → List (List ℕ)
+functions_of x =
+    if bytes_eq x (codes "lists") then codes "range" ∷ []
+    else (if bytes_eq x (codes "sets") then codes "contains" ∷ codes "equivalent" ∷ codes "intersects" ∷ []
+    else (if bytes_eq x (codes "strings") then codes "quote" ∷ []
+    else (if bytes_eq x (codes "math") then codes "abs" ∷ codes "sign" ∷ codes "greatest" ∷ codes "least" ∷ codes "bitAnd" ∷ codes "bitOr" ∷ codes "bitXor" ∷ codes "bitNot"
+    ∷ codes "bitShiftLeft" ∷ codes "bitShiftRight" ∷ []
+    else (if bytes_eq x (codes "base64") then codes "encode" ∷ codes "decode" ∷ []
+    else (if bytes_eq x (codes "jsonpatch") then codes "escapeKey" ∷ []
+    else (if bytes_eq x (codes "ip") then codes "isCanonical" ∷ []
+    else (if bytes_eq x (codes "format") then codes "named" ∷ codes "dns1123Label" ∷ codes "dns1123Subdomain" ∷ codes "dns1035Label" ∷ codes "dns1123LabelPrefix"
+    ∷ codes "dns1123SubdomainPrefix" ∷ codes "dns1035LabelPrefix" ∷ codes "qualifiedName" ∷ codes "labelValue" ∷ codes "uri" ∷ codes "uuid" ∷ codes "byte"
+    ∷ codes "date" ∷ codes "datetime" ∷ []
+    else [])))))))
 
 -- whether the two, with a dot between them, are the name of a function
 unfoldable pub is_qualified : List ℕ → List ℕ → Bool
-is_qualified x w = is_value_function x w || is_text_function x w
+is_qualified x w = list_any (bytes_eq w) (functions_of x)
 
 -- ---- ordinary calls
 

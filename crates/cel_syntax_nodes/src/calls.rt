@@ -1,0 +1,85 @@
+//! What a call stands for: a macro, a function whose name has a dot in it, or an ordinary call.
+
+ghost use Rattle.std.specs.Prelude.{◌≡◌, map, string_bytes, option_map, MatchResult};
+ghost use Rattle.kube_types_refused.specs.declared.Refused.TheVariants.{Memory};
+ghost use Rattle.cel_syntax_tree.specs.Term as tree;
+ghost use Rattle.cel_syntax_tree.specs.Term.{term, terms_of};
+ghost use Rattle.cel_syntax_nodes.specs.Calls as spec;
+
+use crate::macros::{has, kind_of, macro_of, one};
+use crate::nodes::shared;
+use crate::qualified::qualified_name;
+use crate::words::is_word;
+use cel_syntax_tree::Expr;
+use kube_types_refused::Refused;
+use std::alloc::Global;
+use std::rc::Rc;
+
+fn call_on(target: Box<Expr>, name: Rc<String>, args: Vec<Expr>) -> Expr
+    ensures { term result ≡ tree.call (tree.term_and (term target.value) tree.no_terms) (string_bytes name.value) (terms_of (map term args.items)) }
+{
+    Expr::Call {
+        target: Some(target),
+        name,
+        args,
+    }
+}
+
+fn method_call(alloc: Global, target: Expr, name: &str, args: Vec<Expr>) -> Result<Expr, Refused>
+    ensures { MatchResult result (λ e. term e ≡ tree.call (tree.term_and (term target) tree.no_terms) name.now (terms_of (map term args.items))) (λ refused. refused ≡ Memory) }
+{
+    let name = shared(alloc, name)?;
+    let target = Box::new(alloc, target)?;
+    Ok(call_on(target, name, args))
+}
+
+#[tactic(auto, unfolding(crate::specs::Calls::plain_method))]
+fn plain_method(alloc: Global, target: Expr, name: &str, args: Vec<Expr>) -> Result<Expr, Refused>
+    ensures { MatchResult result (λ e. term e ≡ spec.plain_method (term target) name.now (map term args.items)) (λ refused. refused ≡ Memory) }
+{
+    match qualified_name(alloc, &target, name)? {
+        Some(name) => Ok(Expr::Qualified { name, args }),
+        None => Ok(method_call(alloc, target, name, args)?),
+    }
+}
+
+/// The call of a method on a target, or `None` where it is a macro that isn't well formed.
+#[tactic(auto, using(crate::proofs::Arguments::length_terms), unfolding(crate::specs::Calls::method_of))]
+pub fn method(
+    alloc: Global,
+    target: Expr,
+    name: &str,
+    args: Vec<Expr>,
+) -> Result<Option<Expr>, Refused>
+    ensures { MatchResult result (λ answer. option_map term answer ≡ spec.method_of (term target) name.now (map term args.items)) (λ refused. refused ≡ Memory) }
+{
+    match kind_of(name.as_bytes(), args.len()) {
+        Some(kind) => macro_of(alloc, kind, target, args),
+        None => Ok(Some(plain_method(alloc, target, name, args)?)),
+    }
+}
+
+/// The call of a global function, or `None` where it is a macro that isn't well formed.
+#[tactic(auto, using(crate::proofs::Arguments::length_terms), unfolding(crate::specs::Calls::call_of))]
+pub fn call(alloc: Global, name: &str, args: Vec<Expr>) -> Result<Option<Expr>, Refused>
+    ensures { MatchResult result (λ answer. option_map term answer ≡ spec.call_of name.now (map term args.items)) (λ refused. refused ≡ Memory) }
+{
+    if is_word(name.as_bytes(), b"has") && args.len() == 1 {
+        return Ok(has(one(args)));
+    }
+    Ok(Some(Expr::Call {
+        target: None,
+        name: shared(alloc, name)?,
+        args,
+    }))
+}
+
+/// The greatest level of a node's parts, by that of its arguments.
+pub fn parts_level(tree: &Expr, level: usize) -> usize
+    ensures { result ≡ spec.parts_level (term tree.now) level }
+{
+    match tree {
+        Expr::Has(_, _) => level.saturating_sub(1),
+        _ => level,
+    }
+}

@@ -1,0 +1,221 @@
+//! Macros, told by their names and the counts of their arguments.
+
+ghost use Rattle.std.specs.Prelude.{◌≡◌, ◌∷◌, [], map, vec_len, string_bytes, option_map, MatchOption, MatchResult, Some, None};
+ghost use Rattle.kube_types_refused.specs.declared.Refused.TheVariants.{Memory};
+ghost use Rattle.cel_syntax_tree.specs.Term as tree;
+ghost use Rattle.cel_syntax_tree.specs.Term.{term};
+ghost use Rattle.cel_syntax_nodes.specs.Calls as spec;
+
+use crate::qualified::identifier_of;
+use crate::words::is_word;
+use cel_syntax_tree::{Expr, MacroKind};
+use kube_types_refused::Refused;
+use std::alloc::Global;
+use std::rc::Rc;
+
+#[tactic(auto, unfolding(crate::specs::Calls::kind_of_two))]
+fn kind_of_two(name: &[u8]) -> Option<MacroKind>
+    ensures { result ≡ spec.kind_of_two name.now }
+{
+    if is_word(name, b"all") {
+        Some(MacroKind::All)
+    } else if is_word(name, b"exists") {
+        Some(MacroKind::Exists)
+    } else if is_word(name, b"exists_one") {
+        Some(MacroKind::ExistsOne)
+    } else if is_word(name, b"map") {
+        Some(MacroKind::Map)
+    } else if is_word(name, b"filter") {
+        Some(MacroKind::Filter)
+    } else {
+        None
+    }
+}
+
+#[tactic(auto, unfolding(crate::specs::Calls::kind_of_three))]
+fn kind_of_three(name: &[u8]) -> Option<MacroKind>
+    ensures { result ≡ spec.kind_of_three name.now }
+{
+    if is_word(name, b"map") {
+        Some(MacroKind::Map)
+    } else {
+        None
+    }
+}
+
+/// The macro of that name with so many arguments.
+#[tactic(auto, unfolding(crate::specs::Calls::kind_of))]
+pub(crate) fn kind_of(name: &[u8], count: usize) -> Option<MacroKind>
+    ensures { result ≡ spec.kind_of name.now count }
+{
+    if count == 2 {
+        kind_of_two(name)
+    } else if count == 3 {
+        kind_of_three(name)
+    } else {
+        None
+    }
+}
+
+#[tactic(auto, using(crate::proofs::Arguments::two_terms))]
+fn two(mut args: Vec<Expr>) -> (Expr, Expr)
+    requires { vec_len args ≡ 2 }
+    ensures { map term args.items ≡ term result.0 ∷ term result.1 ∷ [] }
+{
+    let second = args.remove(1);
+    let first = args.remove(0);
+    (first, second)
+}
+
+#[tactic(auto, using(crate::proofs::Arguments::three_terms))]
+fn three(mut args: Vec<Expr>) -> (Expr, Expr, Expr)
+    requires { vec_len args ≡ 3 }
+    ensures { map term args.items ≡ term result.0 ∷ term result.1 ∷ term result.2 ∷ [] }
+{
+    let third = args.remove(2);
+    let second = args.remove(1);
+    let first = args.remove(0);
+    (first, second, third)
+}
+
+/// The name of a macro's variable, where the tree is a plain identifier.
+fn variable_of(tree: &Expr) -> Result<Option<Rc<String>>, Refused>
+    ensures { MatchResult result
+        (λ answer. MatchOption answer (spec.identifier_of (term tree.now) ≡ None) (λ name. spec.identifier_of (term tree.now) ≡ Some (string_bytes name.value)))
+        (λ refused. refused ≡ Memory) }
+{
+    match identifier_of(tree) {
+        Some(name) => Ok(Some(name.clone()?)),
+        None => Ok(None),
+    }
+}
+
+fn unfiltered(kind: MacroKind, range: Box<Expr>, variable: Rc<String>, body: Box<Expr>) -> Expr
+    ensures { term result ≡ tree.macro kind (term range.value) (string_bytes variable.value) tree.no_terms (term body.value) }
+{
+    Expr::Macro {
+        kind,
+        range,
+        variable,
+        filter: None,
+        body,
+    }
+}
+
+fn filtered(
+    kind: MacroKind,
+    range: Box<Expr>,
+    variable: Rc<String>,
+    filter: Box<Expr>,
+    body: Box<Expr>,
+) -> Expr
+    ensures { term result ≡ tree.macro kind (term range.value) (string_bytes variable.value) (tree.term_and (term filter.value) tree.no_terms) (term body.value) }
+{
+    Expr::Macro {
+        kind,
+        range,
+        variable,
+        filter: Some(filter),
+        body,
+    }
+}
+
+fn macro_of_two(
+    alloc: Global,
+    kind: MacroKind,
+    range: Expr,
+    variable: Rc<String>,
+    body: Expr,
+) -> Result<Expr, Refused>
+    ensures { MatchResult result (λ e. term e ≡ tree.macro kind (term range) (string_bytes variable.value) tree.no_terms (term body)) (λ refused. refused ≡ Memory) }
+{
+    let range = Box::new(alloc, range)?;
+    let body = Box::new(alloc, body)?;
+    Ok(unfiltered(kind, range, variable, body))
+}
+
+fn macro_of_three(
+    alloc: Global,
+    kind: MacroKind,
+    range: Box<Expr>,
+    variable: Rc<String>,
+    filter: Expr,
+    body: Expr,
+) -> Result<Expr, Refused>
+    ensures { MatchResult result
+        (λ e. term e ≡ tree.macro kind (term range.value) (string_bytes variable.value) (tree.term_and (term filter) tree.no_terms) (term body))
+        (λ refused. refused ≡ Memory) }
+{
+    let filter = Box::new(alloc, filter)?;
+    let body = Box::new(alloc, body)?;
+    Ok(filtered(kind, range, variable, filter, body))
+}
+
+fn with_body(
+    alloc: Global,
+    kind: MacroKind,
+    range: Expr,
+    args: (Expr, Expr),
+) -> Result<Option<Expr>, Refused>
+    ensures { MatchResult result
+        (λ answer. option_map term answer ≡ spec.macro_with kind (term range) (spec.identifier_of (term args.0)) tree.no_terms (term args.1))
+        (λ refused. refused ≡ Memory) }
+{
+    match variable_of(&args.0)? {
+        Some(variable) => Ok(Some(macro_of_two(alloc, kind, range, variable, args.1)?)),
+        None => Ok(None),
+    }
+}
+
+fn with_filter(
+    alloc: Global,
+    kind: MacroKind,
+    range: Expr,
+    args: (Expr, Expr, Expr),
+) -> Result<Option<Expr>, Refused>
+    ensures { MatchResult result
+        (λ answer. option_map term answer
+        ≡ spec.macro_with kind (term range) (spec.identifier_of (term args.0)) (tree.term_and (term args.1) tree.no_terms) (term args.2))
+        (λ refused. refused ≡ Memory) }
+{
+    match variable_of(&args.0)? {
+        Some(variable) => {
+            let range = Box::new(alloc, range)?;
+            Ok(Some(macro_of_three(alloc, kind, range, variable, args.1, args.2)?))
+        }
+        None => Ok(None),
+    }
+}
+
+#[tactic(auto, using(crate::proofs::Arguments::macro_of_others))]
+pub(crate) fn macro_of(
+    alloc: Global,
+    kind: MacroKind,
+    range: Expr,
+    args: Vec<Expr>,
+) -> Result<Option<Expr>, Refused>
+    ensures { MatchResult result (λ answer. option_map term answer ≡ spec.macro_of kind (term range) (map term args.items)) (λ refused. refused ≡ Memory) }
+{
+    match args.len() {
+        2 => with_body(alloc, kind, range, two(args)),
+        3 => with_filter(alloc, kind, range, three(args)),
+        _ => Ok(None),
+    }
+}
+
+pub(crate) fn has(argument: Expr) -> Option<Expr>
+    ensures { option_map term result ≡ spec.has_of (term argument ∷ []) }
+{
+    match argument {
+        Expr::Select(operand, name) => Some(Expr::Has(operand, name)),
+        _ => None,
+    }
+}
+
+#[tactic(auto, using(crate::proofs::Arguments::one_term))]
+pub(crate) fn one(mut args: Vec<Expr>) -> Expr
+    requires { vec_len args ≡ 1 }
+    ensures { map term args.items ≡ term result ∷ [] }
+{
+    args.remove(0)
+}

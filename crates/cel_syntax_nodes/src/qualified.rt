@@ -1,0 +1,126 @@
+//! Functions whose names have a dot in them: the library before it, the function after it.
+
+ghost use Rattle.std.specs.Prelude.{◌≡◌, ◌∷◌, ◌++◌, IfOk, MatchOption, MatchResult, Some, None, map, string_bytes};
+ghost use Rattle.kube_types_refused.specs.declared.Refused.TheVariants.{Memory};
+ghost use Rattle.cel_syntax_tree.specs.Term.{term};
+ghost use Rattle.cel_syntax_nodes.specs.Calls as spec;
+
+use crate::words::{is_one_of, is_word};
+use cel_syntax_tree::Expr;
+use kube_types_refused::Refused;
+use std::alloc::{AllocError, Global};
+use std::rc::Rc;
+
+const OF_LISTS: [&[u8]; 1] = [b"range"];
+
+const OF_SETS: [&[u8]; 3] = [b"contains", b"equivalent", b"intersects"];
+
+const OF_STRINGS: [&[u8]; 1] = [b"quote"];
+
+const OF_MATH: [&[u8]; 10] = [
+    b"abs",
+    b"sign",
+    b"greatest",
+    b"least",
+    b"bitAnd",
+    b"bitOr",
+    b"bitXor",
+    b"bitNot",
+    b"bitShiftLeft",
+    b"bitShiftRight",
+];
+
+const OF_BASE64: [&[u8]; 2] = [b"encode", b"decode"];
+
+const OF_JSONPATCH: [&[u8]; 1] = [b"escapeKey"];
+
+const OF_IP: [&[u8]; 1] = [b"isCanonical"];
+
+const OF_FORMAT: [&[u8]; 14] = [
+    b"named",
+    b"dns1123Label",
+    b"dns1123Subdomain",
+    b"dns1035Label",
+    b"dns1123LabelPrefix",
+    b"dns1123SubdomainPrefix",
+    b"dns1035LabelPrefix",
+    b"qualifiedName",
+    b"labelValue",
+    b"uri",
+    b"uuid",
+    b"byte",
+    b"date",
+    b"datetime",
+];
+
+/// The functions of that library.
+#[tactic(auto, unfolding(crate::specs::Calls::functions_of))]
+fn functions_of(library: &[u8]) -> &'static [&'static [u8]]
+    ensures { map (λ w. w.now) result.now ≡ spec.functions_of library.now }
+{
+    if is_word(library, b"lists") {
+        &OF_LISTS
+    } else if is_word(library, b"sets") {
+        &OF_SETS
+    } else if is_word(library, b"strings") {
+        &OF_STRINGS
+    } else if is_word(library, b"math") {
+        &OF_MATH
+    } else if is_word(library, b"base64") {
+        &OF_BASE64
+    } else if is_word(library, b"jsonpatch") {
+        &OF_JSONPATCH
+    } else if is_word(library, b"ip") {
+        &OF_IP
+    } else if is_word(library, b"format") {
+        &OF_FORMAT
+    } else {
+        &[]
+    }
+}
+
+#[tactic(auto, unfolding(crate::specs::Calls::is_qualified))]
+fn is_qualified(library: &[u8], function: &[u8]) -> bool
+    ensures { result ≡ spec.is_qualified library.now function.now }
+{
+    is_one_of(function, functions_of(library))
+}
+
+/// The two names with a dot between them.
+fn dotted(alloc: Global, library: &str, function: &str) -> Result<Rc<String>, AllocError>
+    ensures { IfOk result (λ name. string_bytes name.value ≡ library.now ++ (46 ∷ function.now)) }
+{
+    let mut name = String::from_str(alloc, library)?;
+    name.push('.')?;
+    name.push_str(function)?;
+    Ok(Rc::new(alloc, name)?)
+}
+
+/// The name, where the tree is a plain identifier.
+pub(crate) fn identifier_of(tree: &Expr) -> Option<&Rc<String>>
+    ensures { MatchOption result (spec.identifier_of (term tree.now) ≡ None) (λ name. spec.identifier_of (term tree.now) ≡ Some (string_bytes name.now.value)) }
+{
+    match tree {
+        Expr::Ident(name) => Some(name),
+        _ => None,
+    }
+}
+
+/// The name of a function with a dot in it, where the call is one of it.
+pub(crate) fn qualified_name(
+    alloc: Global,
+    target: &Expr,
+    name: &str,
+) -> Result<Option<Rc<String>>, Refused>
+    ensures { MatchResult result
+        (λ answer. MatchOption answer (spec.dotted_by (spec.identifier_of (term target.now)) name.now ≡ None)
+        (λ whole. spec.dotted_by (spec.identifier_of (term target.now)) name.now ≡ Some (string_bytes whole.value)))
+        (λ refused. refused ≡ Memory) }
+{
+    match identifier_of(target) {
+        Some(library) if is_qualified(library.as_bytes(), name.as_bytes()) => {
+            Ok(Some(dotted(alloc, library.as_str(), name)?))
+        }
+        _ => Ok(None),
+    }
+}
