@@ -1,0 +1,12 @@
+//! The functions of the CEL standard, which every context knows.
+#![tactic(auto)]
+
+mod conversions;
+mod dispatch;
+pub mod faults;
+mod names;
+mod optionals;
+mod sizes;
+mod texts;
+
+pub use dispatch::StandardFunctions;
