@@ -11,6 +11,7 @@ use Rattle.cel_meaning.specs.Outcome.{Outcome}
 use Rattle.cel_meaning.specs.declared.functions.Form.{Form}
 use Rattle.cel_meaning.specs.declared.functions.Form.TheVariants.{Unknown, Wrong, Known}
 use Rattle.cel_standard.specs.Conversions.{int_of, uint_of, string_of, bytes_of}
+use Rattle.cel_standard.specs.Extremes.{extreme_of, values_among}
 use Rattle.cel_standard.specs.Optionals.{has_value, value_of}
 use Rattle.cel_standard.specs.Sizes.{sized}
 use Rattle.cel_standard.specs.Table.{function_named, takes}
@@ -20,7 +21,7 @@ use Rattle.cel_standard.specs.declared.names.OfOne.TheVariants.{Size, Int, Uint,
 use Rattle.cel_standard.specs.declared.names.OfTwo.{OfTwo}
 use Rattle.cel_standard.specs.declared.names.OfTwo.TheVariants.{Contains, StartsWith, EndsWith, Matches}
 use Rattle.cel_standard.specs.declared.names.Function.{Function}
-use Rattle.cel_standard.specs.declared.names.Function.TheVariants.{One, Two}
+use Rattle.cel_standard.specs.declared.names.Function.TheVariants.{One, Two, Many}
 
 abbrev pub known_if : Bool → Form
 known_if b = if b then Known else Wrong
@@ -60,6 +61,7 @@ answer_of_both f name _ _ book = Err (no_overload name)
 abbrev pub answer_of : Function → List ℕ → Option Data → List Data → Book → Outcome
 answer_of (One f) name receiver args book = option_map_or (answer_of_one f) (first_operand receiver args) (Err (no_overload name))
 answer_of (Two f) name receiver args book = answer_of_both f name (first_operand receiver args) (second_operand receiver args) book
+answer_of (Many end) name receiver args book = extreme_of end (values_among args)
 
 abbrev pub standard_answer : List ℕ → Option Data → List Data → Book → Outcome
 standard_answer name receiver args book = option_map_or (λ f. answer_of f name receiver args book) (function_named name) (Err (no_overload name))

@@ -9,7 +9,9 @@ use Rattle.cel_standard.specs.declared.names.OfOne.TheVariants.{Size, Int, Uint,
 use Rattle.cel_standard.specs.declared.names.OfTwo.{OfTwo}
 use Rattle.cel_standard.specs.declared.names.OfTwo.TheVariants.{Contains, StartsWith, EndsWith, Matches}
 use Rattle.cel_standard.specs.declared.names.Function.{Function}
-use Rattle.cel_standard.specs.declared.names.Function.TheVariants.{One, Two}
+use Rattle.cel_standard.specs.declared.names.Function.TheVariants.{One, Two, Many}
+use Rattle.cel_standard.specs.declared.extremes.Extreme.{Extreme}
+use Rattle.cel_standard.specs.declared.extremes.Extreme.TheVariants.{Least, Greatest}
 
 abbrev pub one_named : List ℕ → Option OfOne
 one_named name = lookup (bytes_eq name) (
@@ -30,8 +32,14 @@ two_named name = lookup (bytes_eq name) (
     ∷ (codes "matches", Matches)
     ∷ [])
 
+abbrev pub extreme_named : List ℕ → Option Extreme
+extreme_named name = lookup (bytes_eq name) (
+    (codes "min", Least)
+    ∷ (codes "max", Greatest)
+    ∷ [])
+
 abbrev pub function_named : List ℕ → Option Function
-function_named name = option_or (option_map One (one_named name)) (option_map Two (two_named name))
+function_named name = option_or (option_map One (one_named name)) (option_or (option_map Two (two_named name)) (option_map Many (extreme_named name)))
 
 -- called as v.f(..), or as f(..), with so many arguments
 abbrev pub method : ℕ → Bool → ℕ → Bool
@@ -55,6 +63,11 @@ takes_two StartsWith receiver count = method 1 receiver count
 takes_two EndsWith receiver count = method 1 receiver count
 takes_two Matches receiver count = method 1 receiver count || global 2 receiver count
 
+-- one value or more
+abbrev pub takes_many : Bool → ℕ → Bool
+takes_many receiver count = not receiver && nat_lt 0 count
+
 abbrev pub takes : Function → Bool → ℕ → Bool
 takes (One f) receiver count = takes_one f receiver count
 takes (Two f) receiver count = takes_two f receiver count
+takes (Many end) receiver count = takes_many receiver count

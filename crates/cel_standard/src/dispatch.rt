@@ -10,6 +10,7 @@ ghost use Rattle.cel_meaning.specs.Members.{nth_item};
 ghost use Rattle.cel_meaning.specs.Outcome.{outcome_view};
 ghost use Rattle.cel_standard.specs.Standard as spec;
 
+use crate::extremes::extreme_among;
 use crate::names::{Function, OfOne, OfTwo, function_named, takes};
 use crate::{conversions, optionals, sizes, texts};
 use cel_book::PatternBook;
@@ -141,6 +142,7 @@ fn answer_of(
             let second = second_operand(receiver, args);
             answer_of_both(alloc, function, name, first, second, book)
         }
+        Function::Many(end) => extreme_among(alloc, end, args),
     }
 }
 

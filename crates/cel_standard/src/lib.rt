@@ -3,6 +3,7 @@
 
 mod conversions;
 mod dispatch;
+pub mod extremes;
 pub mod faults;
 mod names;
 mod optionals;

@@ -2,6 +2,8 @@
 ghost use Rattle.std.specs.Prelude.{◌≡◌};
 ghost use Rattle.cel_standard.specs.Table as spec;
 
+use crate::extremes::Extreme;
+
 /// A function of one value.
 #[derive(Clone, Copy, Debug, PartialEq, Eq)]
 pub(crate) enum OfOne {
@@ -28,6 +30,7 @@ pub(crate) enum OfTwo {
 pub(crate) enum Function {
     One(OfOne),
     Two(OfTwo),
+    Many(Extreme),
 }
 
 fn one_named(name: &str) -> Option<OfOne>
@@ -57,6 +60,16 @@ fn two_named(name: &str) -> Option<OfTwo>
     }
 }
 
+fn extreme_named(name: &str) -> Option<Extreme>
+    ensures { result ≡ spec.extreme_named name.now }
+{
+    match name {
+        "min" => Some(Extreme::Least),
+        "max" => Some(Extreme::Greatest),
+        _ => None,
+    }
+}
+
 /// The function of that name.
 pub(crate) fn function_named(name: &str) -> Option<Function>
     ensures { result ≡ spec.function_named name.now }
@@ -65,7 +78,10 @@ pub(crate) fn function_named(name: &str) -> Option<Function>
         Some(function) => Some(Function::One(function)),
         None => match two_named(name) {
             Some(function) => Some(Function::Two(function)),
-            None => None,
+            None => match extreme_named(name) {
+                Some(end) => Some(Function::Many(end)),
+                None => None,
+            },
         },
     }
 }
@@ -105,6 +121,12 @@ fn two_takes(function: OfTwo, receiver: bool, count: usize) -> bool
     }
 }
 
+fn many_takes(receiver: bool, count: usize) -> bool
+    ensures { result ≡ spec.takes_many receiver count }
+{
+    !receiver && count > 0
+}
+
 /// Whether the function is called so, with a receiver or without, with so many arguments.
 pub(crate) fn takes(function: Function, receiver: bool, count: usize) -> bool
     ensures { result ≡ spec.takes function receiver count }
@@ -112,5 +134,6 @@ pub(crate) fn takes(function: Function, receiver: bool, count: usize) -> bool
     match function {
         Function::One(function) => one_takes(function, receiver, count),
         Function::Two(function) => two_takes(function, receiver, count),
+        Function::Many(_) => many_takes(receiver, count),
     }
 }
