@@ -6,7 +6,8 @@ pub mod program;
 
 pub use cel_book::PatternBook;
 pub use cel_machine::{Instr, run_code};
-pub use cel_meaning::{Answer, Context, Form, Functions, StandardFunctions};
+pub use cel_meaning::{Answer, Context, Form, Functions};
+pub use cel_standard::StandardFunctions;
 pub use cel_syntax::ParseErrors;
 pub use cel_syntax_names::References;
 pub use cel_syntax_tree::{BinaryOperator, Expr, MacroKind, UnaryOperator};

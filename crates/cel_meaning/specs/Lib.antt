@@ -10,4 +10,3 @@ pub mod Macros
 pub mod Calls
 pub mod Meaning
 pub mod Progress
-pub mod Standard

@@ -11,10 +11,8 @@ pub mod members;
 pub mod operators;
 pub mod ranges;
 pub mod scope;
-pub mod standard;
 mod times;
 
 pub use context::Context;
 pub use functions::{Form, Functions};
 pub use operators::Answer;
-pub use standard::StandardFunctions;

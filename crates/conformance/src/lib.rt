@@ -20,6 +20,8 @@ mod refused_texts;
 #[cfg(test)]
 mod rules;
 #[cfg(test)]
+mod standard_functions;
+#[cfg(test)]
 mod times;
 #[cfg(test)]
 mod tokens;

@@ -1,7 +1,7 @@
 -- The errors at one place (Kubernetes documentation, "Validation rules").
 use Rattle.cel_book.specs.Book.{Book}
 use Rattle.cel_meaning.specs.Bindings.{Bindings}
-use Rattle.cel_meaning.specs.Standard.{standard_library}
+use Rattle.cel_standard.specs.Standard.{standard_library}
 use Rattle.cel_meaning.specs.Meaning.{meaning}
 use Rattle.cel_meaning.specs.Outcome.{Outcome}
 use Rattle.cel_syntax_tree.specs.Term.{Term}

@@ -1,6 +1,6 @@
 use Rattle.cel.specs.Program.{program_term}
 use Rattle.cel_meaning.specs.Bindings.{bindings_of}
-use Rattle.cel_meaning.specs.Standard.{standard_library}
+use Rattle.cel_standard.specs.Standard.{standard_library}
 use Rattle.kube_cel.proofs.Bound.{meaning_same}
 use Rattle.kube_cel.proofs.verdict.outcome_at.Goals as goal
 use Rattle.kube_cel.specs.Verdicts.{rule_bindings, rule_outcome}

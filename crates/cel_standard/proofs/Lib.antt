@@ -1,0 +1,4 @@
+pub mod Numerals
+pub mod Parts
+pub mod Counts
+pub mod Leading

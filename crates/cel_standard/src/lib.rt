@@ -1,0 +1,13 @@
+//! The functions of the CEL standard, which every context knows.
+#![tactic(auto)]
+
+mod conversions;
+mod dispatch;
+pub mod extremes;
+pub mod faults;
+mod names;
+mod optionals;
+mod sizes;
+mod texts;
+
+pub use dispatch::StandardFunctions;
