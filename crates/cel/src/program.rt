@@ -44,6 +44,7 @@ impl Program {
     pub fn compile(alloc: Global, text: &str) -> Result<Result<Program, ParseErrors>, Refused>
         ensures grammar { IfOk result (λ answer. MatchResult answer (λ p. TextDerives text.now (program_term p)) (λ _. (t : Term) → TextDerives text.now t → ⊥)) }
         ensures reads { IfOk result (λ answer. program_seen answer ≡ tree_of text.now) }
+        ensures memory { IfErr result (λ e. e ≡ Memory) }
     {
         match parse(alloc, text)? {
             Ok(expression) => Ok(Ok(Program::from_expression(alloc, expression)?)),
@@ -56,7 +57,8 @@ impl Program {
     /// # Errors
     /// `Memory` alone.
     pub fn from_expression(alloc: Global, expression: Expr) -> Result<Program, Refused>
-        ensures { IfOk result (λ p. program_term p ≡ term expression) }
+        ensures value { IfOk result (λ p. program_term p ≡ term expression) }
+        ensures memory { IfErr result (λ e. e ≡ Memory) }
     {
         let code = compile_tree(alloc, &expression)?;
         Ok(Program { expression, code })
@@ -104,8 +106,9 @@ impl Program {
         alloc: Global,
         context: &Context<'_, F>,
     ) -> Result<Answer, Refused>
-        ensures { IfOk result (λ r. (book : Book) × IsBook book × Settles book (outcome_view r)
+        ensures value { IfOk result (λ r. (book : Book) × IsBook book × Settles book (outcome_view r)
             (λ b. meaning (F.library (functions_of context.now)) b (program_term self.now) (bindings_of context.now))) }
+        ensures memory { IfErr result (λ e. e ≡ Memory) }
     {
         let mut book = PatternBook::new(alloc);
         self.execute_with(alloc, context, &mut book)
@@ -124,6 +127,7 @@ impl Program {
         ensures keeps { Agrees (entries_of book.new) (entries_of book.old) }
         ensures value { IfOk result (λ r. Settles (entries_of book.new) (outcome_view r)
             (λ b. meaning (F.library (functions_of context.now)) b (program_term self.now) (bindings_of context.now))) }
+        ensures memory { IfErr result (λ e. e ≡ Memory) }
     {
         run_code(alloc, self.code.as_slice(), context, book)
     }

@@ -3,7 +3,7 @@ use Rattle.std.proofs.Common.{◌≡◌, Bool, true, false, ℕ, suc, ◌+◌, �
 use Rattle.std.specs.Prelude.{codes}
 use Rattle.cel_syntax_tree.specs.Term.{Term, Terms, Pairs, literal, ident, select, has, index, unary, binary, choice, list_of, map_with, call, qualified, macro, no_terms, term_and, count_of, no_pairs, pair_and}
 use Rattle.cel_syntax_tree.specs.declared.expr.BinaryOperator.{BinaryOperator}
-use Rattle.cel_syntax_tree.specs.declared.expr.BinaryOperator.TheVariants.{Or, And, Less, LessOrEqual, Greater, GreaterOrEqual, Equal, NotEqual, In, Add, Subtract, Multiply, Divide, Remainder}
+use Rattle.cel_syntax_tree.specs.declared.expr.BinaryOperator.TheVariants.{Or, And}
 use Rattle.cel_syntax_tree.specs.declared.expr.MacroKind.{MacroKind}
 use Rattle.cel_syntax_tree.specs.declared.expr.MacroKind.TheVariants.{All, Exists, ExistsOne, Map, Filter}
 use Rattle.cel_value.specs.Data.{text_key, optional, no_items}
@@ -26,18 +26,7 @@ logic_length s a b = omega (arith, length-append a (absorb s (length b + 1) ∷ 
 binary_length : (o : BinaryOperator) (a b : List Op) → length (binary_code o a b) ≤ length a + length b + 3
 binary_length Or a b = omega (arith, logic_length true a b)
 binary_length And a b = omega (arith, logic_length false a b)
-binary_length Less a b = omega (arith, both_length (two_values Less) a b)
-binary_length LessOrEqual a b = omega (arith, both_length (two_values LessOrEqual) a b)
-binary_length Greater a b = omega (arith, both_length (two_values Greater) a b)
-binary_length GreaterOrEqual a b = omega (arith, both_length (two_values GreaterOrEqual) a b)
-binary_length Equal a b = omega (arith, both_length (two_values Equal) a b)
-binary_length NotEqual a b = omega (arith, both_length (two_values NotEqual) a b)
-binary_length In a b = omega (arith, both_length (two_values In) a b)
-binary_length Add a b = omega (arith, both_length (two_values Add) a b)
-binary_length Subtract a b = omega (arith, both_length (two_values Subtract) a b)
-binary_length Multiply a b = omega (arith, both_length (two_values Multiply) a b)
-binary_length Divide a b = omega (arith, both_length (two_values Divide) a b)
-binary_length Remainder a b = omega (arith, both_length (two_values Remainder) a b)
+binary_length o a b = omega (arith, both_length (two_values o) a b)
 
 choice_length : (name : List ℕ) (a b c : List Op) → length (choice_code name a b c) ≡ length a + length b + length c + 2
 choice_length name a b c = omega (arith, length-append a (branch name (length b + 1) (length b + 1 + length c) ∷ (b ++ skip (length c) ∷ c)), length-append b (skip (length c) ∷ c))

@@ -1,55 +1,55 @@
 //! From trees to code.
-ghost use Rattle.std.specs.Prelude.{◌≡◌, ◌≤◌, ◌++◌, [], ◌∷◌, ℕ, List, IfOk, OnOk, map, length, string_bytes, codes};
+ghost use Rattle.std.specs.Prelude.{◌≡◌, ◌≤◌, ◌++◌, [], ◌∷◌, ℕ, List, IfOk, IfErr, OnOk, map, length, string_bytes, codes};
 ghost use Rattle.cel_value.specs.Data.{map_of, no_entries};
 ghost use Rattle.cel_syntax_tree.specs.Term.{Term, Terms, list_of, call, qualified, no_terms, term_and, term, terms_of, pairs_of};
 ghost use Rattle.cel_machine.specs.Code.{code_of, codes_of, pair_codes, logic, operand, operands, one_with, both_with, binary_code, choice_code, filter_code, loop, macro_code, after_form, entry_code, entries_code};
-ghost use Rattle.cel_machine.specs.Op.{op, as_present, indexed_by, two_values, invoke, push, test_name};
+ghost use Rattle.cel_machine.specs.Op.{op, work_of, operands_of, receivers, invoke, push, test_name};
 ghost use Rattle.cel_machine.specs.State.{codes_view, pairs_view, filter_codes, from_end};
 
-use crate::instr::{Instr, Test};
+use crate::instr::{Instr, Operation, Test};
 use cel_syntax_tree::{BinaryOperator, Expr, MacroKind};
 use cel_value::{Key, Map, OptionalValue, Refused, Value};
-use std::alloc::Global;
+use std::alloc::{AllocError, Global};
 use std::rc::Rc;
 
 /// The code of a tree.
 #[cycle(compile)]
 pub fn compile_tree(alloc: Global, expr: &Expr) -> Result<Vec<Instr>, Refused>
-    ensures { IfOk result (λ code. map op code.items ≡ code_of (term expr.now)) }
+    ensures value { IfOk result (λ code. map op code.items ≡ code_of (term expr.now)) }
+    ensures memory { IfErr result (λ e. e ≡ Refused.Memory) }
 {
     match expr {
-        Expr::Literal(value) => one(alloc, Instr::Push(value.try_clone()?)),
-        Expr::Ident(name) => one(alloc, Instr::Load(name.clone()?)),
+        Expr::Literal(value) => Ok(one(alloc, Instr::Push(value.try_clone()?))?),
+        Expr::Ident(name) => Ok(one(alloc, Instr::Load(name.clone()?))?),
         Expr::Select(operand, name) => {
             let code = compile_tree(alloc, operand)?;
-            let last = one(alloc, Instr::Select(Key::String(name.clone()?)))?;
-            join_operand(code, 0, last)
+            let key = Key::String(name.clone()?);
+            Ok(join_one(alloc, Operation::Select(key), code)?)
         }
         Expr::Has(operand, name) => {
             let code = compile_tree(alloc, operand)?;
-            let last = one(alloc, Instr::Has(Key::String(name.clone()?)))?;
-            join_operand(code, 0, last)
+            let key = Key::String(name.clone()?);
+            Ok(join_one(alloc, Operation::Has(key), code)?)
         }
         Expr::Index(operand, index) => {
             let first = compile_tree(alloc, operand)?;
             let second = compile_tree(alloc, index)?;
-            join_index(alloc, first, second)
+            Ok(join_both(alloc, Operation::Index, first, second)?)
         }
         Expr::Unary(operator, operand) => {
             let code = compile_tree(alloc, operand)?;
-            let last = one(alloc, Instr::Unary(*operator))?;
-            join_operand(code, 0, last)
+            Ok(join_one(alloc, Operation::Unary(*operator), code)?)
         }
         Expr::Binary(operator, left, right) => {
             let first = compile_tree(alloc, left)?;
             let second = compile_tree(alloc, right)?;
-            join_binary(alloc, *operator, first, second)
+            Ok(join_binary(alloc, *operator, first, second)?)
         }
         Expr::Cond(test, yes, no) => {
             let first = compile_tree(alloc, test)?;
             let second = compile_tree(alloc, yes)?;
             let third = compile_tree(alloc, no)?;
-            join_branches(Test::Condition, first, second, third)
+            Ok(join_branches(Test::Condition, first, second, third)?)
         }
         Expr::List(items) => {
             let codes = compile_all(alloc, items)?;
@@ -88,10 +88,21 @@ pub fn compile_tree(alloc: Global, expr: &Expr) -> Result<Vec<Instr>, Refused>
             let first = compile_tree(alloc, range)?;
             let second = compile_tree(alloc, body)?;
             match filter {
-                None => join_macro(alloc, *kind, first, variable.clone()?, None, second),
+                None => {
+                    let all = join_macro(alloc, *kind, first, variable.clone()?, None, second)?;
+                    Ok(all)
+                }
                 Some(filter) => {
                     let test = compile_tree(alloc, filter)?;
-                    join_macro(alloc, *kind, first, variable.clone()?, Some(test), second)
+                    let all = join_macro(
+                        alloc,
+                        *kind,
+                        first,
+                        variable.clone()?,
+                        Some(test),
+                        second,
+                    )?;
+                    Ok(all)
                 }
             }
         }
@@ -101,7 +112,8 @@ pub fn compile_tree(alloc: Global, expr: &Expr) -> Result<Vec<Instr>, Refused>
 /// The code of each tree.
 #[cycle(compile)]
 fn compile_all(alloc: Global, items: &Vec<Expr>) -> Result<Vec<Vec<Instr>>, Refused>
-    ensures { IfOk result (λ codes. codes_view codes.items ≡ codes_of (terms_of (map term items.now.items))) }
+    ensures value { IfOk result (λ codes. codes_view codes.items ≡ codes_of (terms_of (map term items.now.items))) }
+    ensures memory { IfErr result (λ e. e ≡ Refused.Memory) }
 {
     let mut codes = Vec::new(alloc);
     for item in items {
@@ -116,7 +128,8 @@ fn compile_pairs(
     alloc: Global,
     pairs: &Vec<(Expr, Expr)>,
 ) -> Result<Vec<(Vec<Instr>, Vec<Instr>)>, Refused>
-    ensures { IfOk result (λ codes. pairs_view codes.items ≡ pair_codes (pairs_of (map (λ p. (term p.0, term p.1)) pairs.now.items))) }
+    ensures value { IfOk result (λ codes. pairs_view codes.items ≡ pair_codes (pairs_of (map (λ p. (term p.0, term p.1)) pairs.now.items))) }
+    ensures memory { IfErr result (λ e. e ≡ Refused.Memory) }
 {
     let mut codes = Vec::new(alloc);
     for pair in pairs {
@@ -127,7 +140,7 @@ fn compile_pairs(
     Ok(codes)
 }
 
-fn one(alloc: Global, instr: Instr) -> Result<Vec<Instr>, Refused>
+fn one(alloc: Global, instr: Instr) -> Result<Vec<Instr>, AllocError>
     ensures { IfOk result (λ code. map op code.items ≡ op instr ∷ []) }
 {
     let mut code = Vec::new(alloc);
@@ -136,7 +149,11 @@ fn one(alloc: Global, instr: Instr) -> Result<Vec<Instr>, Refused>
 }
 
 /// An operand of a strict form, over so many values of operands before it, and what follows it there.
-fn join_operand(code: Vec<Instr>, under: usize, mut rest: Vec<Instr>) -> Result<Vec<Instr>, Refused>
+fn join_operand(
+    code: Vec<Instr>,
+    under: usize,
+    mut rest: Vec<Instr>,
+) -> Result<Vec<Instr>, AllocError>
     ensures { IfOk result (λ all. map op all.items ≡ operand (map op code.items) under (map op rest.items)) }
 {
     let mut all = code;
@@ -149,7 +166,7 @@ fn join_operand(code: Vec<Instr>, under: usize, mut rest: Vec<Instr>) -> Result<
 }
 
 /// One more instruction in front of code that is written from its end on.
-fn prepend_one(rest: &mut Vec<Instr>, instr: Instr) -> Result<(), Refused>
+fn prepend_one(rest: &mut Vec<Instr>, instr: Instr) -> Result<(), AllocError>
     ensures { OnOk result (from_end rest.new.items ≡ op instr ∷ from_end rest.old.items) }
 {
     rest.push(instr)?;
@@ -157,7 +174,7 @@ fn prepend_one(rest: &mut Vec<Instr>, instr: Instr) -> Result<(), Refused>
 }
 
 /// An operand, over so many values, in front of code that is written from its end on.
-fn prepend_operand(code: Vec<Instr>, under: usize, rest: &mut Vec<Instr>) -> Result<(), Refused>
+fn prepend_operand(code: Vec<Instr>, under: usize, rest: &mut Vec<Instr>) -> Result<(), AllocError>
     ensures { OnOk result (from_end rest.new.items ≡ operand (map op code.items) under (from_end rest.old.items)) }
 {
     let past = rest.len();
@@ -173,7 +190,7 @@ fn join_operands(
     codes: Vec<Vec<Instr>>,
     under: usize,
     last: Vec<Instr>,
-) -> Result<Vec<Instr>, Refused>
+) -> Result<Vec<Instr>, AllocError>
     requires { under ≤ 1 }
     ensures { IfOk result (λ all. map op all.items ≡ operands (codes_view codes.items) under (map op last.items)) }
 {
@@ -188,43 +205,64 @@ fn join_operands(
 }
 
 /// The code of a list.
-fn join_list(alloc: Global, codes: Vec<Vec<Instr>>) -> Result<Vec<Instr>, Refused>
+fn join_list(alloc: Global, codes: Vec<Vec<Instr>>) -> Result<Vec<Instr>, AllocError>
     ensures { IfOk result (λ all. (ts : Terms) → codes_view codes.items ≡ codes_of ts → map op all.items ≡ code_of (list_of ts)) }
 {
-    let last = one(alloc, Instr::List(codes.len()))?;
+    let last = one(alloc, Instr::Apply(Operation::List(codes.len())))?;
     join_operands(codes, 0, last)
 }
 
-/// The code of an index.
-fn join_index(alloc: Global, left: Vec<Instr>, right: Vec<Instr>) -> Result<Vec<Instr>, Refused>
-    ensures { IfOk result (λ all. map op all.items ≡ both_with indexed_by (map op left.items) (map op right.items)) }
+/// The code of an operation on one value.
+fn join_one(alloc: Global, operation: Operation, code: Vec<Instr>) -> Result<Vec<Instr>, AllocError>
+    requires { operands_of operation ≡ 1 }
+    ensures { IfOk result (λ all. map op all.items ≡ one_with (work_of operation) (map op code.items)) }
 {
-    let last = one(alloc, Instr::Index)?;
+    let last = one(alloc, Instr::Apply(operation))?;
+    join_operand(code, 0, last)
+}
+
+/// The code of an operation on two values.
+fn join_both(
+    alloc: Global,
+    operation: Operation,
+    left: Vec<Instr>,
+    right: Vec<Instr>,
+) -> Result<Vec<Instr>, AllocError>
+    requires { operands_of operation ≡ 2 }
+    ensures { IfOk result (λ all. map op all.items ≡ both_with (work_of operation) (map op left.items) (map op right.items)) }
+{
+    let last = one(alloc, Instr::Apply(operation))?;
     let rest = join_operand(right, 1, last)?;
     join_operand(left, 0, rest)
 }
 
 /// An entry of a map literal in front of code that is written from its end on.
-fn prepend_entry(key: Vec<Instr>, value: Vec<Instr>, rest: &mut Vec<Instr>) -> Result<(), Refused>
+fn prepend_entry(
+    key: Vec<Instr>,
+    value: Vec<Instr>,
+    rest: &mut Vec<Instr>,
+) -> Result<(), AllocError>
     ensures { OnOk result (from_end rest.new.items ≡ entry_code (map op key.items) (map op value.items) (from_end rest.old.items)) }
 {
     let past = rest.len();
     prepend_one(rest, Instr::Guard { under: 0, past })?;
-    prepend_one(rest, Instr::Put)?;
+    prepend_one(rest, Instr::Apply(Operation::Put))?;
     prepend_operand(value, 2, rest)?;
     prepend_operand(key, 1, rest)
 }
 
 /// Pushes a map with no entry.
 fn empty_map(alloc: Global) -> Result<Instr, Refused>
-    ensures { IfOk result (λ i. op i ≡ push (map_of no_entries)) }
+    ensures value { IfOk result (λ i. op i ≡ push (map_of no_entries)) }
+    ensures memory { IfErr result (λ e. e ≡ Refused.Memory) }
 {
     Ok(Instr::Push(Value::from_entries(alloc, Map::new(alloc))?))
 }
 
 /// The code of a map literal.
 fn join_map(alloc: Global, pairs: Vec<(Vec<Instr>, Vec<Instr>)>) -> Result<Vec<Instr>, Refused>
-    ensures { IfOk result (λ all. map op all.items ≡ push (map_of no_entries) ∷ entries_code (pairs_view pairs.items) []) }
+    ensures value { IfOk result (λ all. map op all.items ≡ push (map_of no_entries) ∷ entries_code (pairs_view pairs.items) []) }
+    ensures memory { IfErr result (λ e. e ≡ Refused.Memory) }
 {
     let mut before = pairs;
     let mut rest = Vec::new(alloc);
@@ -244,7 +282,7 @@ fn join_form(
     receiver: bool,
     count: usize,
     mut rest: Vec<Instr>,
-) -> Result<Vec<Instr>, Refused>
+) -> Result<Vec<Instr>, AllocError>
     ensures { IfOk result (λ all. map op all.items ≡ after_form (string_bytes name.now.value) receiver count (map op rest.items)) }
 {
     let past = rest.len();
@@ -261,20 +299,12 @@ fn join_form(
     Ok(all)
 }
 
-fn function_call(name: &Rc<String>, count: usize) -> Result<Instr, Refused>
-    ensures { IfOk result (λ i. op i ≡ invoke (string_bytes name.now.value) 0 count) }
+fn call_instr(name: &Rc<String>, receiver: bool, count: usize) -> Result<Instr, AllocError>
+    ensures { IfOk result (λ i. op i ≡ invoke (string_bytes name.now.value) (receivers receiver) count) }
 {
     Ok(Instr::Call {
         name: name.clone()?,
-        count,
-    })
-}
-
-fn method_call(name: &Rc<String>, count: usize) -> Result<Instr, Refused>
-    ensures { IfOk result (λ i. op i ≡ invoke (string_bytes name.now.value) 1 count) }
-{
-    Ok(Instr::Method {
-        name: name.clone()?,
+        receiver,
         count,
     })
 }
@@ -284,11 +314,11 @@ fn join_function(
     alloc: Global,
     name: &Rc<String>,
     codes: Vec<Vec<Instr>>,
-) -> Result<Vec<Instr>, Refused>
+) -> Result<Vec<Instr>, AllocError>
     ensures { IfOk result (λ all. (ts : Terms) → codes_view codes.items ≡ codes_of ts → map op all.items ≡ code_of (qualified (string_bytes name.now.value) ts)) }
 {
     let count = codes.len();
-    let instr = function_call(name, count)?;
+    let instr = call_instr(name, false, count)?;
     let last = one(alloc, instr)?;
     let rest = join_operands(codes, 0, last)?;
     join_form(alloc, name, false, count, rest)
@@ -300,33 +330,19 @@ fn join_method(
     name: &Rc<String>,
     receiver: Vec<Instr>,
     codes: Vec<Vec<Instr>>,
-) -> Result<Vec<Instr>, Refused>
+) -> Result<Vec<Instr>, AllocError>
     ensures { IfOk result (λ all. (t : Term) (ts : Terms) → map op receiver.items ≡ code_of t → codes_view codes.items ≡ codes_of ts → map op all.items ≡ code_of (call (term_and t no_terms) (string_bytes name.now.value) ts)) }
 {
     let count = codes.len();
-    let instr = method_call(name, count)?;
+    let instr = call_instr(name, true, count)?;
     let last = one(alloc, instr)?;
     let front = join_operands(codes, 1, last)?;
     let rest = join_operand(receiver, 0, front)?;
     join_form(alloc, name, true, count, rest)
 }
 
-/// The code of an operator that takes both values.
-fn join_both(
-    alloc: Global,
-    operator: BinaryOperator,
-    left: Vec<Instr>,
-    right: Vec<Instr>,
-) -> Result<Vec<Instr>, Refused>
-    ensures { IfOk result (λ all. map op all.items ≡ both_with (two_values operator) (map op left.items) (map op right.items)) }
-{
-    let last = one(alloc, Instr::Binary(operator))?;
-    let rest = join_operand(right, 1, last)?;
-    join_operand(left, 0, rest)
-}
-
 /// The code of `&&` and `||`.
-fn join_logic(stop: bool, left: Vec<Instr>, mut right: Vec<Instr>) -> Result<Vec<Instr>, Refused>
+fn join_logic(stop: bool, left: Vec<Instr>, mut right: Vec<Instr>) -> Result<Vec<Instr>, AllocError>
     ensures { IfOk result (λ all. map op all.items ≡ logic stop (map op left.items) (map op right.items)) }
 {
     let past = right.len() + 1;
@@ -343,26 +359,13 @@ fn join_binary(
     operator: BinaryOperator,
     left: Vec<Instr>,
     right: Vec<Instr>,
-) -> Result<Vec<Instr>, Refused>
+) -> Result<Vec<Instr>, AllocError>
     ensures { IfOk result (λ all. map op all.items ≡ binary_code operator (map op left.items) (map op right.items)) }
 {
     match operator {
         BinaryOperator::Or => join_logic(true, left, right),
         BinaryOperator::And => join_logic(false, left, right),
-        BinaryOperator::Less => join_both(alloc, BinaryOperator::Less, left, right),
-        BinaryOperator::LessOrEqual => join_both(alloc, BinaryOperator::LessOrEqual, left, right),
-        BinaryOperator::Greater => join_both(alloc, BinaryOperator::Greater, left, right),
-        BinaryOperator::GreaterOrEqual => {
-            join_both(alloc, BinaryOperator::GreaterOrEqual, left, right)
-        }
-        BinaryOperator::Equal => join_both(alloc, BinaryOperator::Equal, left, right),
-        BinaryOperator::NotEqual => join_both(alloc, BinaryOperator::NotEqual, left, right),
-        BinaryOperator::In => join_both(alloc, BinaryOperator::In, left, right),
-        BinaryOperator::Add => join_both(alloc, BinaryOperator::Add, left, right),
-        BinaryOperator::Subtract => join_both(alloc, BinaryOperator::Subtract, left, right),
-        BinaryOperator::Multiply => join_both(alloc, BinaryOperator::Multiply, left, right),
-        BinaryOperator::Divide => join_both(alloc, BinaryOperator::Divide, left, right),
-        BinaryOperator::Remainder => join_both(alloc, BinaryOperator::Remainder, left, right),
+        _ => join_both(alloc, Operation::Binary(operator), left, right),
     }
 }
 
@@ -372,7 +375,7 @@ fn join_branches(
     test: Vec<Instr>,
     mut yes: Vec<Instr>,
     mut no: Vec<Instr>,
-) -> Result<Vec<Instr>, Refused>
+) -> Result<Vec<Instr>, AllocError>
     ensures { IfOk result (λ all. map op all.items ≡ choice_code (test_name kind) (map op test.items) (map op yes.items) (map op no.items)) }
 {
     let other = yes.len() + 1;
@@ -390,11 +393,10 @@ fn join_branches(
 }
 
 /// A body behind a filter.
-fn join_filter(alloc: Global, test: Vec<Instr>, body: Vec<Instr>) -> Result<Vec<Instr>, Refused>
+fn join_filter(alloc: Global, test: Vec<Instr>, body: Vec<Instr>) -> Result<Vec<Instr>, AllocError>
     ensures { IfOk result (λ all. map op all.items ≡ filter_code (map op test.items) (map op body.items)) }
 {
-    let last = one(alloc, Instr::Present)?;
-    let yes = join_operand(body, 0, last)?;
+    let yes = join_one(alloc, Operation::Present, body)?;
     let no = one(alloc, Instr::Push(Value::Optional(OptionalValue::none())))?;
     join_branches(Test::Filter, test, yes, no)
 }
@@ -406,7 +408,7 @@ fn join_loop(
     range: Vec<Instr>,
     variable: Rc<String>,
     mut body: Vec<Instr>,
-) -> Result<Vec<Instr>, Refused>
+) -> Result<Vec<Instr>, AllocError>
     ensures { IfOk result (λ all. map op all.items ≡ loop kind filtered (map op range.items) (string_bytes variable.value) (map op body.items)) }
 {
     let past = body.len() + 1;
@@ -429,7 +431,7 @@ fn join_macro(
     variable: Rc<String>,
     filter: Option<Vec<Instr>>,
     body: Vec<Instr>,
-) -> Result<Vec<Instr>, Refused>
+) -> Result<Vec<Instr>, AllocError>
     ensures { IfOk result (λ all. map op all.items ≡ macro_code kind (map op range.items) (string_bytes variable.value) (filter_codes filter) (map op body.items)) }
 {
     match kind {

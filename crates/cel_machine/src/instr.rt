@@ -11,19 +11,9 @@ pub enum Test {
     Filter,
 }
 
-/// One instruction. It takes its operands from a stack of values, each of them a value or the error that stands for it, and leaves its
-/// result there. A jump says how many instructions it passes.
+/// What is done with values once all of them are there.
 #[derive(Drop)]
-pub enum Instr {
-    /// Pushes a value.
-    Push(Value),
-    /// Pushes what a name is bound to.
-    Load(Rc<String>),
-    /// Where the top is an error, drops so many values under it and passes so many instructions.
-    Guard {
-        under: usize,
-        past: usize,
-    },
+pub enum Operation {
     /// An operator on one value.
     Unary(UnaryOperator),
     /// An operator on two values.
@@ -40,6 +30,23 @@ pub enum Instr {
     Put,
     /// An optional value that holds the top.
     Present,
+}
+
+/// One instruction. It takes its operands from a stack of values, each of them a value or the error that stands for it, and leaves its
+/// result there. A jump says how many instructions it passes.
+#[derive(Drop)]
+pub enum Instr {
+    /// Pushes a value.
+    Push(Value),
+    /// Pushes what a name is bound to.
+    Load(Rc<String>),
+    /// Where the top is an error, drops so many values under it and passes so many instructions.
+    Guard {
+        under: usize,
+        past: usize,
+    },
+    /// An operation on the topmost values.
+    Apply(Operation),
     /// How a name may be called with a receiver or without, with so many arguments: goes on, or passes so many instructions with an error.
     Form {
         name: Rc<String>,
@@ -47,14 +54,10 @@ pub enum Instr {
         count: usize,
         past: usize,
     },
-    /// A call with so many arguments.
+    /// A call with a receiver or without, with so many arguments.
     Call {
         name: Rc<String>,
-        count: usize,
-    },
-    /// A call with a receiver and so many arguments.
-    Method {
-        name: Rc<String>,
+        receiver: bool,
         count: usize,
     },
     /// A test: goes on where it holds, or passes `other` instructions where it does not, or `past` both with an error.

@@ -6,10 +6,11 @@ mod compile;
 mod instr;
 mod loops;
 mod operands;
+mod operations;
 mod run;
 mod state;
 mod turns;
 
 pub use compile::compile_tree;
-pub use instr::{Instr, Test};
+pub use instr::{Instr, Operation, Test};
 pub use run::run_code;

@@ -1,27 +1,17 @@
-//! What an instruction does with the operands on the stack.
-ghost use Rattle.std.specs.Prelude.{◌≡◌, ◌∷◌, [], ◌<◌, ◌≤◌, ◌+◌, ℕ, IfOk, List, Option, Ok, drop, length, map, Some, None, MatchOption};
-ghost use Rattle.cel_book.specs.Book.{Book};
+//! Operands on the stack, and the instructions that test them.
+ghost use Rattle.std.specs.Prelude.{◌≡◌, ◌∷◌, [], ◌<◌, ◌≤◌, ◌+◌, ℕ, IfOk, IfErr, List, Ok, drop, length, map, Some, None, MatchOption};
 ghost use Rattle.cel_value.specs.Data.{Data};
-ghost use Rattle.cel_value.specs.Faults.{Fault};
-ghost use Rattle.cel_value.specs.Keys.{key_view};
 ghost use Rattle.cel_value.specs.View.{view};
-ghost use Rattle.cel_meaning.specs.Bindings.{Bindings};
-ghost use Rattle.cel_meaning.specs.Library.{Library};
-ghost use Rattle.cel_meaning.specs.Outcome.{outcome_view};
-ghost use Rattle.cel_machine.specs.Machine.{Loop, turn, guarded, branched, absorbed, joined, limit, logic_name, taken};
-ghost use Rattle.cel_machine.specs.Op.{apply, one_value, two_values, selected_at, has_at, indexed_by, as_list, put_entry, as_present, test_name};
+ghost use Rattle.cel_machine.specs.Machine.{guarded, branched, absorbed, joined, logic_name, taken};
+ghost use Rattle.cel_machine.specs.Op.{test_name};
 ghost use Rattle.cel_machine.specs.State.{outcomes, aside};
-ghost use Rattle.cel_machine.specs.Correct.{Reaches, Lacks};
+ghost use Rattle.cel_machine.specs.Correct.{Turns, TurnsValues, Lacks};
 
 use crate::instr::Test;
 use crate::state::{pop_answer, pop_aside, push_answer, push_aside};
-use cel_meaning::members::{has, index, put, select};
-use cel_meaning::operators::{
-    Answer, Progress, absorb, no_such_overload, operate, operate_on_one, settle,
-};
-use cel_syntax_tree::{BinaryOperator, UnaryOperator};
-use cel_value::{ExecutionError, Key, OptionalValue, Refused, Value};
-use std::alloc::Global;
+use cel_meaning::operators::{Answer, Progress, absorb, no_such_overload, settle};
+use cel_value::{ExecutionError, Refused, Value};
+use std::alloc::{AllocError, Global};
 
 /// The place so many instructions past the next one, if it is no later than the end.
 pub(crate) fn jump(place: usize, past: usize, end: usize) -> Option<usize>
@@ -57,10 +47,9 @@ pub(crate) fn guard(
     place: usize,
     end: usize,
     values: &mut Vec<Answer>,
-) -> Result<Option<usize>, Refused>
+) -> Result<Option<usize>, AllocError>
     requires { place < end }
-    ensures { IfOk result (λ q. (size : ℕ) (ab : List (Option Fault)) (ls : List Loop) → limit size ls ≡ end
-        → Reaches size place end (guarded under past place (outcomes values.old.items) ab ls) q (outcomes values.new.items) ab ls) }
+    ensures { IfOk result (λ q. TurnsValues place end (guarded under past place (outcomes values.old.items)) q (outcomes values.new.items)) }
 {
     match pop_answer(values) {
         None => Ok(None),
@@ -99,8 +88,8 @@ pub(crate) fn branch(
     values: &mut Vec<Answer>,
 ) -> Result<Option<usize>, Refused>
     requires { place < end }
-    ensures { IfOk result (λ q. (size : ℕ) (ab : List (Option Fault)) (ls : List Loop) → limit size ls ≡ end
-        → Reaches size place end (branched (test_name test) other past place (outcomes values.old.items) ab ls) q (outcomes values.new.items) ab ls) }
+    ensures value { IfOk result (λ q. TurnsValues place end (branched (test_name test) other past place (outcomes values.old.items)) q (outcomes values.new.items)) }
+    ensures memory { IfErr result (λ e. e ≡ Refused.Memory) }
 {
     match pop_answer(values) {
         None => Ok(None),
@@ -130,8 +119,8 @@ pub(crate) fn take_left(
     kept: &mut Vec<Option<ExecutionError>>,
 ) -> Result<Option<usize>, Refused>
     requires { place < end }
-    ensures { IfOk result (λ q. (size : ℕ) (ls : List Loop) → limit size ls ≡ end
-        → Reaches size place end (absorbed stop past place (outcomes values.old.items) (aside kept.old.items) ls) q (outcomes values.new.items) (aside kept.new.items) ls) }
+    ensures value { IfOk result (λ q. Turns place end (absorbed stop past place (outcomes values.old.items) (aside kept.old.items)) q (outcomes values.new.items) (aside kept.new.items)) }
+    ensures memory { IfErr result (λ e. e ≡ Refused.Memory) }
 {
     match pop_answer(values) {
         None => Ok(None),
@@ -158,8 +147,8 @@ pub(crate) fn take_right(
     kept: &mut Vec<Option<ExecutionError>>,
 ) -> Result<Option<usize>, Refused>
     requires { place < end }
-    ensures { IfOk result (λ q. (size : ℕ) (ls : List Loop) → limit size ls ≡ end
-        → Reaches size place end (joined stop place (outcomes values.old.items) (aside kept.old.items) ls) q (outcomes values.new.items) (aside kept.new.items) ls) }
+    ensures value { IfOk result (λ q. Turns place end (joined stop place (outcomes values.old.items) (aside kept.old.items)) q (outcomes values.new.items) (aside kept.new.items)) }
+    ensures memory { IfErr result (λ e. e ≡ Refused.Memory) }
 {
     match pop_answer(values) {
         None => Ok(None),
@@ -179,163 +168,6 @@ pub(crate) fn take_right(
     }
 }
 
-/// An operator on one value.
-pub(crate) fn unary(
-    alloc: Global,
-    operator: UnaryOperator,
-    place: usize,
-    end: usize,
-    values: &mut Vec<Answer>,
-) -> Result<Option<usize>, Refused>
-    requires { place < end }
-    ensures { IfOk result (λ q. (library : Library) (b : Book) (env : Bindings) (size : ℕ) (ab : List (Option Fault)) (ls : List Loop) → limit size ls ≡ end
-        → Reaches size place end (turn library b env size (apply (one_value operator) 1) place (outcomes values.old.items) ab ls) q (outcomes values.new.items) ab ls) }
-{
-    match pop_answer(values) {
-        None => Ok(None),
-        Some(answer) => match answer {
-            Ok(value) => {
-                push_answer(values, operate_on_one(alloc, operator, &value)?)?;
-                Ok(Some(place + 1))
-            }
-            Err(_) => Ok(None),
-        },
-    }
-}
-
-/// An operator on two values.
-pub(crate) fn binary(
-    alloc: Global,
-    operator: BinaryOperator,
-    place: usize,
-    end: usize,
-    values: &mut Vec<Answer>,
-) -> Result<Option<usize>, Refused>
-    requires { place < end }
-    ensures { IfOk result (λ q. (library : Library) (b : Book) (env : Bindings) (size : ℕ) (ab : List (Option Fault)) (ls : List Loop) → limit size ls ≡ end
-        → Reaches size place end (turn library b env size (apply (two_values operator) 2) place (outcomes values.old.items) ab ls) q (outcomes values.new.items) ab ls) }
-{
-    match pop_answer(values) {
-        None => Ok(None),
-        Some(last) => match last {
-            Err(_) => Ok(None),
-            Ok(right) => match pop_answer(values) {
-                None => Ok(None),
-                Some(first) => match first {
-                    Err(_) => Ok(None),
-                    Ok(left) => {
-                        push_answer(values, operate(alloc, operator, &left, &right)?)?;
-                        Ok(Some(place + 1))
-                    }
-                },
-            },
-        },
-    }
-}
-
-/// The member of a map at a key.
-pub(crate) fn member(
-    alloc: Global,
-    key: &Key,
-    place: usize,
-    end: usize,
-    values: &mut Vec<Answer>,
-) -> Result<Option<usize>, Refused>
-    requires { place < end }
-    ensures { IfOk result (λ q. (library : Library) (b : Book) (env : Bindings) (size : ℕ) (ab : List (Option Fault)) (ls : List Loop) → limit size ls ≡ end
-        → Reaches size place end (turn library b env size (apply (selected_at (key_view key.now)) 1) place (outcomes values.old.items) ab ls) q (outcomes values.new.items) ab ls) }
-{
-    match pop_answer(values) {
-        None => Ok(None),
-        Some(answer) => match answer {
-            Ok(value) => {
-                push_answer(values, select(alloc, key, &value)?)?;
-                Ok(Some(place + 1))
-            }
-            Err(_) => Ok(None),
-        },
-    }
-}
-
-/// Whether a map has a member at a key.
-pub(crate) fn member_there(
-    alloc: Global,
-    key: &Key,
-    place: usize,
-    end: usize,
-    values: &mut Vec<Answer>,
-) -> Result<Option<usize>, Refused>
-    requires { place < end }
-    ensures { IfOk result (λ q. (library : Library) (b : Book) (env : Bindings) (size : ℕ) (ab : List (Option Fault)) (ls : List Loop) → limit size ls ≡ end
-        → Reaches size place end (turn library b env size (apply (has_at (key_view key.now)) 1) place (outcomes values.old.items) ab ls) q (outcomes values.new.items) ab ls) }
-{
-    match pop_answer(values) {
-        None => Ok(None),
-        Some(answer) => match answer {
-            Ok(value) => {
-                push_answer(values, has(alloc, key, &value)?)?;
-                Ok(Some(place + 1))
-            }
-            Err(_) => Ok(None),
-        },
-    }
-}
-
-/// An optional value that holds the top.
-pub(crate) fn present(
-    alloc: Global,
-    place: usize,
-    end: usize,
-    values: &mut Vec<Answer>,
-) -> Result<Option<usize>, Refused>
-    requires { place < end }
-    ensures { IfOk result (λ q. (library : Library) (b : Book) (env : Bindings) (size : ℕ) (ab : List (Option Fault)) (ls : List Loop) → limit size ls ≡ end
-        → Reaches size place end (turn library b env size (apply as_present 1) place (outcomes values.old.items) ab ls) q (outcomes values.new.items) ab ls) }
-{
-    match pop_answer(values) {
-        None => Ok(None),
-        Some(answer) => match answer {
-            Ok(value) => {
-                push_answer(
-                    values,
-                    Ok(Value::Optional(OptionalValue::of(alloc, value)?)),
-                )?;
-                Ok(Some(place + 1))
-            }
-            Err(_) => Ok(None),
-        },
-    }
-}
-
-/// The item or the member of a value at an index.
-pub(crate) fn indexing(
-    alloc: Global,
-    place: usize,
-    end: usize,
-    values: &mut Vec<Answer>,
-) -> Result<Option<usize>, Refused>
-    requires { place < end }
-    ensures { IfOk result (λ q. (library : Library) (b : Book) (env : Bindings) (size : ℕ) (ab : List (Option Fault)) (ls : List Loop) → limit size ls ≡ end
-        → Reaches size place end (turn library b env size (apply indexed_by 2) place (outcomes values.old.items) ab ls) q (outcomes values.new.items) ab ls) }
-{
-    match pop_answer(values) {
-        None => Ok(None),
-        Some(last) => match last {
-            Err(_) => Ok(None),
-            Ok(at) => match pop_answer(values) {
-                None => Ok(None),
-                Some(first) => match first {
-                    Err(_) => Ok(None),
-                    Ok(value) => {
-                        push_answer(values, index(alloc, &value, &at)?)?;
-                        Ok(Some(place + 1))
-                    }
-                },
-            },
-        },
-    }
-}
-
 /// The topmost value, unless it is an error.
 pub(crate) fn pop_operand(values: &mut Vec<Answer>) -> Option<Value>
     ensures { MatchOption result (Lacks (outcomes values.old.items)) (λ v. outcomes values.old.items ≡ Ok (view v) ∷ outcomes values.new.items) }
@@ -349,12 +181,26 @@ pub(crate) fn pop_operand(values: &mut Vec<Answer>) -> Option<Value>
     }
 }
 
+/// The two topmost values, the lower one first.
+pub(crate) fn pop_two(values: &mut Vec<Answer>) -> Option<(Value, Value)>
+    ensures { MatchOption result ((ds : List Data) → taken 2 (outcomes values.old.items) ds ≡ None)
+        (λ p. outcomes values.old.items ≡ Ok (view p.1) ∷ Ok (view p.0) ∷ outcomes values.new.items) }
+{
+    match pop_operand(values) {
+        None => None,
+        Some(second) => match pop_operand(values) {
+            None => None,
+            Some(first) => Some((first, second)),
+        },
+    }
+}
+
 /// So many values from the top, the lowest first; none where there are not so many, or where one of them is an error.
 pub(crate) fn take_values(
     alloc: Global,
     count: usize,
     values: &mut Vec<Answer>,
-) -> Result<Option<Vec<Value>>, Refused>
+) -> Result<Option<Vec<Value>>, AllocError>
     ensures { IfOk result (λ o. MatchOption o (taken count (outcomes values.old.items) [] ≡ None)
         (λ v. (length v.items ≡ count) × (taken count (outcomes values.old.items) [] ≡ Some (map view v.items, outcomes values.new.items)))) }
 {
@@ -367,51 +213,4 @@ pub(crate) fn take_values(
     }
     found.reverse();
     Ok(Some(found))
-}
-
-/// A list of so many values.
-pub(crate) fn list(
-    alloc: Global,
-    count: usize,
-    place: usize,
-    end: usize,
-    values: &mut Vec<Answer>,
-) -> Result<Option<usize>, Refused>
-    requires { place < end }
-    ensures { IfOk result (λ q. (library : Library) (b : Book) (env : Bindings) (size : ℕ) (ab : List (Option Fault)) (ls : List Loop) → limit size ls ≡ end
-        → Reaches size place end (turn library b env size (apply as_list count) place (outcomes values.old.items) ab ls) q (outcomes values.new.items) ab ls) }
-{
-    match take_values(alloc, count, values)? {
-        None => Ok(None),
-        Some(items) => {
-            push_answer(values, Ok(Value::from_items(alloc, items)?))?;
-            Ok(Some(place + 1))
-        }
-    }
-}
-
-/// A map literal's next entry.
-pub(crate) fn put_next(
-    alloc: Global,
-    place: usize,
-    end: usize,
-    values: &mut Vec<Answer>,
-) -> Result<Option<usize>, Refused>
-    requires { place < end }
-    ensures { IfOk result (λ q. (library : Library) (b : Book) (env : Bindings) (size : ℕ) (ab : List (Option Fault)) (ls : List Loop) → limit size ls ≡ end
-        → Reaches size place end (turn library b env size (apply put_entry 3) place (outcomes values.old.items) ab ls) q (outcomes values.new.items) ab ls) }
-{
-    match pop_operand(values) {
-        None => Ok(None),
-        Some(value) => match pop_operand(values) {
-            None => Ok(None),
-            Some(key) => match pop_operand(values) {
-                None => Ok(None),
-                Some(map) => {
-                    push_answer(values, put(alloc, map, &key, &value)?)?;
-                    Ok(Some(place + 1))
-                }
-            },
-        },
-    }
 }

@@ -7,7 +7,8 @@ ghost use Rattle.cel_machine.specs.State.{outcomes, aside, loop_view, loops_view
 
 use cel_meaning::operators::Answer;
 use cel_syntax_tree::MacroKind;
-use cel_value::{ExecutionError, Refused, Value};
+use cel_value::{ExecutionError, Value};
+use std::alloc::AllocError;
 
 /// A loop: the item that its variable is bound to, the items that are left, the next one last, what the items so far gave to its result,
 /// and the places where its body starts and ends.
@@ -36,6 +37,13 @@ pub struct End {
     pub filtered: bool,
 }
 
+/// How a macro comes to its outcome: an item that is this bool decides it, or it is made of what the items gave.
+#[derive(Clone, Copy)]
+pub enum Way {
+    Decided(bool),
+    Made(MacroKind),
+}
+
 /// Where an instruction of a loop leads: to an item, past the loop, or out of all that it may reach.
 #[derive(Clone, Copy, Debug, PartialEq, Eq)]
 pub enum Entry {
@@ -44,7 +52,7 @@ pub enum Entry {
     Out,
 }
 
-pub fn push_answer(values: &mut Vec<Answer>, answer: Answer) -> Result<(), Refused>
+pub fn push_answer(values: &mut Vec<Answer>, answer: Answer) -> Result<(), AllocError>
     ensures { OnOk result (outcomes values.new.items ≡ outcome_view answer ∷ outcomes values.old.items) }
 {
     values.push(answer)?;
@@ -60,7 +68,7 @@ pub fn pop_answer(values: &mut Vec<Answer>) -> Option<Answer>
 pub fn push_aside(
     absorbed: &mut Vec<Option<ExecutionError>>,
     fault: Option<ExecutionError>,
-) -> Result<(), Refused>
+) -> Result<(), AllocError>
     ensures { OnOk result (aside absorbed.new.items ≡ option_map fault_view fault ∷ aside absorbed.old.items) }
 {
     absorbed.push(fault)?;
@@ -73,7 +81,7 @@ pub fn pop_aside(absorbed: &mut Vec<Option<ExecutionError>>) -> Option<Option<Ex
     absorbed.pop()
 }
 
-pub fn push_loop<'c>(loops: &mut Vec<LoopState<'c>>, state: LoopState<'c>) -> Result<(), Refused>
+pub fn push_loop<'c>(loops: &mut Vec<LoopState<'c>>, state: LoopState<'c>) -> Result<(), AllocError>
     ensures { OnOk result (loops_view loops.new.items ≡ loop_view state.entry ∷ loops_view loops.old.items) }
 {
     loops.push(state)?;
