@@ -2,11 +2,11 @@
 ghost use Rattle.kube_cel_places.specs.Spot.{member_path};
 ghost use Rattle.std.specs.Prelude.{◌≡◌, OnOk, string_bytes};
 
-use kube_types::Refused;
+use std::alloc::AllocError;
 
 /// Adds a key: `k` to the empty path, else `.k`.
 #[tactic(auto, unfolding(kube_cel_places::specs::Spot::member_path))]
-pub(crate) fn push_member(path: &mut String, key: &str) -> Result<(), Refused>
+pub(crate) fn push_member(path: &mut String, key: &str) -> Result<(), AllocError>
     ensures { OnOk result (string_bytes path.new ≡ member_path (string_bytes path.old) key.now) }
 {
     if !path.is_empty() {

@@ -7,12 +7,13 @@ ghost use Rattle.cel_meaning.specs.Outcome.{outcome_view};
 ghost use Rattle.cel_value.specs.Faults.{fault_view};
 ghost use Rattle.kube_cel.specs.Errors.{error_view};
 ghost use Rattle.kube_cel.specs.Places.{spot_at};
+ghost use Rattle.kube_cel.specs.Told.{AreAdded, IsVerdict};
 ghost use Rattle.kube_cel.specs.Verdicts.{compiled_verdict, failed_rule, fault_error, is_applicable, listed, malformed_error, no_bool, outcome_error, rule_bindings, rule_outcome, too_deep, undeclared_name, verdict, verdicts};
 ghost use Rattle.kube_schema.specs.Compilation.{error_view as malformed_view, result_view};
 ghost use Rattle.kube_schema.specs.Rules.{rule_view};
 ghost use Rattle.serde_json.specs.View.{view};
 ghost use Rattle.std.specs.List.{flat_map};
-ghost use Rattle.std.specs.Prelude.{◌≡◌, ◌++◌, IfOk, List, map, None, OnOk, option_map, string_bytes, ℕ};
+ghost use Rattle.std.specs.Prelude.{◌≡◌, ◌++◌, IfErr, IfOk, List, map, None, OnOk, option_map, string_bytes, ℕ};
 
 use crate::error::{ErrorKind, ValidationError};
 use crate::place::Place;
@@ -23,14 +24,14 @@ use kube_schema::{
 };
 use kube_types::Refused;
 use serde_json::Value;
-use std::alloc::Global;
+use std::alloc::{AllocError, Global};
 
 /// The number of steps at which a schema is too deep: its rules count up to depth 64.
 pub(crate) const TOO_DEEP: usize = 65;
 
 /// The error at a place past the greatest depth.
 #[tactic(auto, unfolding(crate::specs::Verdicts::too_deep))]
-fn deep_error(alloc: Global, path: &str) -> Result<ValidationError, Refused>
+fn deep_error(alloc: Global, path: &str) -> Result<ValidationError, AllocError>
     ensures { IfOk result (λ e. error_view e ≡ too_deep path.now) }
 {
     Ok(ValidationError {
@@ -51,7 +52,7 @@ fn rule_error(
     message: String,
     path: &str,
     cause: Option<ExecutionError>,
-) -> Result<ValidationError, Refused>
+) -> Result<ValidationError, AllocError>
     ensures { IfOk result (λ e. error_view e ≡ record {
       rule = rule.now;
       message = string_bytes message;
@@ -76,7 +77,7 @@ fn malformed_error(
     alloc: Global,
     error: CompilationError,
     path: &str,
-) -> Result<ValidationError, Refused>
+) -> Result<ValidationError, AllocError>
     ensures { IfOk result (λ e. error_view e ≡ malformed_error path.now (malformed_view error)) }
 {
     match error {
@@ -100,7 +101,7 @@ fn malformed_error(
 }
 
 /// The error of a rule that is false: its own message, else its text.
-fn failed_rule_error(alloc: Global, rule: &Rule, path: &str) -> Result<ValidationError, Refused>
+fn failed_rule_error(alloc: Global, rule: &Rule, path: &str) -> Result<ValidationError, AllocError>
     ensures { IfOk result (λ e. error_view e ≡ failed_rule path.now (rule_view rule.now)) }
 {
     let text = rule.rule.as_str();
@@ -119,7 +120,7 @@ fn failed_rule_error(alloc: Global, rule: &Rule, path: &str) -> Result<Validatio
 }
 
 /// The error of a rule whose value is no bool.
-fn no_bool_error(alloc: Global, rule: &str, path: &str) -> Result<ValidationError, Refused>
+fn no_bool_error(alloc: Global, rule: &str, path: &str) -> Result<ValidationError, AllocError>
     ensures { IfOk result (λ e. error_view e ≡ no_bool path.now rule.now) }
 {
     let message = format!(in alloc; "rule \"{rule}\" did not evaluate to bool")?;
@@ -154,7 +155,7 @@ fn fault_error(
     rule: &str,
     fault: ExecutionError,
     path: &str,
-) -> Result<ValidationError, Refused>
+) -> Result<ValidationError, AllocError>
     ensures { IfOk result (λ e. error_view e ≡ fault_error path.now rule.now (fault_view fault) (undeclared_name (fault_view fault))) }
 {
     let Some(name) = undeclared_name(&fault) else {
@@ -187,7 +188,7 @@ fn outcome_error(
     rule: &Rule,
     outcome: Result<CelValue, ExecutionError>,
     path: &str,
-) -> Result<Option<ValidationError>, Refused>
+) -> Result<Option<ValidationError>, AllocError>
     ensures { IfOk result (λ o. option_map error_view o ≡ outcome_error path.now (rule_view rule.now) (outcome_view outcome)) }
 {
     match outcome {
@@ -206,7 +207,8 @@ fn bindings_at<'a>(
     value: &Value,
     old: Option<&Value>,
 ) -> Result<Context<'a, StandardFunctions>, Refused>
-    ensures { IfOk result (λ c. (x : List ℕ) → binding x (bindings_of c) ≡ binding x (rule_bindings (view value.now) (option_map (λ v. view v.now) old.entry))) }
+    ensures bound { IfOk result (λ c. (x : List ℕ) → binding x (bindings_of c) ≡ binding x (rule_bindings (view value.now) (option_map (λ v. view v.now) old.entry))) }
+    ensures memory { IfErr result (λ e. e ≡ Refused.Memory) }
 {
     let mut context = Context::default(alloc);
     context.add_variable("self", bind_plain(alloc, value)?)?;
@@ -227,6 +229,7 @@ fn outcome_at(
     ensures keeps { (b : Book) → Agrees b (entries_of book.new) → Agrees b (entries_of book.old) }
     ensures found { IfOk result (λ r. (b : Book) → Agrees b (entries_of book.new)
         → outcome_view r ≡ rule_outcome b (program_term program.now) (view place.entry.value.now) (option_map (λ v. view v.now) place.entry.old)) }
+    ensures memory { IfErr result (λ e. e ≡ Refused.Memory) }
 {
     let context = bindings_at(alloc, place.value, place.old)?;
     let outcome = program.execute_with(alloc, &context, book)?;
@@ -250,8 +253,9 @@ fn judge_compiled(
     book: &mut PatternBook,
 ) -> Result<Option<ValidationError>, Refused>
     ensures keeps { (b : Book) → Agrees b (entries_of book.new) → Agrees b (entries_of book.old) }
-    ensures found { IfOk result (λ o. (b : Book) → Agrees b (entries_of book.new)
-        → option_map error_view o ≡ compiled_verdict b (spot_at place.entry path.now) (result_view rule.now)) }
+    ensures found { IfOk result (λ o. IsVerdict (entries_of book.new) o
+        (λ b. compiled_verdict b (spot_at place.entry path.now) (result_view rule.now))) }
+    ensures memory { IfErr result (λ e. e ≡ Refused.Memory) }
 {
     if !is_applicable(rule, place.old) {
         return Ok(None);
@@ -270,8 +274,9 @@ fn judge_rule(
     book: &mut PatternBook,
 ) -> Result<Option<ValidationError>, Refused>
     ensures keeps { (b : Book) → Agrees b (entries_of book.new) → Agrees b (entries_of book.old) }
-    ensures found { IfOk result (λ o. (b : Book) → Agrees b (entries_of book.new)
-        → option_map error_view o ≡ verdict b (spot_at place.entry path.now) (view rule.now)) }
+    ensures found { IfOk result (λ o. IsVerdict (entries_of book.new) o
+        (λ b. verdict b (spot_at place.entry path.now) (view rule.now))) }
+    ensures memory { IfErr result (λ e. e ≡ Refused.Memory) }
 {
     match compile_rule(alloc, rule)? {
         Err(error) => Ok(Some(malformed_error(alloc, error, path)?)),
@@ -286,7 +291,7 @@ fn judge_rule(
 fn push_listed(
     error: Option<ValidationError>,
     errors: &mut Vec<ValidationError>,
-) -> Result<(), Refused>
+) -> Result<(), AllocError>
     ensures { OnOk result (map error_view errors.new.items ≡ map error_view errors.old.items ++ listed (option_map error_view error)) }
 {
     let Some(error) = error else {
@@ -305,9 +310,9 @@ fn judge_rules(
     errors: &mut Vec<ValidationError>,
 ) -> Result<(), Refused>
     ensures keeps { (b : Book) → Agrees b (entries_of book.new) → Agrees b (entries_of book.old) }
-    ensures found { OnOk result ((b : Book) → Agrees b (entries_of book.new)
-        → map error_view errors.new.items ≡ map error_view errors.old.items
-        ++ flat_map (λ rule. listed (verdict b (spot_at place.entry path.now) (view rule))) rules.now) }
+    ensures found { OnOk result (AreAdded (entries_of book.new) errors.old.items errors.new.items
+        (λ b. flat_map (λ rule. listed (verdict b (spot_at place.entry path.now) (view rule))) rules.now)) }
+    ensures memory { IfErr result (λ e. e ≡ Refused.Memory) }
 {
     for rule in rules {
         let error = judge_rule(*errors.allocator(), rule, place, path, book)?;
@@ -324,8 +329,9 @@ pub(crate) fn judge(
     errors: &mut Vec<ValidationError>,
 ) -> Result<(), Refused>
     ensures keeps { (b : Book) → Agrees b (entries_of book.new) → Agrees b (entries_of book.old) }
-    ensures found { OnOk result ((b : Book) → Agrees b (entries_of book.new)
-        → map error_view errors.new.items ≡ map error_view errors.old.items ++ verdicts b (spot_at place.entry path.now)) }
+    ensures found { OnOk result (AreAdded (entries_of book.new) errors.old.items errors.new.items
+        (λ b. verdicts b (spot_at place.entry path.now))) }
+    ensures memory { IfErr result (λ e. e ≡ Refused.Memory) }
 {
     if place.depth == TOO_DEEP {
         let error = deep_error(*errors.allocator(), path)?;

@@ -1,12 +1,12 @@
 //! The rules of a schema's node, as JSON gives them (Kubernetes API reference, ValidationRule of
 //! CustomResourceDefinition; "Use CEL validation rules").
-ghost use Rattle.std.specs.Prelude.{◌≡◌, IfOk, option_map, string_bytes};
+ghost use Rattle.std.specs.Prelude.{◌≡◌, IfErr, IfOk, option_map, string_bytes};
 ghost use Rattle.serde_json.specs.View.{view, items_view};
 ghost use Rattle.kube_schema.specs.Rules.{fault_view, text_at, rule_of, rule_items, parts_view, rule_view, read};
 
 use kube_schema_values::Refused;
 use serde_json::Value;
-use std::alloc::Global;
+use std::alloc::{AllocError, Global};
 use std::fmt;
 
 /// Why a JSON value is no rule: its first fault.
@@ -61,7 +61,8 @@ impl Rule {
     ///
     /// [`Refused`] where memory is refused.
     pub fn from_json(alloc: Global, value: &Value) -> Result<Result<Rule, RuleFault>, Refused>
-        ensures { IfOk result (λ r. read rule_view r ≡ rule_of (view value.now)) }
+        ensures rule { IfOk result (λ r. read rule_view r ≡ rule_of (view value.now)) }
+        ensures memory { IfErr result (λ e. e ≡ Refused.Memory) }
     {
         match parts_of(value) {
             Err(fault) => Ok(Err(fault)),
@@ -78,7 +79,8 @@ impl Rule {
     ///
     /// [`Refused`] where memory is refused.
     pub fn try_clone(&self) -> Result<Rule, Refused>
-        ensures { IfOk result (λ r. rule_view r ≡ rule_view self.now) }
+        ensures same { IfOk result (λ r. rule_view r ≡ rule_view self.now) }
+        ensures memory { IfErr result (λ e. e ≡ Refused.Memory) }
     {
         Ok(Rule {
             rule: self.rule.clone()?,
@@ -126,7 +128,7 @@ fn parts_of(value: &Value) -> Result<Parts<'_>, RuleFault>
     Ok(Parts { rule, message })
 }
 
-fn copy_of(alloc: Global, text: Option<&str>) -> Result<Option<String>, Refused>
+fn copy_of(alloc: Global, text: Option<&str>) -> Result<Option<String>, AllocError>
     ensures { IfOk result (λ o. option_map string_bytes o ≡ option_map (λ s. s.now) text.entry) }
 {
     match text {
@@ -135,7 +137,7 @@ fn copy_of(alloc: Global, text: Option<&str>) -> Result<Option<String>, Refused>
     }
 }
 
-fn clone_of(text: &Option<String>) -> Result<Option<String>, Refused>
+fn clone_of(text: &Option<String>) -> Result<Option<String>, AllocError>
     ensures { IfOk result (λ o. option_map string_bytes o ≡ option_map string_bytes text.now) }
 {
     match text {
