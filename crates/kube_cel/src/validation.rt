@@ -20,7 +20,7 @@ use std::alloc::Global;
 pub struct Validator;
 
 impl Validator {
-    /// A validator. It takes no memory.
+    /// A validator. There is one such value alone, so that no contract tells it from another. It takes no memory.
     pub fn new() -> Validator {
         Validator
     }
