@@ -5,9 +5,10 @@ use Rattle.kube_cel.specs.Answers.{IsToldOf}
 use Rattle.kube_cel.specs.declared.error.ValidationErrors.{ValidationErrors}
 use Rattle.kube_cel_places.specs.Spot.{root_spot}
 use Rattle.serde_json.specs.Data.{Data}
-use Rattle.serde_json.specs.Read.{read_text}
+use Rattle.serde_json.specs.Read.{read as read_text}
 use Rattle.std.specs.declared.io.Error.{Error}
-use Rattle.std.specs.Prelude.{◌≡◌, ℕ, List, [], ◌∷◌, Option, Some, None, option_map, Result, Ok, Err, String, Global, codes, string_bytes, if◌then◌else◌}
+use Rattle.std.specs.Global.{Global}
+use Rattle.std.specs.Prelude.{◌≡◌, ℕ, List, [], ◌∷◌, Option, Some, None, option_map, Result, Ok, Err, String, codes, string_bytes, if◌then◌else◌}
 use Rattle.std.specs.Str.{bytes_eq}
 
 -- the files that a command names: a schema, an object, and the old object where it names one

@@ -7,7 +7,7 @@ ghost use Rattle.kube_cel.specs.ErrorLists.{errors_in};
 ghost use Rattle.kube_cel.specs.Texts.{errors_text};
 ghost use Rattle.serde_json.specs.View.{view};
 ghost use Rattle.std.specs.Io.KnownBytes.{Appends};
-ghost use Rattle.std.specs.Prelude.{◌≡◌, ◌≤◌, ◌++◌, ◌∷◌, [], ℕ, List, Option, Ok, Err, IfOk, map, option_map, string_bytes};
+ghost use Rattle.std.specs.Prelude.{⊤, ◌≡◌, ◌≤◌, ◌++◌, ◌∷◌, [], ℕ, List, Option, Ok, Err, IfOk, map, option_map, string_bytes};
 
 use kube_cel::{Refused, ValidationErrors, validate};
 use serde_json::Value;
