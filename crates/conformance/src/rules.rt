@@ -316,7 +316,7 @@ const TOLD: [Told; 12] = [
         reason: None,
         message: "no",
     },
-    // What begins with a dot or a bracket is told apart by the dot alone.
+    // Only a path that begins with a dot is not joined by one.
     Told {
         rule: "{\"rule\":\"false\",\"fieldPath\":\"['b']\"}",
         at_root: false,
