@@ -16,6 +16,7 @@ ghost use Rattle.std.specs.List.{flat_map};
 ghost use Rattle.std.specs.Prelude.{◌≡◌, ◌++◌, IfErr, IfOk, List, map, None, OnOk, option_map, string_bytes, ℕ};
 
 use crate::error::{ErrorKind, ValidationError};
+use crate::path::error_path;
 use crate::place::Place;
 use cel::{Context, PatternBook, Program, StandardFunctions};
 use cel_value::{ExecutionError, Value as CelValue};
@@ -50,13 +51,13 @@ fn rule_error(
     kind: ErrorKind,
     rule: &str,
     message: String,
-    path: &str,
+    field_path: String,
     cause: Option<ExecutionError>,
 ) -> Result<ValidationError, AllocError>
     ensures { IfOk result (λ e. error_view e ≡ record {
       rule = rule.now;
       message = string_bytes message;
-      field_path = path.now;
+      field_path = string_bytes field_path;
       reason = None;
       kind = kind;
       cause = option_map fault_view cause;
@@ -65,7 +66,7 @@ fn rule_error(
     Ok(ValidationError {
         rule: String::from_str(alloc, rule)?,
         message,
-        field_path: String::from_str(alloc, path)?,
+        field_path,
         reason: None,
         kind,
         cause,
@@ -80,10 +81,11 @@ fn malformed_error(
 ) -> Result<ValidationError, AllocError>
     ensures { IfOk result (λ e. error_view e ≡ malformed_error path.now (malformed_view error)) }
 {
+    let place = String::from_str(alloc, path)?;
     match error {
         CompilationError::InvalidRule(fault) => {
             let message = format!(in alloc; "invalid rule definition: {fault}")?;
-            rule_error(alloc, ErrorKind::InvalidRule, "", message, path, None)
+            rule_error(alloc, ErrorKind::InvalidRule, "", message, place, None)
         }
         CompilationError::Parse { rule, source } => {
             let text = rule.as_str();
@@ -93,14 +95,14 @@ fn malformed_error(
                 ErrorKind::CompilationFailure,
                 text,
                 message,
-                path,
+                place,
                 None,
             )
         }
     }
 }
 
-/// The error of a rule that is false: its own message, else its text.
+/// The error of a rule that is false: its own message, else its text, and its reason.
 fn failed_rule_error(alloc: Global, rule: &Rule, path: &str) -> Result<ValidationError, AllocError>
     ensures { IfOk result (λ e. error_view e ≡ failed_rule path.now (rule_view rule.now)) }
 {
@@ -109,22 +111,35 @@ fn failed_rule_error(alloc: Global, rule: &Rule, path: &str) -> Result<Validatio
         Some(message) => String::from_str(alloc, message.as_str())?,
         None => format!(in alloc; "failed rule: {text}")?,
     };
-    rule_error(
-        alloc,
-        ErrorKind::ValidationFailure,
-        text,
+    Ok(ValidationError {
+        rule: String::from_str(alloc, text)?,
         message,
-        path,
-        None,
-    )
+        field_path: error_path(alloc, path, rule)?,
+        reason: reason_of(alloc, rule)?,
+        kind: ErrorKind::ValidationFailure,
+        cause: None,
+    })
+}
+
+/// The word that a rule gives for programs.
+fn reason_of(alloc: Global, rule: &Rule) -> Result<Option<String>, AllocError>
+    ensures { IfOk result (λ o. option_map string_bytes o ≡ (rule_view rule.now).reason) }
+{
+    let Some(reason) = &rule.reason else {
+        return Ok(None);
+    };
+    let reason = String::from_str(alloc, reason.as_str())?;
+    Ok(Some(reason))
 }
 
 /// The error of a rule whose value is no bool.
-fn no_bool_error(alloc: Global, rule: &str, path: &str) -> Result<ValidationError, AllocError>
-    ensures { IfOk result (λ e. error_view e ≡ no_bool path.now rule.now) }
+fn no_bool_error(alloc: Global, rule: &Rule, path: &str) -> Result<ValidationError, AllocError>
+    ensures { IfOk result (λ e. error_view e ≡ no_bool path.now (rule_view rule.now)) }
 {
-    let message = format!(in alloc; "rule \"{rule}\" did not evaluate to bool")?;
-    rule_error(alloc, ErrorKind::InvalidResult, rule, message, path, None)
+    let text = rule.rule.as_str();
+    let message = format!(in alloc; "rule \"{text}\" did not evaluate to bool")?;
+    let place = error_path(alloc, path, rule)?;
+    rule_error(alloc, ErrorKind::InvalidResult, text, message, place, None)
 }
 
 /// The name that nothing declares, where that is the fault.
@@ -152,20 +167,22 @@ fn undeclared_name(fault: &ExecutionError) -> Option<&str>
 /// The error of a rule that has no value. It keeps why.
 fn fault_error(
     alloc: Global,
-    rule: &str,
+    rule: &Rule,
     fault: ExecutionError,
     path: &str,
 ) -> Result<ValidationError, AllocError>
-    ensures { IfOk result (λ e. error_view e ≡ fault_error path.now rule.now (fault_view fault) (undeclared_name (fault_view fault))) }
+    ensures { IfOk result (λ e. error_view e ≡ fault_error path.now (rule_view rule.now) (fault_view fault) (undeclared_name (fault_view fault))) }
 {
+    let text = rule.rule.as_str();
+    let place = error_path(alloc, path, rule)?;
     let Some(name) = undeclared_name(&fault) else {
         let message = format!(in alloc; "rule evaluation error: {fault}")?;
         return rule_error(
             alloc,
             ErrorKind::EvaluationError,
-            rule,
+            text,
             message,
-            path,
+            place,
             Some(fault),
         );
     };
@@ -175,9 +192,9 @@ fn fault_error(
     rule_error(
         alloc,
         ErrorKind::UnsupportedReference,
-        rule,
+        text,
         message,
-        path,
+        place,
         Some(fault),
     )
 }
@@ -192,11 +209,11 @@ fn outcome_error(
     ensures { IfOk result (λ o. option_map error_view o ≡ outcome_error path.now (rule_view rule.now) (outcome_view outcome)) }
 {
     match outcome {
-        Err(fault) => Ok(Some(fault_error(alloc, rule.rule.as_str(), fault, path)?)),
+        Err(fault) => Ok(Some(fault_error(alloc, rule, fault, path)?)),
         Ok(value) => match value.as_bool() {
             Some(true) => Ok(None),
             Some(false) => Ok(Some(failed_rule_error(alloc, rule, path)?)),
-            None => Ok(Some(no_bool_error(alloc, rule.rule.as_str(), path)?)),
+            None => Ok(Some(no_bool_error(alloc, rule, path)?)),
         },
     }
 }
