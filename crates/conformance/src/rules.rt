@@ -292,6 +292,140 @@ fn errors_tell_kind_path_and_cause(rt: HostRuntime) -> Result<(), Fail> {
     Ok(())
 }
 
+/// A rule at `spec` or at the root, and what its one error tells besides its kind.
+struct Told {
+    rule: &'static str,
+    at_root: bool,
+    path: &'static str,
+    reason: Option<&'static str>,
+    message: &'static str,
+}
+
+const TOLD: [Told; 12] = [
+    Told {
+        rule: "{\"rule\":\"false\",\"reason\":\"FieldValueInvalid\",\"fieldPath\":\".b\"}",
+        at_root: false,
+        path: "spec.b",
+        reason: Some("FieldValueInvalid"),
+        message: "failed rule: false",
+    },
+    Told {
+        rule: "{\"rule\":\"false\",\"message\":\"no\",\"fieldPath\":\"b\"}",
+        at_root: false,
+        path: "spec.b",
+        reason: None,
+        message: "no",
+    },
+    // Only a path that begins with a dot is not joined by one.
+    Told {
+        rule: "{\"rule\":\"false\",\"fieldPath\":\"['b']\"}",
+        at_root: false,
+        path: "spec.['b']",
+        reason: None,
+        message: "failed rule: false",
+    },
+    Told {
+        rule: "{\"rule\":\"false\",\"fieldPath\":\"\"}",
+        at_root: false,
+        path: "spec.",
+        reason: None,
+        message: "failed rule: false",
+    },
+    Told {
+        rule: "{\"rule\":\"false\",\"fieldPath\":\".b\"}",
+        at_root: true,
+        path: ".b",
+        reason: None,
+        message: "failed rule: false",
+    },
+    Told {
+        rule: "{\"rule\":\"false\",\"reason\":\"FieldValueRequired\",\"fieldPath\":\"b\"}",
+        at_root: true,
+        path: "b",
+        reason: Some("FieldValueRequired"),
+        message: "failed rule: false",
+    },
+    // The reason goes with a rule that is false alone, the path with each rule that was evaluated.
+    Told {
+        rule: "{\"rule\":\"1\",\"reason\":\"FieldValueInvalid\",\"fieldPath\":\".b\"}",
+        at_root: false,
+        path: "spec.b",
+        reason: None,
+        message: "rule \"1\" did not evaluate to bool",
+    },
+    Told {
+        rule: "{\"rule\":\"1 / 0 == 1\",\"reason\":\"FieldValueInvalid\",\"fieldPath\":\".b\"}",
+        at_root: false,
+        path: "spec.b",
+        reason: None,
+        message: "rule evaluation error: division by zero",
+    },
+    Told {
+        rule: "{\"rule\":\"1 +\",\"reason\":\"FieldValueInvalid\",\"fieldPath\":\".b\"}",
+        at_root: false,
+        path: "spec",
+        reason: None,
+        message: "failed to compile rule \"1 +\": invalid CEL expression",
+    },
+    // The first fault counts, in the order of the fields.
+    Told {
+        rule: "{\"rule\":\"false\",\"optionalOldSelf\":\"true\",\"fieldPath\":\".b\"}",
+        at_root: false,
+        path: "spec",
+        reason: None,
+        message: "invalid rule definition: field `optionalOldSelf` must be a bool or null",
+    },
+    Told {
+        rule: "{\"rule\":\"false\",\"optionalOldSelf\":1,\"fieldPath\":2,\"reason\":3}",
+        at_root: false,
+        path: "spec",
+        reason: None,
+        message: "invalid rule definition: field `reason` must be a string or null",
+    },
+    Told {
+        rule: "{\"rule\":\"false\",\"message\":null,\"messageExpression\":{},\"reason\":null}",
+        at_root: true,
+        path: "",
+        reason: None,
+        message: "invalid rule definition: field `messageExpression` must be a string or null",
+    },
+];
+
+/// A schema with one rule, at `spec` or at the root.
+fn schema_with(alloc: Global, rule: &str, at_root: bool) -> Result<Value, Fail> {
+    let rules = Value::from_str(alloc, format!(in alloc; "[{rule}]")?.as_str())?;
+    let node = member(alloc, "x-kubernetes-validations", rules)?;
+    if at_root {
+        return Ok(Value::Object(node));
+    }
+    let properties = member(alloc, "spec", Value::Object(node))?;
+    let root = member(alloc, "properties", Value::Object(properties))?;
+    Ok(Value::Object(root))
+}
+
+#[test]
+fn errors_tell_reason_and_own_path(rt: HostRuntime) -> Result<(), Fail> {
+    let alloc = rt.alloc();
+    let object = Value::from_str(alloc, "{\"spec\":{}}")?;
+    for row in &TOLD {
+        let schema = schema_with(alloc, row.rule, row.at_root)?;
+        let errors = match validate(alloc, &schema, &object, None)? {
+            Ok(()) => return Err(Fail::from("no error")),
+            Err(errors) => errors.into_vec(),
+        };
+        assert_eq!(rt; errors.len(), 1, "rule {}", row.rule);
+        let error = &errors[0];
+        let reason = match &error.reason {
+            Some(reason) => Some(reason.as_str()),
+            None => None,
+        };
+        assert_eq!(rt; error.field_path.as_str(), row.path, "rule {}", row.rule);
+        assert_eq!(rt; reason, row.reason, "rule {}", row.rule);
+        assert_eq!(rt; error.message.as_str(), row.message, "rule {}", row.rule);
+    }
+    Ok(())
+}
+
 /// An object with one member.
 fn member(alloc: Global, key: &str, value: Value) -> Result<Map<String, Value>, AllocError> {
     let mut members = Map::new(alloc);

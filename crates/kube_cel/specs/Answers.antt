@@ -1,8 +1,11 @@
 -- What a validation answers.
+use Rattle.cel_book.specs.Book.{Book, IsBook}
 use Rattle.kube_cel.specs.declared.error.ValidationErrors.{ValidationErrors}
 use Rattle.kube_cel.specs.ErrorLists.{errors_in}
 use Rattle.kube_cel.specs.Errors.{ErrorData, error_view}
-use Rattle.std.specs.Prelude.{List, [], ◌∷◌, map, Result, Ok, Err}
+use Rattle.kube_cel.specs.Verdicts.{answer, IsAnswer}
+use Rattle.kube_cel_places.specs.Spot.{Spot}
+use Rattle.std.specs.Prelude.{◌≡◌, List, [], ◌∷◌, map, Result, Ok, Err}
 
 -- what is reported of the errors that were found: `Ok` exactly where there is none, else all of them
 abbrev pub reported : List ErrorData → Result (Unit {0}) (List ErrorData)
@@ -18,3 +21,8 @@ shown (Err e) = Err (map error_view (errors_in e))
 abbrev pub found_in : Result (Unit {0}) ValidationErrors → List ErrorData
 found_in (Ok u) = []
 found_in (Err e) = map error_view (errors_in e)
+
+-- the answer of a call with a book of its own: what is found from the root on under some book, both as it is computed and as the
+-- errors at exactly the places, in order
+abbrev pub IsToldOf : Spot → Result (Unit {0}) ValidationErrors → Type 0
+IsToldOf root r = (b : Book) × IsBook b × (shown r ≡ reported (answer b 65 root)) × IsAnswer b root (found_in r)

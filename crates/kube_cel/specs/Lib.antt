@@ -3,4 +3,5 @@ pub mod ErrorLists
 pub mod Errors
 pub mod Places
 pub mod Texts
+pub mod Told
 pub mod Verdicts

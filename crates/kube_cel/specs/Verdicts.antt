@@ -10,7 +10,7 @@ use Rattle.cel_value.specs.Parts.{bool_in}
 use Rattle.cel_value.specs.Texts.{fault_text}
 use Rattle.kube_cel.specs.declared.error.ErrorKind.TheVariants.{CompilationFailure, InvalidRule, ValidationFailure, InvalidResult, EvaluationError, UnsupportedReference, SchemaTooDeep}
 use Rattle.kube_cel.specs.Errors.{ErrorData}
-use Rattle.kube_cel_places.specs.Spot.{Spot, goes, candidates}
+use Rattle.kube_cel_places.specs.Spot.{Spot, member_path, goes, candidates}
 use Rattle.kube_cel_places.specs.Walk.{answers, AreFoundAtPlaces, if_some}
 use Rattle.kube_schema.specs.Compilation.{Compiled, Malformed, unread, invalid, compiled_rule}
 use Rattle.kube_schema.specs.Rules as schema
@@ -18,7 +18,7 @@ use Rattle.kube_schema.specs.Rules.{rule_items}
 use Rattle.kube_schema_values.specs.Plain.{plain}
 use Rattle.serde_json.specs.Data.{Data as Json, Items, no_items, item}
 use Rattle.std.specs.List.{flat_map}
-use Rattle.std.specs.Prelude.{ℕ, ◌==◌, List, [], ◌∷◌, ◌++◌, Bool, true, false, not, ◌||◌, if◌then◌else◌, Option, Some, None, is_some, unwrap_or, Result, Ok, Err, codes}
+use Rattle.std.specs.Prelude.{ℕ, ◌==◌, List, [], ◌∷◌, ◌++◌, Bool, true, false, not, ◌||◌, if◌then◌else◌, Option, Some, None, is_some, unwrap_or, Result, Ok, Err, codes, slice_index}
 
 -- at most one
 abbrev pub listed : {A : Type 0} → Option A → List A
@@ -42,44 +42,53 @@ invalid_rule path fault = record { rule = []; message = codes "invalid rule defi
 abbrev pub unread_rule : List ℕ → List ℕ → ErrorData
 unread_rule path rule = record { rule = rule; message = codes "failed to compile rule \"" ++ (rule ++ codes "\": invalid CEL expression"); field_path = path; reason = None; kind = CompilationFailure; cause = None }
 
--- the rule's own message, else its text
+-- a place and the own path of a rule: one that begins with a dot (46) stands as it is, another as a member
+abbrev pub joined_path : List ℕ → List ℕ → List ℕ
+joined_path place own = if slice_index own 0 == 46 then place ++ own else member_path place own
+
+-- the path that the error of a rule tells
+abbrev pub rule_path : List ℕ → Option (List ℕ) → List ℕ
+rule_path place None = place
+rule_path place (Some own) = joined_path place own
+
+-- the rule's own message, else its text, and the rule's reason
 abbrev pub failed_rule : List ℕ → schema.Fields → ErrorData
-failed_rule path r = record { rule = r.rule; message = unwrap_or r.message (codes "failed rule: " ++ r.rule); field_path = path; reason = None; kind = ValidationFailure; cause = None }
+failed_rule place r = record { rule = r.rule; message = unwrap_or r.message (codes "failed rule: " ++ r.rule); field_path = rule_path place r.field_path; reason = r.reason; kind = ValidationFailure; cause = None }
 
-abbrev pub no_bool : List ℕ → List ℕ → ErrorData
-no_bool path rule = record { rule = rule; message = codes "rule \"" ++ (rule ++ codes "\" did not evaluate to bool"); field_path = path; reason = None; kind = InvalidResult; cause = None }
+abbrev pub no_bool : List ℕ → schema.Fields → ErrorData
+no_bool place r = record { rule = r.rule; message = codes "rule \"" ++ (r.rule ++ codes "\" did not evaluate to bool"); field_path = rule_path place r.field_path; reason = None; kind = InvalidResult; cause = None }
 
-abbrev pub unsupported : List ℕ → List ℕ → List ℕ → Fault → ErrorData
-unsupported path rule name fault = record {
-  rule = rule;
+abbrev pub unsupported : List ℕ → schema.Fields → List ℕ → Fault → ErrorData
+unsupported place r name fault = record {
+  rule = r.rule;
   message = codes "rule references '" ++ (name ++ codes "', which this kube-cel build does not support (an unsupported CEL macro, or a feature disabled at compile time); it cannot be evaluated client-side");
-  field_path = path;
+  field_path = rule_path place r.field_path;
   reason = None;
   kind = UnsupportedReference;
   cause = Some fault;
 }
 
-abbrev pub unevaluated : List ℕ → List ℕ → Fault → ErrorData
-unevaluated path rule fault = record { rule = rule; message = codes "rule evaluation error: " ++ fault_text fault; field_path = path; reason = None; kind = EvaluationError; cause = Some fault }
+abbrev pub unevaluated : List ℕ → schema.Fields → Fault → ErrorData
+unevaluated place r fault = record { rule = r.rule; message = codes "rule evaluation error: " ++ fault_text fault; field_path = rule_path place r.field_path; reason = None; kind = EvaluationError; cause = Some fault }
 
 -- the name that nothing declares
 abbrev pub undeclared_name : Fault → Option (List ℕ)
 undeclared_name (undeclared n) = Some n
 undeclared_name _ = None
 
-abbrev pub fault_error : List ℕ → List ℕ → Fault → Option (List ℕ) → ErrorData
-fault_error path rule fault (Some name) = unsupported path rule name fault
-fault_error path rule fault None = unevaluated path rule fault
+abbrev pub fault_error : List ℕ → schema.Fields → Fault → Option (List ℕ) → ErrorData
+fault_error place r fault (Some name) = unsupported place r name fault
+fault_error place r fault None = unevaluated place r fault
 
 abbrev pub value_error : List ℕ → schema.Fields → Option Bool → Option ErrorData
 value_error path r (Some true) = None
 value_error path r (Some false) = Some (failed_rule path r)
-value_error path r None = Some (no_bool path r.rule)
+value_error path r None = Some (no_bool path r)
 
 -- the error of a rule, unless it is true: false, no bool, a name that nothing declares, another fault
 abbrev pub outcome_error : List ℕ → schema.Fields → Outcome → Option ErrorData
 outcome_error path r (Ok v) = value_error path r (bool_in v)
-outcome_error path r (Err e) = Some (fault_error path r.rule e (undeclared_name e))
+outcome_error path r (Err e) = Some (fault_error path r e (undeclared_name e))
 
 -- `self` is the value, and `oldSelf` its old counterpart where there is one
 abbrev pub rule_bindings : Json → Option Json → Bindings

@@ -1,11 +1,11 @@
 //! The validation of an object by the rules of its schema.
-ghost use Rattle.cel_book.specs.Book.{Agrees, Book, IsBook};
+ghost use Rattle.cel_book.specs.Book.{Agrees, Book};
 ghost use Rattle.cel_book.specs.Entries.{entries_of};
-ghost use Rattle.kube_cel.specs.Answers.{found_in, reported, shown};
+ghost use Rattle.kube_cel.specs.Answers.{found_in, reported, shown, IsToldOf};
 ghost use Rattle.kube_cel.specs.Verdicts.{answer, IsAnswer};
 ghost use Rattle.kube_cel_places.specs.Spot.{root_spot};
 ghost use Rattle.serde_json.specs.View.{view};
-ghost use Rattle.std.specs.Prelude.{◌≡◌, IfOk, option_map};
+ghost use Rattle.std.specs.Prelude.{◌≡◌, IfErr, IfOk, option_map};
 
 use crate::error::ValidationErrors;
 use crate::place::Place;
@@ -20,7 +20,7 @@ use std::alloc::Global;
 pub struct Validator;
 
 impl Validator {
-    /// A validator. It takes no memory.
+    /// A validator. There is one such value alone, so that no contract tells it from another. It takes no memory.
     pub fn new() -> Validator {
         Validator
     }
@@ -37,9 +37,8 @@ impl Validator {
         object: &Value,
         old: Option<&Value>,
     ) -> Result<Result<(), ValidationErrors>, Refused>
-        ensures answer { IfOk result (λ r. (b : Book) × IsBook b
-            × (shown r ≡ reported (answer b 65 (root_spot (view schema.now) (view object.now) (option_map (λ v. view v.now) old.entry))))
-            × IsAnswer b (root_spot (view schema.now) (view object.now) (option_map (λ v. view v.now) old.entry)) (found_in r)) }
+        ensures answer { IfOk result (IsToldOf (root_spot (view schema.now) (view object.now) (option_map (λ v. view v.now) old.entry))) }
+        ensures memory { IfErr result (λ e. e ≡ Refused.Memory) }
     {
         let mut book = PatternBook::new(alloc);
         self.validate_in(alloc, schema, object, old, &mut book)
@@ -59,6 +58,7 @@ impl Validator {
         book: &mut PatternBook,
     ) -> Result<Result<(), ValidationErrors>, Refused>
         ensures kept { Agrees (entries_of book.new) (entries_of book.old) }
+        ensures memory { IfErr result (λ e. e ≡ Refused.Memory) }
         ensures answer { IfOk result (λ r. (b : Book) → Agrees b (entries_of book.new)
             → shown r ≡ reported (answer b 65 (root_spot (view schema.now) (view object.now) (option_map (λ v. view v.now) old.entry)))) }
         ensures places { IfOk result (λ r. (b : Book) → Agrees b (entries_of book.new)
@@ -91,9 +91,8 @@ pub fn validate(
     object: &Value,
     old: Option<&Value>,
 ) -> Result<Result<(), ValidationErrors>, Refused>
-    ensures answer { IfOk result (λ r. (b : Book) × IsBook b
-        × (shown r ≡ reported (answer b 65 (root_spot (view schema.now) (view object.now) (option_map (λ v. view v.now) old.entry))))
-        × IsAnswer b (root_spot (view schema.now) (view object.now) (option_map (λ v. view v.now) old.entry)) (found_in r)) }
+    ensures memory { IfErr result (λ e. e ≡ Refused.Memory) }
+    ensures answer { IfOk result (IsToldOf (root_spot (view schema.now) (view object.now) (option_map (λ v. view v.now) old.entry))) }
 {
     Validator::new().validate(alloc, schema, object, old)
 }

@@ -7,14 +7,16 @@ ghost use Rattle.cel_meaning.specs.Outcome.{outcome_view};
 ghost use Rattle.cel_value.specs.Faults.{fault_view};
 ghost use Rattle.kube_cel.specs.Errors.{error_view};
 ghost use Rattle.kube_cel.specs.Places.{spot_at};
+ghost use Rattle.kube_cel.specs.Told.{AreAdded, IsVerdict};
 ghost use Rattle.kube_cel.specs.Verdicts.{compiled_verdict, failed_rule, fault_error, is_applicable, listed, malformed_error, no_bool, outcome_error, rule_bindings, rule_outcome, too_deep, undeclared_name, verdict, verdicts};
 ghost use Rattle.kube_schema.specs.Compilation.{error_view as malformed_view, result_view};
 ghost use Rattle.kube_schema.specs.Rules.{rule_view};
 ghost use Rattle.serde_json.specs.View.{view};
 ghost use Rattle.std.specs.List.{flat_map};
-ghost use Rattle.std.specs.Prelude.{◌≡◌, ◌++◌, IfOk, List, map, None, OnOk, option_map, string_bytes, ℕ};
+ghost use Rattle.std.specs.Prelude.{◌≡◌, ◌++◌, IfErr, IfOk, List, map, None, OnOk, option_map, string_bytes, ℕ};
 
 use crate::error::{ErrorKind, ValidationError};
+use crate::path::error_path;
 use crate::place::Place;
 use cel::{Context, PatternBook, Program, StandardFunctions};
 use cel_value::{ExecutionError, Value as CelValue};
@@ -23,14 +25,14 @@ use kube_schema::{
 };
 use kube_types::Refused;
 use serde_json::Value;
-use std::alloc::Global;
+use std::alloc::{AllocError, Global};
 
 /// The number of steps at which a schema is too deep: its rules count up to depth 64.
 pub(crate) const TOO_DEEP: usize = 65;
 
 /// The error at a place past the greatest depth.
 #[tactic(auto, unfolding(crate::specs::Verdicts::too_deep))]
-fn deep_error(alloc: Global, path: &str) -> Result<ValidationError, Refused>
+fn deep_error(alloc: Global, path: &str) -> Result<ValidationError, AllocError>
     ensures { IfOk result (λ e. error_view e ≡ too_deep path.now) }
 {
     Ok(ValidationError {
@@ -49,13 +51,13 @@ fn rule_error(
     kind: ErrorKind,
     rule: &str,
     message: String,
-    path: &str,
+    field_path: String,
     cause: Option<ExecutionError>,
-) -> Result<ValidationError, Refused>
+) -> Result<ValidationError, AllocError>
     ensures { IfOk result (λ e. error_view e ≡ record {
       rule = rule.now;
       message = string_bytes message;
-      field_path = path.now;
+      field_path = string_bytes field_path;
       reason = None;
       kind = kind;
       cause = option_map fault_view cause;
@@ -64,7 +66,7 @@ fn rule_error(
     Ok(ValidationError {
         rule: String::from_str(alloc, rule)?,
         message,
-        field_path: String::from_str(alloc, path)?,
+        field_path,
         reason: None,
         kind,
         cause,
@@ -76,13 +78,14 @@ fn malformed_error(
     alloc: Global,
     error: CompilationError,
     path: &str,
-) -> Result<ValidationError, Refused>
+) -> Result<ValidationError, AllocError>
     ensures { IfOk result (λ e. error_view e ≡ malformed_error path.now (malformed_view error)) }
 {
+    let place = String::from_str(alloc, path)?;
     match error {
         CompilationError::InvalidRule(fault) => {
             let message = format!(in alloc; "invalid rule definition: {fault}")?;
-            rule_error(alloc, ErrorKind::InvalidRule, "", message, path, None)
+            rule_error(alloc, ErrorKind::InvalidRule, "", message, place, None)
         }
         CompilationError::Parse { rule, source } => {
             let text = rule.as_str();
@@ -92,15 +95,15 @@ fn malformed_error(
                 ErrorKind::CompilationFailure,
                 text,
                 message,
-                path,
+                place,
                 None,
             )
         }
     }
 }
 
-/// The error of a rule that is false: its own message, else its text.
-fn failed_rule_error(alloc: Global, rule: &Rule, path: &str) -> Result<ValidationError, Refused>
+/// The error of a rule that is false: its own message, else its text, and its reason.
+fn failed_rule_error(alloc: Global, rule: &Rule, path: &str) -> Result<ValidationError, AllocError>
     ensures { IfOk result (λ e. error_view e ≡ failed_rule path.now (rule_view rule.now)) }
 {
     let text = rule.rule.as_str();
@@ -108,22 +111,35 @@ fn failed_rule_error(alloc: Global, rule: &Rule, path: &str) -> Result<Validatio
         Some(message) => String::from_str(alloc, message.as_str())?,
         None => format!(in alloc; "failed rule: {text}")?,
     };
-    rule_error(
-        alloc,
-        ErrorKind::ValidationFailure,
-        text,
+    Ok(ValidationError {
+        rule: String::from_str(alloc, text)?,
         message,
-        path,
-        None,
-    )
+        field_path: error_path(alloc, path, rule)?,
+        reason: reason_of(alloc, rule)?,
+        kind: ErrorKind::ValidationFailure,
+        cause: None,
+    })
+}
+
+/// The word that a rule gives for programs.
+fn reason_of(alloc: Global, rule: &Rule) -> Result<Option<String>, AllocError>
+    ensures { IfOk result (λ o. option_map string_bytes o ≡ (rule_view rule.now).reason) }
+{
+    let Some(reason) = &rule.reason else {
+        return Ok(None);
+    };
+    let reason = String::from_str(alloc, reason.as_str())?;
+    Ok(Some(reason))
 }
 
 /// The error of a rule whose value is no bool.
-fn no_bool_error(alloc: Global, rule: &str, path: &str) -> Result<ValidationError, Refused>
-    ensures { IfOk result (λ e. error_view e ≡ no_bool path.now rule.now) }
+fn no_bool_error(alloc: Global, rule: &Rule, path: &str) -> Result<ValidationError, AllocError>
+    ensures { IfOk result (λ e. error_view e ≡ no_bool path.now (rule_view rule.now)) }
 {
-    let message = format!(in alloc; "rule \"{rule}\" did not evaluate to bool")?;
-    rule_error(alloc, ErrorKind::InvalidResult, rule, message, path, None)
+    let text = rule.rule.as_str();
+    let message = format!(in alloc; "rule \"{text}\" did not evaluate to bool")?;
+    let place = error_path(alloc, path, rule)?;
+    rule_error(alloc, ErrorKind::InvalidResult, text, message, place, None)
 }
 
 /// The name that nothing declares, where that is the fault.
@@ -151,20 +167,22 @@ fn undeclared_name(fault: &ExecutionError) -> Option<&str>
 /// The error of a rule that has no value. It keeps why.
 fn fault_error(
     alloc: Global,
-    rule: &str,
+    rule: &Rule,
     fault: ExecutionError,
     path: &str,
-) -> Result<ValidationError, Refused>
-    ensures { IfOk result (λ e. error_view e ≡ fault_error path.now rule.now (fault_view fault) (undeclared_name (fault_view fault))) }
+) -> Result<ValidationError, AllocError>
+    ensures { IfOk result (λ e. error_view e ≡ fault_error path.now (rule_view rule.now) (fault_view fault) (undeclared_name (fault_view fault))) }
 {
+    let text = rule.rule.as_str();
+    let place = error_path(alloc, path, rule)?;
     let Some(name) = undeclared_name(&fault) else {
         let message = format!(in alloc; "rule evaluation error: {fault}")?;
         return rule_error(
             alloc,
             ErrorKind::EvaluationError,
-            rule,
+            text,
             message,
-            path,
+            place,
             Some(fault),
         );
     };
@@ -174,9 +192,9 @@ fn fault_error(
     rule_error(
         alloc,
         ErrorKind::UnsupportedReference,
-        rule,
+        text,
         message,
-        path,
+        place,
         Some(fault),
     )
 }
@@ -187,15 +205,15 @@ fn outcome_error(
     rule: &Rule,
     outcome: Result<CelValue, ExecutionError>,
     path: &str,
-) -> Result<Option<ValidationError>, Refused>
+) -> Result<Option<ValidationError>, AllocError>
     ensures { IfOk result (λ o. option_map error_view o ≡ outcome_error path.now (rule_view rule.now) (outcome_view outcome)) }
 {
     match outcome {
-        Err(fault) => Ok(Some(fault_error(alloc, rule.rule.as_str(), fault, path)?)),
+        Err(fault) => Ok(Some(fault_error(alloc, rule, fault, path)?)),
         Ok(value) => match value.as_bool() {
             Some(true) => Ok(None),
             Some(false) => Ok(Some(failed_rule_error(alloc, rule, path)?)),
-            None => Ok(Some(no_bool_error(alloc, rule.rule.as_str(), path)?)),
+            None => Ok(Some(no_bool_error(alloc, rule, path)?)),
         },
     }
 }
@@ -206,7 +224,8 @@ fn bindings_at<'a>(
     value: &Value,
     old: Option<&Value>,
 ) -> Result<Context<'a, StandardFunctions>, Refused>
-    ensures { IfOk result (λ c. (x : List ℕ) → binding x (bindings_of c) ≡ binding x (rule_bindings (view value.now) (option_map (λ v. view v.now) old.entry))) }
+    ensures bound { IfOk result (λ c. (x : List ℕ) → binding x (bindings_of c) ≡ binding x (rule_bindings (view value.now) (option_map (λ v. view v.now) old.entry))) }
+    ensures memory { IfErr result (λ e. e ≡ Refused.Memory) }
 {
     let mut context = Context::default(alloc);
     context.add_variable("self", bind_plain(alloc, value)?)?;
@@ -227,6 +246,7 @@ fn outcome_at(
     ensures keeps { (b : Book) → Agrees b (entries_of book.new) → Agrees b (entries_of book.old) }
     ensures found { IfOk result (λ r. (b : Book) → Agrees b (entries_of book.new)
         → outcome_view r ≡ rule_outcome b (program_term program.now) (view place.entry.value.now) (option_map (λ v. view v.now) place.entry.old)) }
+    ensures memory { IfErr result (λ e. e ≡ Refused.Memory) }
 {
     let context = bindings_at(alloc, place.value, place.old)?;
     let outcome = program.execute_with(alloc, &context, book)?;
@@ -250,8 +270,9 @@ fn judge_compiled(
     book: &mut PatternBook,
 ) -> Result<Option<ValidationError>, Refused>
     ensures keeps { (b : Book) → Agrees b (entries_of book.new) → Agrees b (entries_of book.old) }
-    ensures found { IfOk result (λ o. (b : Book) → Agrees b (entries_of book.new)
-        → option_map error_view o ≡ compiled_verdict b (spot_at place.entry path.now) (result_view rule.now)) }
+    ensures found { IfOk result (λ o. IsVerdict (entries_of book.new) o
+        (λ b. compiled_verdict b (spot_at place.entry path.now) (result_view rule.now))) }
+    ensures memory { IfErr result (λ e. e ≡ Refused.Memory) }
 {
     if !is_applicable(rule, place.old) {
         return Ok(None);
@@ -270,8 +291,9 @@ fn judge_rule(
     book: &mut PatternBook,
 ) -> Result<Option<ValidationError>, Refused>
     ensures keeps { (b : Book) → Agrees b (entries_of book.new) → Agrees b (entries_of book.old) }
-    ensures found { IfOk result (λ o. (b : Book) → Agrees b (entries_of book.new)
-        → option_map error_view o ≡ verdict b (spot_at place.entry path.now) (view rule.now)) }
+    ensures found { IfOk result (λ o. IsVerdict (entries_of book.new) o
+        (λ b. verdict b (spot_at place.entry path.now) (view rule.now))) }
+    ensures memory { IfErr result (λ e. e ≡ Refused.Memory) }
 {
     match compile_rule(alloc, rule)? {
         Err(error) => Ok(Some(malformed_error(alloc, error, path)?)),
@@ -286,7 +308,7 @@ fn judge_rule(
 fn push_listed(
     error: Option<ValidationError>,
     errors: &mut Vec<ValidationError>,
-) -> Result<(), Refused>
+) -> Result<(), AllocError>
     ensures { OnOk result (map error_view errors.new.items ≡ map error_view errors.old.items ++ listed (option_map error_view error)) }
 {
     let Some(error) = error else {
@@ -305,9 +327,9 @@ fn judge_rules(
     errors: &mut Vec<ValidationError>,
 ) -> Result<(), Refused>
     ensures keeps { (b : Book) → Agrees b (entries_of book.new) → Agrees b (entries_of book.old) }
-    ensures found { OnOk result ((b : Book) → Agrees b (entries_of book.new)
-        → map error_view errors.new.items ≡ map error_view errors.old.items
-        ++ flat_map (λ rule. listed (verdict b (spot_at place.entry path.now) (view rule))) rules.now) }
+    ensures found { OnOk result (AreAdded (entries_of book.new) errors.old.items errors.new.items
+        (λ b. flat_map (λ rule. listed (verdict b (spot_at place.entry path.now) (view rule))) rules.now)) }
+    ensures memory { IfErr result (λ e. e ≡ Refused.Memory) }
 {
     for rule in rules {
         let error = judge_rule(*errors.allocator(), rule, place, path, book)?;
@@ -324,8 +346,9 @@ pub(crate) fn judge(
     errors: &mut Vec<ValidationError>,
 ) -> Result<(), Refused>
     ensures keeps { (b : Book) → Agrees b (entries_of book.new) → Agrees b (entries_of book.old) }
-    ensures found { OnOk result ((b : Book) → Agrees b (entries_of book.new)
-        → map error_view errors.new.items ≡ map error_view errors.old.items ++ verdicts b (spot_at place.entry path.now)) }
+    ensures found { OnOk result (AreAdded (entries_of book.new) errors.old.items errors.new.items
+        (λ b. verdicts b (spot_at place.entry path.now))) }
+    ensures memory { IfErr result (λ e. e ≡ Refused.Memory) }
 {
     if place.depth == TOO_DEEP {
         let error = deep_error(*errors.allocator(), path)?;

@@ -1,5 +1,5 @@
 -- Which rule a JSON value is, or its first fault (Kubernetes API reference, ValidationRule of CustomResourceDefinition).
-use Rattle.std.specs.Prelude.{ℕ, List, ◌++◌, Option, Some, None, option_map, option_and_then, unwrap_or, Result, Ok, Err, codes, string_bytes, is_some, if◌then◌else◌}
+use Rattle.std.specs.Prelude.{ℕ, List, ◌++◌, Bool, Option, Some, None, option_map, option_and_then, unwrap_or, Result, Ok, Err, codes, string_bytes, is_some, if◌then◌else◌}
 use Rattle.serde_json.specs.Data.{Data, null, boolean, number, string, array, object, Items, no_items}
 use Rattle.serde_json.specs.Find.{get, as_str, as_array, as_object}
 use Rattle.kube_schema.specs.declared.rule.RuleFault.{RuleFault}
@@ -12,16 +12,23 @@ pub data Fault : Type 0 where
   not_object : Fault
   rule_not_string : Fault
   not_string_or_null : List ℕ → Fault
+  -- `optionalOldSelf`, the one bool
+  not_bool_or_null : Fault
 
 -- what a rule says
 pub record Fields : Type 0 where
   pub rule : List ℕ
   pub message : Option (List ℕ)
+  pub message_expression : Option (List ℕ)
+  pub reason : Option (List ℕ)
+  pub field_path : Option (List ℕ)
+  pub optional_old_self : Option Bool
 
 abbrev pub fault_text : Fault → List ℕ
 fault_text not_object = codes "a rule must be an object"
 fault_text rule_not_string = codes "field `rule` must be a string"
 fault_text (not_string_or_null name) = codes "field `" ++ (name ++ codes "` must be a string or null")
+fault_text not_bool_or_null = codes "field `optionalOldSelf` must be a bool or null"
 
 infixl 10 ◌>>=◌
 abbrev pub ◌>>=◌ : {A B E : Type 0} → Result A E → (A → Result B E) → Result B E
@@ -41,6 +48,19 @@ text_of name (Some (object ms)) = Err (not_string_or_null name)
 abbrev pub text_at : List ℕ → Data → Result (Option (List ℕ)) Fault
 text_at name d = text_of name (get name d)
 
+-- a bool that may be missing or null
+abbrev pub bool_of : Option Data → Result (Option Bool) Fault
+bool_of None = Ok None
+bool_of (Some null) = Ok None
+bool_of (Some (boolean b)) = Ok (Some b)
+bool_of (Some (number n)) = Err not_bool_or_null
+bool_of (Some (string s)) = Err not_bool_or_null
+bool_of (Some (array ds)) = Err not_bool_or_null
+bool_of (Some (object ms)) = Err not_bool_or_null
+
+abbrev pub bool_at : List ℕ → Data → Result (Option Bool) Fault
+bool_at name d = bool_of (get name d)
+
 abbrev pub required_text : Option (List ℕ) → Result (List ℕ) Fault
 required_text (Some s) = Ok s
 required_text None = Err rule_not_string
@@ -50,7 +70,18 @@ unfoldable pub fields_of : Data → Result Fields Fault
 fields_of d = do
   rule ← required_text (option_and_then as_str (get (codes "rule") d))
   message ← text_at (codes "message") d
-  Ok (record { rule = rule; message = message })
+  message_expression ← text_at (codes "messageExpression") d
+  reason ← text_at (codes "reason") d
+  field_path ← text_at (codes "fieldPath") d
+  optional_old_self ← bool_at (codes "optionalOldSelf") d
+  Ok (record {
+    rule = rule;
+    message = message;
+    message_expression = message_expression;
+    reason = reason;
+    field_path = field_path;
+    optional_old_self = optional_old_self;
+  })
 
 -- the rule that a value is, or its first fault
 unfoldable pub rule_of : Data → Result Fields Fault
@@ -66,12 +97,27 @@ abbrev pub fault_view : RuleFault → Fault
 fault_view fault.NotObject = not_object
 fault_view fault.RuleNotString = rule_not_string
 fault_view (fault.NotStringOrNull name) = not_string_or_null name.now
+fault_view fault.NotBoolOrNull = not_bool_or_null
 
 abbrev pub rule_view : Rule → Fields
-rule_view r = record { rule = string_bytes r.rule; message = option_map string_bytes r.message }
+rule_view r = record {
+  rule = string_bytes r.rule;
+  message = option_map string_bytes r.message;
+  message_expression = option_map string_bytes r.message_expression;
+  reason = option_map string_bytes r.reason;
+  field_path = option_map string_bytes r.field_path;
+  optional_old_self = r.optional_old_self;
+}
 
 abbrev pub parts_view : Parts → Fields
-parts_view p = record { rule = p.rule.now; message = option_map (λ s. s.now) p.message }
+parts_view p = record {
+  rule = p.rule.now;
+  message = option_map (λ s. s.now) p.message;
+  message_expression = option_map (λ s. s.now) p.message_expression;
+  reason = option_map (λ s. s.now) p.reason;
+  field_path = option_map (λ s. s.now) p.field_path;
+  optional_old_self = p.optional_old_self;
+}
 
 -- what was read, or the fault
 abbrev pub read : {A B : Type 0} → (A → B) → Result A RuleFault → Result B Fault

@@ -1,5 +1,5 @@
 //! Rules with the programs of their texts.
-ghost use Rattle.std.specs.Prelude.{◌≡◌, IfOk, map};
+ghost use Rattle.std.specs.Prelude.{◌≡◌, IfErr, IfOk, map};
 ghost use Rattle.serde_json.specs.View.{view};
 ghost use Rattle.kube_schema.specs.Rules.{rule_view, rule_items};
 ghost use Rattle.kube_schema.specs.Compilation.{compiled, compiled_seen, compiled_rule, compiled_rules};
@@ -62,7 +62,8 @@ pub fn compile_rule(
     alloc: Global,
     value: &Value,
 ) -> Result<Result<CompilationResult, CompilationError>, Refused>
-    ensures { IfOk result (λ r. compiled_seen r ≡ compiled_rule (view value.now)) }
+    ensures rule { IfOk result (λ r. compiled_seen r ≡ compiled_rule (view value.now)) }
+    ensures memory { IfErr result (λ e. e ≡ Refused.Memory) }
 {
     match Rule::from_json(alloc, value)? {
         Err(fault) => Ok(Err(CompilationError::InvalidRule(fault))),
@@ -79,7 +80,8 @@ pub fn rules_of(
     alloc: Global,
     schema: &Value,
 ) -> Result<Vec<Result<CompilationResult, CompilationError>>, Refused>
-    ensures { IfOk result (λ v. map compiled_seen v.items ≡ compiled_rules (rule_items (view schema.now))) }
+    ensures rules { IfOk result (λ v. map compiled_seen v.items ≡ compiled_rules (rule_items (view schema.now))) }
+    ensures memory { IfErr result (λ e. e ≡ Refused.Memory) }
 {
     let values = rule_values(schema);
     let mut rules = Vec::with_capacity(alloc, values.len())?;
@@ -95,7 +97,8 @@ fn compile_text(
     alloc: Global,
     rule: Rule,
 ) -> Result<Result<CompilationResult, CompilationError>, Refused>
-    ensures { IfOk result (λ r. compiled_seen r ≡ compiled (rule_view rule)) }
+    ensures rule { IfOk result (λ r. compiled_seen r ≡ compiled (rule_view rule)) }
+    ensures memory { IfErr result (λ e. e ≡ Refused.Memory) }
 {
     match Program::compile(alloc, rule.rule.as_str())? {
         Err(source) => Ok(Err(CompilationError::Parse {

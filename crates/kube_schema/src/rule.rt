@@ -1,12 +1,12 @@
 //! The rules of a schema's node, as JSON gives them (Kubernetes API reference, ValidationRule of
 //! CustomResourceDefinition; "Use CEL validation rules").
-ghost use Rattle.std.specs.Prelude.{◌≡◌, IfOk, option_map, string_bytes};
+ghost use Rattle.std.specs.Prelude.{◌≡◌, IfErr, IfOk, option_map, string_bytes};
 ghost use Rattle.serde_json.specs.View.{view, items_view};
-ghost use Rattle.kube_schema.specs.Rules.{fault_view, text_at, rule_of, rule_items, parts_view, rule_view, read};
+ghost use Rattle.kube_schema.specs.Rules.{fault_view, text_at, bool_at, rule_of, rule_items, parts_view, rule_view, read};
 
 use kube_schema_values::Refused;
 use serde_json::Value;
-use std::alloc::Global;
+use std::alloc::{AllocError, Global};
 use std::fmt;
 
 /// Why a JSON value is no rule: its first fault.
@@ -18,6 +18,8 @@ pub enum RuleFault {
     RuleNotString,
     /// The named field is neither a string nor null.
     NotStringOrNull(&'static str),
+    /// The field `optionalOldSelf` is neither a bool nor null.
+    NotBoolOrNull,
 }
 
 impl fmt::Display for RuleFault {
@@ -33,6 +35,9 @@ impl fmt::Display for RuleFault {
             RuleFault::NotStringOrNull(name) => {
                 write!(f, "field `{name}` must be a string or null")
             }
+            RuleFault::NotBoolOrNull => {
+                write!(f, "field `optionalOldSelf` must be a bool or null")
+            }
         }
     }
 }
@@ -44,6 +49,14 @@ pub struct Rule {
     pub rule: String,
     /// What is told where it is not.
     pub message: Option<String>,
+    /// A CEL expression that gives what is told where the rule isn't true.
+    pub message_expression: Option<String>,
+    /// A word for programs that goes with the error.
+    pub reason: Option<String>,
+    /// The part of the value that the error speaks of.
+    pub field_path: Option<String>,
+    /// Whether a rule on `oldSelf` counts also where there is no old value.
+    pub optional_old_self: Option<bool>,
 }
 
 // The fields of a rule, where they stand in JSON.
@@ -51,24 +64,27 @@ pub struct Rule {
 struct Parts<'a> {
     rule: &'a str,
     message: Option<&'a str>,
+    message_expression: Option<&'a str>,
+    reason: Option<&'a str>,
+    field_path: Option<&'a str>,
+    optional_old_self: Option<bool>,
 }
 
 impl Rule {
-    /// Reads a rule: an object with a string `rule` and with strings, nulls or nothing in the other fields. Fields of other
-    /// names are ignored. The first fault, in the order of the fields, is told.
+    /// Reads a rule: an object with a string `rule`, with a string, null or nothing in `message`, `messageExpression`, `reason`
+    /// and `fieldPath`, and with a bool, null or nothing in `optionalOldSelf`. Fields of other names are ignored. The first
+    /// fault, in this order of the fields, is told.
     ///
     /// # Errors
     ///
     /// [`Refused`] where memory is refused.
     pub fn from_json(alloc: Global, value: &Value) -> Result<Result<Rule, RuleFault>, Refused>
-        ensures { IfOk result (λ r. read rule_view r ≡ rule_of (view value.now)) }
+        ensures rule { IfOk result (λ r. read rule_view r ≡ rule_of (view value.now)) }
+        ensures memory { IfErr result (λ e. e ≡ Refused.Memory) }
     {
         match parts_of(value) {
             Err(fault) => Ok(Err(fault)),
-            Ok(parts) => Ok(Ok(Rule {
-                rule: String::from_str(alloc, parts.rule)?,
-                message: copy_of(alloc, parts.message)?,
-            })),
+            Ok(parts) => Ok(Ok(rule_from(alloc, parts)?)),
         }
     }
 
@@ -78,11 +94,16 @@ impl Rule {
     ///
     /// [`Refused`] where memory is refused.
     pub fn try_clone(&self) -> Result<Rule, Refused>
-        ensures { IfOk result (λ r. rule_view r ≡ rule_view self.now) }
+        ensures same { IfOk result (λ r. rule_view r ≡ rule_view self.now) }
+        ensures memory { IfErr result (λ e. e ≡ Refused.Memory) }
     {
         Ok(Rule {
             rule: self.rule.clone()?,
             message: clone_of(&self.message)?,
+            message_expression: clone_of(&self.message_expression)?,
+            reason: clone_of(&self.reason)?,
+            field_path: clone_of(&self.field_path)?,
+            optional_old_self: self.optional_old_self,
         })
     }
 }
@@ -112,6 +133,18 @@ fn text_at<'v>(value: &'v Value, name: &'static str) -> Result<Option<&'v str>, 
     }
 }
 
+// A bool, if the field is there and not null.
+fn bool_at(value: &Value, name: &str) -> Result<Option<bool>, RuleFault>
+    ensures { read (λ o. o) result ≡ bool_at name.now (view value.now) }
+{
+    match value.get(name) {
+        None | Some(Value::Null) => Ok(None),
+        Some(Value::Bool(truth)) => Ok(Some(*truth)),
+        Some(_) => Err(RuleFault::NotBoolOrNull),
+    }
+}
+
+// What stands in the fields of a rule, or its first fault.
 #[tactic(auto, unfolding(crate::specs::Rules::rule_of, crate::specs::Rules::fields_of))]
 fn parts_of(value: &Value) -> Result<Parts<'_>, RuleFault>
     ensures { read parts_view result ≡ rule_of (view value.now) }
@@ -123,10 +156,35 @@ fn parts_of(value: &Value) -> Result<Parts<'_>, RuleFault>
         return Err(RuleFault::RuleNotString);
     };
     let message = text_at(value, "message")?;
-    Ok(Parts { rule, message })
+    let message_expression = text_at(value, "messageExpression")?;
+    let reason = text_at(value, "reason")?;
+    let field_path = text_at(value, "fieldPath")?;
+    let optional_old_self = bool_at(value, "optionalOldSelf")?;
+    Ok(Parts {
+        rule,
+        message,
+        message_expression,
+        reason,
+        field_path,
+        optional_old_self,
+    })
 }
 
-fn copy_of(alloc: Global, text: Option<&str>) -> Result<Option<String>, Refused>
+// The rule of these fields.
+fn rule_from(alloc: Global, parts: Parts<'_>) -> Result<Rule, AllocError>
+    ensures { IfOk result (λ r. rule_view r ≡ parts_view parts.entry) }
+{
+    Ok(Rule {
+        rule: String::from_str(alloc, parts.rule)?,
+        message: copy_of(alloc, parts.message)?,
+        message_expression: copy_of(alloc, parts.message_expression)?,
+        reason: copy_of(alloc, parts.reason)?,
+        field_path: copy_of(alloc, parts.field_path)?,
+        optional_old_self: parts.optional_old_self,
+    })
+}
+
+fn copy_of(alloc: Global, text: Option<&str>) -> Result<Option<String>, AllocError>
     ensures { IfOk result (λ o. option_map string_bytes o ≡ option_map (λ s. s.now) text.entry) }
 {
     match text {
@@ -135,7 +193,7 @@ fn copy_of(alloc: Global, text: Option<&str>) -> Result<Option<String>, Refused>
     }
 }
 
-fn clone_of(text: &Option<String>) -> Result<Option<String>, Refused>
+fn clone_of(text: &Option<String>) -> Result<Option<String>, AllocError>
     ensures { IfOk result (λ o. option_map string_bytes o ≡ option_map string_bytes text.now) }
 {
     match text {

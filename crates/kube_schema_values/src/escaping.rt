@@ -1,11 +1,11 @@
 //! Field names written so that CEL can select them, in the manner of the Kubernetes API server
 //! (Kubernetes documentation, "Use CEL validation rules", escaping of property names).
-ghost use Rattle.std.specs.Prelude.{◌≡◌, ◌++◌, List, ℕ, IfOk, OnOk, string_bytes};
+ghost use Rattle.std.specs.Prelude.{◌≡◌, ◌++◌, List, ℕ, IfErr, IfOk, OnOk, string_bytes};
 ghost use Rattle.std.specs.Char.{encode_utf8};
 ghost use Rattle.kube_schema_values.specs.Escape.{is_reserved, escape, escaped_text, escaped_character, held_text};
 
 use cel_value::Refused;
-use std::alloc::Global;
+use std::alloc::{AllocError, Global};
 
 /// Whether CEL keeps a word for itself (CEL language definition, "Syntax").
 #[tactic(auto, unfolding(crate::specs::Escape::is_reserved))]
@@ -48,7 +48,8 @@ pub(crate) fn is_reserved(name: &str) -> bool
 /// [`Refused`] where memory is refused.
 #[tactic(auto, unfolding(crate::specs::Escape::escape))]
 pub fn escape_field_name(alloc: Global, name: &str) -> Result<String, Refused>
-    ensures { IfOk result (λ s. string_bytes s ≡ escape name.now) }
+    ensures escaped { IfOk result (λ s. string_bytes s ≡ escape name.now) }
+    ensures memory { IfErr result (λ e. e ≡ Refused.Memory) }
 {
     let mut escaped = String::with_capacity(alloc, name.len())?;
     if is_reserved(name) {
@@ -62,7 +63,7 @@ pub fn escape_field_name(alloc: Global, name: &str) -> Result<String, Refused>
 }
 
 // Adds a name that is no reserved word.
-fn push_escaped(name: &str, out: &mut String) -> Result<(), Refused>
+fn push_escaped(name: &str, out: &mut String) -> Result<(), AllocError>
     ensures { OnOk result (string_bytes out.new
         ≡ string_bytes out.old ++ escaped_text name.now) }
 {
@@ -78,7 +79,7 @@ fn push_escaped(name: &str, out: &mut String) -> Result<(), Refused>
 
 // Adds the next character, behind an underscore that may still be held back. Answers whether one is held back now, since it
 // may be the first of two.
-fn push_next(holds_underscore: bool, character: char, out: &mut String) -> Result<bool, Refused>
+fn push_next(holds_underscore: bool, character: char, out: &mut String) -> Result<bool, AllocError>
     ensures { IfOk result (λ holds. (rest : List ℕ) → string_bytes out.new ++ escaped_text (held_text holds ++ rest)
         ≡ string_bytes out.old ++ escaped_text (held_text holds_underscore ++ (encode_utf8 character ++ rest))) }
 {
@@ -102,14 +103,14 @@ fn push_next(holds_underscore: bool, character: char, out: &mut String) -> Resul
 
 // Adds what stands for a character alone.
 #[tactic(auto, unfolding(crate::specs::Escape::escaped_character))]
-fn push_character(character: char, out: &mut String) -> Result<(), Refused>
+fn push_character(character: char, out: &mut String) -> Result<(), AllocError>
     ensures { OnOk result (string_bytes out.new
         ≡ string_bytes out.old ++ escaped_character character) }
 {
     match character {
-        '.' => Ok(out.push_str("__dot__")?),
-        '-' => Ok(out.push_str("__dash__")?),
-        '/' => Ok(out.push_str("__slash__")?),
-        _ => Ok(out.push(character)?),
+        '.' => out.push_str("__dot__"),
+        '-' => out.push_str("__dash__"),
+        '/' => out.push_str("__slash__"),
+        _ => out.push(character),
     }
 }

@@ -1,11 +1,11 @@
 //! The field names that escaped texts were made of.
-ghost use Rattle.std.specs.Prelude.{◌≡◌, ◌++◌, ◌∷◌, [], ◌<◌, length, true, false, List, ℕ, IfOk, MatchOption, option_map, string_bytes};
+ghost use Rattle.std.specs.Prelude.{◌≡◌, ◌++◌, ◌∷◌, [], ◌<◌, length, true, false, List, ℕ, IfErr, IfOk, MatchOption, option_map, string_bytes};
 ghost use Rattle.kube_schema_values.specs.Escape.{escape};
 ghost use Rattle.kube_schema_values.specs.Unescape.{unescape, name_behind, unescaped_text, inner, is_reserved_form};
 
 use crate::escaping::{escape_field_name, is_reserved};
 use cel_value::Refused;
-use std::alloc::Global;
+use std::alloc::{AllocError, Global};
 
 /// The name that [`escape_field_name`] makes the text of, or none where it makes the text of no name.
 ///
@@ -18,6 +18,7 @@ pub fn unescape_field_name(alloc: Global, text: &str) -> Result<Option<String>, 
     ensures exact { IfOk result (λ found. MatchOption found
         ((name : List ℕ) → escape name ≡ text.now → ⊥)
         (λ name. escape (string_bytes name) ≡ text.now)) }
+    ensures memory { IfErr result (λ e. e ≡ Refused.Memory) }
 {
     let name = name_behind(alloc, text)?;
     let escaped = escape_field_name(alloc, name.as_str())?;
@@ -30,11 +31,11 @@ pub fn unescape_field_name(alloc: Global, text: &str) -> Result<Option<String>, 
 
 // The only name that the text may be of.
 #[tactic(auto, unfolding(crate::specs::Unescape::name_behind))]
-fn name_behind(alloc: Global, text: &str) -> Result<String, Refused>
+fn name_behind(alloc: Global, text: &str) -> Result<String, AllocError>
     ensures { IfOk result (λ name. string_bytes name ≡ name_behind text.now) }
 {
     match reserved_word_in(text) {
-        Some(word) => Ok(String::from_str(alloc, word)?),
+        Some(word) => String::from_str(alloc, word),
         None => unescaped(alloc, text),
     }
 }
@@ -55,7 +56,7 @@ fn reserved_word_in(text: &str) -> Option<&str>
 
 // The text with each escaped character read back.
 #[tactic(auto, unfolding(crate::specs::Unescape::unescaped_text))]
-fn unescaped(alloc: Global, text: &str) -> Result<String, Refused>
+fn unescaped(alloc: Global, text: &str) -> Result<String, AllocError>
     ensures { IfOk result (λ name. string_bytes name ≡ unescaped_text 0 text.now) }
 {
     let mut name = String::with_capacity(alloc, text.len())?;
@@ -67,7 +68,7 @@ fn unescaped(alloc: Global, text: &str) -> Result<String, Refused>
 }
 
 // Adds what the first character stands for, escaped or not, and answers the rest of the text; none where the text is empty.
-fn push_first<'t>(text: &'t str, name: &mut String) -> Result<Option<&'t str>, Refused>
+fn push_first<'t>(text: &'t str, name: &mut String) -> Result<Option<&'t str>, AllocError>
     ensures { IfOk result (λ found. MatchOption found
         ((string_bytes name.new ≡ string_bytes name.old) × (text.now ≡ []))
         (λ rest. (string_bytes name.new ++ unescaped_text 0 rest.now ≡ string_bytes name.old ++ unescaped_text 0 text.now)

@@ -1,6 +1,6 @@
 //! JSON values as CEL values, where no schema says more: numbers by their range, objects as maps with escaped keys
 //! (Kubernetes documentation, "Use CEL validation rules", the CEL types of schema types).
-ghost use Rattle.std.specs.Prelude.{◌≡◌, IfOk, OnOk, OnErr, string_bytes};
+ghost use Rattle.std.specs.Prelude.{◌≡◌, IfErr, IfOk, OnOk, OnErr, string_bytes};
 ghost use Rattle.serde_json.specs.View.{view as json_view, items_view as json_items_view, members_view, number_view};
 ghost use Rattle.cel_value.specs.Data.{text, text_key};
 ghost use Rattle.cel_value.specs.Keys.{put};
@@ -22,7 +22,8 @@ use std::rc::Rc;
 #[cycle(plain)]
 #[tactic(auto, unfolding(crate::specs::Plain::plain))]
 pub fn bind_plain(alloc: Global, value: &Json) -> Result<Value, Refused>
-    ensures { IfOk result (λ v. view v ≡ plain (json_view value.now)) }
+    ensures value { IfOk result (λ v. view v ≡ plain (json_view value.now)) }
+    ensures memory { IfErr result (λ e. e ≡ Refused.Memory) }
 {
     match value {
         Json::Null => Ok(Value::Null),
@@ -53,14 +54,16 @@ pub fn bind_number(number: &Number) -> Value
 ///
 /// [`Refused`] where memory is refused.
 pub fn bind_text(alloc: Global, chars: &str) -> Result<Value, Refused>
-    ensures { IfOk result (λ v. view v ≡ text chars.now) }
+    ensures value { IfOk result (λ v. view v ≡ text chars.now) }
+    ensures memory { IfErr result (λ e. e ≡ Refused.Memory) }
 {
     Value::from_text(alloc, String::from_str(alloc, chars)?)
 }
 
 #[cycle(plain)]
 fn bind_items(alloc: Global, items: &Vec<Json>) -> Result<Vec<Value>, Refused>
-    ensures { IfOk result (λ v. items_view v.items ≡ plain_items (json_items_view items.now.items)) }
+    ensures items { IfOk result (λ v. items_view v.items ≡ plain_items (json_items_view items.now.items)) }
+    ensures memory { IfErr result (λ e. e ≡ Refused.Memory) }
 {
     let mut bound = Vec::with_capacity(alloc, items.len())?;
     for item in items {
@@ -71,7 +74,8 @@ fn bind_items(alloc: Global, items: &Vec<Json>) -> Result<Vec<Value>, Refused>
 
 #[cycle(plain)]
 fn bind_members(alloc: Global, members: &Members<String, Json>) -> Result<Map, Refused>
-    ensures { IfOk result (λ m. entries_view m.entries ≡ plain_entries (members_view members.now.entries)) }
+    ensures entries { IfOk result (λ m. entries_view m.entries ≡ plain_entries (members_view members.now.entries)) }
+    ensures memory { IfErr result (λ e. e ≡ Refused.Memory) }
 {
     let mut bound = Map::new(alloc);
     for (key, member) in members.iter().rev() {
@@ -91,6 +95,7 @@ pub fn put_entry(alloc: Global, entries: &mut Map, key: String, value: Value) ->
     ensures entered { OnOk result (entries_view entries.new.entries
         ≡ put (text_key (string_bytes key)) (view value) (entries_view entries.old.entries)) }
     ensures unchanged { OnErr result (entries_view entries.new.entries ≡ entries_view entries.old.entries) }
+    ensures memory { IfErr result (λ e. e ≡ Refused.Memory) }
 {
     let key = Key::String(Rc::new(alloc, key)?);
     drop(entries.insert(key, value)?);

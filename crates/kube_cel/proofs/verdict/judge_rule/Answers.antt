@@ -9,9 +9,9 @@ use Rattle.std.proofs.Common.{option_map, sym, ap, ◌∙◌}
 pub returns-in_ok-malformed_error-in-Err-clause-found : goal.returns-in_ok-malformed_error-in-Err-clause-found
 returns-in_ok-malformed_error-in-Err-clause-found c = λ b h.
     malformed_found b (spot_at c.args.place c.args.path.now) (view c.args.rule.now) (malformed_view c.in-Err.error) (error_view c.in_ok-malformed_error-in-Err.field-0)
-    (ap compiled_seen (sym c.in-Err.is) ∙ c.in_ok-error.ensures) c.in_ok-malformed_error-in-Err.ensures
+    (ap compiled_seen (sym c.in-Err.is) ∙ c.in_ok-error.ensures.rule) c.in_ok-malformed_error-in-Err.ensures
 
 pub returns-in_ok-error-in-Ok-clause-found : goal.returns-in_ok-error-in-Ok-clause-found
 returns-in_ok-error-in-Ok-clause-found c = λ b h.
     compiled_found b (spot_at c.args.place c.args.path.now) (view c.args.rule.now) (result_view c.in-Ok.rule) (option_map error_view c.in_ok-error-in-Ok.error)
-    (ap compiled_seen (sym c.in-Ok.is) ∙ c.in_ok-error.ensures) (c.in_ok-error-in-Ok.ensures.found b h)
+    (ap compiled_seen (sym c.in-Ok.is) ∙ c.in_ok-error.ensures.rule) (c.in_ok-error-in-Ok.ensures.found b h)

@@ -11,4 +11,4 @@ pub returns-clause-found : goal.returns-clause-found
 unfolding rule_outcome
 returns-clause-found c = λ b h.
     c.in_ok-outcome.ensures.value.under b h
-    ∙ meaning_same standard_library b (program_term c.args.program.now) (bindings_of c.in_ok-context.context) (rule_bindings (view c.args.place.value.now) (option_map (λ v. view v.now) c.args.place.old)) c.in_ok-context.ensures
+    ∙ meaning_same standard_library b (program_term c.args.program.now) (bindings_of c.in_ok-context.context) (rule_bindings (view c.args.place.value.now) (option_map (λ v. view v.now) c.args.place.old)) c.in_ok-context.ensures.bound

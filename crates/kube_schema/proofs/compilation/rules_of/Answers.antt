@@ -4,8 +4,8 @@ use Rattle.kube_schema.specs.Compilation.{compiled_rule, compiled_rules}
 use Rattle.kube_schema.proofs.Compiled.{compiled_rules_is}
 use Rattle.kube_schema.proofs.compilation.rules_of.Goals as goal
 
-pub returns : goal.returns
-returns c =
+pub returns-clause-rules : goal.returns-clause-rules
+returns-clause-rules c =
     let values = c.rule_values-values.result.now in
     let all : take c.loop-value.value-index values ≡ values = take_all c.loop-value.value-index values c.loop-value-test.false in
     c.loop-value.invariant ∙ ap (map (λ v. compiled_rule (view v))) all ∙ sym (compiled_rules_is values) ∙ ap compiled_rules c.rule_values-values.ensures

@@ -10,8 +10,8 @@ use Rattle.kube_schema_values.specs.Plain.{plain, plain_entries}
 use Rattle.kube_schema_values.proofs.Plains.{plain_items_is}
 use Rattle.kube_schema_values.proofs.values.+plain.Goals as goal
 
-pub bind_items-returns : goal.bind_items-returns
-bind_items-returns t c =
+pub bind_items-returns-clause-items : goal.bind_items-returns-clause-items
+bind_items-returns-clause-items t c =
     let all : take c.loop-item.item-index c.deref-item-items.result.now ≡ c.args.items.now.items = rw (take_all c.loop-item.item-index c.deref-item-items.result.now c.loop-item-test.false) c.deref-item-items.ensures.value in
     ap items_of (c.loop-item.invariant ∙ ap (map (λ v. plain (json_view v))) all) ∙ sym (plain_items_is c.args.items.now.items)
 
@@ -30,13 +30,13 @@ bind_members-loop-key-preserved t c =
     let done = l.invariant.done in
     let e : Entry = (c.in-Some.key.now, c.in-Some.member.now) in
     let left = c.next.new.self.iter in
-    let named = c.in_ok-name.ensures ∙ ap escape c.as_str.ensures.value in record {
+    let named = c.in_ok-name.ensures.escaped ∙ ap escape c.as_str.ensures.value in record {
       done = e ∷ done;
       all = l.invariant.all ∙ ap (λ es. es ++ done) c.in-Some.ensures.steps ∙ append_assoc left (e ∷ []) done;
-      same = c.in_ok-put_entry.ensures.entered ∙ (λ i. put (text_key (named i)) (c.in_ok-value.ensures i) (l.invariant.same i));
+      same = c.in_ok-put_entry.ensures.entered ∙ (λ i. put (text_key (named i)) (c.in_ok-value.ensures.value i) (l.invariant.same i));
     }
 
-pub bind_members-returns : goal.bind_members-returns
-bind_members-returns t c =
+pub bind_members-returns-clause-entries : goal.bind_members-returns-clause-entries
+bind_members-returns-clause-entries t c =
     let l = c.loop-key in
     l.invariant.same ∙ ap (λ es. plain_entries (members_view es)) (sym (l.invariant.all ∙ ap (λ es. es ++ l.invariant.done) c.in-None.ensures.steps.0))

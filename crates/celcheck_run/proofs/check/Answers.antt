@@ -1,0 +1,21 @@
+use Rattle.celcheck_run.proofs.check.Goals as goal
+use Rattle.celcheck_run.proofs.Told.{lent_view}
+use Rattle.kube_cel.specs.Answers.{IsToldOf}
+use Rattle.kube_cel_places.specs.Spot.{root_spot}
+use Rattle.serde_json.specs.View.{view}
+use Rattle.std.proofs.Common.{option_map, subst, ap, ◌∙◌}
+
+pub returns : goal.returns
+returns g c =
+    let lent = lent_view c.as_ref.result ∙ ap (option_map view) c.as_ref.ensures.value in
+    record {
+      schema = view c.in_ok-schema.schema;
+      object = view c.in_ok-object.object;
+      old = option_map view c.in_ok-old.old;
+      with_schema = c.read_json.new.files;
+      with_object = c.read_json-2.new.files;
+      schema_read = c.in_ok-schema.ensures;
+      object_read = c.in_ok-object.ensures;
+      old_read = c.in_ok-old.ensures;
+      told = subst (λ o. IsToldOf (root_spot (view c.in_ok-schema.schema) (view c.in_ok-object.object) o) c.in_ok-validate.field-0) lent c.in_ok-validate.ensures.answer;
+    }
