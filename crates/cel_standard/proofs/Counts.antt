@@ -1,5 +1,5 @@
 -- How many items and entries a value has.
-use Rattle.std.proofs.Common.{◌≡◌, ℕ, suc, List, [], ◌∷◌, length, refl, ap}
+use Rattle.std.proofs.Common.{◌≡◌, suc, List, [], ◌∷◌, length, refl, ap}
 use Rattle.cel_value.specs.View.{items_view, entries_view}
 use Rattle.cel_value.specs.declared.key.Key.{Key}
 use Rattle.cel_value.specs.declared.value.Value.{Value}

@@ -1,6 +1,6 @@
 -- The least and the greatest of values (Kubernetes documentation, "CEL in Kubernetes", list library, `min` and `max`; documentation of
 -- CEL-Go, "Lists"). Values are compared as `<` compares them, and of equal ones the first counts. A single value is compared with nothing.
-use Rattle.std.specs.Prelude.{List, [], ◌∷◌, codes, Bool, not, is_some, Option, Some, None, option_map, Ok, Err, ℕ, if◌then◌else◌}
+use Rattle.std.specs.Prelude.{List, [], ◌∷◌, codes, Bool, not, is_some, Option, Some, None, option_map, Ok, Err, if◌then◌else◌}
 use Rattle.std.specs.List.{list_all, find}
 use Rattle.std.specs.Option.{option_map_or, unwrap_or}
 use Rattle.std.specs.Ordering.{is_some_and, is_lt, is_gt}

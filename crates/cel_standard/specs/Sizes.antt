@@ -1,7 +1,6 @@
 -- How large a value is (CEL language definition, "List of Standard Definitions", `size`): a string by its code points, bytes by their
 -- bytes, a list by its items, a map by its entries. A size is an int; one that no int is would be an overflow.
-use Rattle.std.specs.Prelude.{ℕ, suc, pos, length, codes, Option, Some, None, Err}
-use Rattle.std.specs.Option.{option_map_or}
+use Rattle.std.specs.Prelude.{ℕ, suc, pos, length, codes, Err}
 use Rattle.std.specs.Str.{chars}
 use Rattle.cel_value.specs.Data.{Data, text, bytes, list, map_of, Items, no_items, item, Entries, no_entries, entry}
 use Rattle.cel_value.specs.Faults.{no_overload}
