@@ -1,7 +1,9 @@
 //! Operands on the stack, and the instructions that test them.
-ghost use Rattle.std.specs.Prelude.{◌≡◌, ◌∷◌, [], ◌<◌, ◌≤◌, ◌+◌, ℕ, IfOk, IfErr, List, Ok, drop, length, map, Some, None, MatchOption};
+ghost use Rattle.std.specs.Prelude.{◌≡◌, ◌∷◌, [], ◌<◌, ◌≤◌, ◌+◌, ℕ, IfOk, IfErr, List, Ok, Err, drop, length, map, Some, None, MatchOption, MatchResult};
 ghost use Rattle.cel_value.specs.Data.{Data};
+ghost use Rattle.cel_value.specs.Faults.{fault_view};
 ghost use Rattle.cel_value.specs.View.{view};
+ghost use Rattle.cel_meaning.specs.Decisions.{truth};
 ghost use Rattle.cel_machine.specs.Machine.{guarded, branched, absorbed, joined, logic_name, taken};
 ghost use Rattle.cel_machine.specs.Op.{test_name};
 ghost use Rattle.cel_machine.specs.State.{outcomes, aside};
@@ -77,6 +79,21 @@ fn test_text(test: Test) -> &'static str
     }
 }
 
+/// What a test says of a value: its bool, or the fault that it is none.
+fn truth_of(
+    alloc: Global,
+    test: Test,
+    value: &Value,
+) -> Result<Result<bool, ExecutionError>, Refused>
+    ensures value { IfOk result (λ r. MatchResult r (λ b. truth (test_name test) (Ok (view value.now)) ≡ Ok b) (λ e. truth (test_name test) (Ok (view value.now)) ≡ Err (fault_view e))) }
+    ensures memory { IfErr result (λ e. e ≡ Refused.Memory) }
+{
+    match value {
+        Value::Bool(b) => Ok(Ok(*b)),
+        _ => Ok(Err(no_such_overload(alloc, test_text(test))?)),
+    }
+}
+
 /// A test.
 pub(crate) fn branch(
     alloc: Global,
@@ -94,12 +111,14 @@ pub(crate) fn branch(
     match pop_answer(values) {
         None => Ok(None),
         Some(answer) => match answer {
-            Ok(Value::Bool(true)) => Ok(Some(place + 1)),
-            Ok(Value::Bool(false)) => Ok(jump(place, other, end)),
-            Ok(_) => {
-                push_answer(values, Err(no_such_overload(alloc, test_text(test))?))?;
-                Ok(jump(place, past, end))
-            }
+            Ok(value) => match truth_of(alloc, test, &value)? {
+                Ok(true) => Ok(Some(place + 1)),
+                Ok(false) => Ok(jump(place, other, end)),
+                Err(e) => {
+                    push_answer(values, Err(e))?;
+                    Ok(jump(place, past, end))
+                }
+            },
             Err(e) => {
                 push_answer(values, Err(e))?;
                 Ok(jump(place, past, end))
