@@ -2,7 +2,7 @@
 use crate::key::Key;
 
 /// Why an expression has no value. Its text is fixed, and tells no more than this.
-#[derive(Drop)]
+#[derive(Debug, Drop)]
 pub enum ExecutionError {
     /// A name that nothing declares.
     UndeclaredReference(String),

@@ -3,7 +3,7 @@ use std::cmp::Ordering;
 use std::rc::Rc;
 
 /// The key of a map: bools first, then numbers, then strings by bytes. 1 and 1u are one key.
-#[derive(Drop)]
+#[derive(Debug, Drop)]
 pub enum Key {
     /// `true` or `false`.
     Bool(bool),

@@ -10,7 +10,7 @@ use std::rc::Rc;
 pub type Map = BTreeMap<Key, Value>;
 
 /// A value, or none.
-#[derive(Drop)]
+#[derive(Debug, Drop)]
 #[cycle(values)]
 pub struct OptionalValue {
     /// The value that is there.
@@ -18,7 +18,7 @@ pub struct OptionalValue {
 }
 
 /// A value of CEL.
-#[derive(Drop)]
+#[derive(Debug, Drop)]
 #[cycle(values)]
 pub enum Value {
     /// `null`.

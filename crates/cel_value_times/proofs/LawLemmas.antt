@@ -35,7 +35,7 @@ same_parts x y a b p q e = (omega (arith, signed_arith), omega (arith, signed_ar
 same_pos : (a b : ℕ) → pos a ≡ pos b → a ≡ b
 same_pos a b e = cc
 
-same_text : (a b : Local) → a.year ≡ b.year → a.month ≡ b.month → a.day ≡ b.day → a.hour ≡ b.hour → a.minute ≡ b.minute → a.second ≡ b.second → local_text a 84 ≡ local_text b 84
+pub same_text : (a b : Local) → a.year ≡ b.year → a.month ≡ b.month → a.day ≡ b.day → a.hour ≡ b.hour → a.minute ≡ b.minute → a.second ≡ b.second → local_text a 84 ≡ local_text b 84
 same_text a b y m d h i s = rw (y, m, d, h, i, s) refl
 
 pub one_local : (a b : Local) → IsLocal a → IsLocal b → second_of a ≡ second_of b → local_text a 84 ≡ local_text b 84

@@ -8,3 +8,4 @@ pub mod PrintLemmas
 pub mod TimestampLemmas
 pub mod DurationLemmas
 pub mod LawLemmas
+pub mod TextFunctionLemmas

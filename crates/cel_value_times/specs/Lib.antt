@@ -5,3 +5,4 @@ pub mod DurationTexts
 pub mod Fronts
 pub mod TimestampTexts
 pub mod TimestampFronts
+pub mod TextFunctions

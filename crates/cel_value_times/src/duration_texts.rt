@@ -1,10 +1,11 @@
 //! Texts of durations, read and printed.
-ghost use Rattle.std.specs.Prelude.{ℕ, ℤ, ◌≡◌, ◌+◌, ◌*◌, ◌<◌, ◌^◌, true, List, IsTrue, ◌↔◌, Some, None, IfSome, IsSome, IsSomeAnd, IfOk, IfErr, OnOk, ◌++◌, string_bytes, codes};
+ghost use Rattle.std.specs.Prelude.{ℕ, ℤ, ◌≡◌, ◌+◌, ◌*◌, ◌<◌, ◌^◌, true, List, IsTrue, ◌↔◌, Some, None, IfSome, IsSome, IsSomeAnd, IfOk, IfErr, OnOk, ◌++◌, option_map, string_bytes, codes};
 ghost use Rattle.std.specs.Str.{all_ascii_digits};
 ghost use Rattle.kube_types_refused.specs.declared.Refused.TheVariants.{Memory};
 ghost use Rattle.cel_value_times.specs.Digits.{number, cut_part};
 ghost use Rattle.cel_value_times.specs.Fronts.{option_front, unit_at, amount_at};
 ghost use Rattle.cel_value_times.specs.DurationTexts.{AreAmounts, IsMagnitude, IsDurationText, duration_text, magnitude_text, small_text, hours_text, minutes_text, seconds_text};
+ghost use Rattle.cel_value_times.specs.TextFunctions.{duration_of};
 
 use crate::Duration;
 use crate::decimals::write_decimals;
@@ -34,6 +35,7 @@ impl Duration {
         ensures found { IfSome result (λ d. IsDurationText text.now d.nanoseconds) }
         ensures only { (n : ℤ) → IsDurationText text.now n →
             IsSomeAnd result (λ d. d.nanoseconds ≡ n) }
+        ensures function { option_map (λ d. d.nanoseconds) result ≡ duration_of text.now }
     {
         read(text.as_bytes())
     }

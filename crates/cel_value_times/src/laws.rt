@@ -1,9 +1,10 @@
 //! Laws of the texts of times, as contracts of functions that do nothing.
-ghost use Rattle.std.specs.Prelude.{ℕ, ℤ, List, ◌≡◌, ◌<◌, ◌+ℤ◌, ◌*ℤ◌, pos};
+ghost use Rattle.std.specs.Prelude.{ℕ, ℤ, List, ◌≡◌, ◌↔◌, ◌<◌, ◌+ℤ◌, ◌*ℤ◌, pos, Some};
 ghost use Rattle.jiff_core.specs.Calendar.{days_from_civil};
 ghost use Rattle.cel_value_times.specs.Ranges.{IsDuration, IsSecond, IsOffset, earliest_second, latest_second};
 ghost use Rattle.cel_value_times.specs.DurationTexts.{IsDurationText, duration_text};
 ghost use Rattle.cel_value_times.specs.TimestampTexts.{IsTimestampText, IsPrintedTimestamp};
+ghost use Rattle.cel_value_times.specs.TextFunctions.{duration_of, timestamp_of, timestamp_text, MeansInstant};
 
 /// What a duration is printed as means that duration.
 pub fn printed_durations_mean_themselves()
@@ -35,6 +36,25 @@ pub fn a_timestamp_has_one_printed_text()
     ensures { (a b : List ℕ) (second : ℤ) (nanoseconds : ℕ) (offset : ℤ) →
         IsPrintedTimestamp a second nanoseconds offset →
         IsPrintedTimestamp b second nanoseconds offset → a ≡ b }
+{}
+
+/// The duration of a text, as a function, is what the text means.
+pub fn duration_of_is_what_a_text_means()
+    ensures { (text : List ℕ) (nanoseconds : ℤ) →
+        (duration_of text ≡ Some nanoseconds) ↔ IsDurationText text nanoseconds }
+{}
+
+/// The timestamp of a text, as a function, is what the text means.
+pub fn timestamp_of_is_what_a_text_means()
+    ensures { (text : List ℕ) (instant offset : ℤ) →
+        (timestamp_of text ≡ Some (instant, offset)) ↔ MeansInstant text instant offset }
+{}
+
+/// The text of a timestamp, as a function, is what it is printed as.
+pub fn timestamp_text_is_what_is_printed()
+    ensures { (text : List ℕ) (second : ℤ) (nanoseconds : ℕ) (offset : ℤ) →
+        nanoseconds < 1_000_000_000 → IsPrintedTimestamp text second nanoseconds offset →
+        text ≡ timestamp_text (second *ℤ pos 1_000_000_000 +ℤ pos nanoseconds) offset }
 {}
 
 /// The range of seconds is that of the years 1 to 9999.

@@ -2,6 +2,8 @@
 ghost use Rattle.std.specs.Prelude.{ℕ, ℤ, ◌≡◌, ◌+◌, ◌*◌, ◌/◌, ◌%◌, ◌<◌, ◌≤◌, ◌++◌, pos, neg_ℤ, ◌≤ℤ◌, ◌+ℤ◌, ◌*ℤ◌, IfSome, IsSomeAnd, IsOk, ◌↔◌, IfOk, IfErr, OnOk, option_map, string_bytes};
 ghost use Rattle.kube_types_refused.specs.declared.Refused.TheVariants.{Memory};
 ghost use Rattle.cel_value_times.specs.Ranges.{IsSecond, IsOffset, local_second};
+ghost use Rattle.cel_value_times.specs.Instants.{instant};
+ghost use Rattle.cel_value_times.specs.TextFunctions.{timestamp_of, timestamp_text};
 ghost use Rattle.cel_value_times.specs.TimestampTexts as texts;
 ghost use Rattle.cel_value_times.specs.TimestampFronts as fronts;
 ghost use Rattle.cel_value_times.specs.Fronts.{option_front, rest_front};
@@ -33,6 +35,8 @@ impl Timestamp {
             texts.IsTimestampText text.now second nanoseconds offset →
             IsSomeAnd result (λ t. (t.seconds ≡ second) × (t.nanoseconds ≡ nanoseconds)
             × (t.offset_minutes ≡ offset)) }
+        ensures function { option_map (λ t. (instant t, t.offset_minutes)) result
+            ≡ timestamp_of text.now }
     {
         read_parts(text.as_bytes())
     }
@@ -42,6 +46,8 @@ impl Timestamp {
     pub fn text(&self, alloc: Global) -> Result<String, Refused>
         ensures text { IfOk result (λ text. texts.IsPrintedTimestamp (string_bytes text)
             self.now.seconds self.now.nanoseconds self.now.offset_minutes) }
+        ensures function { IfOk result (λ text. string_bytes text
+            ≡ timestamp_text (instant self.now) self.now.offset_minutes) }
         ensures memory { IfErr result (λ e. e ≡ Memory) }
     {
         let mut out = String::new(alloc);
