@@ -19,7 +19,7 @@ use std::alloc::Global;
 use std::collections::BTreeSet;
 
 /// The names that an expression refers to.
-#[derive(Drop)]
+#[derive(Debug, Drop)]
 pub struct References {
     variables: Vec<String>,
     functions: Vec<String>,

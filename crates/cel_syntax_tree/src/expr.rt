@@ -61,7 +61,7 @@ pub enum MacroKind {
 }
 
 /// An expression. Its names are shared, so that code made of it takes them without a copy.
-#[derive(Drop)]
+#[derive(Debug, Drop)]
 pub enum Expr {
     /// A value that stands in the text.
     Literal(Value),
