@@ -27,7 +27,7 @@ use cel_value::Refused;
 use std::alloc::Global;
 
 /// An expression, ready to be run.
-#[derive(Drop)]
+#[derive(Debug, Drop)]
 pub struct Program {
     expression: Expr,
     code: Vec<Instr>,

@@ -12,7 +12,7 @@ pub enum Test {
 }
 
 /// What is done with values once all of them are there.
-#[derive(Drop)]
+#[derive(Debug, Drop)]
 pub enum Operation {
     /// An operator on one value.
     Unary(UnaryOperator),
@@ -34,7 +34,7 @@ pub enum Operation {
 
 /// One instruction. It takes its operands from a stack of values, each of them a value or the error that stands for it, and leaves its
 /// result there. A jump says how many instructions it passes.
-#[derive(Drop)]
+#[derive(Debug, Drop)]
 pub enum Instr {
     /// Pushes a value.
     Push(Value),

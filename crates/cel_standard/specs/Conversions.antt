@@ -1,14 +1,16 @@
--- Values of one kind as values of another (CEL language definition, "List of Standard Definitions", `int`, `uint`, `string`, `bytes`).
--- A number that is out of its kind's range is an overflow, and a text that writes no such number a fault of the function. Bytes that are
--- no UTF-8 become U+FFFD, one for each maximal piece.
+-- Values of one kind as values of another (CEL language definition, "List of Standard Definitions", `int`, `uint`, `string`, `bytes`,
+-- `timestamp`, `duration`). A number that is out of its kind's range is an overflow, and a text that means no such number or time a fault
+-- of the function. Bytes that are no UTF-8 become U+FFFD, one for each maximal piece.
 use Rattle.std.specs.Prelude.{ℕ, ◌^◌, ℤ, pos, negsuc, nat_lt, ◌&&◌, List, length, codes, Bool, Option, Some, None, Ok, Err, decimal, if◌then◌else◌}
 use Rattle.std.specs.Fmt.{signed_decimal}
 use Rattle.std.specs.Option.{option_map_or}
 use Rattle.std.specs.Str.{all_ascii_digits}
 use Rattle.std.specs.Str.Lossy.{utf8_lossy}
 use Rattle.std.specs.Str.Parse.{digits_value, signed_digits_value, without_leading_plus, without_leading_sign}
-use Rattle.cel_value.specs.Data.{Data, int, uint, text, bytes}
+use Rattle.cel_value.specs.Data.{Data, int, uint, text, bytes, timestamp, duration}
 use Rattle.cel_value.specs.Faults.{Fault, no_overload, overflow, function_error}
+use Rattle.cel_value_times.specs.DurationTexts.{duration_text}
+use Rattle.cel_value_times.specs.TextFunctions as times
 use Rattle.cel_meaning.specs.Arithmetic.{is_int, int_or_overflow}
 use Rattle.cel_meaning.specs.Outcome.{Outcome}
 
@@ -55,9 +57,31 @@ string_of (text s) = Ok (text s)
 string_of (int n) = Ok (text (signed_decimal n))
 string_of (uint n) = Ok (text (decimal n))
 string_of (bytes s) = Ok (text (utf8_lossy s))
+string_of (timestamp t o) = Ok (text (times.timestamp_text t o))
+string_of (duration n) = Ok (text (duration_text n))
 string_of _ = Err (no_overload (codes "string"))
 
 abbrev pub bytes_of : Data → Outcome
 bytes_of (bytes s) = Ok (bytes s)
 bytes_of (text s) = Ok (bytes s)
 bytes_of _ = Err (no_overload (codes "bytes"))
+
+-- the value of a time that a text means, or why it means none
+abbrev pub or_no_time : {A : Type 0} → Fault → (A → Data) → Option A → Outcome
+or_no_time fault f o = option_map_or (λ t. Ok (f t)) o (Err fault)
+
+abbrev pub no_timestamp : Fault
+no_timestamp = function_error (codes "timestamp") (codes "invalid timestamp")
+
+abbrev pub no_duration : Fault
+no_duration = function_error (codes "duration") (codes "invalid duration")
+
+abbrev pub timestamp_of : Data → Outcome
+timestamp_of (timestamp t o) = Ok (timestamp t o)
+timestamp_of (text s) = or_no_time no_timestamp (λ p. timestamp p.0 p.1) (times.timestamp_of s)
+timestamp_of _ = Err (no_overload (codes "timestamp"))
+
+abbrev pub duration_of : Data → Outcome
+duration_of (duration n) = Ok (duration n)
+duration_of (text s) = or_no_time no_duration duration (times.duration_of s)
+duration_of _ = Err (no_overload (codes "duration"))

@@ -10,14 +10,14 @@ use Rattle.cel_meaning.specs.Members.{nth_item}
 use Rattle.cel_meaning.specs.Outcome.{Outcome}
 use Rattle.cel_meaning.specs.declared.functions.Form.{Form}
 use Rattle.cel_meaning.specs.declared.functions.Form.TheVariants.{Unknown, Wrong, Known}
-use Rattle.cel_standard.specs.Conversions.{int_of, uint_of, string_of, bytes_of}
+use Rattle.cel_standard.specs.Conversions.{int_of, uint_of, string_of, bytes_of, timestamp_of, duration_of}
 use Rattle.cel_standard.specs.Extremes.{extreme_of, values_among}
 use Rattle.cel_standard.specs.Optionals.{has_value, value_of}
 use Rattle.cel_standard.specs.Sizes.{sized}
 use Rattle.cel_standard.specs.Table.{function_named, takes}
 use Rattle.cel_standard.specs.Texts.{contains, begins, ends, matches}
 use Rattle.cel_standard.specs.declared.names.OfOne.{OfOne}
-use Rattle.cel_standard.specs.declared.names.OfOne.TheVariants.{Size, Int, Uint, String, Bytes, HasValue, Value}
+use Rattle.cel_standard.specs.declared.names.OfOne.TheVariants.{Size, Int, Uint, String, Bytes, Timestamp, Duration, HasValue, Value}
 use Rattle.cel_standard.specs.declared.names.OfTwo.{OfTwo}
 use Rattle.cel_standard.specs.declared.names.OfTwo.TheVariants.{Contains, StartsWith, EndsWith, Matches}
 use Rattle.cel_standard.specs.declared.names.Function.{Function}
@@ -35,6 +35,8 @@ answer_of_one Int v = int_of v
 answer_of_one Uint v = uint_of v
 answer_of_one String v = string_of v
 answer_of_one Bytes v = bytes_of v
+answer_of_one Timestamp v = timestamp_of v
+answer_of_one Duration v = duration_of v
 answer_of_one HasValue v = has_value v
 answer_of_one Value v = value_of v
 

@@ -5,7 +5,7 @@ use Rattle.std.specs.Map.{lookup}
 use Rattle.std.specs.Option.{option_or}
 use Rattle.std.specs.Str.{bytes_eq}
 use Rattle.cel_standard.specs.declared.names.OfOne.{OfOne}
-use Rattle.cel_standard.specs.declared.names.OfOne.TheVariants.{Size, Int, Uint, String, Bytes, HasValue, Value}
+use Rattle.cel_standard.specs.declared.names.OfOne.TheVariants.{Size, Int, Uint, String, Bytes, Timestamp, Duration, HasValue, Value}
 use Rattle.cel_standard.specs.declared.names.OfTwo.{OfTwo}
 use Rattle.cel_standard.specs.declared.names.OfTwo.TheVariants.{Contains, StartsWith, EndsWith, Matches}
 use Rattle.cel_standard.specs.declared.names.Function.{Function}
@@ -20,6 +20,8 @@ one_named name = lookup (bytes_eq name) (
     ∷ (codes "uint", Uint)
     ∷ (codes "string", String)
     ∷ (codes "bytes", Bytes)
+    ∷ (codes "timestamp", Timestamp)
+    ∷ (codes "duration", Duration)
     ∷ (codes "hasValue", HasValue)
     ∷ (codes "value", Value)
     ∷ [])
@@ -54,6 +56,8 @@ takes_one Int receiver count = global 1 receiver count
 takes_one Uint receiver count = global 1 receiver count
 takes_one String receiver count = method 0 receiver count || global 1 receiver count
 takes_one Bytes receiver count = global 1 receiver count
+takes_one Timestamp receiver count = global 1 receiver count
+takes_one Duration receiver count = global 1 receiver count
 takes_one HasValue receiver count = method 0 receiver count
 takes_one Value receiver count = method 0 receiver count
 

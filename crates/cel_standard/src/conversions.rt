@@ -95,7 +95,7 @@ fn text_answer(alloc: Global, text: String) -> Result<Answer, Refused>
     Ok(Ok(Value::from_text(alloc, text)?))
 }
 
-/// The string of a string, an int, a uint or bytes.
+/// The string of a string, an int, a uint, bytes, a timestamp or a duration.
 pub(crate) fn string(alloc: Global, value: &Value) -> Result<Answer, Refused>
     ensures value { IfOk result (λ r. outcome_view r ≡ spec.string_of (view value.now)) }
     ensures memory { IfErr result (λ e. e ≡ Refused.Memory) }
@@ -108,6 +108,8 @@ pub(crate) fn string(alloc: Global, value: &Value) -> Result<Answer, Refused>
             alloc,
             String::from_utf8_lossy(alloc, bytes.as_slice())?,
         ),
+        Value::Timestamp(moment) => text_answer(alloc, moment.text(alloc)?),
+        Value::Duration(length) => text_answer(alloc, length.text(alloc)?),
         _ => Ok(Err(no_such_overload(alloc, "string")?)),
     }
 }

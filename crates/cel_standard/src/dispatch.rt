@@ -12,7 +12,7 @@ ghost use Rattle.cel_standard.specs.Standard as spec;
 
 use crate::extremes::extreme_among;
 use crate::names::{Function, OfOne, OfTwo, function_named, takes};
-use crate::{conversions, optionals, sizes, texts};
+use crate::{conversions, optionals, sizes, texts, times};
 use cel_book::PatternBook;
 use cel_meaning::operators::{Answer, no_such_overload};
 use cel_meaning::{Form, Functions};
@@ -33,6 +33,8 @@ fn answer_of_one(alloc: Global, function: OfOne, value: &Value) -> Result<Answer
         OfOne::Uint => conversions::uint(alloc, value),
         OfOne::String => conversions::string(alloc, value),
         OfOne::Bytes => conversions::bytes(alloc, value),
+        OfOne::Timestamp => times::timestamp(alloc, value),
+        OfOne::Duration => times::duration(alloc, value),
         OfOne::HasValue => optionals::has_value(alloc, value),
         OfOne::Value => optionals::value(alloc, value),
     }

@@ -9,5 +9,6 @@ mod names;
 mod optionals;
 mod sizes;
 mod texts;
+mod times;
 
 pub use dispatch::StandardFunctions;

@@ -12,6 +12,8 @@ pub(crate) enum OfOne {
     Uint,
     String,
     Bytes,
+    Timestamp,
+    Duration,
     HasValue,
     Value,
 }
@@ -42,6 +44,8 @@ fn one_named(name: &str) -> Option<OfOne>
         "uint" => Some(OfOne::Uint),
         "string" => Some(OfOne::String),
         "bytes" => Some(OfOne::Bytes),
+        "timestamp" => Some(OfOne::Timestamp),
+        "duration" => Some(OfOne::Duration),
         "hasValue" => Some(OfOne::HasValue),
         "value" => Some(OfOne::Value),
         _ => None,
@@ -107,7 +111,9 @@ fn one_takes(function: OfOne, receiver: bool, count: usize) -> bool
         OfOne::Size | OfOne::String => {
             is_method(0, receiver, count) || is_global(1, receiver, count)
         }
-        OfOne::Int | OfOne::Uint | OfOne::Bytes => is_global(1, receiver, count),
+        OfOne::Int | OfOne::Uint | OfOne::Bytes | OfOne::Timestamp | OfOne::Duration => {
+            is_global(1, receiver, count)
+        }
         OfOne::HasValue | OfOne::Value => is_method(0, receiver, count),
     }
 }
