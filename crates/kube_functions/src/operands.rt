@@ -1,0 +1,25 @@
+//! The operands of a call.
+ghost use Rattle.std.specs.Prelude.{◌≡◌, map, option_map};
+ghost use Rattle.cel_value.specs.View.{view, items_view};
+ghost use Rattle.cel_meaning.specs.Members.{nth_item};
+ghost use Rattle.cel_standard.specs.Standard as standard;
+
+use cel_value::Value;
+
+/// The argument at a place, if there is one.
+pub(crate) fn nth(args: &[Value], place: usize) -> Option<&Value>
+    ensures { option_map (λ v. view v.now) result ≡ nth_item place (items_view args.now) }
+{
+    args.get(place)
+}
+
+/// The receiver, or else the first argument.
+pub(crate) fn first_operand<'a>(receiver: Option<&'a Value>, args: &'a [Value]) -> Option<&'a Value>
+    ensures { option_map (λ v. view v.now) result
+        ≡ standard.first_operand (option_map (λ v. view v.now) receiver.entry) (map view args.now) }
+{
+    match receiver {
+        Some(value) => Some(value),
+        None => nth(args, 0),
+    }
+}

@@ -1,0 +1,100 @@
+//! Functions of one name on operands of different kinds.
+ghost use Rattle.std.specs.Prelude.{◌≡◌, IfOk, IfErr, Some, map, option_map};
+ghost use Rattle.cel_value.specs.View.{view};
+ghost use Rattle.cel_meaning.specs.Outcome.{outcome_view};
+ghost use Rattle.kube_functions.specs.Overloads as spec;
+
+use crate::operands::first_operand;
+use cel_meaning::operators::{Answer, no_such_overload};
+use cel_value::{Refused, Value};
+use kube_functions_lists::{lists, places};
+use kube_functions_texts as texts;
+use std::alloc::Global;
+
+fn is_list(value: &Value) -> bool
+    ensures { result ≡ spec.is_list (view value.now) }
+{
+    value.as_list().is_some()
+}
+
+/// `reverse`: a string's characters, or a list's items, backwards.
+pub(crate) fn reverse(alloc: Global, value: &Value) -> Result<Answer, Refused>
+    ensures value { IfOk result (λ r. outcome_view r ≡ spec.reversed (view value.now)) }
+    ensures memory { IfErr result (λ e. e ≡ Refused.Memory) }
+{
+    if is_list(value) {
+        lists::reverse(alloc, value)
+    } else {
+        texts::reverse(alloc, value)
+    }
+}
+
+/// `indexOf`: the first place of an item in a list, or of a part in a string.
+pub(crate) fn index_of(
+    alloc: Global,
+    value: &Value,
+    item: &Value,
+    start: Option<&Value>,
+) -> Result<Answer, Refused>
+    ensures value { IfOk result (λ r. outcome_view r
+        ≡ spec.index_of (view value.now) (view item.now) (option_map (λ v. view v.now) start.entry)) }
+    ensures memory { IfErr result (λ e. e ≡ Refused.Memory) }
+{
+    if !is_list(value) {
+        return texts::index_of(alloc, value, item, start);
+    }
+    match start {
+        Some(_) => Ok(Err(no_such_overload(alloc, "indexOf")?)),
+        None => places::index_of(alloc, value, item),
+    }
+}
+
+/// `lastIndexOf`: the last place of an item in a list, or of a part in a string.
+pub(crate) fn last_index_of(
+    alloc: Global,
+    value: &Value,
+    item: &Value,
+    start: Option<&Value>,
+) -> Result<Answer, Refused>
+    ensures value { IfOk result (λ r. outcome_view r
+        ≡ spec.last_index_of (view value.now) (view item.now) (option_map (λ v. view v.now) start.entry)) }
+    ensures memory { IfErr result (λ e. e ≡ Refused.Memory) }
+{
+    if !is_list(value) {
+        return texts::last_index_of(alloc, value, item, start);
+    }
+    match start {
+        Some(_) => Ok(Err(no_such_overload(alloc, "lastIndexOf")?)),
+        None => places::last_index_of(alloc, value, item),
+    }
+}
+
+fn is_address(value: &Value) -> bool
+    ensures { result ≡ spec.is_address (view value.now) }
+{
+    matches!(value, Value::Ip(_) | Value::Cidr(_))
+}
+
+fn address_in(value: &Value) -> Option<&Value>
+    ensures { option_map (λ v. view v.now) result ≡ spec.address_in (view value.now) }
+{
+    if is_address(value) { Some(value) } else { None }
+}
+
+/// The operand of `string`, where it is an IP address or a CIDR.
+pub(crate) fn address_operand<'a>(
+    name: &str,
+    receiver: Option<&'a Value>,
+    args: &'a [Value],
+) -> Option<&'a Value>
+    ensures { option_map (λ v. view v.now) result
+        ≡ spec.address_operand name.now (option_map (λ v. view v.now) receiver.entry) (map view args.now) }
+{
+    if name != "string" {
+        return None;
+    }
+    match first_operand(receiver, args) {
+        Some(value) => address_in(value),
+        None => None,
+    }
+}

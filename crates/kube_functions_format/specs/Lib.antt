@@ -1,0 +1,5 @@
+pub mod Pieces
+pub mod Verbs
+pub mod Formatted
+pub mod Progress
+pub mod Laws

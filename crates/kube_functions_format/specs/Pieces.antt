@@ -1,0 +1,46 @@
+-- A format text as pieces (documentation of CEL-Go, "Strings": `format`; Kubernetes documentation, "CEL in Kubernetes", extended string
+-- library). A percent sign begins a verb, whose letter follows at once, or behind a dot and digits, a precision that changes nothing.
+-- Two percent signs are one. All else stands for itself.
+use Rattle.std.specs.Prelude.{ℕ, ◌+◌, ◌*◌, ◌^◌, ◌==◌, nat_lt, Bool, false, List, [], ◌∷◌, codes, Option, Some, None, if◌then◌else◌}
+use Rattle.std.specs.Char.{digit_value, is_digit}
+use Rattle.std.specs.Option.{unwrap_or, option_map_or}
+
+pub data Piece : Type 0 where
+  -- a character that stands for itself
+  literal : ℕ → Piece
+  -- a verb, by its letter
+  verb : ℕ → Piece
+  -- what is wrong with the text here
+  broken : List ℕ → Piece
+
+-- the number of some digits, if there are any, and one more
+abbrev pub with_digit : Option ℕ → ℕ → ℕ
+with_digit n d = unwrap_or n 0 * 10 + d
+
+-- there is a digit, and 64 bits hold the number
+abbrev pub is_precision : Option ℕ → Bool
+is_precision n = option_map_or (λ m. nat_lt m (2 ^ 64)) n false
+
+abbrev pub ends_in_percent : Piece
+ends_in_percent = broken (codes "format string ends with '%'")
+
+abbrev pub ends_in_precision : Piece
+ends_in_precision = broken (codes "format string ends after precision")
+
+abbrev pub no_precision : Piece
+no_precision = broken (codes "invalid precision in format string")
+
+abbrev mutual
+  pub pieces : List ℕ → List Piece
+  pieces [] = []
+  pieces (c ∷ cs) = if c == 37 then behind_percent cs else literal c ∷ pieces cs
+
+  pub behind_percent : List ℕ → List Piece
+  behind_percent [] = ends_in_percent ∷ []
+  behind_percent (c ∷ cs) = if c == 37 then literal 37 ∷ pieces cs else if c == 46 then behind_digits None cs else verb c ∷ pieces cs
+
+  -- behind a percent sign, a dot, and digits of this number, if there are any
+  pub behind_digits : Option ℕ → List ℕ → List Piece
+  behind_digits n [] = (if is_precision n then ends_in_precision else no_precision) ∷ []
+  behind_digits n (c ∷ cs) =
+      if is_digit c 10 then behind_digits (Some (with_digit n (digit_value c))) cs else if is_precision n then verb c ∷ pieces cs else no_precision ∷ []

@@ -1,0 +1,151 @@
+//! The text of a format text over items.
+ghost use Rattle.std.specs.Prelude.{◌≡◌, ◌≤◌, ◌<◌, [], ◌∷◌, List, ℕ, length, map, option_map, IfOk, IfErr, string_bytes};
+ghost use Rattle.cel_value.specs.Data.{Data};
+ghost use Rattle.cel_value.specs.Faults.{fault_view};
+ghost use Rattle.cel_value.specs.View.{view};
+ghost use Rattle.kube_functions_format.specs.Formatted as spec;
+ghost use Rattle.kube_functions_format.specs.Verbs as verbs;
+ghost use Rattle.kube_functions_format.specs.Pieces.{verb, pieces};
+ghost use Rattle.kube_functions_format.specs.Progress.{shown_view, unless_fault, written_on};
+
+use crate::reading::{Mark, Step, read, unfinished};
+use crate::verbs::{format_fault, shown_by_letter};
+use cel_value::{ExecutionError, Refused, Value};
+use std::alloc::Global;
+
+/// What has been written so far.
+#[derive(Drop)]
+struct Writing {
+    /// The text.
+    out: String,
+    /// How many items verbs have taken.
+    taken: usize,
+    /// What of a verb stands before the next character.
+    mark: Mark,
+}
+
+fn not_enough(alloc: Global, wanted: usize, count: usize) -> Result<ExecutionError, Refused>
+    ensures value { IfOk result (λ e. fault_view e ≡ spec.not_enough wanted count) }
+    ensures memory { IfErr result (λ e. e ≡ Refused.Memory) }
+{
+    let message = format!(in alloc;
+        "not enough arguments: format requires at least {wanted} but got {count}"
+    )?;
+    format_fault(alloc, message)
+}
+
+fn text_fault(alloc: Global, message: &str) -> Result<ExecutionError, Refused>
+    ensures value { IfOk result (λ e. fault_view e ≡ verbs.format_fault message.now) }
+    ensures memory { IfErr result (λ e. e ≡ Refused.Memory) }
+{
+    format_fault(alloc, String::from_str(alloc, message)?)
+}
+
+// What the verb of a letter shows of the next item.
+fn verb_at(
+    alloc: Global,
+    items: &[Value],
+    taken: usize,
+    letter: char,
+) -> Result<Result<String, ExecutionError>, Refused>
+    requires { taken ≤ length items.now }
+    ensures value { IfOk result (λ r. shown_view r ≡ spec.verb_at (map view items.now) taken letter) }
+    ensures within { IfOk result (λ r. IfOk r (λ _. taken < length items.now)) }
+    ensures memory { IfErr result (λ e. e ≡ Refused.Memory) }
+{
+    match items.get(taken) {
+        Some(item) => shown_by_letter(alloc, letter, item),
+        None => Ok(Err(not_enough(alloc, taken + 1, items.len())?)),
+    }
+}
+
+// Writes what the verb of a letter shows, unless it is at fault.
+fn write_verb(
+    alloc: Global,
+    writing: &mut Writing,
+    items: &[Value],
+    letter: char,
+) -> Result<Option<ExecutionError>, Refused>
+    requires { writing.old.taken ≤ length items.now }
+    ensures value { IfOk result (λ r. (cs : List ℕ) → spec.before (string_bytes writing.old.out) (spec.filled (map view items.now) writing.old.taken (verb letter ∷ pieces cs))
+        ≡ unless_fault (option_map fault_view r) (written_on (map view items.now) (string_bytes writing.new.out) writing.new.taken writing.new.mark cs)) }
+    ensures taken { IfOk result (λ _. writing.new.taken ≤ length items.now) }
+    ensures memory { IfErr result (λ e. e ≡ Refused.Memory) }
+{
+    match verb_at(alloc, items, writing.taken, letter)? {
+        Ok(text) => {
+            writing.out.push_str(text.as_str())?;
+            writing.taken += 1;
+            writing.mark = Mark::Outside;
+            Ok(None)
+        }
+        Err(fault) => Ok(Some(fault)),
+    }
+}
+
+// Goes on by one character, unless there is a fault.
+fn advance(
+    alloc: Global,
+    writing: &mut Writing,
+    items: &[Value],
+    character: char,
+) -> Result<Option<ExecutionError>, Refused>
+    requires { writing.old.taken ≤ length items.now }
+    ensures value { IfOk result (λ r. (cs : List ℕ) → written_on (map view items.now) (string_bytes writing.old.out) writing.old.taken writing.old.mark (character ∷ cs)
+        ≡ unless_fault (option_map fault_view r) (written_on (map view items.now) (string_bytes writing.new.out) writing.new.taken writing.new.mark cs)) }
+    ensures taken { IfOk result (λ _. writing.new.taken ≤ length items.now) }
+    ensures memory { IfErr result (λ e. e ≡ Refused.Memory) }
+{
+    match read(writing.mark, character) {
+        Step::Literal(literal) => {
+            writing.out.push(literal)?;
+            writing.mark = Mark::Outside;
+            Ok(None)
+        }
+        Step::Verb(letter) => write_verb(alloc, writing, items, letter),
+        Step::More(mark) => {
+            writing.mark = mark;
+            Ok(None)
+        }
+        Step::Invalid => Ok(Some(text_fault(alloc, "invalid precision in format string")?)),
+    }
+}
+
+// The text, where nothing more is to be read.
+fn finished(alloc: Global, writing: Writing) -> Result<Result<String, ExecutionError>, Refused>
+    ensures value { IfOk result (λ r. (items : List Data) → shown_view r ≡ written_on items (string_bytes writing.out) writing.taken writing.mark []) }
+    ensures memory { IfErr result (λ e. e ≡ Refused.Memory) }
+{
+    let Writing {
+        out,
+        taken: _,
+        mark,
+    } = writing;
+    match unfinished(mark) {
+        None => Ok(Ok(out)),
+        Some(message) => Ok(Err(text_fault(alloc, message)?)),
+    }
+}
+
+/// The text of a format text over items, or the first fault.
+pub(crate) fn filled_text(
+    alloc: Global,
+    text: &str,
+    items: &[Value],
+) -> Result<Result<String, ExecutionError>, Refused>
+    ensures value { IfOk result (λ r. shown_view r ≡ spec.filled_text text.now (map view items.now)) }
+    ensures memory { IfErr result (λ e. e ≡ Refused.Memory) }
+{
+    let mut writing = Writing {
+        out: String::new(alloc),
+        taken: 0,
+        mark: Mark::Outside,
+    };
+    for character in text.chars() {
+        match advance(alloc, &mut writing, items, character)? {
+            None => {}
+            Some(fault) => return Ok(Err(fault)),
+        }
+    }
+    finished(alloc, writing)
+}

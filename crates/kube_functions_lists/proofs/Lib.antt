@@ -1,0 +1,5 @@
+pub mod Lent
+pub mod Distinct
+pub mod Stable
+pub mod Classes
+pub mod Occurrences

@@ -1,0 +1,7 @@
+pub mod Lists
+pub mod Places
+pub mod Sums
+pub mod Sets
+pub mod Orders
+pub mod Math
+pub mod Bits

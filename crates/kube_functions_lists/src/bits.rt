@@ -1,0 +1,120 @@
+//! `math.bitAnd` and its like: the bits of ints in two's complement.
+ghost use Rattle.std.specs.Prelude.{◌≡◌, IfOk, IfErr};
+ghost use Rattle.cel_value.specs.Faults as fault;
+ghost use Rattle.cel_value.specs.View.{view};
+ghost use Rattle.cel_meaning.specs.Outcome.{outcome_view};
+ghost use Rattle.kube_functions_lists.specs.Bits as spec;
+
+use crate::items::{as_int, as_ints};
+use cel_meaning::operators::{Answer, no_such_overload};
+use cel_standard::faults::function_error;
+use cel_value::{ExecutionError, Refused, Value};
+use std::alloc::Global;
+
+/// The bits that two ints both have.
+///
+/// # Errors
+/// `Memory` alone.
+pub fn bit_and(alloc: Global, value: &Value, other: &Value) -> Result<Answer, Refused>
+    ensures value { IfOk result (λ r. outcome_view r ≡ spec.bit_and (view value.now) (view other.now)) }
+    ensures memory { IfErr result (λ e. e ≡ Refused.Memory) }
+{
+    match as_ints(value, other) {
+        Some((m, n)) => Ok(Ok(Value::Int(m & n))),
+        None => Ok(Err(no_such_overload(alloc, "math.bitAnd")?)),
+    }
+}
+
+/// The bits that either of two ints has.
+///
+/// # Errors
+/// `Memory` alone.
+pub fn bit_or(alloc: Global, value: &Value, other: &Value) -> Result<Answer, Refused>
+    ensures value { IfOk result (λ r. outcome_view r ≡ spec.bit_or (view value.now) (view other.now)) }
+    ensures memory { IfErr result (λ e. e ≡ Refused.Memory) }
+{
+    match as_ints(value, other) {
+        Some((m, n)) => Ok(Ok(Value::Int(m | n))),
+        None => Ok(Err(no_such_overload(alloc, "math.bitOr")?)),
+    }
+}
+
+/// The bits that one of two ints has and the other has not.
+///
+/// # Errors
+/// `Memory` alone.
+pub fn bit_xor(alloc: Global, value: &Value, other: &Value) -> Result<Answer, Refused>
+    ensures value { IfOk result (λ r. outcome_view r ≡ spec.bit_xor (view value.now) (view other.now)) }
+    ensures memory { IfErr result (λ e. e ≡ Refused.Memory) }
+{
+    match as_ints(value, other) {
+        Some((m, n)) => Ok(Ok(Value::Int(m ^ n))),
+        None => Ok(Err(no_such_overload(alloc, "math.bitXor")?)),
+    }
+}
+
+/// The bits that an int does not have.
+///
+/// # Errors
+/// `Memory` alone.
+pub fn bit_not(alloc: Global, value: &Value) -> Result<Answer, Refused>
+    ensures value { IfOk result (λ r. outcome_view r ≡ spec.bit_not (view value.now)) }
+    ensures memory { IfErr result (λ e. e ≡ Refused.Memory) }
+{
+    match as_int(value) {
+        Some(n) => Ok(Ok(Value::Int(!n))),
+        None => Ok(Err(no_such_overload(alloc, "math.bitNot")?)),
+    }
+}
+
+fn shift_fault(alloc: Global, name: &str) -> Result<ExecutionError, Refused>
+    ensures value { IfOk result (λ e. fault.fault_view e ≡ spec.shift_fault name.now) }
+    ensures memory { IfErr result (λ e. e ≡ Refused.Memory) }
+{
+    function_error(alloc, name, "shift amount must be between 0 and 63")
+}
+
+// None unless it is from 0 to 63.
+fn places(amount: i64) -> Option<u32>
+    ensures { result ≡ spec.places_in amount }
+{
+    if amount < 0 || 63 < amount {
+        None
+    } else {
+        Some(amount as u32)
+    }
+}
+
+/// The bits of an int, moved to higher places.
+///
+/// # Errors
+/// `Memory` alone.
+pub fn bit_shift_left(alloc: Global, value: &Value, amount: &Value) -> Result<Answer, Refused>
+    ensures value { IfOk result (λ r. outcome_view r ≡ spec.bit_shift_left (view value.now) (view amount.now)) }
+    ensures memory { IfErr result (λ e. e ≡ Refused.Memory) }
+{
+    match as_ints(value, amount) {
+        Some((n, amount)) => match places(amount) {
+            Some(places) => Ok(Ok(Value::Int(n.wrapping_shl(places)))),
+            None => Ok(Err(shift_fault(alloc, "math.bitShiftLeft")?)),
+        },
+        None => Ok(Err(no_such_overload(alloc, "math.bitShiftLeft")?)),
+    }
+}
+
+/// The bits of an int, moved to lower places.
+///
+/// # Errors
+/// `Memory` alone.
+pub fn bit_shift_right(alloc: Global, value: &Value, amount: &Value) -> Result<Answer, Refused>
+    ensures value { IfOk result (λ r. outcome_view r ≡ spec.bit_shift_right (view value.now) (view amount.now)) }
+    ensures memory { IfErr result (λ e. e ≡ Refused.Memory) }
+{
+    match as_ints(value, amount) {
+        Some((n, amount)) => match places(amount) {
+            Some(places) => Ok(Ok(Value::Int(n.wrapping_shr(places)))),
+            None => Ok(Err(shift_fault(alloc, "math.bitShiftRight")?)),
+        },
+        None => Ok(Err(no_such_overload(alloc, "math.bitShiftRight")?)),
+    }
+}

@@ -1,0 +1,63 @@
+//! The items of lists, and lists of items.
+ghost use Rattle.std.specs.Prelude.{◌≡◌, IfOk, IfErr, Ok, map, option_map};
+ghost use Rattle.cel_value.specs.View.{view};
+ghost use Rattle.cel_meaning.specs.Arithmetic.{int_in};
+ghost use Rattle.cel_meaning.specs.Outcome.{outcome_view};
+ghost use Rattle.kube_functions_lists.specs.Lists.{listed, as_list, ints_in};
+
+use cel_meaning::operators::Answer;
+use cel_value::{Refused, Value};
+use std::alloc::Global;
+
+/// The items of a list.
+pub(crate) fn items_of(value: &Value) -> Option<&[Value]>
+    ensures { option_map (λ s. map view s.now) result ≡ listed (view value.now) }
+{
+    match value.as_list() {
+        Some(items) => Some(items.as_slice()),
+        None => None,
+    }
+}
+
+/// The same items. What is large is shared.
+pub(crate) fn copies(alloc: Global, items: &[Value]) -> Result<Vec<Value>, Refused>
+    ensures value { IfOk result (λ v. map view v.items ≡ map view items.now) }
+    ensures memory { IfErr result (λ e. e ≡ Refused.Memory) }
+{
+    let mut copied = Vec::with_capacity(alloc, items.len())?;
+    for item in items {
+        copied.push(item.try_clone()?)?;
+    }
+    Ok(copied)
+}
+
+/// The list of these items.
+pub(crate) fn list_of(alloc: Global, items: Vec<Value>) -> Result<Answer, Refused>
+    ensures value { IfOk result (λ r. outcome_view r ≡ Ok (as_list (map view items.items))) }
+    ensures memory { IfErr result (λ e. e ≡ Refused.Memory) }
+{
+    Ok(Ok(Value::from_items(alloc, items)?))
+}
+
+/// The int that a value is.
+pub(crate) fn as_int(value: &Value) -> Option<i64>
+    ensures { result ≡ int_in (view value.now) }
+{
+    match value {
+        Value::Int(n) => Some(*n),
+        _ => None,
+    }
+}
+
+/// The ints that two values are.
+pub(crate) fn as_ints(value: &Value, other: &Value) -> Option<(i64, i64)>
+    ensures { result ≡ ints_in (view value.now) (view other.now) }
+{
+    match as_int(value) {
+        Some(m) => match as_int(other) {
+            Some(n) => Some((m, n)),
+            None => None,
+        },
+        None => None,
+    }
+}

@@ -1,0 +1,96 @@
+//! `flatten`: lists inside a list, replaced by their items.
+ghost use Rattle.std.specs.Prelude.{◌≡◌, ◌++◌, ◌∷◌, [], IfOk, IfErr, OnOk, Ok, map, option_map};
+ghost use Rattle.cel_value.specs.View.{view, items_view};
+ghost use Rattle.cel_meaning.specs.Outcome.{outcome_view};
+ghost use Rattle.kube_functions_lists.specs.Lists as spec;
+
+use crate::items::{as_int, list_of};
+use cel_meaning::operators::{Answer, no_such_overload};
+use cel_standard::faults::function_error;
+use cel_value::{Refused, Value};
+use std::alloc::Global;
+
+#[cycle(push)]
+#[tactic(auto, using(crate::proofs::Lent::flat_deeper))]
+fn push_item(item: &Value, depth: u64, out: &mut Vec<Value>) -> Result<(), Refused>
+    ensures pushed { OnOk result (map view out.new.items ≡ map view out.old.items ++ spec.flat_item (view item.now) depth) }
+    ensures memory { IfErr result (λ e. e ≡ Refused.Memory) }
+{
+    match item {
+        Value::List(items) => {
+            if depth == 0 {
+                push_copy(item, out)
+            } else {
+                push_items(items.as_ref(), depth - 1, out)
+            }
+        }
+        _ => push_copy(item, out),
+    }
+}
+
+#[cycle(push)]
+fn push_items(items: &Vec<Value>, depth: u64, out: &mut Vec<Value>) -> Result<(), Refused>
+    ensures pushed { OnOk result (map view out.new.items ≡ map view out.old.items ++ spec.flat_items (items_view items.now.items) depth) }
+    ensures memory { IfErr result (λ e. e ≡ Refused.Memory) }
+{
+    for item in items {
+        push_item(item, depth, out)?;
+    }
+    Ok(())
+}
+
+fn push_copy(item: &Value, out: &mut Vec<Value>) -> Result<(), Refused>
+    ensures pushed { OnOk result (map view out.new.items ≡ map view out.old.items ++ view item.now ∷ []) }
+    ensures memory { IfErr result (λ e. e ≡ Refused.Memory) }
+{
+    out.push(item.try_clone()?)?;
+    Ok(())
+}
+
+fn flat_items(alloc: Global, items: &Vec<Value>, depth: u64) -> Result<Vec<Value>, Refused>
+    ensures value { IfOk result (λ v. map view v.items ≡ spec.flat_items (items_view items.now.items) depth) }
+    ensures memory { IfErr result (λ e. e ≡ Refused.Memory) }
+{
+    let mut flat = Vec::new(alloc);
+    push_items(items, depth, &mut flat)?;
+    Ok(flat)
+}
+
+fn flattened(alloc: Global, items: &Vec<Value>, depth: i64) -> Result<Answer, Refused>
+    ensures value { IfOk result (λ r. outcome_view r ≡ spec.flattened (items_view items.now.items) depth) }
+    ensures memory { IfErr result (λ e. e ≡ Refused.Memory) }
+{
+    if depth < 0 {
+        Ok(Err(function_error(alloc, "flatten", "depth must be non-negative")?))
+    } else {
+        list_of(alloc, flat_items(alloc, items, depth as u64)?)
+    }
+}
+
+// One level where no number is given.
+fn depth_of(depth: Option<&Value>) -> Option<i64>
+    ensures { result ≡ spec.depth_in (option_map (λ v. view v.now) depth.entry) }
+{
+    match depth {
+        Some(value) => as_int(value),
+        None => Some(1),
+    }
+}
+
+/// The items of a list, with the lists among them replaced by their items, so many levels deep.
+///
+/// # Errors
+/// `Memory` alone.
+pub fn flatten(alloc: Global, value: &Value, depth: Option<&Value>) -> Result<Answer, Refused>
+    ensures value { IfOk result (λ r. outcome_view r
+        ≡ spec.flatten (view value.now) (option_map (λ v. view v.now) depth.entry)) }
+    ensures memory { IfErr result (λ e. e ≡ Refused.Memory) }
+{
+    match value.as_list() {
+        Some(items) => match depth_of(depth) {
+            Some(depth) => flattened(alloc, items, depth),
+            None => Ok(Err(no_such_overload(alloc, "flatten")?)),
+        },
+        None => Ok(Err(no_such_overload(alloc, "flatten")?)),
+    }
+}

@@ -1,0 +1,194 @@
+//! Parts of lists, their items in other orders and in levels, and lists of numbers.
+ghost use Rattle.std.specs.Prelude.{◌≡◌, pos, length, IfOk, IfErr, OnOk, Ok, Err, Some, None, map, reverse, option_map, string_bytes};
+ghost use Rattle.cel_value.specs.Faults.{fault_view};
+ghost use Rattle.cel_value.specs.View.{view};
+ghost use Rattle.cel_meaning.specs.Outcome.{outcome_view};
+ghost use Rattle.kube_functions_lists.specs.Lists as spec;
+
+use crate::items::{as_ints, copies, items_of, list_of};
+use crate::sets::is_in;
+use cel_meaning::operators::{Answer, no_such_overload};
+use cel_standard::faults::function_error;
+use cel_value::{ExecutionError, OptionalValue, Refused, Value};
+use std::alloc::{AllocError, Global};
+
+fn slice_message(alloc: Global, start: i64, end: i64, length: usize) -> Result<String, AllocError>
+    ensures { IfOk result (λ s. string_bytes s ≡ spec.slice_message start end length) }
+{
+    Ok(format!(in alloc; "slice({start}, {end}) out of range for list of length {length}")?)
+}
+
+fn slice_fault(
+    alloc: Global,
+    start: i64,
+    end: i64,
+    length: usize,
+) -> Result<ExecutionError, Refused>
+    ensures value { IfOk result (λ e. fault_view e ≡ spec.slice_fault start end length) }
+    ensures memory { IfErr result (λ e. e ≡ Refused.Memory) }
+{
+    let message = slice_message(alloc, start, end, length)?;
+    function_error(alloc, "slice", message.as_str())
+}
+
+fn part_within(items: &[Value], start: usize, end: usize) -> Option<&[Value]>
+    ensures { option_map (λ s. map view s.now) result
+        ≡ spec.part_between (map view items.now) (pos start) (pos end) }
+{
+    if end < start || items.len() < end {
+        return None;
+    }
+    let (front, _) = items.split_at(end);
+    let (_, part) = front.split_at(start);
+    Some(part)
+}
+
+// None where the bounds are no places of the items, in order.
+fn part(items: &[Value], start: i64, end: i64) -> Option<&[Value]>
+    ensures { option_map (λ s. map view s.now) result ≡ spec.part_between (map view items.now) start end }
+{
+    if start < 0 || end < 0 {
+        None
+    } else {
+        part_within(items, start as usize, end as usize)
+    }
+}
+
+fn sliced(alloc: Global, items: &[Value], start: i64, end: i64) -> Result<Answer, Refused>
+    ensures value { IfOk result (λ r. outcome_view r ≡ spec.sliced (map view items.now) start end) }
+    ensures memory { IfErr result (λ e. e ≡ Refused.Memory) }
+{
+    match part(items, start, end) {
+        Some(part) => list_of(alloc, copies(alloc, part)?),
+        None => Ok(Err(slice_fault(alloc, start, end, items.len())?)),
+    }
+}
+
+/// The items of a list from one place on and before another one.
+///
+/// # Errors
+/// `Memory` alone.
+pub fn slice(alloc: Global, value: &Value, start: &Value, end: &Value) -> Result<Answer, Refused>
+    ensures value { IfOk result (λ r. outcome_view r ≡ spec.slice (view value.now) (view start.now) (view end.now)) }
+    ensures memory { IfErr result (λ e. e ≡ Refused.Memory) }
+{
+    match items_of(value) {
+        Some(items) => match as_ints(start, end) {
+            Some((start, end)) => sliced(alloc, items, start, end),
+            None => Ok(Err(no_such_overload(alloc, "slice")?)),
+        },
+        None => Ok(Err(no_such_overload(alloc, "slice")?)),
+    }
+}
+
+fn optional_of(alloc: Global, item: Option<&Value>) -> Result<Answer, Refused>
+    ensures value { IfOk result (λ r. outcome_view r ≡ Ok (spec.as_optional (option_map (λ v. view v.now) item.entry))) }
+    ensures memory { IfErr result (λ e. e ≡ Refused.Memory) }
+{
+    match item {
+        Some(value) => Ok(Ok(Value::Optional(OptionalValue::of(alloc, value.try_clone()?)?))),
+        None => Ok(Ok(Value::Optional(OptionalValue::none()))),
+    }
+}
+
+fn first_of(items: &[Value]) -> Option<&Value>
+    ensures { option_map (λ v. view v.now) result ≡ spec.first_of (map view items.now) }
+{
+    match items {
+        [] => None,
+        [first, ..] => Some(first),
+    }
+}
+
+fn last_of(items: &[Value]) -> Option<&Value>
+    ensures { option_map (λ v. view v.now) result ≡ spec.last_of (map view items.now) }
+{
+    items.last()
+}
+
+/// The first item of a list, as an optional.
+///
+/// # Errors
+/// `Memory` alone.
+pub fn first(alloc: Global, value: &Value) -> Result<Answer, Refused>
+    ensures value { IfOk result (λ r. outcome_view r ≡ spec.first (view value.now)) }
+    ensures memory { IfErr result (λ e. e ≡ Refused.Memory) }
+{
+    match items_of(value) {
+        Some(items) => optional_of(alloc, first_of(items)),
+        None => Ok(Err(no_such_overload(alloc, "first")?)),
+    }
+}
+
+/// The last item of a list, as an optional.
+///
+/// # Errors
+/// `Memory` alone.
+pub fn last(alloc: Global, value: &Value) -> Result<Answer, Refused>
+    ensures value { IfOk result (λ r. outcome_view r ≡ spec.last (view value.now)) }
+    ensures memory { IfErr result (λ e. e ≡ Refused.Memory) }
+{
+    match items_of(value) {
+        Some(items) => optional_of(alloc, last_of(items)),
+        None => Ok(Err(no_such_overload(alloc, "last")?)),
+    }
+}
+
+fn reversed(alloc: Global, items: &[Value]) -> Result<Vec<Value>, Refused>
+    ensures value { IfOk result (λ v. map view v.items ≡ reverse (map view items.now)) }
+    ensures memory { IfErr result (λ e. e ≡ Refused.Memory) }
+{
+    let mut values = copies(alloc, items)?;
+    values.as_mut_slice().reverse();
+    Ok(values)
+}
+
+/// The items of a list in the opposite order.
+///
+/// # Errors
+/// `Memory` alone.
+pub fn reverse(alloc: Global, value: &Value) -> Result<Answer, Refused>
+    ensures value { IfOk result (λ r. outcome_view r ≡ spec.reverse (view value.now)) }
+    ensures memory { IfErr result (λ e. e ≡ Refused.Memory) }
+{
+    match items_of(value) {
+        Some(items) => list_of(alloc, reversed(alloc, items)?),
+        None => Ok(Err(no_such_overload(alloc, "reverse")?)),
+    }
+}
+
+fn push_new(kept: &mut Vec<Value>, item: &Value) -> Result<(), Refused>
+    ensures pushed { OnOk result (map view kept.new.items ≡ spec.with_new (map view kept.old.items) (view item.now)) }
+    ensures memory { IfErr result (λ e. e ≡ Refused.Memory) }
+{
+    if is_in(kept.as_slice(), item) {
+        return Ok(());
+    }
+    kept.push(item.try_clone()?)?;
+    Ok(())
+}
+
+fn distinct_items(alloc: Global, items: &[Value]) -> Result<Vec<Value>, Refused>
+    ensures value { IfOk result (λ v. map view v.items ≡ spec.distinct_items (map view items.now)) }
+    ensures memory { IfErr result (λ e. e ≡ Refused.Memory) }
+{
+    let mut kept = Vec::new(alloc);
+    for item in items {
+        push_new(&mut kept, item)?;
+    }
+    Ok(kept)
+}
+
+/// The items of a list that equal none before them.
+///
+/// # Errors
+/// `Memory` alone.
+pub fn distinct(alloc: Global, value: &Value) -> Result<Answer, Refused>
+    ensures value { IfOk result (λ r. outcome_view r ≡ spec.distinct (view value.now)) }
+    ensures memory { IfErr result (λ e. e ≡ Refused.Memory) }
+{
+    match items_of(value) {
+        Some(items) => list_of(alloc, distinct_items(alloc, items)?),
+        None => Ok(Err(no_such_overload(alloc, "distinct")?)),
+    }
+}

@@ -1,0 +1,57 @@
+//! `lists.range`: the ints from 0 on.
+ghost use Rattle.std.specs.Prelude.{◌≡◌, ◌^◌, ◌<◌, pos, IfOk, IfErr, map};
+ghost use Rattle.cel_value.specs.Data.{int};
+ghost use Rattle.cel_value.specs.View.{view};
+ghost use Rattle.cel_meaning.specs.Outcome.{outcome_view};
+ghost use Rattle.kube_functions_lists.specs.Lists as spec;
+
+use crate::items::{as_int, list_of};
+use cel_meaning::operators::{Answer, no_such_overload};
+use cel_standard::faults::function_error;
+use cel_value::{Refused, Value};
+use std::alloc::Global;
+
+fn int_value(number: u64) -> Value
+    requires { number < 2 ^ 63 }
+    ensures { view result ≡ int (pos number) }
+{
+    Value::Int(number as i64)
+}
+
+// Room for all is asked for first, so that a number past all memory is refused at once.
+fn first_ints(alloc: Global, count: u64) -> Result<Vec<Value>, Refused>
+    requires { count < 2 ^ 63 }
+    ensures value { IfOk result (λ v. map view v.items ≡ spec.first_ints count) }
+    ensures memory { IfErr result (λ e. e ≡ Refused.Memory) }
+{
+    let mut ints = Vec::with_capacity(alloc, count as usize)?;
+    for number in 0..count {
+        ints.push(int_value(number))?;
+    }
+    Ok(ints)
+}
+
+fn range_below(alloc: Global, count: i64) -> Result<Answer, Refused>
+    ensures value { IfOk result (λ r. outcome_view r ≡ spec.range_below count) }
+    ensures memory { IfErr result (λ e. e ≡ Refused.Memory) }
+{
+    if count < 0 {
+        Ok(Err(function_error(alloc, "lists.range", "range argument must be non-negative")?))
+    } else {
+        list_of(alloc, first_ints(alloc, count as u64)?)
+    }
+}
+
+/// The list of the ints from 0 on, so many.
+///
+/// # Errors
+/// `Memory` alone.
+pub fn range(alloc: Global, value: &Value) -> Result<Answer, Refused>
+    ensures value { IfOk result (λ r. outcome_view r ≡ spec.range (view value.now)) }
+    ensures memory { IfErr result (λ e. e ≡ Refused.Memory) }
+{
+    match as_int(value) {
+        Some(count) => range_below(alloc, count),
+        None => Ok(Err(no_such_overload(alloc, "lists.range")?)),
+    }
+}

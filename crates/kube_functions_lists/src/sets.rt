@@ -1,0 +1,101 @@
+//! Lists as sets of their items.
+ghost use Rattle.std.specs.Prelude.{◌≡◌, IfOk, IfErr, map};
+ghost use Rattle.cel_value.specs.View.{view};
+ghost use Rattle.cel_meaning.specs.Outcome.{outcome_view};
+ghost use Rattle.kube_functions_lists.specs.Sets as spec;
+
+use crate::items::items_of;
+use cel_meaning::operators::{Answer, no_such_overload};
+use cel_value::{Refused, Value};
+use std::alloc::Global;
+
+/// Whether a value is in a list.
+pub(crate) fn is_in(items: &[Value], value: &Value) -> bool
+    ensures { result ≡ spec.is_in (map view items.now) (view value.now) }
+{
+    for item in items {
+        if *value == *item {
+            return true;
+        }
+    }
+    false
+}
+
+fn has_all(items: &[Value], others: &[Value]) -> bool
+    ensures { result ≡ spec.has_all (map view items.now) (map view others.now) }
+{
+    for other in others {
+        if !is_in(items, other) {
+            return false;
+        }
+    }
+    true
+}
+
+fn have_same(items: &[Value], others: &[Value]) -> bool
+    ensures { result ≡ spec.have_same (map view items.now) (map view others.now) }
+{
+    has_all(items, others) && has_all(others, items)
+}
+
+fn have_common(items: &[Value], others: &[Value]) -> bool
+    ensures { result ≡ spec.have_common (map view items.now) (map view others.now) }
+{
+    for other in others {
+        if is_in(items, other) {
+            return true;
+        }
+    }
+    false
+}
+
+/// Whether every item of the second list is in the first one.
+///
+/// # Errors
+/// `Memory` alone.
+pub fn contains(alloc: Global, value: &Value, other: &Value) -> Result<Answer, Refused>
+    ensures value { IfOk result (λ r. outcome_view r ≡ spec.contains (view value.now) (view other.now)) }
+    ensures memory { IfErr result (λ e. e ≡ Refused.Memory) }
+{
+    match items_of(value) {
+        Some(items) => match items_of(other) {
+            Some(others) => Ok(Ok(Value::Bool(has_all(items, others)))),
+            None => Ok(Err(no_such_overload(alloc, "sets.contains")?)),
+        },
+        None => Ok(Err(no_such_overload(alloc, "sets.contains")?)),
+    }
+}
+
+/// Whether each of two lists has all items of the other.
+///
+/// # Errors
+/// `Memory` alone.
+pub fn equivalent(alloc: Global, value: &Value, other: &Value) -> Result<Answer, Refused>
+    ensures value { IfOk result (λ r. outcome_view r ≡ spec.equivalent (view value.now) (view other.now)) }
+    ensures memory { IfErr result (λ e. e ≡ Refused.Memory) }
+{
+    match items_of(value) {
+        Some(items) => match items_of(other) {
+            Some(others) => Ok(Ok(Value::Bool(have_same(items, others)))),
+            None => Ok(Err(no_such_overload(alloc, "sets.equivalent")?)),
+        },
+        None => Ok(Err(no_such_overload(alloc, "sets.equivalent")?)),
+    }
+}
+
+/// Whether two lists have an item in common.
+///
+/// # Errors
+/// `Memory` alone.
+pub fn intersects(alloc: Global, value: &Value, other: &Value) -> Result<Answer, Refused>
+    ensures value { IfOk result (λ r. outcome_view r ≡ spec.intersects (view value.now) (view other.now)) }
+    ensures memory { IfErr result (λ e. e ≡ Refused.Memory) }
+{
+    match items_of(value) {
+        Some(items) => match items_of(other) {
+            Some(others) => Ok(Ok(Value::Bool(have_common(items, others)))),
+            None => Ok(Err(no_such_overload(alloc, "sets.intersects")?)),
+        },
+        None => Ok(Err(no_such_overload(alloc, "sets.intersects")?)),
+    }
+}

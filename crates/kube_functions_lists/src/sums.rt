@@ -1,0 +1,102 @@
+//! Sums of lists.
+ghost use Rattle.std.specs.Prelude.{◌≡◌, ◌+◌, ◌+ℤ◌, IfOk, IfErr, map};
+ghost use Rattle.cel_value.specs.Faults.{fault_view};
+ghost use Rattle.cel_value.specs.View.{view};
+ghost use Rattle.cel_meaning.specs.Arithmetic.{uint_in, int_or_overflow, uint_or_overflow};
+ghost use Rattle.cel_meaning.specs.Outcome.{outcome_view};
+ghost use Rattle.kube_functions_lists.specs.Sums as spec;
+
+use crate::items::{as_int, items_of};
+use cel_meaning::operators::{Answer, no_such_overload};
+use cel_standard::faults::function_error;
+use cel_value::{ExecutionError, Refused, Value};
+use std::alloc::Global;
+
+fn no_sum(alloc: Global) -> Result<ExecutionError, Refused>
+    ensures value { IfOk result (λ e. fault_view e ≡ spec.no_sum) }
+    ensures memory { IfErr result (λ e. e ≡ Refused.Memory) }
+{
+    function_error(alloc, "sum", "cannot sum values of this type")
+}
+
+fn as_uint(value: &Value) -> Option<u64>
+    ensures { result ≡ uint_in (view value.now) }
+{
+    match value {
+        Value::UInt(n) => Some(*n),
+        _ => None,
+    }
+}
+
+fn add_ints(m: i64, n: i64) -> Answer
+    ensures { outcome_view result ≡ int_or_overflow (m +ℤ n) }
+{
+    match m.checked_add(n) {
+        Some(sum) => Ok(Value::Int(sum)),
+        None => Err(ExecutionError::Overflow),
+    }
+}
+
+fn add_uints(m: u64, n: u64) -> Answer
+    ensures { outcome_view result ≡ uint_or_overflow (m + n) }
+{
+    match m.checked_add(n) {
+        Some(sum) => Ok(Value::UInt(sum)),
+        None => Err(ExecutionError::Overflow),
+    }
+}
+
+fn added(alloc: Global, sum: &Value, value: &Value) -> Result<Answer, Refused>
+    ensures value { IfOk result (λ r. outcome_view r ≡ spec.added (view sum.now) (view value.now)) }
+    ensures memory { IfErr result (λ e. e ≡ Refused.Memory) }
+{
+    match sum {
+        Value::Int(m) => match as_int(value) {
+            Some(n) => Ok(add_ints(*m, n)),
+            None => Ok(Err(no_sum(alloc)?)),
+        },
+        Value::UInt(m) => match as_uint(value) {
+            Some(n) => Ok(add_uints(*m, n)),
+            None => Ok(Err(no_sum(alloc)?)),
+        },
+        _ => Ok(Err(no_sum(alloc)?)),
+    }
+}
+
+fn sum_from(alloc: Global, first: &Value, rest: &[Value]) -> Result<Answer, Refused>
+    ensures value { IfOk result (λ r. outcome_view r ≡ spec.sum_from (view first.now) (map view rest.now)) }
+    ensures memory { IfErr result (λ e. e ≡ Refused.Memory) }
+{
+    let mut sum = first.try_clone()?;
+    for value in rest {
+        match added(alloc, &sum, value)? {
+            Ok(next) => sum = next,
+            Err(fault) => return Ok(Err(fault)),
+        }
+    }
+    Ok(Ok(sum))
+}
+
+fn sum_of(alloc: Global, items: &[Value]) -> Result<Answer, Refused>
+    ensures value { IfOk result (λ r. outcome_view r ≡ spec.sum_of_items (map view items.now)) }
+    ensures memory { IfErr result (λ e. e ≡ Refused.Memory) }
+{
+    match items {
+        [] => Ok(Ok(Value::Int(0))),
+        [first, rest @ ..] => sum_from(alloc, first, rest),
+    }
+}
+
+/// The sum of a list's ints or of its uints. A single item is its own sum.
+///
+/// # Errors
+/// `Memory` alone.
+pub fn sum(alloc: Global, value: &Value) -> Result<Answer, Refused>
+    ensures value { IfOk result (λ r. outcome_view r ≡ spec.sum (view value.now)) }
+    ensures memory { IfErr result (λ e. e ≡ Refused.Memory) }
+{
+    match items_of(value) {
+        Some(items) => sum_of(alloc, items),
+        None => Ok(Err(no_such_overload(alloc, "sum")?)),
+    }
+}

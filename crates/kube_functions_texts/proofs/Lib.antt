@@ -1,0 +1,5 @@
+pub mod Standing
+pub mod CutSteps
+pub mod Joining
+pub mod KeysApart
+pub mod Decoded

@@ -1,0 +1,27 @@
+-- What the functions answer, in the forms that many of them share.
+use Rattle.std.specs.Prelude.{ℕ, List, Bool, Option, Result, Ok, Err}
+use Rattle.std.specs.Option.{option_map_or}
+use Rattle.cel_value.specs.Data.{Data, bool}
+use Rattle.cel_value.specs.Faults.{no_overload, function_error}
+use Rattle.cel_meaning.specs.Outcome.{Outcome}
+
+-- the fault of a function that refuses its arguments: its name, then its message
+abbrev pub refusal : List ℕ → List ℕ → Outcome
+refusal name message = Err (function_error name message)
+
+-- the fault of a function that takes no values of these kinds
+abbrev pub wrong_kind : List ℕ → Outcome
+wrong_kind name = Err (no_overload name)
+
+-- a bool as an answer
+abbrev pub told : Bool → Outcome
+told b = Ok (bool b)
+
+-- the value of what is there, and else this fault
+abbrev pub value_or : {A : Type 0} → Outcome → (A → Data) → Option A → Outcome
+value_or fault f o = option_map_or (λ x. Ok (f x)) o fault
+
+-- the value of what was read, or the fault of the function of this name that says why nothing was
+abbrev pub value_or_why : {A : Type 0} → List ℕ → (A → Data) → Result A (List ℕ) → Outcome
+value_or_why name f (Ok x) = Ok (f x)
+value_or_why name f (Err message) = refusal name message

@@ -1,0 +1,10 @@
+pub mod Answers
+pub mod Lists
+pub mod Quantities
+pub mod Addresses
+pub mod Cidrs
+pub mod Texts
+pub mod Versions
+pub mod Order
+pub mod Urls
+pub mod Formats

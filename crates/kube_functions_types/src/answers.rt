@@ -1,0 +1,60 @@
+//! What the functions answer, in the forms that many of them share.
+ghost use Rattle.std.specs.Prelude.{◌≡◌, IfOk, IfErr, Ok, map, string_bytes};
+ghost use Rattle.cel_value.specs.Data as plain;
+ghost use Rattle.cel_value.specs.Faults as fault;
+ghost use Rattle.cel_value.specs.View.{items_view};
+ghost use Rattle.cel_meaning.specs.Outcome.{outcome_view};
+ghost use Rattle.kube_functions_types.specs.Answers as spec;
+ghost use Rattle.kube_functions_types.specs.Lists.{text_items};
+
+use cel_meaning::Answer;
+use cel_meaning::operators::no_such_overload;
+use cel_value::{ExecutionError, Refused, Value};
+use std::alloc::Global;
+
+fn function_error(alloc: Global, function: &str, message: &str) -> Result<ExecutionError, Refused>
+    ensures value { IfOk result (λ e. fault.fault_view e ≡ fault.function_error function.now message.now) }
+    ensures memory { IfErr result (λ e. e ≡ Refused.Memory) }
+{
+    Ok(ExecutionError::FunctionError {
+        function: String::from_str(alloc, function)?,
+        message: String::from_str(alloc, message)?,
+    })
+}
+
+/// The fault of a function that refuses its arguments, with its message.
+pub(crate) fn refusal(alloc: Global, function: &str, message: &str) -> Result<Answer, Refused>
+    ensures value { IfOk result (λ r. outcome_view r ≡ spec.refusal function.now message.now) }
+    ensures memory { IfErr result (λ e. e ≡ Refused.Memory) }
+{
+    Ok(Err(function_error(alloc, function, message)?))
+}
+
+/// The fault of a function that takes no values of these kinds.
+pub(crate) fn wrong_kind(alloc: Global, function: &str) -> Result<Answer, Refused>
+    ensures value { IfOk result (λ r. outcome_view r ≡ spec.wrong_kind function.now) }
+    ensures memory { IfErr result (λ e. e ≡ Refused.Memory) }
+{
+    Ok(Err(no_such_overload(alloc, function)?))
+}
+
+/// A string as an answer.
+pub(crate) fn text_answer(alloc: Global, text: String) -> Result<Answer, Refused>
+    ensures value { IfOk result (λ r. outcome_view r ≡ Ok (plain.text (string_bytes text))) }
+    ensures memory { IfErr result (λ e. e ≡ Refused.Memory) }
+{
+    Ok(Ok(Value::from_text(alloc, text)?))
+}
+
+/// Strings as values.
+pub(crate) fn text_values(alloc: Global, texts: Vec<String>) -> Result<Vec<Value>, Refused>
+    ensures value { IfOk result (λ v. items_view v.items ≡ text_items (map string_bytes texts.items)) }
+    ensures memory { IfErr result (λ e. e ≡ Refused.Memory) }
+{
+    let mut values = Vec::new(alloc);
+    for text in texts {
+        let value = Value::from_text(alloc, text)?;
+        values.push(value)?;
+    }
+    Ok(values)
+}
