@@ -1,9 +1,14 @@
-//! The schema side of Kubernetes validation rules: the rules of a node, read and compiled.
+//! The schema side of Kubernetes validation rules: the rules of a node, read and compiled, its defaults, the values that it binds,
+//! and schemas that are compiled once.
 #![tactic(auto)]
 
-pub mod compilation;
-pub mod rule;
-
-pub use compilation::{CompilationError, CompilationResult, compile_rule, rules_of};
-pub use kube_schema_values::{Refused, bind_plain, escape_field_name, unescape_field_name};
-pub use rule::{Rule, RuleFault, rule_values};
+pub use kube_schema_bound::{SchemaFormat, bind};
+pub use kube_schema_filled::apply_defaults;
+pub use kube_schema_rules::{
+    CompilationError, CompilationResult, Rule, RuleFault, compile_rule, rule_values, rules_of,
+};
+pub use kube_schema_table::{CompiledSchema, SchemaNode, compile_schema, fill_node};
+pub use kube_schema_table_bound::bind_node;
+pub use kube_schema_values::{
+    Refused, bind_plain, bind_text, escape_field_name, unescape_field_name,
+};

@@ -1,0 +1,5 @@
+pub mod Bounds
+pub mod Fields
+pub mod Found
+pub mod Read
+pub mod Resources

@@ -1,0 +1,4 @@
+pub mod Bound
+pub mod Fields
+pub mod Formats
+pub mod Node

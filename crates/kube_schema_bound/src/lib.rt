@@ -1,0 +1,12 @@
+//! JSON values as CEL values, by their schemas.
+#![tactic(auto)]
+
+pub mod binding;
+pub mod format;
+pub mod laws;
+pub mod node;
+pub mod resource;
+
+pub use binding::bind;
+pub use format::SchemaFormat;
+pub use kube_schema_values::Refused;

@@ -1,0 +1,5 @@
+pub mod InOrder
+pub mod Fills
+pub mod Members
+pub mod Twice
+pub mod Keeping

@@ -1,0 +1,3 @@
+pub mod Look
+pub mod Filled
+pub mod Kept

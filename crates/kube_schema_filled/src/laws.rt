@@ -1,0 +1,17 @@
+//! Laws of defaults, each the contract of a call that does nothing.
+ghost use Rattle.std.specs.Prelude.{◌≡◌, ℕ};
+ghost use Rattle.serde_json.specs.Data.{Data};
+ghost use Rattle.kube_schema_filled.specs.Look.{raw};
+ghost use Rattle.kube_schema_filled.specs.Filled.{filled};
+ghost use Rattle.kube_schema_filled.specs.Kept.{Keeps};
+
+/// A value that has its defaults is not changed by them.
+pub fn filled_twice_is_filled_once()
+    ensures { (levels : ℕ) (schema value : Data)
+        → filled raw levels schema (filled raw levels schema value) ≡ filled raw levels schema value }
+{}
+
+/// What is there stays: at each path that leads somewhere in a value stands the same afterwards, and only objects may have got more members.
+pub fn what_is_there_stays()
+    ensures { (levels : ℕ) (schema value : Data) → Keeps value (filled raw levels schema value) }
+{}

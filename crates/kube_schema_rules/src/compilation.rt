@@ -1,0 +1,180 @@
+//! Rules with the programs of their texts.
+ghost use Rattle.std.specs.Prelude.{◌≡◌, IfErr, IfOk, map, option_map};
+ghost use Rattle.serde_json.specs.View.{view};
+ghost use Rattle.kube_schema_rules.specs.Rules.{rule_view, rule_items};
+ghost use Rattle.cel.specs.Program.{program_term};
+ghost use Rattle.kube_schema_rules.specs.Compilation.{compiled, compiled_seen, compiled_rule, compiled_rules, result_view, with_tree, with_trees};
+
+use crate::rule::{Rule, RuleFault, rule_values};
+use cel::{ParseErrors, Program};
+use kube_types_refused::Refused;
+use serde_json::Value;
+use std::alloc::Global;
+use std::fmt;
+
+/// A rule that was read, with its programs.
+#[derive(Debug, Drop)]
+pub struct CompilationResult {
+    /// The program of the rule's text.
+    pub program: Program,
+    /// The rule.
+    pub rule: Rule,
+    /// Whether the rule speaks of the value before a change: `oldSelf` is a free name of it.
+    pub is_transition_rule: bool,
+    /// The program of the rule's messageExpression, where it has one.
+    pub message_program: Option<Program>,
+}
+
+/// Why a rule was not compiled.
+#[derive(Debug, Drop)]
+pub enum CompilationError {
+    /// The text of the rule is no CEL expression.
+    Parse {
+        /// The text.
+        rule: String,
+        /// Why it was not read.
+        source: ParseErrors,
+    },
+    /// The messageExpression of the rule is no CEL expression.
+    MessageExpressionParse {
+        /// The text of the rule.
+        rule: String,
+        /// The text that was not read.
+        message_expression: String,
+        /// Why it was not read.
+        source: ParseErrors,
+    },
+    /// The JSON value is no rule.
+    InvalidRule(RuleFault),
+    /// The schema goes on past the greatest depth. No JSON value of a rule gives this error.
+    SchemaTooDeep {
+        /// The depth of the node.
+        depth: usize,
+    },
+}
+
+impl fmt::Display for CompilationError {
+    ghost use Rattle.std.specs.Prelude.{Some};
+    ghost use Rattle.kube_schema_rules.specs.Compilation.{error_view, error_text};
+
+    ghost output = { λ e. Some (error_text (error_view e)) };
+
+    fn fmt<W: fmt::Write>(&self, f: &mut fmt::Formatter<W>) -> fmt::Result {
+        match self {
+            CompilationError::Parse { rule, source } => {
+                write!(f, "failed to compile CEL rule \"{rule}\": {source}")
+            }
+            CompilationError::MessageExpressionParse {
+                rule,
+                message_expression,
+                source,
+            } => {
+                write!(
+                    f,
+                    "failed to compile messageExpression \"{message_expression}\" for rule \"{rule}\": {source}"
+                )
+            }
+            CompilationError::InvalidRule(fault) => write!(f, "invalid rule definition: {fault}"),
+            CompilationError::SchemaTooDeep { depth } => {
+                write!(f, "schema nesting depth {depth} exceeds the maximum of 64")
+            }
+        }
+    }
+}
+
+/// Reads a rule and compiles its texts. The first fault counts: one of the rule's fields, then the text of the rule, then its
+/// messageExpression.
+///
+/// # Errors
+///
+/// [`Refused`] where memory is refused.
+#[tactic(auto, unfolding(crate::specs::Compilation::compiled_rule))]
+pub fn compile_rule(
+    alloc: Global,
+    value: &Value,
+) -> Result<Result<CompilationResult, CompilationError>, Refused>
+    ensures rule { IfOk result (λ r. compiled_seen r ≡ compiled_rule (view value.now)) }
+    ensures memory { IfErr result (λ e. e ≡ Refused.Memory) }
+{
+    match Rule::from_json(alloc, value)? {
+        Err(fault) => Ok(Err(CompilationError::InvalidRule(fault))),
+        Ok(rule) => compile_text(alloc, rule),
+    }
+}
+
+/// The rules of a schema's node, each read and compiled, in their order.
+///
+/// # Errors
+///
+/// [`Refused`] where memory is refused.
+pub fn rules_of(
+    alloc: Global,
+    schema: &Value,
+) -> Result<Vec<Result<CompilationResult, CompilationError>>, Refused>
+    ensures rules { IfOk result (λ v. map compiled_seen v.items ≡ compiled_rules (rule_items (view schema.now))) }
+    ensures memory { IfErr result (λ e. e ≡ Refused.Memory) }
+{
+    let values = rule_values(schema);
+    let mut rules = Vec::with_capacity(alloc, values.len())?;
+    for value in values {
+        rules.push(compile_rule(alloc, value)?)?;
+    }
+    Ok(rules)
+}
+
+// Compiles the texts of a rule.
+#[tactic(auto, unfolding(crate::specs::Compilation::compiled))]
+fn compile_text(
+    alloc: Global,
+    rule: Rule,
+) -> Result<Result<CompilationResult, CompilationError>, Refused>
+    ensures rule { IfOk result (λ r. compiled_seen r ≡ compiled (rule_view rule)) }
+    ensures memory { IfErr result (λ e. e ≡ Refused.Memory) }
+{
+    match Program::compile(alloc, rule.rule.as_str())? {
+        Err(source) => Ok(Err(CompilationError::Parse {
+            rule: rule.rule,
+            source,
+        })),
+        Ok(program) => compile_message(alloc, rule, program),
+    }
+}
+
+// Compiles the messageExpression of a rule whose own text has this program.
+fn compile_message(
+    alloc: Global,
+    rule: Rule,
+    program: Program,
+) -> Result<Result<CompilationResult, CompilationError>, Refused>
+    ensures rule { IfOk result (λ r. compiled_seen r ≡ with_tree (rule_view rule) (program_term program)) }
+    ensures memory { IfErr result (λ e. e ≡ Refused.Memory) }
+{
+    let Some(text) = &rule.message_expression else {
+        return Ok(Ok(with_programs(rule, program, None)));
+    };
+    match Program::compile(alloc, text.as_str())? {
+        Err(source) => Ok(Err(CompilationError::MessageExpressionParse {
+            message_expression: text.clone()?,
+            rule: rule.rule,
+            source,
+        })),
+        Ok(message_program) => Ok(Ok(with_programs(rule, program, Some(message_program)))),
+    }
+}
+
+// A rule with the programs of its texts.
+fn with_programs(
+    rule: Rule,
+    program: Program,
+    message_program: Option<Program>,
+) -> CompilationResult
+    ensures { result_view result ≡ with_trees (rule_view rule) (program_term program) (option_map program_term message_program) }
+{
+    let is_transition_rule = program.expression().has_free_name("oldSelf");
+    CompilationResult {
+        program,
+        rule,
+        is_transition_rule,
+        message_program,
+    }
+}

@@ -1,0 +1,5 @@
+pub mod Trees
+pub mod Build
+pub mod Same
+pub mod Names
+pub mod Search

@@ -1,0 +1,5 @@
+pub mod Tree
+pub mod View
+pub mod Raw
+pub mod Shown
+pub mod Compiled

@@ -1,0 +1,12 @@
+-- What a node of a compiled schema shows.
+use Rattle.kube_schema_table.specs.declared.node.CompiledSchema.{CompiledSchema}
+use Rattle.kube_schema_table.specs.declared.node.SchemaNode.{SchemaNode}
+use Rattle.kube_schema_table.specs.Tree.{Node}
+use Rattle.kube_schema_table.specs.Raw.{tree}
+
+unfoldable pub shown : SchemaNode → Node
+shown n = tree n.schema.now.table.nodes.items n.number.0
+
+-- the tree of the root
+unfoldable pub whole : CompiledSchema → Node
+whole s = tree s.table.nodes.items 0

@@ -1,0 +1,36 @@
+use Rattle.std.proofs.Common.{◌≡◌, ◌+◌, ◌*◌, ◌-◌, List, ◌++◌, take, map}
+use Rattle.serde_json.specs.View.{view as json_view, members_view}
+use Rattle.serde_json.proofs.Views.{Entry}
+use Rattle.cel_value.specs.View.{view, entries_view}
+use Rattle.kube_schema_bound.specs.Bound.{bound, entries_by, member_by, member_key}
+use Rattle.kube_schema_table.specs.Shown.{shown}
+use Rattle.kube_schema_table_bound.specs.Compiled.{compiled}
+use Rattle.kube_schema_table_bound.proofs.binding.+bind.Given as goal
+
+abbrev pub decreases-bind_node : goal.decreases-bind_node
+decreases-bind_node l = 5 * (66 - l.depth)
+
+abbrev pub decreases-bind_by : goal.decreases-bind_by
+decreases-bind_by l = 5 * (66 - l.depth) - 1
+
+abbrev pub decreases-bind_items : goal.decreases-bind_items
+decreases-bind_items l = 5 * (66 - l.depth) + 1
+
+abbrev pub decreases-bind_object : goal.decreases-bind_object
+decreases-bind_object l = 5 * (66 - l.depth) - 2
+
+abbrev pub decreases-bind_members : goal.decreases-bind_members
+decreases-bind_members l = 5 * (66 - l.depth) - 3
+
+abbrev pub decreases-bind_member : goal.decreases-bind_member
+decreases-bind_member l = 5 * (66 - l.depth) - 4
+
+abbrev pub invariant-bind_items-loop-item : goal.invariant-bind_items-loop-item
+invariant-bind_items-loop-item l = map view l.bound.items ≡ map (λ v. bound compiled (65 - l.depth) (shown l.node) (json_view v)) (take l.item-index l.item-items)
+
+abbrev pub invariant-bind_members-loop-key : goal.invariant-bind_members-loop-key
+invariant-bind_members-loop-key l = record {
+  done : List Entry;
+  all : l.members.entries ≡ l.key-iterator.iter ++ done;
+  same : entries_view l.bound.entries ≡ entries_by (member_key compiled (shown l.node)) (member_by compiled (bound compiled (64 - l.depth)) (shown l.node)) (members_view done);
+}

@@ -1,0 +1,13 @@
+-- What the tree of a schema answers where binding asks: as the schema itself does.
+use Rattle.kube_schema_bound.specs.Bound.{Look}
+use Rattle.kube_schema_table.specs.Tree.{Node, own, items_of, additional_of, property_of}
+
+unfoldable pub compiled : Look Node
+compiled = record {
+  property = property_of;
+  additional = additional_of;
+  items = items_of;
+  is_map = λ n. (own n).is_map;
+  is_embedded = λ n. (own n).embedded;
+  format = λ n. (own n).format;
+}
