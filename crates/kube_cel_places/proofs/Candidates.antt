@@ -1,125 +1,118 @@
 -- The steps that may be allowed: in order, and all of them.
-use Rattle.std.proofs.Common.{◌≡◌, List, [], ◌∷◌, map, Option, Some, None, option_and_then, unwrap_or, IsSome, Ordering, Less, Equal, Greater, nat_cmp, is_eq, codes, refl, sym, ap, ◌∙◌, subst, inl, inr, ℕ}
-use Rattle.std.proofs.lemmas.Cmp.{nat_list_cmp_total}
-use Rattle.std.proofs.lemmas.Map.Text.{is_eq-slice_cmp}
-use Rattle.std.proofs.lemmas.Slice.Eq.{bytes_eq-Decides}
-use Rattle.std.specs.Cmp.Lexicographic.{slice_cmp}
-use Rattle.std.specs.List.{AllByRecursion}
-use Rattle.std.specs.List.Sorted.{IsStrictlySortedBy}
-use Rattle.std.specs.Ordering.{ordering_reverse, match_ordering}
-use Rattle.serde_json.specs.Data.{Data, null, boolean, number, string, array, object, Members, no_members, member}
-use Rattle.serde_json.specs.Find.{get, get_member, as_object}
-use Rattle.kube_cel_places.specs.Step.{Step, step, property_step, property, step_cmp}
+use Rattle.kube_cel_places.proofs.ByKind.{last_kind, kind_before, properties_in_order, items_in_order, extras_in_order, branches_in_order, AreFromRank}
+use Rattle.kube_cel_places.proofs.Ordered.{IsIn, in_left, in_right, in_map, are_places}
+use Rattle.kube_cel_places.proofs.Sorted.{same_key, key_cmp, in_ordered, in_up}
+use Rattle.kube_cel_places.specs.declared.branches.BranchKind.{BranchKind}
+use Rattle.kube_cel_places.specs.declared.branches.BranchKind.TheVariants.{AllOf, OneOf, AnyOf}
+use Rattle.kube_cel_places.specs.Inside.{keys_in, keys_at, count_at, in_order, up_to}
+use Rattle.kube_cel_places.specs.Shape.{Shape}
+use Rattle.kube_cel_places.specs.Spot.{Root, Spot, further, unless_there, member_path, item_path, goes, candidates, property_steps, item_steps, extra_steps, branch_steps}
+use Rattle.kube_cel_places.specs.Step.{Step, property, item, extra, branch, step_cmp}
 use Rattle.kube_cel_places.specs.Walk.{ArePlaces, AreFoundAtPlaces, places, answers}
-use Rattle.kube_cel_places.specs.Spot.{Spot, further, member_path, goes, candidates, insert_key, keys_in_order, property_keys}
-use Rattle.kube_cel_places.proofs.Ordered.{IsIn, in_map, all_map, are_places}
+use Rattle.serde_json.specs.Data.{Data, null, boolean, number, string, array, object, Items, no_items, item as one_item, Members, no_members, member}
+use Rattle.serde_json.specs.Events.{items_len}
+use Rattle.serde_json.specs.Find.{get, at, get_item, get_member}
+use Rattle.std.proofs.Common.{◌≡◌, ◌<◌, ℕ, zero, suc, List, ◌++◌, map, Option, Some, None, option_and_then, IsSome, Ordering, Less, Equal, Greater, refl, sym, inl, inr, arith}
+use Rattle.std.specs.List.Sorted.{IsStrictlySortedBy}
+use Rattle.std.specs.Ordering.{match_ordering}
+
+-- ---- what is inside a value is counted and named
+
+within : (i : ℕ) (ds : Items) → IsSome (get_item i ds) → i < items_len ds
+within i no_items h = cc
+within zero (one_item d ds) h = omega arith
+within (suc i) (one_item d ds) h = let r = within i ds h in omega arith
+
+pub counted : (i : ℕ) (o : Option Data) → IsSome (option_and_then (at i) o) → i < count_at o
+unfolding count_at
+counted i None h = cc
+counted i (Some null) h = cc
+counted i (Some (boolean b)) h = cc
+counted i (Some (number n)) h = cc
+counted i (Some (string s)) h = cc
+counted i (Some (object ms)) h = cc
+counted i (Some (array ds)) h = within i ds h
+
+in_keys : (k : List ℕ) (ms : Members) → IsSome (get_member k ms) → IsIn k (keys_in ms)
+in_keys k no_members h = cc
+in_keys k (member l d ms) h = by (key_cmp k l) refl h (λ g. in_keys k ms g)
+  where
+    by : (o : Ordering) → key_cmp k l ≡ o → IsSome (match_ordering o (get_member k ms) (Some d) (get_member k ms)) → (IsSome (get_member k ms) → IsIn k (keys_in ms)) → IsIn k (keys_in (member l d ms))
+    by Less e h r = inr (r h)
+    by Equal e h r = inl (sym (same_key k l e))
+    by Greater e h r = inr (r h)
+
+pub named : (k : List ℕ) (o : Option Data) → IsSome (option_and_then (get k) o) → IsIn k (keys_at o)
+unfolding keys_at
+named k None h = cc
+named k (Some null) h = cc
+named k (Some (boolean b)) h = cc
+named k (Some (number n)) h = cc
+named k (Some (string s)) h = cc
+named k (Some (array ds)) h = cc
+named k (Some (object ms)) h = in_keys k ms h
 
 -- ---- in order
 
-sorted_map : {X Y : Type 0} (cmp : X → X → Ordering) (dmp : Y → Y → Ordering) (f : X → Y) (mono : (x y : X) → cmp x y ≡ Less → dmp (f x) (f y) ≡ Less) (xs : List X) → IsStrictlySortedBy cmp xs → IsStrictlySortedBy dmp (map f xs)
-unfolding IsStrictlySortedBy
-sorted_map cmp dmp f mono [] h = tt
-sorted_map cmp dmp f mono (x ∷ xs) h = (all_map (λ y. cmp x y ≡ Less) (λ y. dmp (f x) y ≡ Less) f (mono x) xs h.0, sorted_map cmp dmp f mono xs h.1)
+node_there : {S : Type 0} (r : Option Root) (d : ℕ) (t : List ℕ) (a : Option S) (b c : Option Data) → IsSome (further r d t a b c) → IsSome a
+node_there r d t None b c h = h
+node_there r d t (Some n) b c h = refl
 
-abbrev key_cmp : List ℕ → List ℕ → Ordering
-key_cmp = slice_cmp nat_cmp
+value_there : {S : Type 0} (r : Option Root) (d : ℕ) (t : List ℕ) (a : Option S) (b c : Option Data) → IsSome (further r d t a b c) → IsSome b
+value_there r d t None b c h = cc
+value_there r d t (Some n) None c h = h
+value_there r d t (Some n) (Some v) c h = refl
 
-all_insert : (P : List ℕ → Type 0) (k : List ℕ) (ls : List (List ℕ)) → P k → AllByRecursion P ls → AllByRecursion P (insert_key k ls)
-all_insert P k [] p h = (p, tt)
-all_insert P k (l ∷ ls) p h = by (key_cmp k l) (all_insert P k ls p h.1)
-  where
-    by : (o : Ordering) → AllByRecursion P (insert_key k ls) → AllByRecursion P (match_ordering o (k ∷ l ∷ ls) (l ∷ ls) (l ∷ insert_key k ls))
-    by Less r = (p, h)
-    by Equal r = h
-    by Greater r = (h.0, r)
+-- a shape whose names and counts leave nothing out
+pub record NamesAll {S : Type 0} (shape : Shape S) : Type 0 where
+  pub keys : (k : List ℕ) (node : S) → IsSome (shape.property k node) → IsIn k (shape.keys node)
+  pub branches : (kind : BranchKind) (j : ℕ) (node : S) → IsSome (shape.branch kind j node) → j < shape.branch_count kind node
 
-below_all : (k l : List ℕ) (ls : List (List ℕ)) → key_cmp k l ≡ Less → AllByRecursion (λ y. key_cmp l y ≡ Less) ls → AllByRecursion (λ y. key_cmp k y ≡ Less) ls
-below_all k l [] e h = tt
-below_all k l (m ∷ ls) e h = (nat_list_cmp_total.trans k l m e h.0, below_all k l ls e h.1)
+module _ {S : Type 0} (shape : Shape S) where
+  pub candidates_sorted : (s : Spot S) → IsStrictlySortedBy step_cmp (candidates shape s)
+  unfolding candidates property_steps item_steps extra_steps branch_steps
+  candidates_sorted s =
+      (kind_before 0 (property_steps shape s) _ (properties_in_order (shape.keys s.node))
+      (kind_before 1 (item_steps shape s) _ (items_in_order (count_at (Some s.value)))
+      (kind_before 2 (extra_steps shape s) _ (extras_in_order (keys_at (Some s.value)))
+      (kind_before 3 (branch_steps shape AllOf s) _ (branches_in_order AllOf (shape.branch_count AllOf s.node))
+      (kind_before 4 (branch_steps shape OneOf s) _ (branches_in_order OneOf (shape.branch_count OneOf s.node))
+      (last_kind 5 (branch_steps shape AnyOf s) (branches_in_order AnyOf (shape.branch_count AnyOf s.node)))))))).sorted
 
-insert_sorted : (k : List ℕ) (ls : List (List ℕ)) → IsStrictlySortedBy key_cmp ls → IsStrictlySortedBy key_cmp (insert_key k ls)
-unfolding IsStrictlySortedBy
-insert_sorted k [] h = (tt, tt)
-insert_sorted k (l ∷ ls) h = by (key_cmp k l) refl (insert_sorted k ls h.1)
-  where
-    by : (o : Ordering) → key_cmp k l ≡ o → IsStrictlySortedBy key_cmp (insert_key k ls) → IsStrictlySortedBy key_cmp (match_ordering o (k ∷ l ∷ ls) (l ∷ ls) (l ∷ insert_key k ls))
-    by Less e r = ((e, below_all k l ls e h.0), h)
-    by Equal e r = h
-    by Greater e r = (all_insert (λ y. key_cmp l y ≡ Less) k ls (nat_list_cmp_total.antisymm l k ∙ ap ordering_reverse e) h.0, r)
+  -- ---- all of them
 
-keys_sorted : (ms : Members) → IsStrictlySortedBy key_cmp (keys_in_order ms)
-unfolding IsStrictlySortedBy
-keys_sorted no_members = tt
-keys_sorted (member k d ms) = insert_sorted k (keys_in_order ms) (keys_sorted ms)
+  in_branches : (kind : BranchKind) (j : ℕ) (s : Spot S) → j < shape.branch_count kind s.node → IsIn (branch kind j) (branch_steps shape kind s)
+  unfolding branch_steps
+  in_branches kind j s h = in_map (branch kind) j (up_to (shape.branch_count kind s.node)) (in_up j (shape.branch_count kind s.node) h)
 
-pub candidates_sorted : (s : Spot) → IsStrictlySortedBy step_cmp (candidates s)
-unfolding candidates property_keys
-candidates_sorted s =
-    let ms = unwrap_or (option_and_then as_object (get (codes "properties") s.node)) no_members in
-    sorted_map key_cmp step_cmp property (λ k l e. e) (keys_in_order ms) (keys_sorted ms)
+  in_rest : (p : Step) (xs ys zs ws : List Step) → IsIn p ws → IsIn p (xs ++ (ys ++ (zs ++ ws)))
+  in_rest p xs ys zs ws h = in_right p xs (ys ++ (zs ++ ws)) (in_right p ys (zs ++ ws) (in_right p zs ws h))
 
--- ---- all of them
+  branch_named : (kind : BranchKind) (p : Step) (s : Spot S) → IsIn p (branch_steps shape kind s) → IsIn p (branch_steps shape AllOf s ++ (branch_steps shape OneOf s ++ branch_steps shape AnyOf s))
+  branch_named AllOf p s h = in_left p (branch_steps shape AllOf s) _ h
+  branch_named OneOf p s h = in_right p (branch_steps shape AllOf s) _ (in_left p (branch_steps shape OneOf s) (branch_steps shape AnyOf s) h)
+  branch_named AnyOf p s h = in_right p (branch_steps shape AllOf s) _ (in_right p (branch_steps shape OneOf s) (branch_steps shape AnyOf s) h)
 
-same_key : (k l : List ℕ) → key_cmp k l ≡ Equal → k ≡ l
-same_key k l e = (bytes_eq-Decides k l).0 (sym (is_eq-slice_cmp k l) ∙ ap is_eq e)
+  pub candidates_all : NamesAll shape → (p : Step) (s : Spot S) → IsSome (goes shape p s) → IsIn p (candidates shape s)
+  unfolding candidates property_steps item_steps extra_steps goes
+  candidates_all all (property k) s h =
+      in_left (property k) (property_steps shape s) _ (in_map property k (in_order (shape.keys s.node))
+      (in_ordered k (shape.keys s.node) (all.keys k s.node (node_there None s.depth (member_path s.path k) _ _ _ h))))
+  candidates_all all (item i) s h =
+      in_right (item i) (property_steps shape s) _ (in_left (item i) (item_steps shape s) _ (in_map item i (up_to (count_at (Some s.value)))
+      (in_up i (count_at (Some s.value)) (counted i (Some s.value) (value_there None s.depth (item_path s.path i) (shape.items s.node) _ _ h)))))
+  candidates_all all (extra k) s h =
+      in_right (extra k) (property_steps shape s) _ (in_right (extra k) (item_steps shape s) _ (in_left (extra k) (extra_steps shape s) _ (in_map extra k (in_order (keys_at (Some s.value)))
+      (in_ordered k (keys_at (Some s.value)) (named k (Some s.value) (value_there None s.depth (member_path s.path k) (unless_there (shape.property k s.node) (shape.extra s.node)) _ _ h))))))
+  candidates_all all (branch kind j) s h =
+      in_rest (branch kind j) (property_steps shape s) (item_steps shape s) (extra_steps shape s) _
+      (branch_named kind (branch kind j) s (in_branches kind j s (all.branches kind j s.node (node_there s.root s.depth s.path (shape.branch kind j s.node) (Some s.value) s.old h))))
 
-in_insert_here : (k : List ℕ) (ls : List (List ℕ)) → IsIn k (insert_key k ls)
-in_insert_here k [] = inl refl
-in_insert_here k (l ∷ ls) = by (key_cmp k l) refl (in_insert_here k ls)
-  where
-    by : (o : Ordering) → key_cmp k l ≡ o → IsIn k (insert_key k ls) → IsIn k (match_ordering o (k ∷ l ∷ ls) (l ∷ ls) (l ∷ insert_key k ls))
-    by Less e r = inl refl
-    by Equal e r = inl (sym (same_key k l e))
-    by Greater e r = inr r
+  -- the computed places are the places
+  pub spot_places : NamesAll shape → (n : ℕ) (s : Spot S) → ArePlaces (goes shape) n s (places (goes shape) (candidates shape) n s)
+  spot_places all n s = are_places (goes shape) (candidates shape) candidates_sorted (candidates_all all) n s
 
-in_insert_keeps : (x k : List ℕ) (ls : List (List ℕ)) → IsIn x ls → IsIn x (insert_key k ls)
-in_insert_keeps x k [] h = absurd h
-in_insert_keeps x k (l ∷ ls) h = by (key_cmp k l) h (λ g. in_insert_keeps x k ls g)
-  where
-    by : (o : Ordering) → IsIn x (l ∷ ls) → (IsIn x ls → IsIn x (insert_key k ls)) → IsIn x (match_ordering o (k ∷ l ∷ ls) (l ∷ ls) (l ∷ insert_key k ls))
-    by Less h r = inr h
-    by Equal h r = h
-    by Greater (inl e) r = inl e
-    by Greater (inr g) r = inr (r g)
-
-in_keys : (k : List ℕ) (ms : Members) → IsSome (get_member k ms) → IsIn k (keys_in_order ms)
-in_keys k no_members h = cc
-in_keys k (member l d ms) h = by (key_cmp k l) refl h (λ g. in_insert_keeps k l (keys_in_order ms) (in_keys k ms g))
-  where
-    by : (o : Ordering) → key_cmp k l ≡ o → IsSome (match_ordering o (get_member k ms) (Some d) (get_member k ms)) → (IsSome (get_member k ms) → IsIn k (insert_key l (keys_in_order ms))) → IsIn k (insert_key l (keys_in_order ms))
-    by Less e h r = r h
-    by Equal e h r = subst (λ l. IsIn k (insert_key l (keys_in_order ms))) (same_key k l e) (in_insert_here k (keys_in_order ms))
-    by Greater e h r = r h
-
--- a member is what the object has at the key
-pub property_of : (k : List ℕ) (o : Option Data) → option_and_then (get k) o ≡ option_and_then (get_member k) (option_and_then as_object o)
-property_of k None = refl
-property_of k (Some null) = refl
-property_of k (Some (boolean b)) = refl
-property_of k (Some (number n)) = refl
-property_of k (Some (string s)) = refl
-property_of k (Some (array ds)) = refl
-property_of k (Some (object ms)) = refl
-
-node_there : (d : ℕ) (t : List ℕ) (a b c : Option Data) → IsSome (further d t a b c) → IsSome a
-node_there d t None b c h = h
-node_there d t (Some n) b c h = refl
-
-in_property : (k : List ℕ) (o : Option Members) → IsSome (option_and_then (get_member k) o) → IsIn k (keys_in_order (unwrap_or o no_members))
-in_property k None h = cc
-in_property k (Some ms) h = in_keys k ms h
-
-pub candidates_all : (p : Step) (s : Spot) → IsSome (goes p s) → IsIn p (candidates s)
-unfolding candidates goes property_keys
-candidates_all (step property_step k) s h =
-    in_map property k (property_keys s.node)
-    (in_property k (option_and_then as_object (get (codes "properties") s.node)) (subst IsSome (property_of k (get (codes "properties") s.node)) (node_there s.depth (member_path s.path k) _ _ _ h)))
-
--- the computed places are the places
-pub spot_places : (n : ℕ) (s : Spot) → ArePlaces goes n s (places goes candidates n s)
-spot_places n s = are_places goes candidates candidates_sorted candidates_all n s
-
--- the computed answers are what stands at the places
-pub spot_answers : {E : Type 0} (found_at : Spot → List E) (n : ℕ) (s : Spot) → AreFoundAtPlaces goes found_at n s (answers goes candidates found_at n s)
-unfolding answers
-spot_answers found_at n s = record { all_places = places goes candidates n s; are_all = spot_places n s; joined = refl }
+  -- the computed answers are what stands at the places
+  pub spot_answers : NamesAll shape → {E : Type 0} (found_at : Spot S → List E) (n : ℕ) (s : Spot S) → AreFoundAtPlaces (goes shape) found_at n s (answers (goes shape) (candidates shape) found_at n s)
+  unfolding answers
+  spot_answers all found_at n s = record { all_places = places (goes shape) (candidates shape) n s; are_all = spot_places all n s; joined = refl }

@@ -1,3 +1,6 @@
+pub mod Inside
+pub mod Raw
+pub mod Shape
 pub mod Spot
 pub mod Step
 pub mod Walk

@@ -1,59 +1,82 @@
--- What lies at a place of a JSON schema and a JSON value (Kubernetes documentation, "Validation rules": a rule is scoped
--- to the part of the object where its `x-kubernetes-validations` stands), and where steps lead from there.
-use Rattle.kube_cel_places.specs.Step.{Step, step, property_step, property}
-use Rattle.serde_json.specs.Data.{Data, Members, no_members, member}
-use Rattle.serde_json.specs.Find.{get, as_object}
-use Rattle.std.specs.Cmp.Lexicographic.{slice_cmp}
-use Rattle.std.specs.Ordering.{nat_cmp, match_ordering}
-use Rattle.std.specs.Prelude.{ℕ, ◌+◌, List, [], ◌∷◌, ◌++◌, map, Option, option_map, option_and_then, unwrap_or, codes}
+-- What lies at a place of a schema and a JSON value (Kubernetes documentation, "Validation rules": a rule is scoped to the part
+-- of the object where its `x-kubernetes-validations` stands), and where steps lead from there.
+use Rattle.kube_cel_places.specs.declared.branches.BranchKind.{BranchKind}
+use Rattle.kube_cel_places.specs.declared.branches.BranchKind.TheVariants.{AllOf, OneOf, AnyOf}
+use Rattle.kube_cel_places.specs.Inside.{keys_at, count_at, in_order, up_to}
+use Rattle.kube_cel_places.specs.Shape.{Shape}
+use Rattle.kube_cel_places.specs.Step.{Step, property, item, extra, branch}
+use Rattle.serde_json.specs.Data.{Data}
+use Rattle.serde_json.specs.Find.{get, at}
+use Rattle.std.specs.Prelude.{ℕ, ◌+◌, List, [], ◌∷◌, ◌++◌, map, Option, Some, None, option_map, option_and_then, decimal}
 
-pub record Spot : Type 0 where
+-- what is told of the whole object: its API version, its API group and its kind
+pub record Root : Type 0 where
+  pub api_version : List ℕ
+  pub api_group : List ℕ
+  pub kind : List ℕ
+
+-- the nodes of the schema may have any form
+pub record Spot (S : Type 0) : Type 0 where
   -- the schema's node
-  pub node : Data
+  pub node : S
   -- the object's part
   pub value : Data
   -- its old counterpart: what the same steps find in the old object, or none
   pub old : Option Data
+  -- what is told of the whole object, at the root and where only branches lead from there
+  pub root : Option Root
   -- the text of the place
   pub path : List ℕ
   -- the number of steps from the root
   pub depth : ℕ
 
-abbrev pub spot : Data → Data → Option Data → List ℕ → ℕ → Spot
-spot node value old path depth = record { node = node; value = value; old = old; path = path; depth = depth }
+abbrev pub spot : {S : Type 0} → S → Data → Option Data → Option Root → List ℕ → ℕ → Spot S
+spot node value old root path depth = record { node = node; value = value; old = old; root = root; path = path; depth = depth }
 
 -- where every walk begins
-abbrev pub root_spot : Data → Data → Option Data → Spot
-root_spot node value old = spot node value old [] 0
+abbrev pub root_spot : {S : Type 0} → S → Data → Option Data → Option Root → Spot S
+root_spot node value old root = spot node value old root [] 0
 
 -- a path and then a key: `k` after the empty path, else `.k`
 unfoldable pub member_path : List ℕ → List ℕ → List ℕ
 member_path [] key = key
 member_path (b ∷ bs) key = (b ∷ bs) ++ 46 ∷ key
 
+-- a path and then an index: `[i]`
+unfoldable pub item_path : List ℕ → ℕ → List ℕ
+item_path path index = path ++ 91 ∷ (decimal index ++ 93 ∷ [])
+
 -- one step further, where node and value are both there
-abbrev pub further : ℕ → List ℕ → Option Data → Option Data → Option Data → Option Spot
-further depth path node value old = option_and_then (λ n. option_map (λ v. spot n v old path (depth + 1)) value) node
+abbrev pub further : {S : Type 0} → Option Root → ℕ → List ℕ → Option S → Option Data → Option Data → Option (Spot S)
+further root depth path node value old = option_and_then (λ n. option_map (λ v. spot n v old root path (depth + 1)) value) node
 
--- where a step leads, if it is allowed:
--- property k, where `properties` is an object with k and the value an object with k
-unfoldable pub goes : Step → Spot → Option Spot
-goes (step property_step k) s =
-    further s.depth (member_path s.path k) (option_and_then (get k) (get (codes "properties") s.node)) (get k s.value) (option_and_then (get k) s.old)
+-- the second, where the first isn't there
+abbrev pub unless_there : {S : Type 0} → Option S → Option S → Option S
+unless_there None o = o
+unless_there (Some s) o = None
 
--- the keys of an object, each once, by their bytes
-abbrev pub insert_key : List ℕ → List (List ℕ) → List (List ℕ)
-insert_key k [] = k ∷ []
-insert_key k (l ∷ ls) = match_ordering (slice_cmp nat_cmp k l) (k ∷ l ∷ ls) (l ∷ ls) (l ∷ insert_key k ls)
+module _ {S : Type 0} (shape : Shape S) where
+  -- where a step leads, if it is allowed: to a declared member, to an item, to a member that isn't declared, to a branch
+  unfoldable pub goes : Step → Spot S → Option (Spot S)
+  goes (property k) s = further None s.depth (member_path s.path k) (shape.property k s.node) (get k s.value) (option_and_then (get k) s.old)
+  goes (item i) s = further None s.depth (item_path s.path i) (shape.items s.node) (at i s.value) (option_and_then (at i) s.old)
+  goes (extra k) s =
+      further None s.depth (member_path s.path k) (unless_there (shape.property k s.node) (shape.extra s.node)) (get k s.value) (option_and_then (get k) s.old)
+  goes (branch kind j) s = further s.root s.depth s.path (shape.branch kind j s.node) (Some s.value) s.old
 
-abbrev pub keys_in_order : Members → List (List ℕ)
-keys_in_order no_members = []
-keys_in_order (member k d ms) = insert_key k (keys_in_order ms)
+  -- all steps that may be allowed, kind by kind
+  unfoldable pub property_steps : Spot S → List Step
+  property_steps s = map property (in_order (shape.keys s.node))
 
--- the declared names of a node
-unfoldable pub property_keys : Data → List (List ℕ)
-property_keys node = keys_in_order (unwrap_or (option_and_then as_object (get (codes "properties") node)) no_members)
+  unfoldable pub item_steps : Spot S → List Step
+  item_steps s = map item (up_to (count_at (Some s.value)))
 
--- all steps that may be allowed, in order
-unfoldable pub candidates : Spot → List Step
-candidates s = map property (property_keys s.node)
+  unfoldable pub extra_steps : Spot S → List Step
+  extra_steps s = map extra (in_order (keys_at (Some s.value)))
+
+  unfoldable pub branch_steps : BranchKind → Spot S → List Step
+  branch_steps kind s = map (branch kind) (up_to (shape.branch_count kind s.node))
+
+  -- and in order
+  unfoldable pub candidates : Spot S → List Step
+  candidates s = property_steps s ++ (item_steps s ++ (extra_steps s ++ (branch_steps AllOf s ++ (branch_steps OneOf s ++ branch_steps AnyOf s))))

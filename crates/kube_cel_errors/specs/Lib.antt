@@ -1,0 +1,4 @@
+pub mod ErrorLists
+pub mod Errors
+pub mod RuleErrors
+pub mod Texts

@@ -1,0 +1,33 @@
+-- What is inside a JSON value, as keys in order and as indices.
+use Rattle.serde_json.specs.Data.{Data, Items, no_items, Members, no_members, member}
+use Rattle.serde_json.specs.Events.{items_len}
+use Rattle.serde_json.specs.Find.{as_array, as_object}
+use Rattle.std.specs.Cmp.Lexicographic.{slice_cmp}
+use Rattle.std.specs.Ordering.{nat_cmp, match_ordering}
+use Rattle.std.specs.Prelude.{ℕ, zero, suc, List, [], ◌∷◌, ◌++◌, Option, option_and_then, unwrap_or}
+
+abbrev pub keys_in : Members → List (List ℕ)
+keys_in no_members = []
+keys_in (member key d ms) = key ∷ keys_in ms
+
+-- the keys of a value that may be there, none where it is no object
+unfoldable pub keys_at : Option Data → List (List ℕ)
+keys_at value = keys_in (unwrap_or (option_and_then as_object value) no_members)
+
+-- the number of its items, none where it is no list
+unfoldable pub count_at : Option Data → ℕ
+count_at value = items_len (unwrap_or (option_and_then as_array value) no_items)
+
+-- keys by their bytes, each once
+abbrev pub insert_key : List ℕ → List (List ℕ) → List (List ℕ)
+insert_key k [] = k ∷ []
+insert_key k (l ∷ ls) = match_ordering (slice_cmp nat_cmp k l) (k ∷ l ∷ ls) (l ∷ ls) (l ∷ insert_key k ls)
+
+abbrev pub in_order : List (List ℕ) → List (List ℕ)
+in_order [] = []
+in_order (k ∷ ks) = insert_key k (in_order ks)
+
+-- the numbers below n, upwards
+unfoldable pub up_to : ℕ → List ℕ
+up_to zero = []
+up_to (suc n) = up_to n ++ n ∷ []

@@ -1,0 +1,3 @@
+pub mod Roots
+pub mod Told
+pub mod Verdicts

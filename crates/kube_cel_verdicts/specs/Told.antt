@@ -1,0 +1,13 @@
+-- What a part of a walk tells, under every book that agrees with the one that it hands back.
+use Rattle.cel_book.specs.Book.{Agrees, Book}
+use Rattle.kube_cel_errors.specs.declared.error.ValidationError.{ValidationError}
+use Rattle.kube_cel_errors.specs.Errors.{ErrorData, error_view}
+use Rattle.std.specs.Prelude.{◌≡◌, ◌++◌, List, map, Option, option_map}
+
+-- the verdict that was answered, if there is one
+abbrev pub IsVerdict : Book → Option ValidationError → (Book → Option ErrorData) → Type 0
+IsVerdict known answered verdict = (b : Book) → Agrees b known → option_map error_view answered ≡ verdict b
+
+-- the errors that were added to those before
+abbrev pub AreAdded : Book → List ValidationError → List ValidationError → (Book → List ErrorData) → Type 0
+AreAdded known before after added = (b : Book) → Agrees b known → map error_view after ≡ map error_view before ++ added b

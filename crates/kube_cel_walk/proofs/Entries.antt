@@ -1,0 +1,96 @@
+-- A map's entries, as a walk meets them.
+use Rattle.kube_cel_places.proofs.Sorted.{key_cmp, ordered_already}
+use Rattle.kube_cel_places.specs.Inside.{keys_in, keys_at, in_order}
+use Rattle.serde_json.proofs.Views.{Entry}
+use Rattle.serde_json.specs.Data.{Data, no_members}
+use Rattle.serde_json.specs.Find.{get_member, as_object}
+use Rattle.serde_json.specs.View.{view, members_view}
+use Rattle.std.proofs.Common.{Bor, ◌≡◌, ◌<◌, ℕ, zero, suc, ◌+◌, length, take, get_or, arith, List, [], ◌∷◌, ◌++◌, map, Option, Some, None, option_and_then, unwrap_or, Less, Greater, string_bytes, string_cmp, nat_cmp, refl, sym, ap, ◌∙◌}
+use Rattle.std.proofs.lemmas.List.{map-append, take_more}
+use Rattle.std.proofs.lemmas.Cmp.{nat_list_cmp_total, tied_itself}
+use Rattle.std.specs.Cmp.Lexicographic.{slice_cmp}
+use Rattle.std.specs.List.{AllByRecursion}
+use Rattle.std.specs.List.Sorted.{IsStrictlySortedBy}
+use Rattle.std.specs.Map.{keys_of}
+use Rattle.std.specs.Ordering.{ordering_reverse}
+
+below_middle : (first : Entry) (es : List Entry) (e : Entry) (more : List Entry) → AllByRecursion (λ y. string_cmp first.0 y ≡ Less) (keys_of (es ++ e ∷ more)) → string_cmp first.0 e.0 ≡ Less
+below_middle first [] e more h = h.0
+below_middle first (x ∷ es) e more h = below_middle first es e more h.1
+
+above : (first : Entry) (es : List Entry) (e : Entry) (more : List Entry) → AllByRecursion (λ y. string_cmp first.0 y ≡ Less) (keys_of (es ++ e ∷ more)) → slice_cmp nat_cmp (string_bytes e.0) (string_bytes first.0) ≡ Greater
+above first es e more h = nat_list_cmp_total.antisymm (string_bytes e.0) (string_bytes first.0) ∙ ap ordering_reverse (below_middle first es e more h)
+
+-- the member at a key is the entry's value
+pub member_in_order : (done : List Entry) (e : Entry) (more : List Entry) → IsStrictlySortedBy string_cmp (keys_of (done ++ e ∷ more))
+    → get_member (string_bytes e.0) (members_view (done ++ e ∷ more)) ≡ Some (view e.1)
+unfolding IsStrictlySortedBy
+member_in_order [] e more h = rw (tied_itself nat_list_cmp_total (string_bytes e.0))
+member_in_order (first ∷ done) e more h = rw (above first done e more h.0) (member_in_order done e more h.1)
+
+abbrev pub names_of : List Entry → List (List ℕ)
+names_of es = map (λ e. string_bytes e.0) es
+
+pub names_more : (done : List Entry) (e : Entry) → names_of (done ++ e ∷ []) ≡ names_of done ++ string_bytes e.0 ∷ []
+names_more [] e = refl
+names_more (x ∷ done) e = ap (λ r. string_bytes x.0 ∷ r) (names_more done e)
+
+-- a map's keys are in order
+
+keys_named : (es : List Entry) → keys_in (members_view es) ≡ names_of es
+keys_named [] = refl
+keys_named (e ∷ es) = ap (λ r. string_bytes e.0 ∷ r) (keys_named es)
+
+all_named : (first : Entry) (es : List Entry) → AllByRecursion (λ y. string_cmp first.0 y ≡ Less) (keys_of es) → AllByRecursion (λ k. key_cmp (string_bytes first.0) k ≡ Less) (names_of es)
+all_named first [] h = tt
+all_named first (e ∷ es) h = (h.0, all_named first es h.1)
+
+names_sorted : (es : List Entry) → IsStrictlySortedBy string_cmp (keys_of es) → IsStrictlySortedBy key_cmp (names_of es)
+unfolding IsStrictlySortedBy
+names_sorted [] h = tt
+names_sorted (e ∷ es) h = (all_named e es h.0, names_sorted es h.1)
+
+pub keys_of_map : (o : Option Data) (es : List Entry) → Some (members_view es) ≡ option_and_then as_object o → IsStrictlySortedBy string_cmp (keys_of es) → in_order (keys_at o) ≡ names_of es
+unfolding keys_at
+keys_of_map o es e h = ap (λ ms. in_order (keys_in (unwrap_or ms no_members))) (sym e) ∙ ap in_order (keys_named es) ∙ ordered_already (names_of es) (names_sorted es h)
+
+pub keys_of_none : (o : Option Data) → None ≡ option_and_then as_object o → in_order (keys_at o) ≡ []
+unfolding keys_at
+keys_of_none o e = ap (λ ms. in_order (keys_in (unwrap_or ms no_members))) (sym e)
+
+-- ---- declared names with their nodes
+
+-- the names of one more
+pub names_taken : {N : Type 0} (ps : List (Bor (List ℕ) × N)) (i : ℕ) (p : Bor (List ℕ) × N) → p ≡ get_or ps i p → i < length ps
+    → map (λ p. p.0.now) (take (i + 1) ps) ≡ map (λ p. p.0.now) (take i ps) ++ p.0.now ∷ []
+names_taken ps i p here within =
+    ap (map (λ p. p.0.now)) (take_more ps i p within) ∙ map-append (λ p. p.0.now) (take i ps) (get_or ps i p ∷ [])
+    ∙ ap (λ q. map (λ p. p.0.now) (take i ps) ++ q.0.now ∷ []) (sym here)
+
+module _ {N S : Type 0} (seen : N → S) (find : List ℕ → Option S) where
+  abbrev pub shown : Bor (List ℕ) × N → List ℕ × Option S
+  shown p = (p.0.now, Some (seen p.1))
+
+  abbrev pub sought : List ℕ → List ℕ × Option S
+  sought k = (k, find k)
+
+  -- their names alone
+  pub declared_names : (ps : List (Bor (List ℕ) × N)) (ks : List (List ℕ)) → map shown ps ≡ map sought ks → map (λ p. p.0.now) ps ≡ ks
+  declared_names [] [] e = refl
+  declared_names [] (k ∷ ks) e = cc
+  declared_names (p ∷ ps) [] e = cc
+  declared_names (p ∷ ps) (k ∷ ks) e =
+      let here : shown p ≡ sought k = cc in
+      let more : map shown ps ≡ map sought ks = cc in
+      λ i. (here i).0 ∷ declared_names ps ks more i
+
+  same_found : (p : Bor (List ℕ) × N) (k : List ℕ) → shown p ≡ sought k → find p.0.now ≡ Some (seen p.1)
+  same_found p k e = ap find (λ i. (e i).0) ∙ sym (λ i. (e i).1)
+
+  -- each is the node of its name
+  pub declared_at : (ps : List (Bor (List ℕ) × N)) (ks : List (List ℕ)) (i : ℕ) (d : Bor (List ℕ) × N) → map shown ps ≡ map sought ks → i < length ps
+      → find (get_or ps i d).0.now ≡ Some (seen (get_or ps i d).1)
+  declared_at [] ks i d e h = absurd (omega (arith, h))
+  declared_at (p ∷ ps) [] i d e h = cc
+  declared_at (p ∷ ps) (k ∷ ks) zero d e h = let here : shown p ≡ sought k = cc in same_found p k here
+  declared_at (p ∷ ps) (k ∷ ks) (suc i) d e h = let more : map shown ps ≡ map sought ks = cc in declared_at ps ks i d more (omega (arith, h))

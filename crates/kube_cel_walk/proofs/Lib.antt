@@ -1,0 +1,4 @@
+pub mod Cut
+pub mod Entries
+pub mod Gathered
+pub mod Judged

@@ -1,0 +1,263 @@
+//! The walk over the places that a schema and a value share.
+ghost use Rattle.cel_book.specs.Book.{Agrees, Book};
+ghost use Rattle.cel_book.specs.Entries.{entries_of};
+ghost use Rattle.kube_cel_verdicts.specs.Told.{AreAdded};
+ghost use Rattle.kube_cel_walk.specs.Answers.{answer, found_by, reached};
+ghost use Rattle.kube_cel_walk.specs.Places.{spot_at};
+ghost use Rattle.kube_cel_places.specs.Spot.{branch_steps, extra_steps, further, goes, item_path, item_steps, member_path, property_steps, unless_there};
+ghost use Rattle.kube_cel_places.specs.Step.{branch};
+ghost use Rattle.serde_json.specs.Find.{at, get};
+ghost use Rattle.serde_json.specs.View.{view};
+ghost use Rattle.std.specs.Prelude.{◌≡◌, ◌≤◌, ◌-◌, IfErr, None, OnOk, option_and_then, option_map, Some, string_bytes};
+
+use crate::judge::{TOO_DEEP, judge};
+use crate::node::Node;
+use crate::place::{Place, old_item, old_member};
+use cel::PatternBook;
+use kube_cel_errors::ValidationError;
+use kube_cel_errors::path::{push_item, push_member};
+use kube_cel_places::BranchKind;
+use kube_types::Refused;
+use serde_json::Value;
+
+/// Adds the errors at a place and beyond it. The path is afterwards as it was.
+#[cycle(walk)]
+pub fn walk_node<N: Node>(
+    place: &Place<'_, N>,
+    path: &mut String,
+    book: &mut PatternBook,
+    errors: &mut Vec<ValidationError>,
+) -> Result<(), Refused>
+    requires { place.now.depth ≤ 65 }
+    ensures found { OnOk result (AreAdded (entries_of book.new) errors.old.items errors.new.items
+        (λ b. answer N.form b (65 - place.now.depth) (spot_at N.seen place.now (string_bytes path.old)))) }
+    ensures path { OnOk result (string_bytes path.new ≡ string_bytes path.old) }
+    ensures keeps { (b : Book) → Agrees b (entries_of book.new) → Agrees b (entries_of book.old) }
+    ensures memory { IfErr result (λ e. e ≡ Refused.Memory) }
+{
+    judge(place, path.as_str(), book, errors)?;
+    if place.depth == TOO_DEEP {
+        return Ok(());
+    }
+    walk_properties(place, path, book, errors)?;
+    walk_items(place, path, book, errors)?;
+    walk_extras(place, path, book, errors)?;
+    walk_branches(BranchKind::AllOf, place, path, book, errors)?;
+    walk_branches(BranchKind::OneOf, place, path, book, errors)?;
+    walk_branches(BranchKind::AnyOf, place, path, book, errors)?;
+    Ok(())
+}
+
+/// Adds what is found through the declared members, in the order of their names.
+#[cycle(walk)]
+fn walk_properties<N: Node>(
+    place: &Place<'_, N>,
+    path: &mut String,
+    book: &mut PatternBook,
+    errors: &mut Vec<ValidationError>,
+) -> Result<(), Refused>
+    requires { place.now.depth ≤ 64 }
+    ensures found { OnOk result (AreAdded (entries_of book.new) errors.old.items errors.new.items
+        (λ b. found_by N.form (property_steps N.form.shape) b (64 - place.now.depth) (spot_at N.seen place.now (string_bytes path.old)))) }
+    ensures path { OnOk result (string_bytes path.new ≡ string_bytes path.old) }
+    ensures keeps { (b : Book) → Agrees b (entries_of book.new) → Agrees b (entries_of book.old) }
+    ensures memory { IfErr result (λ e. e ≡ Refused.Memory) }
+{
+    let properties = place.node.properties(*errors.allocator())?;
+    for property in &properties {
+        walk_member(place, Some(property.1), property.0, path, book, errors)?;
+    }
+    Ok(())
+}
+
+/// Adds what is found through the members whose names aren't declared, in the order of their names.
+#[cycle(walk)]
+fn walk_extras<N: Node>(
+    place: &Place<'_, N>,
+    path: &mut String,
+    book: &mut PatternBook,
+    errors: &mut Vec<ValidationError>,
+) -> Result<(), Refused>
+    requires { place.now.depth ≤ 64 }
+    ensures found { OnOk result (AreAdded (entries_of book.new) errors.old.items errors.new.items
+        (λ b. found_by N.form (extra_steps N.form.shape) b (64 - place.now.depth) (spot_at N.seen place.now (string_bytes path.old)))) }
+    ensures path { OnOk result (string_bytes path.new ≡ string_bytes path.old) }
+    ensures keeps { (b : Book) → Agrees b (entries_of book.new) → Agrees b (entries_of book.old) }
+    ensures memory { IfErr result (λ e. e ≡ Refused.Memory) }
+{
+    let Some(other) = place.node.extra() else {
+        return Ok(());
+    };
+    let Some(members) = place.value.as_object() else {
+        return Ok(());
+    };
+    for (key, _member) in members.iter() {
+        let name = key.as_str();
+        let node = unless_declared(&place.node, name, other);
+        walk_member(place, node, name, path, book, errors)?;
+    }
+    Ok(())
+}
+
+/// Adds what is found through one member, if it has a node and the value has it.
+#[cycle(walk)]
+fn walk_member<N: Node>(
+    place: &Place<'_, N>,
+    node: Option<N>,
+    key: &str,
+    path: &mut String,
+    book: &mut PatternBook,
+    errors: &mut Vec<ValidationError>,
+) -> Result<(), Refused>
+    requires { place.now.depth ≤ 64 }
+    ensures found { OnOk result (AreAdded (entries_of book.new) errors.old.items errors.new.items
+        (λ b. reached N.form b (64 - place.now.depth) (further None place.now.depth (member_path (string_bytes path.old) key.now)
+        (option_map N.seen node) (get key.now (view place.now.value.now))
+        (option_and_then (get key.now) (option_map (λ v. view v.now) place.now.old))))) }
+    ensures path { OnOk result (string_bytes path.new ≡ string_bytes path.old) }
+    ensures keeps { (b : Book) → Agrees b (entries_of book.new) → Agrees b (entries_of book.old) }
+    ensures memory { IfErr result (λ e. e ≡ Refused.Memory) }
+{
+    let Some(node) = node else {
+        return Ok(());
+    };
+    let Some(value) = place.value.get(key) else {
+        return Ok(());
+    };
+    let member = Place {
+        node,
+        value,
+        old: old_member(place.old, key),
+        root: None,
+        depth: place.depth + 1,
+    };
+    let len = path.len();
+    push_member(path, key)?;
+    walk_node(&member, path, book, errors)?;
+    path.truncate(len);
+    Ok(())
+}
+
+/// Adds what is found through the items of a list, in their order.
+#[cycle(walk)]
+fn walk_items<N: Node>(
+    place: &Place<'_, N>,
+    path: &mut String,
+    book: &mut PatternBook,
+    errors: &mut Vec<ValidationError>,
+) -> Result<(), Refused>
+    requires { place.now.depth ≤ 64 }
+    ensures found { OnOk result (AreAdded (entries_of book.new) errors.old.items errors.new.items
+        (λ b. found_by N.form (item_steps N.form.shape) b (64 - place.now.depth) (spot_at N.seen place.now (string_bytes path.old)))) }
+    ensures path { OnOk result (string_bytes path.new ≡ string_bytes path.old) }
+    ensures keeps { (b : Book) → Agrees b (entries_of book.new) → Agrees b (entries_of book.old) }
+    ensures memory { IfErr result (λ e. e ≡ Refused.Memory) }
+{
+    let Some(node) = place.node.items() else {
+        return Ok(());
+    };
+    let Some(items) = place.value.as_array() else {
+        return Ok(());
+    };
+    for index in 0..items.len() {
+        walk_item(place, node, index, &items[index], path, book, errors)?;
+    }
+    Ok(())
+}
+
+/// Adds what is found through one item.
+#[cycle(walk)]
+fn walk_item<'a, N: Node>(
+    place: &Place<'a, N>,
+    node: N,
+    index: usize,
+    value: &'a Value,
+    path: &mut String,
+    book: &mut PatternBook,
+    errors: &mut Vec<ValidationError>,
+) -> Result<(), Refused>
+    requires { place.now.depth ≤ 64 }
+    ensures found { OnOk result (AreAdded (entries_of book.new) errors.old.items errors.new.items
+        (λ b. reached N.form b (64 - place.now.depth) (further None place.now.depth (item_path (string_bytes path.old) index)
+        (Some (N.seen node)) (Some (view value.now))
+        (option_and_then (at index) (option_map (λ v. view v.now) place.now.old))))) }
+    ensures path { OnOk result (string_bytes path.new ≡ string_bytes path.old) }
+    ensures keeps { (b : Book) → Agrees b (entries_of book.new) → Agrees b (entries_of book.old) }
+    ensures memory { IfErr result (λ e. e ≡ Refused.Memory) }
+{
+    let item = Place {
+        node,
+        value,
+        old: old_item(place.old, index),
+        root: None,
+        depth: place.depth + 1,
+    };
+    let len = path.len();
+    push_item(path, index)?;
+    walk_node(&item, path, book, errors)?;
+    path.truncate(len);
+    Ok(())
+}
+
+/// Adds what is found through the branches of one keyword, in their order. The value stays, and so does what is told at the root.
+#[cycle(walk)]
+fn walk_branches<N: Node>(
+    kind: BranchKind,
+    place: &Place<'_, N>,
+    path: &mut String,
+    book: &mut PatternBook,
+    errors: &mut Vec<ValidationError>,
+) -> Result<(), Refused>
+    requires { place.now.depth ≤ 64 }
+    ensures found { OnOk result (AreAdded (entries_of book.new) errors.old.items errors.new.items
+        (λ b. found_by N.form (branch_steps N.form.shape kind) b (64 - place.now.depth) (spot_at N.seen place.now (string_bytes path.old)))) }
+    ensures path { OnOk result (string_bytes path.new ≡ string_bytes path.old) }
+    ensures keeps { (b : Book) → Agrees b (entries_of book.new) → Agrees b (entries_of book.old) }
+    ensures memory { IfErr result (λ e. e ≡ Refused.Memory) }
+{
+    for index in 0..place.node.branch_count(kind) {
+        walk_branch(kind, place, index, path, book, errors)?;
+    }
+    Ok(())
+}
+
+/// Adds what is found through one branch, if it is there.
+#[cycle(walk)]
+fn walk_branch<N: Node>(
+    kind: BranchKind,
+    place: &Place<'_, N>,
+    index: usize,
+    path: &mut String,
+    book: &mut PatternBook,
+    errors: &mut Vec<ValidationError>,
+) -> Result<(), Refused>
+    requires { place.now.depth ≤ 64 }
+    ensures found { OnOk result (AreAdded (entries_of book.new) errors.old.items errors.new.items
+        (λ b. reached N.form b (64 - place.now.depth) (goes N.form.shape (branch kind index) (spot_at N.seen place.now (string_bytes path.old))))) }
+    ensures path { OnOk result (string_bytes path.new ≡ string_bytes path.old) }
+    ensures keeps { (b : Book) → Agrees b (entries_of book.new) → Agrees b (entries_of book.old) }
+    ensures memory { IfErr result (λ e. e ≡ Refused.Memory) }
+{
+    let Some(node) = place.node.branch(kind, index) else {
+        return Ok(());
+    };
+    let branch = Place {
+        node,
+        value: place.value,
+        old: place.old,
+        root: place.root,
+        depth: place.depth + 1,
+    };
+    walk_node(&branch, path, book, errors)?;
+    Ok(())
+}
+
+/// The node of other names, where this name isn't declared.
+fn unless_declared<N: Node>(node: &N, key: &str, other: N) -> Option<N>
+    ensures { option_map N.seen result ≡ unless_there (N.form.shape.property key.now (N.seen node.now)) (Some (N.seen other)) }
+{
+    match node.property(key) {
+        Some(_) => None,
+        None => Some(other),
+    }
+}
