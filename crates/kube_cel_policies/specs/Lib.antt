@@ -1,0 +1,5 @@
+pub mod Expressions
+pub mod Requests
+pub mod Results
+pub mod Told
+pub mod Variables

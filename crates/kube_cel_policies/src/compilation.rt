@@ -1,0 +1,122 @@
+//! The expressions of a policy with the programs of their texts.
+ghost use Rattle.cel.specs.Program.{program_term};
+ghost use Rattle.kube_cel_policies.specs.Expressions.{compiled, compiled_seen, compiled_view, error_view, expression_view, unread_text, with_message_tree, with_tree, with_trees};
+ghost use Rattle.std.specs.Prelude.{◌≡◌, IfErr, IfOk, option_map, Some, string_bytes};
+
+use crate::expression::{VapExpression, clone_text};
+use cel::{ParseErrors, Program};
+use kube_types_refused::Refused;
+use std::alloc::{AllocError, Global};
+use std::fmt;
+
+/// An expression of a policy that was read, with its programs.
+#[derive(Debug, Drop)]
+pub struct CompiledVapExpression {
+    expression: String,
+    pub(crate) message: Option<String>,
+    pub(crate) program: Program,
+    pub(crate) message_program: Option<Program>,
+}
+
+/// Why an expression of a policy was not compiled: one of its texts is no CEL expression.
+#[derive(Debug, Drop)]
+pub struct VapError {
+    /// The text that was not read: the expression or, where that was read, its messageExpression.
+    pub expression: String,
+    /// The text of the expression.
+    pub original: String,
+    /// Why the text was not read.
+    pub source: ParseErrors,
+}
+
+impl fmt::Display for VapError {
+    ghost output = { λ e. Some (unread_text (error_view e)) };
+
+    fn fmt<W: fmt::Write>(&self, f: &mut fmt::Formatter<W>) -> fmt::Result {
+        write!(
+            f,
+            "failed to compile VAP expression \"{}\": {}",
+            self.expression, self.source
+        )
+    }
+}
+
+impl CompiledVapExpression {
+    /// The text of the expression.
+    pub(crate) fn text(&self) -> &str
+        ensures { result.now ≡ (compiled_view self.now).expression }
+    {
+        self.expression.as_str()
+    }
+}
+
+/// Compiles an expression, then its messageExpression, where it has one. The first text that isn't read counts.
+#[tactic(auto, unfolding(crate::specs::Expressions::compiled))]
+pub(crate) fn compile_expression(
+    alloc: Global,
+    expression: &VapExpression,
+) -> Result<Result<CompiledVapExpression, VapError>, Refused>
+    ensures compiled { IfOk result (λ r. compiled_seen r ≡ compiled (expression_view expression.now)) }
+    ensures memory { IfErr result (λ e. e ≡ Refused.Memory) }
+{
+    let text = expression.expression.as_str();
+    match Program::compile(alloc, text)? {
+        Err(source) => Ok(Err(unread(alloc, text, expression, source)?)),
+        Ok(program) => compile_message(alloc, expression, program),
+    }
+}
+
+/// Compiles the messageExpression of an expression that has this program.
+fn compile_message(
+    alloc: Global,
+    expression: &VapExpression,
+    program: Program,
+) -> Result<Result<CompiledVapExpression, VapError>, Refused>
+    ensures compiled { IfOk result (λ r. compiled_seen r
+        ≡ with_tree (expression_view expression.now) (program_term program) (expression_view expression.now).message_expression) }
+    ensures memory { IfErr result (λ e. e ≡ Refused.Memory) }
+{
+    let Some(text) = &expression.message_expression else {
+        return Ok(Ok(with_programs(expression, program, None)?));
+    };
+    match Program::compile(alloc, text.as_str())? {
+        Err(source) => Ok(Err(unread(alloc, text.as_str(), expression, source)?)),
+        Ok(message_program) => {
+            let compiled = with_programs(expression, program, Some(message_program))?;
+            Ok(Ok(compiled))
+        }
+    }
+}
+
+/// An expression with the programs of its texts.
+fn with_programs(
+    expression: &VapExpression,
+    program: Program,
+    message_program: Option<Program>,
+) -> Result<CompiledVapExpression, AllocError>
+    ensures { IfOk result (λ c. compiled_view c
+        ≡ with_trees (expression_view expression.now) (program_term program) (option_map program_term message_program)) }
+{
+    Ok(CompiledVapExpression {
+        expression: expression.expression.clone()?,
+        message: clone_text(&expression.message)?,
+        program,
+        message_program,
+    })
+}
+
+/// The error of a text that was not read, of this expression.
+fn unread(
+    alloc: Global,
+    text: &str,
+    expression: &VapExpression,
+    source: ParseErrors,
+) -> Result<VapError, AllocError>
+    ensures { IfOk result (λ e. error_view e ≡ record { text = text.now; original = string_bytes expression.now.expression }) }
+{
+    Ok(VapError {
+        expression: String::from_str(alloc, text)?,
+        original: expression.expression.clone()?,
+        source,
+    })
+}
