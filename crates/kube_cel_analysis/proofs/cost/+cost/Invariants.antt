@@ -1,0 +1,12 @@
+use Rattle.std.proofs.Common.{◌≡◌, map, drop}
+use Rattle.cel_syntax_tree.specs.Term.{term, terms_of}
+use Rattle.kube_cel_analysis.specs.Cost.{cost_of_all, sum}
+use Rattle.kube_cel_analysis.specs.Sizes.{sizes_view}
+use Rattle.kube_cel_analysis.proofs.cost.+cost.Given as goal
+
+-- what was counted, with what is left; and it is a sum that is cut
+abbrev pub invariant-cost_of_all-loop-item : goal.invariant-cost_of_all-loop-item
+invariant-cost_of_all-loop-item l =
+    (sum l.all (cost_of_all (sizes_view l.sizes) (terms_of (map term (drop l.item-index l.item-items))))
+    ≡ cost_of_all (sizes_view l.sizes) (terms_of (map term l.item-items)))
+    × (sum l.all 0 ≡ l.all)

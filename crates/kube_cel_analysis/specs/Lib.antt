@@ -1,0 +1,4 @@
+pub mod Cost
+pub mod Scopes
+pub mod Sizes
+pub mod Warnings

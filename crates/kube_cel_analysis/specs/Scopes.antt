@@ -1,0 +1,52 @@
+-- Which names a rule may use where it runs (Kubernetes documentation, "Validation rules" for schemas and "Validating Admission Policy" for policies).
+use Rattle.std.specs.Prelude.{◌≡◌, ℕ, List, [], ◌∷◌, ◌++◌, codes, Bool, Option, Some, None, if◌then◌else◌}
+use Rattle.std.specs.List.{list_any}
+use Rattle.std.specs.Str.{bytes_eq}
+use Rattle.cel_syntax_names.specs.Names.{AreNames}
+use Rattle.cel_syntax_tree.specs.FreeNames.{is_free}
+use Rattle.cel_syntax_tree.specs.Term.{Term}
+use Rattle.kube_cel_analysis.specs.declared.scope.ScopeContext.{ScopeContext}
+use Rattle.kube_cel_analysis.specs.declared.scope.ScopeContext.TheVariants.{CrdValidation, AdmissionPolicy}
+use Rattle.kube_cel_analysis.specs.declared.warning.WarningKind.TheVariants.{WrongScope}
+use Rattle.kube_cel_analysis.specs.Warnings.{Warning}
+
+abbrev pub scope_name : ScopeContext → List ℕ
+scope_name CrdValidation = codes "CrdValidation"
+scope_name AdmissionPolicy = codes "AdmissionPolicy"
+
+-- the names that are there
+abbrev pub variables : ScopeContext → List (List ℕ)
+variables CrdValidation = codes "self" ∷ codes "oldSelf" ∷ codes "apiVersion" ∷ codes "apiGroup" ∷ codes "kind" ∷ []
+variables AdmissionPolicy =
+    codes "self" ∷ codes "oldSelf" ∷ codes "object" ∷ codes "oldObject" ∷ codes "request" ∷ codes "params" ∷ codes "namespaceObject"
+    ∷ codes "authorizer" ∷ codes "variables" ∷ []
+
+-- the same names, as a warning lists them
+abbrev pub valid_variables : ScopeContext → List ℕ
+valid_variables CrdValidation = codes "[\"self\", \"oldSelf\", \"apiVersion\", \"apiGroup\", \"kind\"]"
+valid_variables AdmissionPolicy =
+    codes "[\"self\", \"oldSelf\", \"object\", \"oldObject\", \"request\", \"params\", \"namespaceObject\", \"authorizer\", \"variables\"]"
+
+unfoldable pub is_available : ScopeContext → List ℕ → Bool
+is_available scope name = list_any (bytes_eq name) (variables scope)
+
+abbrev pub scope_warning : ScopeContext → List ℕ → List ℕ → Warning
+scope_warning scope rule name = record {
+  rule = rule;
+  message = codes "variable '" ++ (name ++ (codes "' is not available in " ++ (scope_name scope ++ (codes " context; valid variables: " ++ valid_variables scope))));
+  kind = WrongScope;
+}
+
+-- of one name
+abbrev pub name_warnings : ScopeContext → List ℕ → List ℕ → List Warning
+name_warnings scope rule name = if is_available scope name then [] else scope_warning scope rule name ∷ []
+
+-- of these names, in their order
+abbrev pub names_warnings : ScopeContext → List ℕ → List (List ℕ) → List Warning
+names_warnings scope rule [] = []
+names_warnings scope rule (n ∷ ns) = name_warnings scope rule n ++ names_warnings scope rule ns
+
+-- exactly the warnings of a text: of each free name of its tree, in the order of names
+abbrev pub AreScopeWarnings : ScopeContext → List ℕ → Option Term → List Warning → Type 0
+AreScopeWarnings scope rule None found = found ≡ []
+AreScopeWarnings scope rule (Some t) found = (names : List (List ℕ)) × AreNames names (λ x. is_free x t) × (found ≡ names_warnings scope rule names)

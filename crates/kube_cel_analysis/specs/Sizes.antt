@@ -1,0 +1,6 @@
+-- What the code's sizes stand for.
+use Rattle.kube_cel_analysis.specs.Cost as spec
+use Rattle.kube_cel_analysis.specs.declared.cost.Sizes.{Sizes}
+
+abbrev pub sizes_view : Sizes → spec.Sizes
+sizes_view s = record { items = s.items; length = s.length }

@@ -1,0 +1,4 @@
+pub mod Named
+pub mod Rules
+pub mod Unique
+pub mod Walks

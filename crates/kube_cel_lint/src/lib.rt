@@ -1,0 +1,11 @@
+//! What is wrong with the rules of a schema, found without an object.
+#![tactic(auto)]
+
+pub mod finding;
+pub mod laws;
+mod pointer;
+mod rule;
+pub mod walk;
+
+pub use finding::{LintFinding, LintKind};
+pub use walk::lint_schema;
