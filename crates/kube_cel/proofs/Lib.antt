@@ -1,6 +1,4 @@
-pub mod Bound
-pub mod Equals
-pub mod Judged
-pub mod Members
+pub mod Alike
+pub mod CompiledNodes
+pub mod RawNodes
 pub mod Reports
-pub mod Ruled

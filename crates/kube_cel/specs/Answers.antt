@@ -1,10 +1,11 @@
 -- What a validation answers.
 use Rattle.cel_book.specs.Book.{Book, IsBook}
-use Rattle.kube_cel.specs.declared.error.ValidationErrors.{ValidationErrors}
-use Rattle.kube_cel.specs.ErrorLists.{errors_in}
-use Rattle.kube_cel.specs.Errors.{ErrorData, error_view}
-use Rattle.kube_cel.specs.Verdicts.{answer, IsAnswer}
+use Rattle.kube_cel_errors.specs.declared.error.ValidationErrors.{ValidationErrors}
+use Rattle.kube_cel_errors.specs.ErrorLists.{errors_in}
+use Rattle.kube_cel_errors.specs.Errors.{ErrorData, error_view}
 use Rattle.kube_cel_places.specs.Spot.{Spot}
+use Rattle.kube_cel_walk.specs.Answers.{answer, IsAnswer}
+use Rattle.kube_cel_walk.specs.Form.{Form}
 use Rattle.std.specs.Prelude.{◌≡◌, List, [], ◌∷◌, map, Result, Ok, Err}
 
 -- what is reported of the errors that were found: `Ok` exactly where there is none, else all of them
@@ -24,5 +25,5 @@ found_in (Err e) = map error_view (errors_in e)
 
 -- the answer of a call with a book of its own: what is found from the root on under some book, both as it is computed and as the
 -- errors at exactly the places, in order
-abbrev pub IsToldOf : Spot → Result (Unit {0}) ValidationErrors → Type 0
-IsToldOf root r = (b : Book) × IsBook b × (shown r ≡ reported (answer b 65 root)) × IsAnswer b root (found_in r)
+abbrev pub IsToldOf : {S : Type 0} → Form S → Spot S → Result (Unit {0}) ValidationErrors → Type 0
+IsToldOf form root r = (b : Book) × IsBook b × (shown r ≡ reported (answer form b 65 root)) × IsAnswer form b root (found_in r)

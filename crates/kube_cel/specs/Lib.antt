@@ -1,7 +1,5 @@
 pub mod Answers
-pub mod ErrorLists
-pub mod Errors
-pub mod Places
-pub mod Texts
-pub mod Told
-pub mod Verdicts
+pub mod Compiled
+pub mod Named
+pub mod Raw
+pub mod Spots

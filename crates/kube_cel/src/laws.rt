@@ -1,12 +1,15 @@
-//! Laws of the errors, each the contract of a call.
-ghost use Rattle.kube_cel.specs.Errors.{error_view, SameFields};
-ghost use Rattle.std.specs.Prelude.{◌↔◌, IsTrue};
+//! Laws of validation, each the contract of a call that does nothing.
+ghost use Rattle.cel_book.specs.Book.{Book};
+ghost use Rattle.kube_cel.specs.Compiled.{compiled_form};
+ghost use Rattle.kube_cel.specs.Raw.{raw_form};
+ghost use Rattle.kube_cel_places.specs.Spot.{Root, root_spot};
+ghost use Rattle.kube_cel_walk.specs.Answers.{answer};
+ghost use Rattle.kube_schema_table.specs.View.{view_of};
+ghost use Rattle.serde_json.specs.Data.{Data};
+ghost use Rattle.std.specs.Prelude.{◌≡◌, Option};
 
-use crate::error::ValidationError;
-
-/// Two errors are equal exactly where their five public fields are: the cause isn't compared.
-pub fn equal_by_five_fields(a: &ValidationError, b: &ValidationError) -> bool
-    ensures { IsTrue result ↔ SameFields (error_view a.now) (error_view b.now) }
-{
-    a == b
-}
+/// Under one book the tree of a schema, which is what is left of it when it is compiled, answers as the schema does, also at depth 65.
+pub fn a_compiled_schema_answers_alike()
+    ensures { (b : Book) (schema value : Data) (old : Option Data) (root : Option Root)
+        → answer raw_form b 65 (root_spot schema value old root) ≡ answer compiled_form b 65 (root_spot (view_of 65 schema) value old root) }
+{}

@@ -2,15 +2,22 @@
 ghost use Rattle.cel_book.specs.Book.{Agrees, Book};
 ghost use Rattle.cel_book.specs.Entries.{entries_of};
 ghost use Rattle.kube_cel.specs.Answers.{found_in, reported, shown, IsToldOf};
-ghost use Rattle.kube_cel.specs.Verdicts.{answer, IsAnswer};
-ghost use Rattle.kube_cel_places.specs.Spot.{root_spot};
-ghost use Rattle.serde_json.specs.View.{view};
-ghost use Rattle.std.specs.Prelude.{◌≡◌, IfErr, IfOk, option_map};
+ghost use Rattle.kube_cel.specs.Raw.{raw_form};
+ghost use Rattle.kube_cel.specs.Compiled.{compiled_form};
+ghost use Rattle.kube_cel.specs.Spots.{compiled_spot, given_spot, source_spot};
+ghost use Rattle.kube_cel_walk.specs.Answers.{answer, IsAnswer};
+ghost use Rattle.kube_schema_table.specs.Shown.{whole};
+ghost use Rattle.kube_schema_table.specs.View.{view_of};
+ghost use Rattle.serde_json.specs.Data.{Data};
+ghost use Rattle.std.specs.Prelude.{◌≡◌, IfErr, IfOk, None};
 
-use crate::error::ValidationErrors;
-use crate::place::Place;
-use crate::walk::walk_node;
+use crate::compiled::CompiledNode;
+use crate::judged::judged;
+use crate::raw::RawNode;
 use cel::PatternBook;
+use kube_cel_errors::ValidationErrors;
+use kube_cel_verdicts::RootContext;
+use kube_schema::{CompiledSchema, apply_defaults, fill_node};
 use kube_types::Refused;
 use serde_json::Value;
 use std::alloc::Global;
@@ -37,14 +44,33 @@ impl Validator {
         object: &Value,
         old: Option<&Value>,
     ) -> Result<Result<(), ValidationErrors>, Refused>
-        ensures answer { IfOk result (IsToldOf (root_spot (view schema.now) (view object.now) (option_map (λ v. view v.now) old.entry))) }
+        ensures answer { IfOk result (IsToldOf raw_form (given_spot schema.now object.now old.entry None)) }
+        ensures memory { IfErr result (λ e. e ≡ Refused.Memory) }
+    {
+        self.validate_with_context(alloc, schema, object, old, None)
+    }
+
+    /// As `validate`, with what is told of the whole object, which its rules at the root may ask.
+    ///
+    /// # Errors
+    ///
+    /// [`Refused`] where memory is refused.
+    pub fn validate_with_context(
+        &self,
+        alloc: Global,
+        schema: &Value,
+        object: &Value,
+        old: Option<&Value>,
+        root: Option<&RootContext>,
+    ) -> Result<Result<(), ValidationErrors>, Refused>
+        ensures answer { IfOk result (IsToldOf raw_form (given_spot schema.now object.now old.entry root.entry)) }
         ensures memory { IfErr result (λ e. e ≡ Refused.Memory) }
     {
         let mut book = PatternBook::new(alloc);
-        self.validate_in(alloc, schema, object, old, &mut book)
+        self.validate_in(alloc, schema, object, old, root, &mut book)
     }
 
-    /// As `validate`, with a lent book of patterns, which holds afterwards what it held and perhaps more.
+    /// As `validate_with_context`, with a lent book of patterns, which holds afterwards what it held and perhaps more.
     ///
     /// # Errors
     ///
@@ -55,28 +81,135 @@ impl Validator {
         schema: &Value,
         object: &Value,
         old: Option<&Value>,
+        root: Option<&RootContext>,
         book: &mut PatternBook,
     ) -> Result<Result<(), ValidationErrors>, Refused>
         ensures kept { Agrees (entries_of book.new) (entries_of book.old) }
         ensures memory { IfErr result (λ e. e ≡ Refused.Memory) }
         ensures answer { IfOk result (λ r. (b : Book) → Agrees b (entries_of book.new)
-            → shown r ≡ reported (answer b 65 (root_spot (view schema.now) (view object.now) (option_map (λ v. view v.now) old.entry)))) }
+            → shown r ≡ reported (answer raw_form b 65 (given_spot schema.now object.now old.entry root.entry))) }
         ensures places { IfOk result (λ r. (b : Book) → Agrees b (entries_of book.new)
-            → IsAnswer b (root_spot (view schema.now) (view object.now) (option_map (λ v. view v.now) old.entry)) (found_in r)) }
+            → IsAnswer raw_form b (given_spot schema.now object.now old.entry root.entry) (found_in r)) }
     {
-        let mut path = String::new(alloc);
-        let mut errors = Vec::new(alloc);
-        let root = Place {
-            node: schema,
-            value: object,
-            old,
-            depth: 0,
+        let object = apply_defaults(alloc, schema, object)?;
+        let node = RawNode { schema };
+        let Some(old) = old else {
+            let answer = judged(alloc, node, &object, None, root, book)?;
+            return Ok(answer);
         };
-        walk_node(root, &mut path, book, &mut errors)?;
-        if errors.is_empty() {
-            return Ok(Ok(()));
-        }
-        Ok(Err(ValidationErrors::from(errors)))
+        let old = apply_defaults(alloc, schema, old)?;
+        let answer = judged(alloc, node, &object, Some(&old), root, book)?;
+        Ok(answer)
+    }
+
+    /// As `validate`, by a schema that was compiled.
+    ///
+    /// # Errors
+    ///
+    /// [`Refused`] where memory is refused.
+    pub fn validate_compiled(
+        &self,
+        alloc: Global,
+        compiled: &CompiledSchema,
+        object: &Value,
+        old: Option<&Value>,
+    ) -> Result<Result<(), ValidationErrors>, Refused>
+        ensures answer { IfOk result (λ r. (s : Data) → whole compiled.now ≡ view_of 65 s → IsToldOf raw_form (source_spot s object.now old.entry None) r) }
+        ensures memory { IfErr result (λ e. e ≡ Refused.Memory) }
+    {
+        self.validate_compiled_with_context(alloc, compiled, object, old, None)
+    }
+
+    /// As `validate_with_context`, by a schema that was compiled: it answers as the schema itself does.
+    ///
+    /// # Errors
+    ///
+    /// [`Refused`] where memory is refused.
+    pub fn validate_compiled_with_context(
+        &self,
+        alloc: Global,
+        compiled: &CompiledSchema,
+        object: &Value,
+        old: Option<&Value>,
+        root: Option<&RootContext>,
+    ) -> Result<Result<(), ValidationErrors>, Refused>
+        ensures answer { IfOk result (λ r. (s : Data) → whole compiled.now ≡ view_of 65 s → IsToldOf raw_form (source_spot s object.now old.entry root.entry) r) }
+        ensures memory { IfErr result (λ e. e ≡ Refused.Memory) }
+    {
+        let mut book = PatternBook::new(alloc);
+        self.validate_compiled_in(alloc, compiled, object, old, root, &mut book)
+    }
+
+    /// As `validate_in`, by a schema that was compiled: with one book lent to both, both answer alike.
+    ///
+    /// # Errors
+    ///
+    /// [`Refused`] where memory is refused.
+    pub fn validate_compiled_in(
+        &self,
+        alloc: Global,
+        compiled: &CompiledSchema,
+        object: &Value,
+        old: Option<&Value>,
+        root: Option<&RootContext>,
+        book: &mut PatternBook,
+    ) -> Result<Result<(), ValidationErrors>, Refused>
+        ensures kept { Agrees (entries_of book.new) (entries_of book.old) }
+        ensures memory { IfErr result (λ e. e ≡ Refused.Memory) }
+        ensures tree { IfOk result (λ r. (b : Book) → Agrees b (entries_of book.new)
+            → shown r ≡ reported (answer compiled_form b 65 (compiled_spot compiled.now object.now old.entry root.entry))) }
+        ensures answer { IfOk result (λ r. (b : Book) → Agrees b (entries_of book.new) → (s : Data) → whole compiled.now ≡ view_of 65 s
+            → shown r ≡ reported (answer raw_form b 65 (source_spot s object.now old.entry root.entry))) }
+        ensures places { IfOk result (λ r. (b : Book) → Agrees b (entries_of book.new) → (s : Data) → whole compiled.now ≡ view_of 65 s
+            → IsAnswer raw_form b (source_spot s object.now old.entry root.entry) (found_in r)) }
+    {
+        let root_node = compiled.root();
+        let object = fill_node(alloc, &root_node, object)?;
+        let node = CompiledNode { node: root_node };
+        let Some(old) = old else {
+            let answer = judged(alloc, node, &object, None, root, book)?;
+            return Ok(answer);
+        };
+        let old = fill_node(alloc, &root_node, old)?;
+        let answer = judged(alloc, node, &object, Some(&old), root, book)?;
+        Ok(answer)
+    }
+
+    /// Equal to `validate`: defaults always count.
+    ///
+    /// # Errors
+    ///
+    /// [`Refused`] where memory is refused.
+    pub fn validate_with_defaults(
+        &self,
+        alloc: Global,
+        schema: &Value,
+        object: &Value,
+        old: Option<&Value>,
+    ) -> Result<Result<(), ValidationErrors>, Refused>
+        ensures answer { IfOk result (IsToldOf raw_form (given_spot schema.now object.now old.entry None)) }
+        ensures memory { IfErr result (λ e. e ≡ Refused.Memory) }
+    {
+        self.validate(alloc, schema, object, old)
+    }
+
+    /// Equal to `validate_with_context`: defaults always count.
+    ///
+    /// # Errors
+    ///
+    /// [`Refused`] where memory is refused.
+    pub fn validate_with_defaults_and_context(
+        &self,
+        alloc: Global,
+        schema: &Value,
+        object: &Value,
+        old: Option<&Value>,
+        root: Option<&RootContext>,
+    ) -> Result<Result<(), ValidationErrors>, Refused>
+        ensures answer { IfOk result (IsToldOf raw_form (given_spot schema.now object.now old.entry root.entry)) }
+        ensures memory { IfErr result (λ e. e ≡ Refused.Memory) }
+    {
+        self.validate_with_context(alloc, schema, object, old, root)
     }
 }
 
@@ -92,7 +225,24 @@ pub fn validate(
     old: Option<&Value>,
 ) -> Result<Result<(), ValidationErrors>, Refused>
     ensures memory { IfErr result (λ e. e ≡ Refused.Memory) }
-    ensures answer { IfOk result (IsToldOf (root_spot (view schema.now) (view object.now) (option_map (λ v. view v.now) old.entry))) }
+    ensures answer { IfOk result (IsToldOf raw_form (given_spot schema.now object.now old.entry None)) }
 {
     Validator::new().validate(alloc, schema, object, old)
+}
+
+/// Judges an object by a schema that was compiled and a validator that is made for this call.
+///
+/// # Errors
+///
+/// [`Refused`] where memory is refused.
+pub fn validate_compiled(
+    alloc: Global,
+    compiled: &CompiledSchema,
+    object: &Value,
+    old: Option<&Value>,
+) -> Result<Result<(), ValidationErrors>, Refused>
+    ensures memory { IfErr result (λ e. e ≡ Refused.Memory) }
+    ensures answer { IfOk result (λ r. (s : Data) → whole compiled.now ≡ view_of 65 s → IsToldOf raw_form (source_spot s object.now old.entry None) r) }
+{
+    Validator::new().validate_compiled(alloc, compiled, object, old)
 }

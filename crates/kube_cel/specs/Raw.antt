@@ -1,0 +1,15 @@
+-- A schema as JSON.
+use Rattle.kube_cel_places.specs.Raw.{raw_shape}
+use Rattle.kube_cel_walk.specs.Form.{Form}
+use Rattle.kube_schema_rules.specs.Compilation.{compiled_rules}
+use Rattle.kube_schema_rules.specs.Rules.{rule_items}
+use Rattle.kube_schema_bound.specs.Bound.{raw}
+use Rattle.serde_json.specs.Data.{Data}
+
+-- its rules are read where they stand
+unfoldable pub raw_form : Form Data
+raw_form = record {
+  shape = raw_shape;
+  look = raw;
+  rules = λ node. compiled_rules (rule_items node);
+}
