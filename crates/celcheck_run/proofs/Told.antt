@@ -1,10 +1,27 @@
 -- What a status says of what was judged.
-use Rattle.celcheck_run.specs.declared.Stop.{Stop}
+use Rattle.cel_book.proofs.Books.{Settles-here}
+use Rattle.cel_book.specs.Book.{Book, IsBook}
+use Rattle.cel_book.specs.Settled.{Settles}
+use Rattle.cel_meaning.specs.Bindings.{Bindings}
+use Rattle.cel_meaning.specs.Meaning.{meaning}
+use Rattle.cel_meaning.specs.Outcome.{Outcome}
+use Rattle.cel_syntax.specs.Reading.{tree_of}
+use Rattle.cel_syntax.specs.declared.error.ParseErrors.{ParseErrors}
+use Rattle.cel_syntax_tree.specs.Term.{Term}
+use Rattle.celcheck_run.specs.declared.eval.Found.{Found}
+use Rattle.celcheck_run.specs.declared.eval.Found.TheVariants as found
+use Rattle.celcheck_run.specs.declared.status.Stop.{Stop}
 use Rattle.celcheck_run.specs.Runs.{IfErrors}
-use Rattle.kube_cel.specs.declared.error.ValidationErrors.{ValidationErrors}
+use Rattle.celcheck_run.specs.Told.{IsEvaluated, IsFound, IsToldAs, found_line, found_status, results_status}
+use Rattle.kube_cel_errors.specs.declared.error.ValidationErrors.{ValidationErrors}
+use Rattle.kube_cel_policies.specs.declared.expression.VapResult.{VapResult}
+use Rattle.kube_cel_policies.specs.Results.{result_view}
+use Rattle.kube_functions.specs.Kube.{all_library}
+use Rattle.kube_types_refused.specs.declared.Refused.{Refused}
 use Rattle.serde_json.specs.declared.value.Value.{Value}
 use Rattle.serde_json.specs.View.{view}
-use Rattle.std.proofs.Common.{◌≡◌, Option, Some, None, option_map, Result, Ok, Err, IfOk, refl}
+use Rattle.std.proofs.Common.{◌≡◌, ◌+◌, ◌<◌, ◌≤◌, ℕ, List, [], ◌∷◌, ◌++◌, get_or, length, map, drop, true, false, if◌then◌else◌, Option, Some, None, option_map, Result, Ok, Err, IfOk, refl, sym, ap, subst, ◌∙◌}
+use Rattle.std.proofs.lemmas.List.{at_drop_all, at_drop_more}
 use Rattle.std.specs.Option.{option_copied}
 use denote.Ref.{Bor}
 
@@ -18,3 +35,64 @@ errors_told P Q (Err stop) p q = absurd q
 pub lent_view : (o : Option (Bor Value)) → option_map (λ v. view v.now) o ≡ option_map view (option_copied o)
 lent_view None = refl
 lent_view (Some v) = refl
+
+-- ---- `eval`
+
+abbrev no_book : Book
+no_book text = None
+
+no_book-IsBook : IsBook no_book
+no_book-IsBook text h = let none : None ≡ Some true = h in absurd (cc)
+
+-- a text that derives no tree
+pub unread_found : (text : List ℕ) (errors : ParseErrors) → None ≡ tree_of text → IsFound text (found.Unread errors)
+unread_found text errors h = record {
+  book = no_book;
+  is_book = no_book-IsBook;
+  told = subst (λ o. IsToldAs (option_map (λ t. meaning all_library no_book t []) o) (found.Unread errors)) h (refl, refl);
+}
+
+-- a text that derives this tree, which came to this outcome
+pub came_to : (text : List ℕ) (t : Term) (e : Bindings) (o r : Outcome) (f : Found) → Some t ≡ tree_of text → e ≡ [] → o ≡ r
+    → (book : Book) × IsBook book × Settles book r (λ b. meaning all_library b t e) → IsToldAs (Some o) f → IsFound text f
+came_to text t e o r f reads empty same settled told =
+    let b = settled.0 in
+    record {
+      book = b;
+      is_book = settled.1;
+      told = subst (λ x. IsToldAs x f) (ap Some (same ∙ Settles-here settled.2 ∙ ap (meaning all_library b t) empty) ∙ ap (option_map (λ s. meaning all_library b s [])) reads) told;
+    }
+
+pub if_found : (text : List ℕ) (o : Outcome) (r : Result Found Refused) → ((f : Found) → IsToldAs (Some o) f → IsFound text f) → IfOk r (IsToldAs (Some o)) → IfOk r (IsFound text)
+if_found text o (Ok f) g h = g f h
+if_found text o (Err e) g h = h
+
+pub evaluated_so : (text : List ℕ) (status : ℕ) (W : List ℕ → Type 0) (f : Found) → IsFound text f → (status ≡ found_status f) × W (found_line f ++ 10 ∷ []) → IsEvaluated text status W
+evaluated_so text status W f is told = record {
+  book = is.book;
+  is_book = is.is_book;
+  status_is = told.0 ∙ is.told.0;
+  written = subst (λ l. W (l ++ 10 ∷ [])) is.told.1 told.1;
+}
+
+-- ---- `vap`
+
+-- what is left from a result that passed
+pub passed_on : (xs : List VapResult) (i : ℕ) (x : VapResult) → i < length xs → x ≡ get_or xs i x → x.passed ≡ true
+    → results_status (map result_view (drop i xs)) ≡ results_status (map result_view (drop (i + 1) xs))
+unfolding results_status
+passed_on xs i x below is passes =
+    let rest = results_status (map result_view (drop (i + 1) xs)) in
+    at_drop_more (λ rs. results_status (map result_view rs)) xs i x below ∙ ap (λ r. if r.passed then rest else 1) (sym is) ∙ ap (λ b. if b then rest else 1) passes
+
+-- what is left from a result that didn't pass
+pub failed_here : (xs : List VapResult) (i : ℕ) (x : VapResult) → i < length xs → x ≡ get_or xs i x → x.passed ≡ false
+    → results_status (map result_view (drop i xs)) ≡ 1
+unfolding results_status
+failed_here xs i x below is fails =
+    let rest = results_status (map result_view (drop (i + 1) xs)) in
+    at_drop_more (λ rs. results_status (map result_view rs)) xs i x below ∙ ap (λ r. if r.passed then rest else 1) (sym is) ∙ ap (λ b. if b then rest else 1) fails
+
+pub none_left : (xs : List VapResult) (i : ℕ) → length xs ≤ i → results_status (map result_view (drop i xs)) ≡ 0
+unfolding results_status
+none_left xs i past = at_drop_all (λ rs. results_status (map result_view rs)) xs i past

@@ -1,9 +1,10 @@
-use Rattle.celcheck_run.proofs.check.Goals as goal
+use Rattle.celcheck_run.proofs.check.errors_of.Goals as goal
 use Rattle.celcheck_run.proofs.Told.{lent_view}
 use Rattle.kube_cel.specs.Answers.{IsToldOf}
-use Rattle.kube_cel_places.specs.Spot.{root_spot}
+use Rattle.kube_cel.specs.Raw.{raw_form}
+use Rattle.kube_cel.specs.Spots.{judged_spot}
 use Rattle.serde_json.specs.View.{view}
-use Rattle.std.proofs.Common.{option_map, subst, ap, ◌∙◌}
+use Rattle.std.proofs.Common.{None, option_map, subst, ap, ◌∙◌}
 
 pub returns : goal.returns
 returns g c =
@@ -17,5 +18,5 @@ returns g c =
       schema_read = c.in_ok-schema.ensures;
       object_read = c.in_ok-object.ensures;
       old_read = c.in_ok-old.ensures;
-      told = subst (λ o. IsToldOf (root_spot (view c.in_ok-schema.schema) (view c.in_ok-object.object) o) c.in_ok-validate.field-0) lent c.in_ok-validate.ensures.answer;
+      told = subst (λ o. IsToldOf raw_form (judged_spot (view c.in_ok-schema.schema) (view c.in_ok-object.object) o None) c.in_ok-validate.field-0) lent c.in_ok-validate.ensures.answer;
     }

@@ -1,0 +1,67 @@
+//! `check`: the errors of an object.
+ghost use Rattle.celcheck_run.specs.Runs.{IfErrors, IsAnswered};
+ghost use Rattle.celcheck_run.specs.Words.{named_view};
+ghost use Rattle.kube_cel_errors.specs.declared.error.ValidationErrors.{ValidationErrors};
+ghost use Rattle.kube_cel_errors.specs.ErrorLists.{errors_in};
+ghost use Rattle.kube_cel_errors.specs.Texts.{errors_text};
+ghost use Rattle.std.specs.Io.KnownBytes.{Appends};
+ghost use Rattle.std.specs.Prelude.{◌≡◌, ◌≤◌, ◌++◌, ◌∷◌, [], Ok, Err, IfOk};
+
+use crate::files::{Sources, read_json, read_where_named};
+use crate::status::{FAILED, PASSED, Stop, status_told, tell_why};
+use crate::words::Named;
+use kube_cel::{ValidationErrors, validate};
+use std::alloc::Global;
+use std::io::Write;
+
+/// Judges an object and tells its errors.
+pub(crate) fn run_check<S: Sources, O: Write, E: Write>(
+    alloc: Global,
+    named: Named<'_>,
+    files: &mut S,
+    out: &mut O,
+    err: &mut E,
+) -> u8
+    ensures passed { result ≡ 0 → IsAnswered S.reads files.old (named_view named.entry) files.new (Ok tt) }
+    ensures silent { result ≡ 0 → O.contents out.new ≡ O.contents out.old }
+    ensures failed { result ≡ 1 → (errors : ValidationErrors)
+        × IsAnswered S.reads files.old (named_view named.entry) files.new (Err errors)
+        × Appends (O.contents out.old) (O.contents out.new) (errors_text (errors_in errors) ++ 10 ∷ []) }
+    ensures statuses { result ≤ 2 }
+{
+    let judged = errors_of(alloc, named, files);
+    tell_errors(judged, out, err)
+}
+
+/// The errors of an object. All files are read, in order, before anything is judged.
+fn errors_of<S: Sources>(
+    alloc: Global,
+    named: Named<'_>,
+    files: &mut S,
+) -> Result<Result<(), ValidationErrors>, Stop>
+    ensures { IfOk result (IsAnswered S.reads files.old (named_view named.entry) files.new) }
+{
+    let schema = read_json(alloc, named.schema, files)?;
+    let object = read_json(alloc, named.object, files)?;
+    let old = read_where_named(alloc, named.old, files)?;
+    Ok(validate(alloc, &schema, &object, old.as_ref())?)
+}
+
+/// Writes the errors that were found, or why nothing was judged.
+fn tell_errors<O: Write, E: Write>(
+    judged: Result<Result<(), ValidationErrors>, Stop>,
+    out: &mut O,
+    err: &mut E,
+) -> u8
+    ensures passed { result ≡ 0 → judged ≡ Ok (Ok tt) }
+    ensures silent { result ≡ 0 → O.contents out.new ≡ O.contents out.old }
+    ensures failed { result ≡ 1 → IfErrors judged (λ errors.
+        Appends (O.contents out.old) (O.contents out.new) (errors_text (errors_in errors) ++ 10 ∷ [])) }
+    ensures statuses { result ≤ 2 }
+{
+    match judged {
+        Ok(Ok(())) => PASSED,
+        Ok(Err(errors)) => status_told(FAILED, writeln!(out, "{errors}")),
+        Err(stop) => tell_why(stop, err),
+    }
+}
