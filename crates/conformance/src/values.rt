@@ -1,243 +1,147 @@
 //! Rows of values: the names of their kinds, their equality and their order.
 
+use crate::rows::{cut, give};
 use cel_value::{Duration, Kind, Timestamp, Value};
 use kube_types::{KubeCIDR, KubeFormat, KubeIP, KubeQuantity, KubeSemver, KubeUrl};
 use std::alloc::Global;
-use std::cmp::Ordering;
-use std::process::Abort;
 use std::rc::Rc;
 use std::test::Fail;
 
-/// What each kind prints.
-const KINDS: [(Kind, &str); 18] = [
-    (Kind::Null, "null"),
-    (Kind::Bool, "bool"),
-    (Kind::Int, "int"),
-    (Kind::UInt, "uint"),
-    (Kind::Float, "double"),
-    (Kind::String, "string"),
-    (Kind::Bytes, "bytes"),
-    (Kind::List, "list"),
-    (Kind::Map, "map"),
-    (Kind::Timestamp, "timestamp"),
-    (Kind::Duration, "duration"),
-    (Kind::Optional, "optional"),
-    (Kind::Ip, "net.IP"),
-    (Kind::Cidr, "net.CIDR"),
-    (Kind::Quantity, "kubernetes.Quantity"),
-    (Kind::Semver, "kubernetes.Semver"),
-    (Kind::Url, "kubernetes.URL"),
-    (Kind::Format, "kubernetes.Format"),
+/// The kinds, and below them their names in the same order.
+const KINDS: [Kind; 18] = [
+    Kind::Null,
+    Kind::Bool,
+    Kind::Int,
+    Kind::UInt,
+    Kind::Float,
+    Kind::String,
+    Kind::Bytes,
+    Kind::List,
+    Kind::Map,
+    Kind::Timestamp,
+    Kind::Duration,
+    Kind::Optional,
+    Kind::Ip,
+    Kind::Cidr,
+    Kind::Quantity,
+    Kind::Semver,
+    Kind::Url,
+    Kind::Format,
 ];
 
-fn kinds_print(rt: &impl Abort, alloc: Global, rows: &[(Kind, &str)]) -> Result<(), Fail> {
-    for (kind, want) in rows {
-        let printed = kind.to_string(alloc)?;
-        assert_eq!(rt; printed.as_str(), *want);
-    }
-    Ok(())
-}
+const NAMES: &str =
+    " null bool int uint double string bytes list map timestamp duration optional net.IP net.CIDR kubernetes.Quantity kubernetes.Semver kubernetes.URL kubernetes.Format";
 
 #[test]
 fn kinds_print_their_names(rt: HostRuntime) -> Result<(), Fail> {
-    kinds_print(&rt, rt.alloc(), &KINDS)
+    let alloc = rt.alloc();
+    let mut found = String::new(alloc);
+    for kind in KINDS {
+        found.push_str(format!(in alloc; " {kind}")?.as_str())?;
+    }
+    assert_eq!(rt; found.as_str(), NAMES);
+    Ok(())
 }
 
-/// The value of a kind that a text writes; a string for the kinds that are not read here.
-fn value(alloc: Global, kind: Kind, text: &str) -> Result<Value, Fail> {
+fn quantity(alloc: Global, text: &str) -> Result<Value, Fail> {
+    let quantity = KubeQuantity::read(text).ok_or("a quantity")?;
+    Ok(Value::Quantity(Rc::new(alloc, quantity)?))
+}
+
+fn version(alloc: Global, text: &str) -> Result<Value, Fail> {
+    let version = KubeSemver::read(alloc, text, false)?.ok_or("a version")?;
+    Ok(Value::Semver(Rc::new(alloc, version)?))
+}
+
+fn url(alloc: Global, text: &str) -> Result<Value, Fail> {
+    let url = KubeUrl::read(alloc, text)?.ok_or("a URL")?;
+    Ok(Value::Url(Rc::new(alloc, url)?))
+}
+
+/// The value that a text writes, by the name of its kind.
+fn value_of(alloc: Global, kind: &str, text: &str) -> Result<Value, Fail> {
     match kind {
-        Kind::Timestamp => Ok(Value::Timestamp(Timestamp::read(text).ok_or("a timestamp")?)),
-        Kind::Duration => Ok(Value::Duration(Duration::read(text).ok_or("a duration")?)),
-        Kind::Ip => Ok(Value::Ip(Rc::new(alloc, KubeIP::read(text)?)?)),
-        Kind::Cidr => Ok(Value::Cidr(Rc::new(alloc, KubeCIDR::read(text)?)?)),
-        Kind::Quantity => {
-            let quantity = KubeQuantity::read(text).ok_or("a quantity")?;
-            Ok(Value::Quantity(Rc::new(alloc, quantity)?))
-        }
-        Kind::Semver => {
-            let version = KubeSemver::read(alloc, text, false)?.ok_or("a version")?;
-            Ok(Value::Semver(Rc::new(alloc, version)?))
-        }
-        Kind::Url => {
-            let url = KubeUrl::read(alloc, text)?.ok_or("a URL")?;
-            Ok(Value::Url(Rc::new(alloc, url)?))
-        }
-        Kind::Format => Ok(Value::Format(KubeFormat::named(text).ok_or("a format")?)),
-        _ => Ok(Value::from_text(alloc, String::from_str(alloc, text)?)?),
+        "string" => Ok(Value::from_text(alloc, String::from_str(alloc, text)?)?),
+        "timestamp" => Ok(Value::Timestamp(Timestamp::read(text).ok_or("a timestamp")?)),
+        "duration" => Ok(Value::Duration(Duration::read(text).ok_or("a duration")?)),
+        "net.IP" => Ok(Value::Ip(Rc::new(alloc, KubeIP::read(text)?)?)),
+        "net.CIDR" => Ok(Value::Cidr(Rc::new(alloc, KubeCIDR::read(text)?)?)),
+        "kubernetes.Quantity" => quantity(alloc, text),
+        "kubernetes.Semver" => version(alloc, text),
+        "kubernetes.URL" => url(alloc, text),
+        "kubernetes.Format" => Ok(Value::Format(KubeFormat::named(text).ok_or("a format")?)),
+        _ => Err(Fail::new(format_args!("no kind of these rows: {kind}"))),
     }
 }
 
 /// Two values, each by its kind and a text; whether they are equal; and how they compare, if they do.
-type Row = (
-    Kind,
-    &'static str,
-    Kind,
-    &'static str,
-    bool,
-    Option<Ordering>,
-);
+const PAIRS: &str = r#"
+timestamp 2024-01-01T00:00:00Z and timestamp 2024-01-01T01:00:00+01:00 => true, Some(Equal)
+timestamp 2024-01-01T00:00:00Z and timestamp 2024-01-01T00:00:00.000000001Z => false, Some(Less)
+timestamp 2024-01-01T00:00:00+01:00 and timestamp 2024-01-01T00:00:00Z => false, Some(Less)
+timestamp 9999-12-31T23:59:59Z and timestamp 2024-01-01T00:00:00Z => false, Some(Greater)
+duration 1h and duration 60m => true, Some(Equal)
+duration -1s and duration 1ns => false, Some(Less)
+timestamp 2024-01-01T00:00:00Z and duration 1h => false, None
+string a and string b => false, Some(Less)
 
-const TIMES: [Row; 8] = [
-    (
-        Kind::Timestamp,
-        "2024-01-01T00:00:00Z",
-        Kind::Timestamp,
-        "2024-01-01T01:00:00+01:00",
-        true,
-        Some(Ordering::Equal),
-    ),
-    (
-        Kind::Timestamp,
-        "2024-01-01T00:00:00Z",
-        Kind::Timestamp,
-        "2024-01-01T00:00:00.000000001Z",
-        false,
-        Some(Ordering::Less),
-    ),
-    (
-        Kind::Timestamp,
-        "2024-01-01T00:00:00+01:00",
-        Kind::Timestamp,
-        "2024-01-01T00:00:00Z",
-        false,
-        Some(Ordering::Less),
-    ),
-    (
-        Kind::Timestamp,
-        "9999-12-31T23:59:59Z",
-        Kind::Timestamp,
-        "2024-01-01T00:00:00Z",
-        false,
-        Some(Ordering::Greater),
-    ),
-    (
-        Kind::Duration,
-        "1h",
-        Kind::Duration,
-        "60m",
-        true,
-        Some(Ordering::Equal),
-    ),
-    (
-        Kind::Duration,
-        "-1s",
-        Kind::Duration,
-        "1ns",
-        false,
-        Some(Ordering::Less),
-    ),
-    (
-        Kind::Timestamp,
-        "2024-01-01T00:00:00Z",
-        Kind::Duration,
-        "1h",
-        false,
-        None,
-    ),
-    (
-        Kind::String,
-        "a",
-        Kind::String,
-        "b",
-        false,
-        Some(Ordering::Less),
-    ),
-];
+net.IP ::1 and net.IP 0:0:0:0:0:0:0:1 => true, None
+net.IP 127.0.0.1 and net.IP 127.0.0.2 => false, None
+net.IP 127.0.0.1 and string 127.0.0.1 => false, None
+net.CIDR 10.0.0.0/8 and net.CIDR 10.0.0.0/8 => true, None
+// The address counts as it is written.
+net.CIDR 10.0.0.0/8 and net.CIDR 10.0.0.1/8 => false, None
+net.CIDR 10.0.0.0/8 and net.CIDR 10.0.0.0/9 => false, None
+kubernetes.Quantity 1Ki and kubernetes.Quantity 1024 => true, None
+kubernetes.Quantity 0.1 and kubernetes.Quantity 100m => true, None
+kubernetes.Quantity 1k and kubernetes.Quantity 1Ki => false, None
+kubernetes.Quantity 1e2147483647 and kubernetes.Quantity 1n => false, None
+kubernetes.Semver 1.2.3+a and kubernetes.Semver 1.2.3+a => true, None
+kubernetes.Semver 1.2.3+a and kubernetes.Semver 1.2.3+b => false, None
+kubernetes.Semver 1.0.0-rc and kubernetes.Semver 1.0.0 => false, None
+kubernetes.URL /a and kubernetes.URL /a => true, None
+// A path is no URL's equal.
+kubernetes.URL /a and kubernetes.URL http://localhost/a => false, None
+kubernetes.URL https://a.b and kubernetes.URL https://a.c => false, None
+kubernetes.Format uuid and kubernetes.Format uuid => true, None
+kubernetes.Format uuid and kubernetes.Format uri => false, None
+"#;
 
-const UNORDERED: [Row; 18] = [
-    (Kind::Ip, "::1", Kind::Ip, "0:0:0:0:0:0:0:1", true, None),
-    (Kind::Ip, "127.0.0.1", Kind::Ip, "127.0.0.2", false, None),
-    (
-        Kind::Ip,
-        "127.0.0.1",
-        Kind::String,
-        "127.0.0.1",
-        false,
-        None,
-    ),
-    (
-        Kind::Cidr,
-        "10.0.0.0/8",
-        Kind::Cidr,
-        "10.0.0.0/8",
-        true,
-        None,
-    ),
-    // The address counts as it is written.
-    (
-        Kind::Cidr,
-        "10.0.0.0/8",
-        Kind::Cidr,
-        "10.0.0.1/8",
-        false,
-        None,
-    ),
-    (
-        Kind::Cidr,
-        "10.0.0.0/8",
-        Kind::Cidr,
-        "10.0.0.0/9",
-        false,
-        None,
-    ),
-    (Kind::Quantity, "1Ki", Kind::Quantity, "1024", true, None),
-    (Kind::Quantity, "0.1", Kind::Quantity, "100m", true, None),
-    (Kind::Quantity, "1k", Kind::Quantity, "1Ki", false, None),
-    (
-        Kind::Quantity,
-        "1e2147483647",
-        Kind::Quantity,
-        "1n",
-        false,
-        None,
-    ),
-    (Kind::Semver, "1.2.3+a", Kind::Semver, "1.2.3+a", true, None),
-    (
-        Kind::Semver,
-        "1.2.3+a",
-        Kind::Semver,
-        "1.2.3+b",
-        false,
-        None,
-    ),
-    (Kind::Semver, "1.0.0-rc", Kind::Semver, "1.0.0", false, None),
-    (Kind::Url, "/a", Kind::Url, "/a", true, None),
-    // A path is no URL's equal.
-    (
-        Kind::Url,
-        "/a",
-        Kind::Url,
-        "http://localhost/a",
-        false,
-        None,
-    ),
-    (
-        Kind::Url,
-        "https://a.b",
-        Kind::Url,
-        "https://a.c",
-        false,
-        None,
-    ),
-    (Kind::Format, "uuid", Kind::Format, "uuid", true, None),
-    (Kind::Format, "uuid", Kind::Format, "uri", false, None),
-];
-
-fn compare(rt: &impl Abort, alloc: Global, rows: &[Row]) -> Result<(), Fail> {
-    for (kind, text, other_kind, other_text, equal, order) in rows {
-        let left = value(alloc, *kind, text)?;
-        let right = value(alloc, *other_kind, other_text)?;
-        assert_eq!(rt; left.type_of() == *kind, true, "{text}");
-        assert_eq!(rt; left == right, *equal, "{text} {other_text}");
-        assert_eq!(rt; right == left, *equal, "{other_text} {text}");
-        assert_eq!(rt; left.compare(&right), *order, "{text} {other_text}");
-        assert_eq!(rt; left.try_clone()? == left, true, "{text}");
+/// A value is of its kind, and equals what it is copied to.
+fn check_value(alloc: Global, kind: &str, value: &Value) -> Result<(), Fail> {
+    let is_kept = value.try_clone()? == *value;
+    if is_kept && value.type_of().to_string(alloc)?.as_str() == kind {
+        return Ok(());
     }
-    Ok(())
+    Err(Fail::new(format_args!("another {kind}")))
+}
+
+/// The value of a kind and a text.
+fn value(alloc: Global, row: &str) -> Result<Value, Fail> {
+    let (kind, text) = cut(row, " ")?;
+    let value = value_of(alloc, kind, text)?;
+    check_value(alloc, kind, &value)?;
+    Ok(value)
+}
+
+/// How two values compare.
+fn shown(alloc: Global, left: &Value, right: &Value) -> Result<String, Fail> {
+    let is_equal = left == right;
+    if (right == left) != is_equal {
+        return Err(Fail::from("equal from one side alone"));
+    }
+    let order = left.compare(right);
+    Ok(format!(in alloc; "{is_equal}, {order:?}")?)
+}
+
+fn compared(alloc: Global, pair: &str) -> Result<String, Fail> {
+    let (first, second) = cut(pair, " and ")?;
+    let left = value(alloc, first)?;
+    let right = value(alloc, second)?;
+    shown(alloc, &left, &right)
 }
 
 #[test]
 fn values_are_compared(rt: HostRuntime) -> Result<(), Fail> {
-    compare(&rt, rt.alloc(), &TIMES)?;
-    compare(&rt, rt.alloc(), &UNORDERED)
+    give(&rt, rt.alloc(), PAIRS, compared)
 }
