@@ -69,7 +69,7 @@ module _ {S T : Type 0} (ls : Look S) (lt : Look T) (view : S → T) where
     each_item None ds = refl
     each_item (Some p) ds = ap array (map_items_same (f p) (g (view p)) (same p) ds)
 
-    filled_by_same : (s : S) (t : T) → Alike s t → (d : Data) → filled_by ls f s d ≡ filled_by lt g t d
+    pub filled_by_same : (s : S) (t : T) → Alike s t → (d : Data) → filled_by ls f s d ≡ filled_by lt g t d
     unfolding filled_by
     filled_by_same s t h null = refl
     filled_by_same s t h (boolean b) = refl

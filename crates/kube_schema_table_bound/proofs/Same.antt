@@ -55,7 +55,7 @@ module _ {S T : Type 0} (ls : Look S) (lt : Look T) (view : S → T) where
     each_item None ds x = refl
     each_item (Some p) ds x = ap list (items_by_same (f p) (g (view p)) (same p) ds)
 
-    bound_by_same : (s : S) (t : T) → Alike s t → (d : json.Data) → bound_by ls f s d ≡ bound_by lt g t d
+    pub bound_by_same : (s : S) (t : T) → Alike s t → (d : json.Data) → bound_by ls f s d ≡ bound_by lt g t d
     unfolding bound_by
     bound_by_same s t h json.null = refl
     bound_by_same s t h (json.boolean b) = refl
