@@ -1,4 +1,9 @@
+pub mod AddedAnswers
+pub mod AddedKept
+pub mod AddedParts
 pub mod Alike
+pub mod Changed
 pub mod CompiledNodes
+pub mod Marks
 pub mod RawNodes
 pub mod Reports

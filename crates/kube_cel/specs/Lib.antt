@@ -1,3 +1,5 @@
+pub mod Added
+pub mod AddedVerdicts
 pub mod Answers
 pub mod Compiled
 pub mod Named
