@@ -13,11 +13,13 @@ use Rattle.cel_syntax_tree.specs.declared.expr.UnaryOperator.{UnaryOperator}
 use Rattle.cel_syntax_tree.specs.declared.expr.UnaryOperator.TheVariants as u
 use Rattle.cel_syntax_tree.specs.declared.expr.BinaryOperator.{BinaryOperator}
 use Rattle.cel_syntax_literals.specs.Literal.{literal_value}
-use Rattle.cel_syntax_grammar.specs.Operator.{sign, operator, operator_of, is_operator_before}
+use Rattle.cel_syntax_cursor.specs.Operator.{sign, operator, operator_of, is_operator_before}
 use Rattle.cel_syntax_nodes.specs.Calls.{parts_level}
 use Rattle.cel_syntax_grammar.specs.Grammar.{OptionalComma, without, with_comma, Expression, plain, conditional, Chain, operand, tighter, binary, Prefixed, prefixed, Signed, unsigned, signed, Member, primary, select, method, index, Primary, ident, call, round, list, map, literal, negative, Items, no_items, items, SomeItems, last_item, more_items, Entries, no_entries, entries, SomeEntries, last_entry, more_entries, Pair, pair, Derives}
+use Rattle.cel_syntax_cursor.specs.Ahead as ahead
 use Rattle.cel_syntax_grammar.specs.Parser as p
-use Rattle.cel_syntax_grammar.specs.Parser.{Outcome, Parser, Found, and_then, same_mark, sees, sees_end, goes_on, slack, above, operator_at, sees_sign}
+use Rattle.cel_syntax_cursor.specs.Ahead.{same_mark, sees, sees_end, goes_on, operator_at, sees_sign}
+use Rattle.cel_syntax_grammar.specs.Parser.{Outcome, Parser, Found, and_then, slack, above}
 use Rattle.cel_syntax_grammar.proofs.Steps.{sees_itself, above_at, token_operator_at, no_operator, no_tighter, identifier_value}
 use Rattle.cel_syntax_grammar.proofs.Rows as rows
 use Rattle.cel_syntax_grammar.proofs.Rows.{Rows, last_row, more_rows}
@@ -175,12 +177,12 @@ sees_one : (s : UnaryOperator) (ts : List Token) → is_operator_before s ts ≡
 unfolding sees_sign
 sees_one s ts h = rw (sees_itself (sign s) ts, h)
 
-one_sign : (s : UnaryOperator) (ts : List Token) → is_operator_before s ts ≡ true → p.signs s (mark (sign s) ∷ ts) ≡ ((p.signs s ts).0 + 1, (p.signs s ts).1)
-unfolding p.signs
+one_sign : (s : UnaryOperator) (ts : List Token) → is_operator_before s ts ≡ true → ahead.signs s (mark (sign s) ∷ ts) ≡ ((ahead.signs s ts).0 + 1, (ahead.signs s ts).1)
+unfolding ahead.signs
 one_sign s ts h = rw (sees_one s ts h)
 
-no_signs : (s : UnaryOperator) (ts : List Token) → sees_sign s ts ≡ false → p.signs s ts ≡ (0, ts)
-unfolding p.signs
+no_signs : (s : UnaryOperator) (ts : List Token) → sees_sign s ts ≡ false → ahead.signs s ts ≡ (0, ts)
+unfolding ahead.signs
 no_signs s [] h = refl
 no_signs s (t ∷ ts) h = rw h
 
@@ -372,9 +374,9 @@ module _ (limit : ℕ) (sub : Parser Found)
   record Wrapped (s : UnaryOperator) (ts rest : List Token) (t : Term) (l : ℕ) : Type 0 where
     inside : Term
     low : ℕ
-    reads : p.member limit sub (p.signs s ts).1 ≡ Some ((inside, low), rest)
-    tree : p.wrap s (p.signs s ts).0 inside ≡ t
-    level : low + (p.signs s ts).0 ≡ l
+    reads : p.member limit sub (ahead.signs s ts).1 ≡ Some ((inside, low), rest)
+    tree : p.wrap s (ahead.signs s ts).0 inside ≡ t
+    level : low + (ahead.signs s ts).0 ≡ l
 
   complete_signs : {s : UnaryOperator} {ts rest : List Token} {t : Term} {l : ℕ} → Signed s ts rest t l → l ≤ limit + slack t → Ends 0 rest → Wrapped s ts rest t l
   unfolding p.wrap
@@ -391,8 +393,8 @@ module _ (limit : ℕ) (sub : Parser Found)
   unfolding p.signed
   complete_signed {s} {ts} {rest} {t} {l} d h ends =
       let r = complete_signs d h ends in
-      let fits : r.low + (p.signs s ts).0 ≤ limit + slack (p.wrap s (p.signs s ts).0 r.inside) = rw (r.tree, r.level) h in
-      let whole = wrapped_at limit s (p.signs s ts).0 r.inside r.low rest fits in
+      let fits : r.low + (ahead.signs s ts).0 ≤ limit + slack (p.wrap s (ahead.signs s ts).0 r.inside) = rw (r.tree, r.level) h in
+      let whole = wrapped_at limit s (ahead.signs s ts).0 r.inside r.low rest fits in
       rw (r.reads) (whole ∙ rw (r.tree, r.level))
 
   complete_prefixed : {ts rest : List Token} {t : Term} {l : ℕ} → Prefixed ts rest t l → l ≤ limit + slack t → Ends 0 rest

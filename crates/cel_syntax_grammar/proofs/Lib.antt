@@ -1,5 +1,4 @@
 pub mod Turns
-pub mod Signs
 pub mod Steps
 pub mod Rows
 pub mod Levels

@@ -3,7 +3,8 @@ use Rattle.std.proofs.Common.{◌≡◌, ℕ, suc, zero, ◌≤◌, refl, sym, �
 use Rattle.std.specs.Prelude.{max, not}
 use Rattle.cel_syntax_tokens.specs.declared.mark.Mark.TheVariants as m
 use Rattle.cel_syntax_tokens.specs.Token.{Token, mark}
-use Rattle.cel_syntax_grammar.specs.Parser.{Outcome, Parser, same_mark, sees, sees_end, goes_on, items_from, items_of}
+use Rattle.cel_syntax_cursor.specs.Ahead.{same_mark, sees, sees_end, goes_on}
+use Rattle.cel_syntax_grammar.specs.Parser.{Outcome, Parser, items_from, items_of}
 use Rattle.cel_syntax_grammar.proofs.Steps.{and_then_some, sees_mark}
 
 pub data Rows {A : Type 0} (item : Parser (A × ℕ)) : List Token → List Token → List A → ℕ → Type 0 where

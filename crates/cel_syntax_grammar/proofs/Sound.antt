@@ -14,12 +14,14 @@ use Rattle.cel_syntax_tree.specs.declared.expr.UnaryOperator.TheVariants as u
 use Rattle.cel_syntax_tree.specs.declared.expr.BinaryOperator.{BinaryOperator}
 use Rattle.cel_syntax_literals.specs.Literal.{takes_minus, literal_value}
 use Rattle.cel_syntax_nodes.specs.Words.{is_identifier, is_selector}
-use Rattle.cel_syntax_grammar.specs.Operator.{sign, is_operator_before}
+use Rattle.cel_syntax_cursor.specs.Operator.{sign, is_operator_before}
 use Rattle.cel_syntax_nodes.specs.Calls.{call_of, method_of, parts_level}
 use Rattle.cel_syntax_grammar.specs.Grammar as g
 use Rattle.cel_syntax_grammar.specs.Grammar.{OptionalComma, Expression, Chain, Prefixed, Signed, Member, Primary, Items, SomeItems, Entries, SomeEntries, Pair, Derives}
+use Rattle.cel_syntax_cursor.specs.Ahead as ahead
 use Rattle.cel_syntax_grammar.specs.Parser as p
-use Rattle.cel_syntax_grammar.specs.Parser.{Outcome, Parser, Found, and_then, same_mark, sees, sees_sign, slack, above, operator_at}
+use Rattle.cel_syntax_cursor.specs.Ahead.{same_mark, sees, sees_sign, operator_at}
+use Rattle.cel_syntax_grammar.specs.Parser.{Outcome, Parser, Found, and_then, slack, above}
 use Rattle.cel_syntax_grammar.proofs.Steps.{and_then_some, sees_mark, above_some, operator_at_token}
 use Rattle.cel_syntax_grammar.proofs.Rows.{Rows, last_row, more_rows, sound_items}
 
@@ -101,7 +103,7 @@ expected : {A : Type 0} {x : A} {rest : List Token} (k : Mark) (f : Parser A) (t
 expected k f ts e = let h = expected_by (sees k ts) tt (λ _. f) (drop 1 ts) e in (drop 1 ts, sees_mark k ts h.0, h.1)
 
 -- a comma that may be there
-optional : (ts : List Token) → OptionalComma ts (p.after m.Comma ts)
+optional : (ts : List Token) → OptionalComma ts (ahead.after m.Comma ts)
 optional ts = by_test (sees m.Comma ts) refl
   where
     by_test : (b : Bool) → sees m.Comma ts ≡ b → OptionalComma ts (if b then drop 1 ts else ts)
@@ -117,7 +119,7 @@ closed_list : {x : Found} {rest : List Token} (limit : ℕ) (k : Mark) (t : Term
     → (end : List Token) × OptionalComma ts (mark k ∷ end) × (above limit l t end ≡ Some (x, rest))
 unfolding p.closed_list
 closed_list limit k t l ts e =
-    let c = closed limit k t l (p.after m.Comma ts) e in
+    let c = closed limit k t l (ahead.after m.Comma ts) e in
     (c.0, subst (λ z. OptionalComma ts z) c.1 (optional ts), c.2)
 
 wrapped_some : {x : Found} {rest : List Token} (limit : ℕ) (s : UnaryOperator) (n : ℕ) (t : Term) (l : ℕ) (ts : List Token) → p.wrapped limit s n (t, l) ts ≡ Some (x, rest)
@@ -314,16 +316,16 @@ module _ (limit : ℕ) (sub : Parser Found)
       let s = sound_primary ts r.1 r.0 r.2 in
       sound_links (limit + 1) ts r.1 r.0.0 r.0.1 (g.primary s.0) s.1 rest x r.3
 
-  sound_signs : (s : UnaryOperator) (ts rest : List Token) (t : Term) (l : ℕ) → Member (p.signs s ts).1 rest t l → Signed s ts rest (p.wrap s (p.signs s ts).0 t) (l + (p.signs s ts).0)
-  unfolding p.signs p.wrap
+  sound_signs : (s : UnaryOperator) (ts rest : List Token) (t : Term) (l : ℕ) → Member (ahead.signs s ts).1 rest t l → Signed s ts rest (p.wrap s (ahead.signs s ts).0 t) (l + (ahead.signs s ts).0)
+  unfolding ahead.signs p.wrap
   sound_signs s [] rest t l d = rw add-zero (g.unsigned d)
   sound_signs s (k ∷ ts) rest t l d = by_test (sees_sign s (k ∷ ts)) refl (sound_signs s ts rest t l) d
     where
       by_test : (b : Bool) → sees_sign s (k ∷ ts) ≡ b
-          → (Member (p.signs s ts).1 rest t l → Signed s ts rest (p.wrap s (p.signs s ts).0 t) (l + (p.signs s ts).0))
-          → Member (if◌then◌else◌ {A = ℕ × List Token} b ((p.signs s ts).0 + 1, (p.signs s ts).1) (0, k ∷ ts)).1 rest t l
-          → Signed s (k ∷ ts) rest (p.wrap s (if◌then◌else◌ {A = ℕ × List Token} b ((p.signs s ts).0 + 1, (p.signs s ts).1) (0, k ∷ ts)).0 t)
-          (l + (if◌then◌else◌ {A = ℕ × List Token} b ((p.signs s ts).0 + 1, (p.signs s ts).1) (0, k ∷ ts)).0)
+          → (Member (ahead.signs s ts).1 rest t l → Signed s ts rest (p.wrap s (ahead.signs s ts).0 t) (l + (ahead.signs s ts).0))
+          → Member (if◌then◌else◌ {A = ℕ × List Token} b ((ahead.signs s ts).0 + 1, (ahead.signs s ts).1) (0, k ∷ ts)).1 rest t l
+          → Signed s (k ∷ ts) rest (p.wrap s (if◌then◌else◌ {A = ℕ × List Token} b ((ahead.signs s ts).0 + 1, (ahead.signs s ts).1) (0, k ∷ ts)).0 t)
+          (l + (if◌then◌else◌ {A = ℕ × List Token} b ((ahead.signs s ts).0 + 1, (ahead.signs s ts).1) (0, k ∷ ts)).0)
       by_test true is again d =
           let h = seen s k ts is in
           move_signed (g.signed h.1 (again d)) (sym h.0) (rw add-one) (omega arith)
@@ -332,10 +334,10 @@ module _ (limit : ℕ) (sub : Parser Found)
   sound_signed : (s : UnaryOperator) (ts : List Token) → Sound (Signed s) ts (p.signed limit sub s ts)
   unfolding p.signed
   sound_signed s ts rest x e =
-      let r = and_then_some (p.member limit sub (p.signs s ts).1) e in
-      let inside = sound_member (p.signs s ts).1 r.1 r.0 r.2 in
+      let r = and_then_some (p.member limit sub (ahead.signs s ts).1) e in
+      let inside = sound_member (ahead.signs s ts).1 r.1 r.0 r.2 in
       let d = sound_signs s ts r.1 r.0.0 r.0.1 inside.0 in
-      let w = wrapped_some limit s (p.signs s ts).0 r.0.0 r.0.1 r.1 r.3 inside.1 in
+      let w = wrapped_some limit s (ahead.signs s ts).0 r.0.0 r.0.1 r.1 r.3 inside.1 in
       sound_pure (Signed s) ts r.1 _ _ d w.1 rest x w.0
 
   sound_prefixed : (ts : List Token) → Sound Prefixed ts (p.prefixed limit sub ts)

@@ -14,8 +14,9 @@ use Rattle.cel_syntax_tree.specs.Term.{Term}
 use Rattle.cel_syntax_tree.specs.declared.expr.BinaryOperator.{BinaryOperator}
 use Rattle.cel_syntax_nodes.specs.Words.{is_identifier, is_selector, is_literal, is_kept}
 use Rattle.cel_syntax_literals.specs.Literal.{word_value, literal_value}
-use Rattle.cel_syntax_grammar.specs.Operator.{operator, operator_of}
-use Rattle.cel_syntax_grammar.specs.Parser.{Outcome, Parser, Found, and_then, same_mark, sees, above, slack, operator_at, if_level, is_end, sees_end}
+use Rattle.cel_syntax_cursor.specs.Operator.{operator, operator_of}
+use Rattle.cel_syntax_cursor.specs.Ahead.{same_mark, sees, operator_at, if_level, is_end, sees_end}
+use Rattle.cel_syntax_grammar.specs.Parser.{Outcome, Parser, Found, and_then, above, slack}
 
 pub and_then_some : {A B : Type 0} {f : A → Parser B} {rest : List Token} {y : B} (o : Outcome A) → and_then o f ≡ Some (y, rest)
     → (x : A) × (mid : List Token) × (o ≡ Some (x, mid)) × (f x mid ≡ Some (y, rest))

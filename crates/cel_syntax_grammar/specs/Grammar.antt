@@ -12,7 +12,7 @@ use Rattle.cel_syntax_tree.specs.declared.expr.UnaryOperator.{UnaryOperator}
 use Rattle.cel_syntax_tree.specs.declared.expr.BinaryOperator.{BinaryOperator}
 use Rattle.cel_syntax_literals.specs.Literal.{takes_minus, literal_value}
 use Rattle.cel_syntax_nodes.specs.Words.{is_identifier, is_selector}
-use Rattle.cel_syntax_grammar.specs.Operator.{sign, operator, is_operator_before}
+use Rattle.cel_syntax_cursor.specs.Operator.{sign, operator, is_operator_before}
 use Rattle.cel_syntax_nodes.specs.Calls.{call_of, method_of, parts_level}
 
 -- a comma that may be there

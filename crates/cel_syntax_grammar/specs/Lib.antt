@@ -1,5 +1,4 @@
-pub mod Operator
 pub mod Grammar
 pub mod Parser
-pub mod Cursor
+pub mod Reads
 pub mod Nests

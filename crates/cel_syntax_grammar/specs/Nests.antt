@@ -3,10 +3,11 @@ use Rattle.std.specs.Prelude.{◌≡◌, ℕ, ◌+◌, Result}
 use Rattle.std.specs.declared.alloc.Global.{Global}
 use denote.Ref.{MutBor}
 use Rattle.cel_syntax_tree.specs.declared.expr.Expr.{Expr}
-use Rattle.cel_syntax_grammar.specs.declared.tokens.Tokens.{Tokens}
+use Rattle.cel_syntax_cursor.specs.declared.tokens.Tokens.{Tokens}
 use Rattle.cel_syntax_grammar.specs.declared.error.SyntaxError.{SyntaxError}
 use Rattle.cel_syntax_grammar.specs.Parser.{expr}
-use Rattle.cel_syntax_grammar.specs.Cursor.{left, Reads}
+use Rattle.cel_syntax_cursor.specs.Ahead.{left}
+use Rattle.cel_syntax_grammar.specs.Reads.{Reads}
 
 pub record Nests (limit : ℕ) (pre : Global → MutBor Tokens → ℕ → Type 0)
     (post : Global → MutBor Tokens → ℕ → Result (Expr × ℕ) SyntaxError → MutBor Tokens → Type 0) : Type 0 where

@@ -1,8 +1,6 @@
 -- The steps of the parser, as functions of the tokens that are left.
-use Rattle.std.specs.Prelude.{ℕ, zero, suc, ◌+◌, max, nat_lt, nat_le, nat_eq, Bool, true, false, not, ◌&&◌, if◌then◌else◌, List, [], ◌∷◌, ◌++◌, length, drop, Option, Some, None}
-use denote.Enum.Bare.{sameb}
+use Rattle.std.specs.Prelude.{ℕ, zero, suc, ◌+◌, max, nat_lt, nat_le, nat_eq, Bool, true, false, if◌then◌else◌, List, [], ◌∷◌, ◌++◌, length, drop, Option, Some, None}
 use Rattle.cel_value.specs.Data.{Data}
-use Rattle.cel_syntax_tokens.specs.contracts.mark.Mark.{the_type}
 use Rattle.cel_syntax_tokens.specs.declared.mark.Mark.{Mark}
 use Rattle.cel_syntax_tokens.specs.declared.mark.Mark.TheVariants as m
 use Rattle.cel_syntax_tokens.specs.Token.{Token, word, number, quoted, mark}
@@ -13,7 +11,7 @@ use Rattle.cel_syntax_tree.specs.declared.expr.UnaryOperator.TheVariants as u
 use Rattle.cel_syntax_tree.specs.declared.expr.BinaryOperator.{BinaryOperator}
 use Rattle.cel_syntax_literals.specs.Literal.{takes_minus, literal_value}
 use Rattle.cel_syntax_nodes.specs.Words.{is_identifier, is_selector}
-use Rattle.cel_syntax_grammar.specs.Operator.{sign, operator, is_operator_before}
+use Rattle.cel_syntax_cursor.specs.Ahead.{sees, after, operator_at, sees_end, goes_on, signs}
 use Rattle.cel_syntax_nodes.specs.Calls.{call_of, method_of, parts_level}
 
 abbrev pub Outcome : Type 0 → Type 0
@@ -40,16 +38,6 @@ pure a = λ ts. Some (a, ts)
 abbrev pub refuse : {A : Type 0} → Parser A
 refuse = λ ts. None
 
-unfoldable pub same_mark : Mark → Mark → Bool
-same_mark = sameb the_type
-
-abbrev pub sees : Mark → List Token → Bool
-sees m (mark k ∷ ts) = same_mark k m
-sees m _ = false
-
-abbrev pub after : Mark → List Token → List Token
-after m ts = if sees m ts then drop 1 ts else ts
-
 -- takes a mark, if it comes next
 abbrev pub eat : Mark → Parser Bool
 eat m = λ ts. Some (sees m ts, after m ts)
@@ -64,31 +52,6 @@ next_of (t ∷ ts) = Some (t, ts)
 
 abbrev pub next : Parser Token
 next = λ ts. next_of ts
-
--- the operator that comes next, if it binds so loosely
-abbrev pub if_level : ℕ → Option (ℕ × BinaryOperator) → Option BinaryOperator
-if_level k None = None
-if_level k (Some o) = if nat_eq o.0 k then Some o.1 else None
-
-unfoldable pub operator_at : ℕ → List Token → Option BinaryOperator
-operator_at k [] = None
-operator_at k (t ∷ ts) = if_level k (operator t)
-
--- A comma or a closing bracket ends the items, or comes before the first of them.
-abbrev pub is_end : Mark → Bool
-is_end m.CloseRound = true
-is_end m.CloseSquare = true
-is_end m.CloseBrace = true
-is_end m.Comma = true
-is_end _ = false
-
-abbrev pub sees_end : List Token → Bool
-sees_end (mark k ∷ ts) = is_end k
-sees_end _ = false
-
--- whether another item comes next, behind a comma
-abbrev pub goes_on : List Token → Bool
-goes_on ts = sees m.Comma ts && not (sees_end (drop 1 ts))
 
 -- a tree and its level
 abbrev pub Found : Type 0
@@ -116,14 +79,6 @@ above_call limit l (Some t) = above limit (parts_level t l) t
 abbrev pub by_operator : {A : Type 0} → Option BinaryOperator → A → (BinaryOperator → A) → A
 by_operator None none some = none
 by_operator (Some op) none some = some op
-
-unfoldable pub sees_sign : UnaryOperator → List Token → Bool
-sees_sign s ts = sees (sign s) ts && is_operator_before s (drop 1 ts)
-
--- how many of the sign come next, and the tokens after them
-unfoldable pub signs : UnaryOperator → List Token → ℕ × List Token
-signs s [] = (0, [])
-signs s (t ∷ ts) = if sees_sign s (t ∷ ts) then ((signs s ts).0 + 1, (signs s ts).1) else (0, t ∷ ts)
 
 unfoldable pub wrap : UnaryOperator → ℕ → Term → Term
 wrap s zero t = t

@@ -5,15 +5,15 @@ ghost use Rattle.cel_syntax_tokens.specs.Token.{Token as SpecToken};
 ghost use Rattle.cel_syntax_tree.specs.Term as tree;
 ghost use Rattle.cel_syntax_tree.specs.Term.{term};
 ghost use Rattle.cel_syntax_tokens.specs.declared.mark.Mark.TheVariants.{CloseSquare as close_square};
-ghost use Rattle.cel_syntax_grammar.specs.Operator.{sign as sign_of, is_operator_before as is_operator_before_lem};
 ghost use Rattle.cel_syntax_nodes.specs.Calls as calls;
 ghost use Rattle.cel_syntax_grammar.specs.Parser as spec;
-ghost use Rattle.cel_syntax_grammar.specs.Cursor.{left, left as spec_left, Reads, ReadsItems, ReadsEntries, ReadsPair};
+ghost use Rattle.cel_syntax_cursor.specs.Ahead.{left, left as spec_left};
+ghost use Rattle.cel_syntax_grammar.specs.Reads.{Reads, ReadsItems, ReadsEntries, ReadsPair};
 ghost use Rattle.cel_syntax_grammar.specs.Nests.{Nests};
 ghost use Rattle.cel_syntax_grammar.specs.declared.error.SyntaxError.TheVariants.{Memory};
 
 use crate::error::SyntaxError;
-use crate::tokens::Tokens;
+use cel_syntax_cursor::Tokens;
 use cel_syntax_literals::{literal, takes_minus};
 use cel_syntax_nodes::{
     binary, call, conditional, ident, identifier, index, method, parts_level, select, selector,
@@ -23,51 +23,6 @@ use cel_syntax_tokens::mark::Mark;
 use cel_syntax_tokens::token::Token;
 use cel_syntax_tree::{BinaryOperator, Expr, UnaryOperator};
 use std::alloc::Global;
-
-fn sign_mark(sign: UnaryOperator) -> Mark
-    ensures { result ≡ sign_of sign }
-{
-    match sign {
-        UnaryOperator::Not => Mark::Not,
-        UnaryOperator::Negate => Mark::Minus,
-    }
-}
-
-fn is_operator_before(sign: UnaryOperator, tokens: &Tokens<'_>) -> bool
-    ensures { result ≡ is_operator_before_lem sign (left tokens.now) }
-{
-    match sign {
-        UnaryOperator::Not => true,
-        UnaryOperator::Negate => !tokens.begins_number(),
-    }
-}
-
-#[tactic(auto, unfolding(crate::specs::Parser::sees_sign))]
-fn sees_sign(tokens: &Tokens<'_>, sign: UnaryOperator) -> bool
-    ensures { result ≡ spec.sees_sign sign (left tokens.now) }
-{
-    if !tokens.sees(sign_mark(sign)) {
-        return false;
-    }
-    let mut ahead = *tokens;
-    let _sign = ahead.next();
-    is_operator_before(sign, &ahead)
-}
-
-/// Takes all such signs that come next, and counts them. A minus that belongs to a literal is none.
-fn signs(tokens: &mut Tokens<'_>, sign: UnaryOperator) -> usize
-    ensures count { result ≡ (spec.signs sign (left tokens.old)).0 }
-    ensures rest { left tokens.new ≡ (spec.signs sign (left tokens.old)).1 }
-{
-    let all = tokens.len();
-    for turn in 0..all {
-        if !sees_sign(tokens, sign) {
-            return turn;
-        }
-        let _sign = tokens.next();
-    }
-    all
-}
 
 /// How far over a limit the tree may be.
 fn slack(tree: &Expr) -> usize
@@ -499,7 +454,7 @@ impl<F: Fn(Global, &mut Tokens<'_>, u8) -> Result<(Expr, usize), SyntaxError>> G
         requires { Nests self.now.limit (F.pre self.now.expr) (F.post self.now.expr) }
         ensures { Reads (spec.signed self.now.limit (spec.below self.now.limit) sign (left tokens.old)) result (left tokens.new) }
     {
-        let count = signs(tokens, sign);
+        let count = tokens.signs(sign);
         let operand = self.member(tokens)?;
         self.wrapped(sign, count, operand)
     }

@@ -5,6 +5,5 @@ mod error;
 mod grammar;
 pub mod laws;
 pub mod parse;
-mod tokens;
 
 pub use parse::parse_tokens;

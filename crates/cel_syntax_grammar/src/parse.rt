@@ -9,7 +9,7 @@ ghost use Rattle.cel_syntax_grammar.specs.Parser.{tree_of_tokens};
 
 use crate::error::SyntaxError;
 use crate::grammar::expr;
-use crate::tokens::Tokens;
+use cel_syntax_cursor::Tokens;
 use cel_syntax_tokens::token::Token;
 use cel_syntax_tree::Expr;
 use kube_types_refused::Refused;

@@ -6,7 +6,6 @@ ghost use Rattle.cel_syntax_tree.specs.Term as tree;
 ghost use Rattle.cel_syntax_tree.specs.Term.{term};
 ghost use Rattle.cel_syntax_nodes.specs.Calls as spec;
 
-use crate::qualified::identifier_of;
 use crate::words::is_word;
 use cel_syntax_tree::{Expr, MacroKind};
 use kube_types_refused::Refused;
@@ -79,15 +78,21 @@ fn three(mut args: Vec<Expr>) -> (Expr, Expr, Expr)
 }
 
 /// The name of a macro's variable, where the tree is a plain identifier.
-fn variable_of(tree: &Expr) -> Result<Option<Rc<String>>, Refused>
-    ensures { MatchResult result
-        (λ answer. MatchOption answer (spec.identifier_of (term tree.now) ≡ None) (λ name. spec.identifier_of (term tree.now) ≡ Some (string_bytes name.value)))
-        (λ refused. refused ≡ Memory) }
+fn variable_of(tree: Expr) -> Option<Rc<String>>
+    ensures { MatchOption result (spec.identifier_of (term tree) ≡ None) (λ name. spec.identifier_of (term tree) ≡ Some (string_bytes name.value)) }
 {
-    match identifier_of(tree) {
-        Some(name) => Ok(Some(name.clone()?)),
-        None => Ok(None),
+    match tree {
+        Expr::Ident(name) => Some(name),
+        _ => None,
     }
+}
+
+/// Both trees, each in memory of its own.
+fn boxed(alloc: Global, first: Expr, second: Expr) -> Result<(Box<Expr>, Box<Expr>), Refused>
+    ensures { MatchResult result (λ both. (term both.0.value ≡ term first) × (term both.1.value ≡ term second)) (λ refused. refused ≡ Memory) }
+{
+    let first = Box::new(alloc, first)?;
+    Ok((first, Box::new(alloc, second)?))
 }
 
 fn unfiltered(kind: MacroKind, range: Box<Expr>, variable: Rc<String>, body: Box<Expr>) -> Expr
@@ -129,25 +134,24 @@ fn macro_of_two(
 ) -> Result<Expr, Refused>
     ensures { MatchResult result (λ e. term e ≡ tree.macro kind (term range) (string_bytes variable.value) tree.no_terms (term body)) (λ refused. refused ≡ Memory) }
 {
-    let range = Box::new(alloc, range)?;
-    let body = Box::new(alloc, body)?;
+    let (range, body) = boxed(alloc, range, body)?;
     Ok(unfiltered(kind, range, variable, body))
 }
 
 fn macro_of_three(
     alloc: Global,
     kind: MacroKind,
-    range: Box<Expr>,
+    range: Expr,
     variable: Rc<String>,
     filter: Expr,
     body: Expr,
 ) -> Result<Expr, Refused>
     ensures { MatchResult result
-        (λ e. term e ≡ tree.macro kind (term range.value) (string_bytes variable.value) (tree.term_and (term filter) tree.no_terms) (term body))
+        (λ e. term e ≡ tree.macro kind (term range) (string_bytes variable.value) (tree.term_and (term filter) tree.no_terms) (term body))
         (λ refused. refused ≡ Memory) }
 {
     let filter = Box::new(alloc, filter)?;
-    let body = Box::new(alloc, body)?;
+    let (range, body) = boxed(alloc, range, body)?;
     Ok(filtered(kind, range, variable, filter, body))
 }
 
@@ -161,8 +165,9 @@ fn with_body(
         (λ answer. option_map term answer ≡ spec.macro_with kind (term range) (spec.identifier_of (term args.0)) tree.no_terms (term args.1))
         (λ refused. refused ≡ Memory) }
 {
-    match variable_of(&args.0)? {
-        Some(variable) => Ok(Some(macro_of_two(alloc, kind, range, variable, args.1)?)),
+    let (name, body) = args;
+    match variable_of(name) {
+        Some(variable) => Ok(Some(macro_of_two(alloc, kind, range, variable, body)?)),
         None => Ok(None),
     }
 }
@@ -178,11 +183,9 @@ fn with_filter(
         ≡ spec.macro_with kind (term range) (spec.identifier_of (term args.0)) (tree.term_and (term args.1) tree.no_terms) (term args.2))
         (λ refused. refused ≡ Memory) }
 {
-    match variable_of(&args.0)? {
-        Some(variable) => {
-            let range = Box::new(alloc, range)?;
-            Ok(Some(macro_of_three(alloc, kind, range, variable, args.1, args.2)?))
-        }
+    let (name, filter, body) = args;
+    match variable_of(name) {
+        Some(variable) => Ok(Some(macro_of_three(alloc, kind, range, variable, filter, body)?)),
         None => Ok(None),
     }
 }

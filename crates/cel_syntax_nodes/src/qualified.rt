@@ -97,7 +97,7 @@ fn dotted(alloc: Global, library: &str, function: &str) -> Result<Rc<String>, Al
 }
 
 /// The name, where the tree is a plain identifier.
-pub(crate) fn identifier_of(tree: &Expr) -> Option<&Rc<String>>
+fn identifier_of(tree: &Expr) -> Option<&Rc<String>>
     ensures { MatchOption result (spec.identifier_of (term tree.now) ≡ None) (λ name. spec.identifier_of (term tree.now) ≡ Some (string_bytes name.now.value)) }
 {
     match tree {

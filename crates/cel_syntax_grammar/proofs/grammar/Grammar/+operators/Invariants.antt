@@ -1,7 +1,7 @@
 use Rattle.std.proofs.Common.{◌≡◌, ◌+◌, ◌-◌, ◌*◌}
 use Rattle.cel_syntax_tree.specs.Term.{term}
 use Rattle.cel_syntax_grammar.specs.Parser as spec
-use Rattle.cel_syntax_grammar.specs.Cursor.{left}
+use Rattle.cel_syntax_cursor.specs.Ahead.{left}
 use Rattle.cel_syntax_grammar.proofs.grammar.Grammar.+operators.Given as goal
 
 abbrev pub decreases-chain : goal.decreases-chain

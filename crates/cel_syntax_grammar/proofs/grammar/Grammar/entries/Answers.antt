@@ -3,7 +3,7 @@ use Rattle.std.proofs.lemmas.Grind.{common_steps}
 use Rattle.std.proofs.lemmas.List.{map-append}
 use Rattle.cel_syntax_tree.specs.Term.{term}
 use Rattle.cel_syntax_grammar.specs.Parser as spec
-use Rattle.cel_syntax_grammar.specs.Cursor.{left}
+use Rattle.cel_syntax_cursor.specs.Ahead.{left, sees_end}
 use Rattle.cel_syntax_grammar.proofs.Rows.{start_items}
 use Rattle.cel_syntax_grammar.proofs.Turns.{one_more, no_more}
 use Rattle.cel_syntax_grammar.proofs.grammar.Grammar.entries.Goals as goal
@@ -35,7 +35,7 @@ returns g c =
 pub loop-turn-init : goal.loop-turn-init
 unfolding spec.entries
 loop-turn-init g c =
-    let none : spec.sees_end (left c.args.tokens.now) ≡ false = grind arith in
+    let none : sees_end (left c.args.tokens.now) ≡ false = grind arith in
     let empty : c.new-found.result.items ≡ [] = first_of (cc, search rules) in
     start_items _ (left c.args.tokens.now) _ _ none (omega (arith, c.len-turn-end.ensures)) (rw empty)
 

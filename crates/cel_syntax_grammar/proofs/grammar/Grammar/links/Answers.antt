@@ -2,7 +2,7 @@ use Rattle.std.proofs.Common.{◌+◌, rules, arith}
 use Rattle.std.proofs.lemmas.Grind.{common_steps}
 use Rattle.cel_syntax_tree.specs.Term.{term}
 use Rattle.cel_syntax_grammar.specs.Parser as spec
-use Rattle.cel_syntax_grammar.specs.Cursor.{left}
+use Rattle.cel_syntax_cursor.specs.Ahead.{left}
 use Rattle.cel_syntax_grammar.proofs.Turns.{one_more, no_more}
 use Rattle.cel_syntax_grammar.proofs.grammar.Grammar.links.Goals as goal
 use Rattle.cel_syntax_grammar.proofs.grammar.Grammar.links.Goals.{then-eat+in_ok-found, else-eat+then-eat-2+in_ok-found-2}

@@ -2,68 +2,28 @@
 
 ghost use Rattle.std.specs.Prelude.{◌≡◌, ◌∷◌, [], MatchOption, drop, length};
 ghost use Rattle.cel_syntax_tokens.specs.Token.{token_of};
-ghost use Rattle.cel_syntax_grammar.specs.Operator as operators;
-ghost use Rattle.cel_syntax_grammar.specs.Parser as spec;
-ghost use Rattle.cel_syntax_grammar.specs.Cursor.{left};
+ghost use Rattle.cel_syntax_cursor.specs.Ahead as spec;
+ghost use Rattle.cel_syntax_cursor.specs.Ahead.{left};
+ghost use Rattle.cel_syntax_cursor.specs.Operator.{begins_number, is_operator_before};
 
+use crate::operators::{sign_mark, token_operator};
 use cel_syntax_literals::takes_minus;
 use cel_syntax_tokens::mark::Mark;
 use cel_syntax_tokens::token::Token;
-use cel_syntax_tree::BinaryOperator;
+use cel_syntax_tree::{BinaryOperator, UnaryOperator};
 
 /// The tokens that are left.
 #[derive(Clone, Copy)]
 pub struct Tokens<'a> {
+    /// They, in order.
     pub rest: &'a [Token<'a>],
 }
 
-#[tactic(auto, unfolding(crate::specs::Parser::same_mark))]
+#[tactic(auto, unfolding(crate::specs::Ahead::same_mark))]
 fn same_mark(a: Mark, b: Mark) -> bool
     ensures { result ≡ spec.same_mark a b }
 {
     a == b
-}
-
-fn operator_of(mark: Mark) -> Option<(u8, BinaryOperator)>
-    ensures { result ≡ operators.operator_of mark }
-{
-    match mark {
-        Mark::Star => Some((1, BinaryOperator::Multiply)),
-        Mark::Slash => Some((1, BinaryOperator::Divide)),
-        Mark::Percent => Some((1, BinaryOperator::Remainder)),
-        Mark::Plus => Some((2, BinaryOperator::Add)),
-        Mark::Minus => Some((2, BinaryOperator::Subtract)),
-        Mark::Less => Some((3, BinaryOperator::Less)),
-        Mark::LessOrEqual => Some((3, BinaryOperator::LessOrEqual)),
-        Mark::Greater => Some((3, BinaryOperator::Greater)),
-        Mark::GreaterOrEqual => Some((3, BinaryOperator::GreaterOrEqual)),
-        Mark::Equal => Some((3, BinaryOperator::Equal)),
-        Mark::NotEqual => Some((3, BinaryOperator::NotEqual)),
-        Mark::And => Some((4, BinaryOperator::And)),
-        Mark::Or => Some((5, BinaryOperator::Or)),
-        _ => None,
-    }
-}
-
-fn word_operator(word: &[u8]) -> Option<(u8, BinaryOperator)>
-    ensures { result ≡ operators.word_operator word.now }
-{
-    let name: &[u8] = b"in";
-    if word == name {
-        Some((3, BinaryOperator::In))
-    } else {
-        None
-    }
-}
-
-fn token_operator(token: Token<'_>) -> Option<(u8, BinaryOperator)>
-    ensures { result ≡ operators.operator (token_of token.entry) }
-{
-    match token {
-        Token::Word(word) => word_operator(word),
-        Token::Mark(mark) => operator_of(mark),
-        _ => None,
-    }
 }
 
 fn is_end(mark: Mark) -> bool
@@ -76,6 +36,7 @@ fn is_end(mark: Mark) -> bool
 }
 
 impl<'a> Tokens<'a> {
+    /// Takes the next token, if any is left.
     pub fn next(&mut self) -> Option<Token<'a>>
         ensures token { MatchOption result ((left self.old ≡ []) × (left self.new ≡ [])) (λ t. left self.old ≡ token_of t ∷ left self.new) }
         ensures rest { left self.new ≡ drop 1 (left self.old) }
@@ -88,12 +49,14 @@ impl<'a> Tokens<'a> {
         Some(tokens[0])
     }
 
+    /// How many tokens are left.
     pub fn len(&self) -> usize
         ensures { result ≡ length (left self.now) }
     {
         self.rest.len()
     }
 
+    /// Whether this mark comes next.
     pub fn sees(&self, mark: Mark) -> bool
         ensures { result ≡ spec.sees mark (left self.now) }
     {
@@ -104,7 +67,7 @@ impl<'a> Tokens<'a> {
     }
 
     /// The operator that comes next, if it binds as loosely as that.
-    #[tactic(auto, unfolding(crate::specs::Parser::operator_at))]
+    #[tactic(auto, unfolding(crate::specs::Ahead::operator_at))]
     pub fn operator(&self, level: u8) -> Option<BinaryOperator>
         ensures { result ≡ spec.operator_at level (left self.now) }
     {
@@ -141,7 +104,7 @@ impl<'a> Tokens<'a> {
 
     /// Whether an int or a double comes next.
     pub fn begins_number(&self) -> bool
-        ensures { result ≡ operators.begins_number (left self.now) }
+        ensures { result ≡ begins_number (left self.now) }
     {
         match self.rest.first() {
             Some(token) => takes_minus(*token),
@@ -159,5 +122,43 @@ impl<'a> Tokens<'a> {
             let _mark = self.next();
         }
         found
+    }
+
+    /// Whether the sign before these tokens is an operator, and no part of a literal.
+    fn is_operator_before(&self, sign: UnaryOperator) -> bool
+        ensures { result ≡ is_operator_before sign (left self.now) }
+    {
+        match sign {
+            UnaryOperator::Not => true,
+            UnaryOperator::Negate => !self.begins_number(),
+        }
+    }
+
+    /// Whether such a sign comes next, as an operator.
+    #[tactic(auto, unfolding(crate::specs::Ahead::sees_sign))]
+    fn sees_sign(&self, sign: UnaryOperator) -> bool
+        ensures { result ≡ spec.sees_sign sign (left self.now) }
+    {
+        if !self.sees(sign_mark(sign)) {
+            return false;
+        }
+        let mut ahead = *self;
+        let _sign = ahead.next();
+        ahead.is_operator_before(sign)
+    }
+
+    /// Takes all such signs that come next, and counts them. A minus that belongs to a literal is none.
+    pub fn signs(&mut self, sign: UnaryOperator) -> usize
+        ensures count { result ≡ (spec.signs sign (left self.old)).0 }
+        ensures rest { left self.new ≡ (spec.signs sign (left self.old)).1 }
+    {
+        let all = self.len();
+        for turn in 0..all {
+            if !self.sees_sign(sign) {
+                return turn;
+            }
+            let _sign = self.next();
+        }
+        all
     }
 }

@@ -1,16 +1,12 @@
--- What the code's tokens and answers stand for.
+-- What the code's answers stand for.
 use Rattle.std.specs.Prelude.{◌≡◌, ℕ, List, Vec, map, Some, None, Result, Ok, Err}
 use Rattle.std.specs.declared.alloc.Global.{Global}
-use Rattle.cel_syntax_tokens.specs.Token.{Token, token_of}
+use Rattle.cel_syntax_tokens.specs.Token.{Token}
 use Rattle.cel_syntax_tree.specs.Term.{Term, term}
 use Rattle.cel_syntax_tree.specs.declared.expr.Expr.{Expr}
 use Rattle.cel_syntax_grammar.specs.Parser.{Outcome, Found}
 use Rattle.cel_syntax_grammar.specs.declared.error.SyntaxError.{SyntaxError}
 use Rattle.cel_syntax_grammar.specs.declared.error.SyntaxError.TheVariants.{Memory, Invalid}
-use Rattle.cel_syntax_grammar.specs.declared.tokens.Tokens.{Tokens}
-
-abbrev pub left : Tokens → List Token
-left t = map token_of t.rest.now
 
 -- what a function that reads a tree ensures: the parser's outcome, unless memory runs out
 abbrev pub Reads : Outcome Found → Result (Expr × ℕ) SyntaxError → List Token → Type 0

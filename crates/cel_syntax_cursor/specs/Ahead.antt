@@ -1,0 +1,60 @@
+-- What comes first in the tokens that are left.
+use Rattle.std.specs.Prelude.{ℕ, ◌+◌, nat_eq, Bool, true, false, ◌&&◌, not, if◌then◌else◌, List, [], ◌∷◌, drop, map, Option, Some, None}
+use denote.Enum.Bare.{sameb}
+use Rattle.cel_syntax_tokens.specs.contracts.mark.Mark.{the_type}
+use Rattle.cel_syntax_tokens.specs.declared.mark.Mark.{Mark}
+use Rattle.cel_syntax_tokens.specs.declared.mark.Mark.TheVariants as m
+use Rattle.cel_syntax_tokens.specs.Token.{Token, mark, token_of}
+use Rattle.cel_syntax_tree.specs.declared.expr.UnaryOperator.{UnaryOperator}
+use Rattle.cel_syntax_tree.specs.declared.expr.BinaryOperator.{BinaryOperator}
+use Rattle.cel_syntax_cursor.specs.declared.tokens.Tokens.{Tokens}
+use Rattle.cel_syntax_cursor.specs.Operator.{sign, operator, is_operator_before}
+
+unfoldable pub same_mark : Mark → Mark → Bool
+same_mark = sameb the_type
+
+abbrev pub sees : Mark → List Token → Bool
+sees m (mark k ∷ ts) = same_mark k m
+sees m _ = false
+
+-- the tokens behind such a mark, if it comes first
+abbrev pub after : Mark → List Token → List Token
+after m ts = if sees m ts then drop 1 ts else ts
+
+-- the operator that comes first, if it binds so loosely
+abbrev pub if_level : ℕ → Option (ℕ × BinaryOperator) → Option BinaryOperator
+if_level k None = None
+if_level k (Some o) = if nat_eq o.0 k then Some o.1 else None
+
+unfoldable pub operator_at : ℕ → List Token → Option BinaryOperator
+operator_at k [] = None
+operator_at k (t ∷ ts) = if_level k (operator t)
+
+-- A comma or a closing bracket ends the items, or comes before the first of them.
+abbrev pub is_end : Mark → Bool
+is_end m.CloseRound = true
+is_end m.CloseSquare = true
+is_end m.CloseBrace = true
+is_end m.Comma = true
+is_end _ = false
+
+abbrev pub sees_end : List Token → Bool
+sees_end (mark k ∷ ts) = is_end k
+sees_end _ = false
+
+-- whether another item comes first, behind a comma
+abbrev pub goes_on : List Token → Bool
+goes_on ts = sees m.Comma ts && not (sees_end (drop 1 ts))
+
+unfoldable pub sees_sign : UnaryOperator → List Token → Bool
+sees_sign s ts = sees (sign s) ts && is_operator_before s (drop 1 ts)
+
+-- how many of the sign come first, and the tokens after them
+unfoldable pub signs : UnaryOperator → List Token → ℕ × List Token
+signs s [] = (0, [])
+signs s (t ∷ ts) = if sees_sign s (t ∷ ts) then ((signs s ts).0 + 1, (signs s ts).1) else (0, t ∷ ts)
+
+-- ---- what the code's values stand for
+
+abbrev pub left : Tokens → List Token
+left t = map token_of t.rest.now
