@@ -14,8 +14,8 @@ use Rattle.celcheck_run.specs.declared.status.Stop.{Stop}
 use Rattle.celcheck_run.specs.Runs.{IfErrors}
 use Rattle.celcheck_run.specs.Told.{IsEvaluated, IsFound, IsToldAs, found_line, found_status, results_status}
 use Rattle.kube_cel_errors.specs.declared.error.ValidationErrors.{ValidationErrors}
-use Rattle.kube_cel_policies.specs.declared.expression.VapResult.{VapResult}
-use Rattle.kube_cel_policies.specs.Results.{result_view}
+use Rattle.kube_cel_admission.specs.declared.expression.VapResult.{VapResult}
+use Rattle.kube_cel_admission.specs.Validations.{result_view}
 use Rattle.kube_functions.specs.Kube.{all_library}
 use Rattle.kube_types_refused.specs.declared.Refused.{Refused}
 use Rattle.serde_json.specs.declared.value.Value.{Value}

@@ -17,9 +17,8 @@ use Rattle.celcheck_run.specs.declared.status.Stop.{Stop}
 use Rattle.celcheck_run.specs.declared.status.Stop.TheVariants as stop
 use Rattle.celcheck_run.specs.Policies.{validations_in}
 use Rattle.celcheck_run.specs.Runs.{IsRead}
-use Rattle.kube_cel_policies.specs.declared.expression.VapResult.{VapResult}
-use Rattle.kube_cel_policies.specs.Expressions.{ExpressionData}
-use Rattle.kube_cel_policies.specs.Results.{ResultData, result_view}
+use Rattle.kube_cel_admission.specs.declared.expression.VapResult.{VapResult}
+use Rattle.kube_cel_admission.specs.Validations.{ExpressionData, ResultData, result_view}
 use Rattle.kube_cel_policies.specs.Told.{AreResultsOf}
 use Rattle.kube_cel_policies.specs.Variables.{Variables, no_variables}
 use Rattle.kube_functions.specs.Kube.{all_library}

@@ -1,6 +1,6 @@
 //! `vap`: the results of a policy's validations.
 ghost use Rattle.celcheck_run.specs.Told.{AreResults, IsReviewed, result_line, results_status};
-ghost use Rattle.kube_cel_policies.specs.Results.{result_view};
+ghost use Rattle.kube_cel_admission.specs.Validations.{result_view};
 ghost use Rattle.std.specs.Io.KnownBytes.{Appends};
 ghost use Rattle.std.specs.List.{flat_map};
 ghost use Rattle.std.specs.Prelude.{◌≡◌, ◌≤◌, IfOk, OnOk, map};
@@ -8,7 +8,8 @@ ghost use Rattle.std.specs.Prelude.{◌≡◌, ◌≤◌, IfOk, OnOk, map};
 use crate::files::{Sources, read_json};
 use crate::policy::validations_of;
 use crate::status::{FAILED, PASSED, Stop, status_told, tell_why};
-use kube_cel_policies::{VapEvaluator, VapResult};
+use kube_cel_admission::VapResult;
+use kube_cel_policies::VapEvaluator;
 use std::alloc::Global;
 use std::io;
 use std::io::Write;

@@ -19,7 +19,7 @@ use cel_value::Value as CelValue;
 use kube_cel_errors::ValidationError;
 use kube_cel_places::BranchKind;
 use kube_cel_places_table::branches::{branch_count, branch_of};
-use kube_cel_verdicts::verdict::{Context, judge_rule, push_listed};
+use kube_cel_verdicts::verdict::{Context, add_verdict};
 use kube_cel_walk::Node;
 use kube_schema::{CompilationError, CompilationResult, SchemaNode, bind_node};
 use kube_types::Refused;
@@ -87,8 +87,7 @@ fn add_verdicts(
     ensures memory { IfErr result (λ e. e ≡ Refused.Memory) }
 {
     for rule in rules {
-        let error = judge_rule(*errors.allocator(), rule, context, old, path, book)?;
-        push_listed(error, errors)?;
+        add_verdict(rule, context, old, path, book, errors)?;
     }
     Ok(())
 }

@@ -18,7 +18,7 @@ use cel::PatternBook;
 use cel_value::Value as CelValue;
 use kube_cel_errors::ValidationError;
 use kube_cel_places::BranchKind;
-use kube_cel_verdicts::verdict::{Context, judge_rule, push_listed};
+use kube_cel_verdicts::verdict::{Context, add_verdict};
 use kube_cel_walk::Node;
 use kube_schema::{bind, compile_rule, rule_values};
 use kube_types::Refused;
@@ -91,7 +91,7 @@ fn branches_of(node: &Value, kind: BranchKind) -> Option<&Vec<Value>>
 }
 
 /// Adds the verdict of a rule as JSON gives it, if it has one.
-fn add_verdict(
+fn add_raw_verdict(
     rule: &Value,
     context: &Context<'_>,
     old: Option<&Value>,
@@ -104,11 +104,8 @@ fn add_verdict(
         (λ b. listed (verdict b (bindings_of context.now) (option_map (λ v. view v.now) old.entry) path.now (compiled_rule (view rule.now))))) }
     ensures memory { IfErr result (λ e. e ≡ Refused.Memory) }
 {
-    let alloc = *errors.allocator();
-    let compiled = compile_rule(alloc, rule)?;
-    let error = judge_rule(alloc, &compiled, context, old, path, book)?;
-    push_listed(error, errors)?;
-    Ok(())
+    let compiled = compile_rule(*errors.allocator(), rule)?;
+    add_verdict(&compiled, context, old, path, book, errors)
 }
 
 /// Adds the verdicts of rules as JSON gives them, in their order.
@@ -126,7 +123,7 @@ fn add_verdicts(
     ensures memory { IfErr result (λ e. e ≡ Refused.Memory) }
 {
     for rule in rules {
-        add_verdict(rule, context, old, path, book, errors)?;
+        add_raw_verdict(rule, context, old, path, book, errors)?;
     }
     Ok(())
 }

@@ -1,5 +1,3 @@
 pub mod Bound
-pub mod Entries
-pub mod Equals
 pub mod Listed
 pub mod Results

@@ -8,11 +8,12 @@ use Rattle.cel_value.specs.Data.{Data}
 use Rattle.cel_value.specs.Faults.{Fault}
 use Rattle.cel_value.specs.Parts.{bool_in}
 use Rattle.cel_value.specs.Texts.{fault_text}
+use Rattle.kube_cel_admission.specs.Validations.{ExpressionData}
 use Rattle.kube_cel_policies.proofs.Bound.{meaning_same}
-use Rattle.kube_cel_policies.specs.Expressions.{Compiled, ExpressionData, Unread, compiled, with_message_tree, with_tree, with_tree_if_any}
-use Rattle.kube_cel_policies.specs.Results.{compiled_result, compiled_results, false_message, message_in, outcome_in, outcome_message, own_message, policy_library, policy_results, result_in, result_with, told_text, value_message}
+use Rattle.kube_cel_policies.specs.Expressions.{Compiled, Unread, compiled, message_tree_in, required_tree, with_tree, with_trees, ◌>>=◌}
+use Rattle.kube_cel_policies.specs.Results.{compiled_result, compiled_results, false_message, message_in, outcome_in, outcome_message, policy_library, policy_results, result_in, result_with, value_message}
 use Rattle.kube_cel_policies.specs.Variables.{Variables, policy_bindings}
-use Rattle.std.proofs.Common.{◌≡◌, ℕ, List, [], ◌∷◌, ◌++◌, map, codes, Option, Some, None, is_none, option_map, unwrap_or, Result, Ok, Err, refl, sym, ap, ◌∙◌}
+use Rattle.std.proofs.Common.{◌≡◌, ℕ, List, [], ◌∷◌, ◌++◌, map, codes, Option, Some, None, is_none, option_map, Result, Ok, Err, refl, sym, ap, ◌∙◌}
 use Rattle.std.proofs.lemmas.List.{map-append}
 
 -- ---- laws
@@ -21,22 +22,24 @@ pub results_of_joined : (b : Book) (v : Variables) (xs ys : List ExpressionData)
 unfolding policy_results
 results_of_joined b v xs ys = map-append (result_in b v) xs ys
 
-message_kept : (b : Book) (e : Bindings) (x : ExpressionData) (t : Term) (m : List ℕ) (o : Option Term) → (compiled_result b e (with_message_tree x t m o)).expression ≡ x.expression
-message_kept b e x t m (Some u) = refl
-message_kept b e x t m None = refl
+text_kept : (b : Book) (e : Bindings) (x : ExpressionData) (t : Term) (s : List ℕ) (o : Option Term)
+    → (compiled_result b e ((required_tree (record { text = s; original = x.expression }) o >>= (λ u. Ok (Some u))) >>= (λ m. Ok (with_trees x t m)))).expression ≡ x.expression
+text_kept b e x t s (Some u) = refl
+text_kept b e x t s None = refl
 
-tree_kept : (b : Book) (e : Bindings) (x : ExpressionData) (t : Term) (o : Option (List ℕ)) → (compiled_result b e (with_tree x t o)).expression ≡ x.expression
-tree_kept b e x t None = refl
-tree_kept b e x t (Some m) = message_kept b e x t m (tree_of m)
+message_kept : (b : Book) (e : Bindings) (x : ExpressionData) (t : Term) (o : Option (List ℕ)) → (compiled_result b e (message_tree_in x o >>= (λ m. Ok (with_trees x t m)))).expression ≡ x.expression
+message_kept b e x t None = refl
+message_kept b e x t (Some m) = text_kept b e x t m (tree_of m)
 
-expression_kept : (b : Book) (e : Bindings) (x : ExpressionData) (o : Option Term) → (compiled_result b e (with_tree_if_any x o)).expression ≡ x.expression
-expression_kept b e x (Some t) = tree_kept b e x t x.message_expression
-expression_kept b e x None = refl
+expression_kept : (b : Book) (e : Bindings) (x : ExpressionData) (s : List ℕ) (o : Option Term)
+    → (compiled_result b e (required_tree (record { text = s; original = x.expression }) o >>= with_tree x)).expression ≡ x.expression
+expression_kept b e x s (Some t) = message_kept b e x t x.message_expression
+expression_kept b e x s None = refl
 
 pub results_in_order : (b : Book) (v : Variables) (xs : List ExpressionData) → map (λ r. r.expression) (policy_results b v xs) ≡ map (λ x. x.expression) xs
 unfolding policy_results result_in compiled
 results_in_order b v [] = refl
-results_in_order b v (x ∷ xs) = λ i. expression_kept b (policy_bindings v) x (tree_of x.expression) i ∷ results_in_order b v xs i
+results_in_order b v (x ∷ xs) = λ i. expression_kept b (policy_bindings v) x x.expression (tree_of x.expression) i ∷ results_in_order b v xs i
 
 pub results_of_compiled : (b : Book) (v : Variables) (xs : List ExpressionData) → compiled_results b v (map compiled xs) ≡ policy_results b v xs
 unfolding compiled_results policy_results result_in
@@ -79,12 +82,8 @@ results_same b v (c ∷ cs) e h = λ i. result_same b c e (policy_bindings v) h 
 -- ---- what is told of one expression
 
 pub message_told : (b : Book) (e : Bindings) (c : Compiled) (o : Option Term) (t : Term) (s : List ℕ) (outcome : Outcome) → o ≡ Some t → outcome ≡ outcome_in b e t
-    → Some s ≡ told_text outcome → s ≡ false_message c (option_map (outcome_in b e) o)
-message_told b e c o t s outcome k q p = ap (λ o. unwrap_or o (own_message c)) (p ∙ ap told_text q) ∙ sym (ap (λ o. false_message c (option_map (outcome_in b e) o)) k)
-
-pub message_untold : (b : Book) (e : Bindings) (c : Compiled) (o : Option Term) (t : Term) (s : List ℕ) (outcome : Outcome) → o ≡ Some t → outcome ≡ outcome_in b e t
-    → None ≡ told_text outcome → s ≡ own_message c → s ≡ false_message c (option_map (outcome_in b e) o)
-message_untold b e c o t s outcome k q p m = m ∙ ap (λ o. unwrap_or o (own_message c)) (p ∙ ap told_text q) ∙ sym (ap (λ o. false_message c (option_map (outcome_in b e) o)) k)
+    → s ≡ false_message c (Some outcome) → s ≡ false_message c (option_map (outcome_in b e) o)
+message_told b e c o t s outcome k q p = p ∙ ap (λ r. false_message c (Some r)) q ∙ sym (ap (λ o. false_message c (option_map (outcome_in b e) o)) k)
 
 pub fault_told : (b : Book) (e : Bindings) (c : Compiled) (f : Fault) (s : List ℕ) → Err f ≡ outcome_in b e c.tree → s ≡ codes "evaluation error: " ++ fault_text f → Some s ≡ message_in b e c
 unfolding message_in

@@ -11,17 +11,11 @@ use Rattle.cel_value.specs.Kinds.{kind_name}
 use Rattle.cel_value.specs.Parts.{bool_in, text_in}
 use Rattle.cel_value.specs.Texts.{fault_text}
 use Rattle.cel_value.specs.View.{kind_of}
-use Rattle.kube_cel_policies.specs.declared.expression.VapResult.{VapResult}
-use Rattle.kube_cel_policies.specs.Expressions.{Compiled, ExpressionData, Unread, compiled, unread_text}
+use Rattle.kube_cel_admission.specs.Validations.{ExpressionData, ResultData}
+use Rattle.kube_cel_policies.specs.Expressions.{Compiled, Unread, compiled, unread_text}
 use Rattle.kube_cel_policies.specs.Variables.{Variables, policy_bindings}
 use Rattle.kube_functions.specs.Kube.{all_library}
-use Rattle.std.specs.Prelude.{ℕ, List, ◌++◌, map, codes, Bool, true, false, Option, Some, None, is_none, option_and_then, option_map, unwrap_or, Result, Ok, Err, string_bytes}
-
--- what is told of one expression
-pub record ResultData : Type 0 where
-  pub expression : List ℕ
-  pub passed : Bool
-  pub message : Option (List ℕ)
+use Rattle.std.specs.Prelude.{ℕ, List, ◌++◌, map, codes, Bool, true, false, Option, Some, None, is_none, option_and_then, option_map, unwrap_or, Result, Ok, Err}
 
 -- the functions that the expressions of a policy may call: all of Kubernetes
 abbrev pub policy_library : Library
@@ -78,8 +72,3 @@ result_in b v x = compiled_result b (policy_bindings v) (compiled x)
 -- the results of a policy's expressions: one for each, in order
 unfoldable pub policy_results : Book → Variables → List ExpressionData → List ResultData
 policy_results b v xs = map (result_in b v) xs
-
--- ---- what the code's values stand for
-
-abbrev pub result_view : VapResult → ResultData
-result_view r = record { expression = string_bytes r.expression; passed = r.passed; message = option_map string_bytes r.message }

@@ -1,9 +1,10 @@
 -- What calls tell, each with a book of its own.
 use Rattle.cel_book.specs.Book.{Agrees, Book, IsBook}
 use Rattle.cel_meaning.specs.Bindings.{Bindings}
-use Rattle.kube_cel_policies.specs.declared.expression.VapResult.{VapResult}
-use Rattle.kube_cel_policies.specs.Expressions.{Compiled, ExpressionData, Unread}
-use Rattle.kube_cel_policies.specs.Results.{compiled_result, compiled_results, policy_results, result_view}
+use Rattle.kube_cel_admission.specs.Validations.{ExpressionData, result_view}
+use Rattle.kube_cel_admission.specs.declared.expression.VapResult.{VapResult}
+use Rattle.kube_cel_policies.specs.Expressions.{Compiled, Unread}
+use Rattle.kube_cel_policies.specs.Results.{compiled_result, compiled_results, policy_results}
 use Rattle.kube_cel_policies.specs.Variables.{Variables}
 use Rattle.std.specs.Prelude.{◌≡◌, List, map, Result}
 

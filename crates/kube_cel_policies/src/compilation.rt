@@ -1,10 +1,11 @@
 //! The expressions of a policy with the programs of their texts.
 ghost use Rattle.cel.specs.Program.{program_term};
-ghost use Rattle.kube_cel_policies.specs.Expressions.{compiled, compiled_seen, compiled_view, error_view, expression_view, unread_text, with_message_tree, with_tree, with_trees};
+ghost use Rattle.kube_cel_admission.specs.Validations.{expression_view};
+ghost use Rattle.kube_cel_policies.specs.Expressions.{compiled, compiled_seen, compiled_view, error_view, message_program_seen, message_tree_in, program_seen, tree_in, unread_text, with_tree, with_trees};
 ghost use Rattle.std.specs.Prelude.{◌≡◌, IfErr, IfOk, option_map, Some, string_bytes};
 
-use crate::expression::{VapExpression, clone_text};
 use cel::{ParseErrors, Program};
+use kube_cel_admission::{VapExpression, clone_text};
 use kube_types_refused::Refused;
 use std::alloc::{AllocError, Global};
 use std::fmt;
@@ -59,9 +60,8 @@ pub(crate) fn compile_expression(
     ensures compiled { IfOk result (λ r. compiled_seen r ≡ compiled (expression_view expression.now)) }
     ensures memory { IfErr result (λ e. e ≡ Refused.Memory) }
 {
-    let text = expression.expression.as_str();
-    match Program::compile(alloc, text)? {
-        Err(source) => Ok(Err(unread(alloc, text, expression, source)?)),
+    match read(alloc, expression, expression.expression.as_str())? {
+        Err(error) => Ok(Err(error)),
         Ok(program) => compile_message(alloc, expression, program),
     }
 }
@@ -72,19 +72,45 @@ fn compile_message(
     expression: &VapExpression,
     program: Program,
 ) -> Result<Result<CompiledVapExpression, VapError>, Refused>
-    ensures compiled { IfOk result (λ r. compiled_seen r
-        ≡ with_tree (expression_view expression.now) (program_term program) (expression_view expression.now).message_expression) }
+    ensures compiled { IfOk result (λ r. compiled_seen r ≡ with_tree (expression_view expression.now) (program_term program)) }
+    ensures memory { IfErr result (λ e. e ≡ Refused.Memory) }
+{
+    match read_message(alloc, expression)? {
+        Err(error) => Ok(Err(error)),
+        Ok(message) => Ok(Ok(with_programs(expression, program, message)?)),
+    }
+}
+
+/// The program of the messageExpression of an expression, where it has one.
+fn read_message(
+    alloc: Global,
+    expression: &VapExpression,
+) -> Result<Result<Option<Program>, VapError>, Refused>
+    ensures read { IfOk result (λ r. message_program_seen r
+        ≡ message_tree_in (expression_view expression.now) (expression_view expression.now).message_expression) }
     ensures memory { IfErr result (λ e. e ≡ Refused.Memory) }
 {
     let Some(text) = &expression.message_expression else {
-        return Ok(Ok(with_programs(expression, program, None)?));
+        return Ok(Ok(None));
     };
-    match Program::compile(alloc, text.as_str())? {
-        Err(source) => Ok(Err(unread(alloc, text.as_str(), expression, source)?)),
-        Ok(message_program) => {
-            let compiled = with_programs(expression, program, Some(message_program))?;
-            Ok(Ok(compiled))
-        }
+    match read(alloc, expression, text.as_str())? {
+        Ok(program) => Ok(Ok(Some(program))),
+        Err(unread) => Ok(Err(unread)),
+    }
+}
+
+/// The program of a text of an expression.
+fn read(
+    alloc: Global,
+    expression: &VapExpression,
+    text: &str,
+) -> Result<Result<Program, VapError>, Refused>
+    ensures read { IfOk result (λ r. program_seen r ≡ tree_in (expression_view expression.now) text.now) }
+    ensures memory { IfErr result (λ e. e ≡ Refused.Memory) }
+{
+    match Program::compile(alloc, text)? {
+        Ok(program) => Ok(Ok(program)),
+        Err(source) => Ok(Err(error_of(alloc, text, expression, source)?)),
     }
 }
 
@@ -97,16 +123,26 @@ fn with_programs(
     ensures { IfOk result (λ c. compiled_view c
         ≡ with_trees (expression_view expression.now) (program_term program) (option_map program_term message_program)) }
 {
+    let (text, message) = texts_of(expression)?;
     Ok(CompiledVapExpression {
-        expression: expression.expression.clone()?,
-        message: clone_text(&expression.message)?,
+        expression: text,
+        message,
         program,
         message_program,
     })
 }
 
+/// The text of an expression, and its message.
+fn texts_of(expression: &VapExpression) -> Result<(String, Option<String>), AllocError>
+    ensures { IfOk result (λ t. (string_bytes t.0 ≡ (expression_view expression.now).expression)
+        × (option_map string_bytes t.1 ≡ (expression_view expression.now).message)) }
+{
+    let text = expression.expression.clone()?;
+    Ok((text, clone_text(&expression.message)?))
+}
+
 /// The error of a text that was not read, of this expression.
-fn unread(
+fn error_of(
     alloc: Global,
     text: &str,
     expression: &VapExpression,

@@ -1,6 +1,7 @@
 //! The evaluation of a policy's expressions.
-ghost use Rattle.kube_cel_policies.specs.Expressions.{compiled, compiled_seen, expression_view};
-ghost use Rattle.kube_cel_policies.specs.Requests.{request_view};
+ghost use Rattle.kube_cel_admission.specs.Requests.{request_view};
+ghost use Rattle.kube_cel_admission.specs.Validations.{expression_view};
+ghost use Rattle.kube_cel_policies.specs.Expressions.{compiled, compiled_seen};
 ghost use Rattle.kube_cel_policies.specs.Told.{AreResultsOf, AreResultsOfCompiled};
 ghost use Rattle.kube_cel_policies.specs.Variables.{builder_view, evaluator_view, no_variables};
 ghost use Rattle.serde_json.specs.View.{view};
@@ -8,11 +9,10 @@ ghost use Rattle.std.specs.Prelude.{◌≡◌, IfErr, IfOk, map, Some};
 
 use crate::compilation::{CompiledVapExpression, VapError, compile_expression};
 use crate::context::context_of;
-use crate::expression::{VapExpression, VapResult};
 use crate::judged::judge_all;
-use crate::request::AdmissionRequest;
 use crate::variables::Given;
 use cel::PatternBook;
+use kube_cel_admission::{AdmissionRequest, VapExpression, VapResult};
 use kube_types_refused::Refused;
 use serde_json::Value;
 use std::alloc::Global;

@@ -6,16 +6,17 @@ ghost use Rattle.cel_meaning.specs.Bindings.{bindings_of};
 ghost use Rattle.cel_meaning.specs.Outcome.{outcome_view};
 ghost use Rattle.cel_value.specs.Parts.{bool_in};
 ghost use Rattle.cel_value.specs.View.{view};
+ghost use Rattle.kube_cel_admission.specs.Validations.{result_view};
 ghost use Rattle.kube_cel_policies.specs.Expressions.{compiled_seen, compiled_view, error_view, unread_text};
-ghost use Rattle.kube_cel_policies.specs.Results.{compiled_result, false_message, message_in, outcome_in, own_message, result_view, result_with, told_text, value_message};
+ghost use Rattle.kube_cel_policies.specs.Results.{compiled_result, false_message, message_in, outcome_in, own_message, result_with, told_text, value_message};
 ghost use Rattle.kube_cel_policies.specs.Told.{AreResultsUnder};
 ghost use Rattle.std.specs.Prelude.{◌≡◌, IfErr, IfOk, map, option_map, Some, string_bytes};
 
 use crate::compilation::{CompiledVapExpression, VapError};
 use crate::context::{PolicyContext, outcome_of};
-use crate::expression::VapResult;
 use cel::{Answer, PatternBook};
 use cel_value::Value;
+use kube_cel_admission::VapResult;
 use kube_types_refused::Refused;
 use std::alloc::{AllocError, Global};
 
@@ -71,10 +72,21 @@ fn false_message(
         return Ok(own_message(alloc, compiled)?);
     };
     let outcome = outcome_of(alloc, program, context, book)?;
-    let Some(text) = told_text(&outcome) else {
-        return Ok(own_message(alloc, compiled)?);
-    };
-    Ok(String::from_str(alloc, text)?)
+    Ok(told_message(alloc, compiled, &outcome)?)
+}
+
+/// What is told of an expression that is false, where its messageExpression came to this.
+fn told_message(
+    alloc: Global,
+    compiled: &CompiledVapExpression,
+    outcome: &Answer,
+) -> Result<String, AllocError>
+    ensures { IfOk result (λ s. string_bytes s ≡ false_message (compiled_view compiled.now) (Some (outcome_view outcome.now))) }
+{
+    match told_text(outcome) {
+        Some(text) => String::from_str(alloc, text),
+        None => own_message(alloc, compiled),
+    }
 }
 
 /// What is told of an expression with this value, unless it is true.

@@ -4,15 +4,13 @@
 mod compilation;
 mod context;
 pub mod evaluator;
-mod expression;
 mod judged;
 pub mod laws;
-mod request;
-mod request_value;
 mod variables;
 
 pub use compilation::{CompiledVapExpression, VapError};
 pub use evaluator::{VapEvaluator, VapEvaluatorBuilder};
-pub use expression::{VapExpression, VapResult};
+pub use kube_cel_admission::{
+    AdmissionRequest, GroupVersionKind, GroupVersionResource, VapExpression, VapResult,
+};
 pub use kube_types_refused::Refused;
-pub use request::{AdmissionRequest, GroupVersionKind, GroupVersionResource};

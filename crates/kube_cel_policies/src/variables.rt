@@ -1,5 +1,5 @@
 //! What the expressions of a policy may ask of.
-use crate::request::AdmissionRequest;
+use kube_cel_admission::AdmissionRequest;
 use serde_json::Value;
 
 /// What was set, each of it once at most.

@@ -9,7 +9,7 @@ ghost use Rattle.cel_value.specs.Parts.{bool_in};
 ghost use Rattle.cel_value.specs.View.{view as cel_view};
 ghost use Rattle.kube_cel_errors.specs.Errors.{error_view};
 ghost use Rattle.kube_cel_verdicts.specs.Roots.{root_view};
-ghost use Rattle.kube_cel_verdicts.specs.Told.{IsVerdict};
+ghost use Rattle.kube_cel_verdicts.specs.Told.{AreAdded, IsVerdict};
 ghost use Rattle.kube_cel_verdicts.specs.Verdicts.{bound_verdict, compiled_verdict, failed_message, is_applicable, is_old_null, is_old_optional, listed, outcome_in, own_message, told_text, value_error, verdict, with_root};
 ghost use Rattle.kube_schema_rules.specs.Compilation.{compiled_seen, result_view};
 ghost use Rattle.kube_schema_rules.specs.Rules.{rule_view};
@@ -201,11 +201,7 @@ fn judge_compiled(
 }
 
 /// The verdict of a rule where these names are bound, if it has one. There may be an old counterpart.
-///
-/// # Errors
-///
-/// [`Refused`] where memory is refused.
-pub fn judge_rule(
+fn judge_rule(
     alloc: Global,
     rule: &Result<CompilationResult, CompilationError>,
     context: &Context<'_>,
@@ -228,11 +224,7 @@ pub fn judge_rule(
 }
 
 /// Adds an error, if there is one.
-///
-/// # Errors
-///
-/// Where memory is refused.
-pub fn push_listed(
+fn push_listed(
     error: Option<ValidationError>,
     errors: &mut Vec<ValidationError>,
 ) -> Result<(), AllocError>
@@ -242,5 +234,28 @@ pub fn push_listed(
         return Ok(());
     };
     errors.push(error)?;
+    Ok(())
+}
+
+/// Adds the verdict of a rule where these names are bound, if it has one. There may be an old counterpart.
+///
+/// # Errors
+///
+/// [`Refused`] where memory is refused.
+pub fn add_verdict(
+    rule: &Result<CompilationResult, CompilationError>,
+    context: &Context<'_>,
+    old: Option<&Value>,
+    path: &str,
+    book: &mut PatternBook,
+    errors: &mut Vec<ValidationError>,
+) -> Result<(), Refused>
+    ensures keeps { (b : Book) → Agrees b (entries_of book.new) → Agrees b (entries_of book.old) }
+    ensures found { OnOk result (AreAdded (entries_of book.new) errors.old.items errors.new.items
+        (λ b. listed (verdict b (bindings_of context.now) (option_map (λ v. view v.now) old.entry) path.now (compiled_seen rule.now)))) }
+    ensures memory { IfErr result (λ e. e ≡ Refused.Memory) }
+{
+    let error = judge_rule(*errors.allocator(), rule, context, old, path, book)?;
+    push_listed(error, errors)?;
     Ok(())
 }

@@ -1,7 +1,7 @@
 use Rattle.celcheck_run.proofs.Policies.{read_all, read_ends, read_on}
 use Rattle.celcheck_run.proofs.policy.expressions_of.Goals as goal
 use Rattle.celcheck_run.specs.Policies.{parts_view}
-use Rattle.kube_cel_policies.specs.Expressions.{expression_view}
+use Rattle.kube_cel_admission.specs.Validations.{expression_view}
 use Rattle.std.proofs.Common.{◌<◌, ◌≤◌, length, map, sym, ◌∙◌, arith}
 
 pub returns-in-None : goal.returns-in-None

@@ -1,7 +1,7 @@
 use Rattle.celcheck_run.proofs.Policies.{joined}
 use Rattle.celcheck_run.proofs.policy.expressions_of.Given as goal
 use Rattle.celcheck_run.specs.Policies.{expressions_in}
-use Rattle.kube_cel_policies.specs.Expressions.{expression_view}
+use Rattle.kube_cel_admission.specs.Validations.{expression_view}
 use Rattle.serde_json.specs.View.{items_view}
 use Rattle.std.proofs.Common.{◌≡◌, map, drop}
 

@@ -1,6 +1,6 @@
 use Rattle.celcheck_run.proofs.vap.write_results.Given as goal
 use Rattle.celcheck_run.specs.Told.{result_line}
-use Rattle.kube_cel_policies.specs.Results.{result_view}
+use Rattle.kube_cel_admission.specs.Validations.{result_view}
 use Rattle.std.proofs.Common.{map, take, flat_map}
 use Rattle.std.specs.Io.KnownBytes.{Appends}
 

@@ -1,9 +1,10 @@
 use Rattle.cel_book.proofs.Books.{Agrees-trans}
 use Rattle.cel_meaning.specs.Bindings.{bindings_of}
+use Rattle.kube_cel_admission.specs.Validations.{result_view}
 use Rattle.kube_cel_policies.proofs.judged.judge_all.Goals as goal
 use Rattle.kube_cel_policies.proofs.Listed.{one_more_seen}
 use Rattle.kube_cel_policies.specs.Expressions.{compiled_seen}
-use Rattle.kube_cel_policies.specs.Results.{compiled_result, result_view}
+use Rattle.kube_cel_policies.specs.Results.{compiled_result}
 use Rattle.std.proofs.Common.{◌<◌, length, arith}
 
 pub loop-one-preserved : goal.loop-one-preserved

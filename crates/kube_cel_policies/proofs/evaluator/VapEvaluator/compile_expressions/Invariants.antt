@@ -1,5 +1,6 @@
+use Rattle.kube_cel_admission.specs.Validations.{expression_view}
 use Rattle.kube_cel_policies.proofs.evaluator.VapEvaluator.compile_expressions.Given as goal
-use Rattle.kube_cel_policies.specs.Expressions.{compiled, compiled_seen, expression_view}
+use Rattle.kube_cel_policies.specs.Expressions.{compiled, compiled_seen}
 use Rattle.std.proofs.Common.{◌≡◌, map, take}
 
 abbrev pub invariant-loop-expression : goal.invariant-loop-expression

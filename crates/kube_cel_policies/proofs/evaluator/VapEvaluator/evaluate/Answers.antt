@@ -1,6 +1,7 @@
+use Rattle.kube_cel_admission.specs.Validations.{expression_view}
 use Rattle.kube_cel_policies.proofs.evaluator.VapEvaluator.evaluate.Goals as goal
 use Rattle.kube_cel_policies.proofs.Results.{results_of_compiled}
-use Rattle.kube_cel_policies.specs.Expressions.{compiled_seen, expression_view}
+use Rattle.kube_cel_policies.specs.Expressions.{compiled_seen}
 use Rattle.kube_cel_policies.specs.Results.{compiled_results}
 use Rattle.kube_cel_policies.specs.Variables.{evaluator_view}
 use Rattle.std.proofs.Common.{map, ap, ◌∙◌}
