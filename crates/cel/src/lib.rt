@@ -11,5 +11,10 @@ pub use cel_standard::StandardFunctions;
 pub use cel_syntax::ParseErrors;
 pub use cel_syntax_names::References;
 pub use cel_syntax_tree::{BinaryOperator, Expr, MacroKind, UnaryOperator};
-pub use cel_value::{ExecutionError, Key, Kind, Map, OptionalValue, Refused, Value};
+pub use cel_value::{
+    Duration, ExecutionError, Key, Kind, Map, OptionalValue, Refused, Timestamp, Value,
+};
+pub use kube_types::{
+    FormatKind, IntegerError, KubeCIDR, KubeFormat, KubeIP, KubeQuantity, KubeSemver, KubeUrl,
+};
 pub use program::Program;

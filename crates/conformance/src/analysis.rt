@@ -1,7 +1,7 @@
 //! Rows of what can be said of a rule without an object.
 
-use crate::expressions::compiled;
-use crate::rows::{cut, give};
+use conformance_expressions::compiled;
+use conformance_rows::{cut, give};
 use kube_cel_analysis::{
     AnalysisWarning, ScopeContext, Sizes, WarningKind, check_rule_scope, estimated_cost,
 };
@@ -59,13 +59,11 @@ fn warnings(alloc: Global, text: &str, scope: ScopeContext) -> Result<String, Fa
 #[test]
 fn names_are_there_where_a_rule_runs(rt: HostRuntime) -> Result<(), Fail> {
     give(
-        &rt,
         rt.alloc(),
         CRD_SCOPES,
         |alloc, text| warnings(alloc, text, ScopeContext::CrdValidation),
     )?;
     give(
-        &rt,
         rt.alloc(),
         POLICY_SCOPES,
         |alloc, text| warnings(alloc, text, ScopeContext::AdmissionPolicy),
@@ -121,5 +119,5 @@ fn cost(alloc: Global, row: &str) -> Result<String, Fail> {
 
 #[test]
 fn expressions_cost_what_is_estimated(rt: HostRuntime) -> Result<(), Fail> {
-    give(&rt, rt.alloc(), COSTS, cost)
+    give(rt.alloc(), COSTS, cost)
 }

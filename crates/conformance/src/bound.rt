@@ -1,9 +1,9 @@
 //! Rows of values bound by a schema, each shown by an expression of `self`: the schema, the value and the expression, with what
 //! that gives.
 
-use crate::expressions::executed;
-use crate::rows::{cut, give};
 use cel::{Context, StandardFunctions, Value};
+use conformance_expressions::executed;
+use conformance_rows::{cut, give};
 use kube_schema_bound::bind;
 use serde_json::Value as Json;
 use std::alloc::Global;
@@ -65,7 +65,7 @@ const FORMATS: &str = r#"
 
 #[test]
 fn texts_go_by_their_formats(rt: HostRuntime) -> Result<(), Fail> {
-    give(&rt, rt.alloc(), FORMATS, shown_at_the_root)
+    give(rt.alloc(), FORMATS, shown_at_the_root)
 }
 
 /// Values other than texts.
@@ -82,7 +82,7 @@ true ; {"a":[1]} ; self.a[0] => 1
 
 #[test]
 fn other_values_stay_what_they_are(rt: HostRuntime) -> Result<(), Fail> {
-    give(&rt, rt.alloc(), KINDS, shown_at_the_root)
+    give(rt.alloc(), KINDS, shown_at_the_root)
 }
 
 /// Keys are escaped, unless the node is a map.
@@ -106,7 +106,7 @@ const KEYS: &str = r#"
 
 #[test]
 fn keys_are_escaped_but_in_maps(rt: HostRuntime) -> Result<(), Fail> {
-    give(&rt, rt.alloc(), KEYS, shown_at_the_root)
+    give(rt.alloc(), KEYS, shown_at_the_root)
 }
 
 /// Members and items by their nodes.
@@ -125,7 +125,7 @@ const MEMBERS: &str = r#"
 
 #[test]
 fn members_and_items_go_by_their_nodes(rt: HostRuntime) -> Result<(), Fail> {
-    give(&rt, rt.alloc(), MEMBERS, shown_at_the_root)
+    give(rt.alloc(), MEMBERS, shown_at_the_root)
 }
 
 /// The fields that a Kubernetes object within another always has.
@@ -144,7 +144,7 @@ const RESOURCES: &str = r#"
 
 #[test]
 fn resources_have_their_fields(rt: HostRuntime) -> Result<(), Fail> {
-    give(&rt, rt.alloc(), RESOURCES, shown_at_the_root)
+    give(rt.alloc(), RESOURCES, shown_at_the_root)
 }
 
 /// Schemas count up to depth 64. The depth at which a schema stands comes first in a row.
@@ -171,5 +171,5 @@ fn shown_at_its_depth(alloc: Global, row: &str) -> Result<String, Fail> {
 
 #[test]
 fn schemas_count_up_to_depth_64(rt: HostRuntime) -> Result<(), Fail> {
-    give(&rt, rt.alloc(), DEPTHS, shown_at_its_depth)
+    give(rt.alloc(), DEPTHS, shown_at_its_depth)
 }

@@ -1,127 +1,12 @@
 //! Rows of expressions: each is compiled, executed, and run by its code.
 
-use crate::rows::{check, cut, given, hold, is_row};
-use cel::{
-    Answer, Context, Functions, ParseErrors, PatternBook, Program, Refused, StandardFunctions,
-    Value, run_code,
-};
+use cel::{Context, StandardFunctions};
+use conformance_expressions::{give_their_values, is_not_read};
+use conformance_rows::{cut, hold, nested_text};
 use kube_schema_values::bind_plain;
 use serde_json::Value as Json;
 use std::alloc::Global;
-use std::process::Abort;
 use std::test::Fail;
-
-/// The text of a value, or its kind where it has none.
-pub(crate) fn text_of_value(alloc: Global, value: &Value) -> Result<String, Fail> {
-    match value.text(alloc)? {
-        Ok(text) => Ok(text),
-        Err(kind) => Ok(kind.to_string(alloc)?),
-    }
-}
-
-/// The text of an answer: that of its value, or that of its error.
-pub(crate) fn text_of(alloc: Global, answer: &Answer) -> Result<String, Fail> {
-    match answer {
-        Ok(value) => text_of_value(alloc, value),
-        Err(error) => Ok(error.to_string(alloc)?),
-    }
-}
-
-/// The text of an answer that may be refused.
-fn told(alloc: Global, answer: Result<Answer, Refused>) -> Result<String, Fail> {
-    match &answer {
-        Ok(answer) => text_of(alloc, answer),
-        Err(_) => Ok(String::from_str(alloc, "refused")?),
-    }
-}
-
-/// The value of an answer that has one.
-pub(crate) fn valued(answer: Result<Answer, Refused>) -> Result<Value, Fail> {
-    match answer {
-        Ok(Ok(value)) => Ok(value),
-        _ => Err(Fail::from("no value")),
-    }
-}
-
-/// The program of a text that is read.
-pub(crate) fn compiled(alloc: Global, text: &str) -> Result<Program, Fail> {
-    match Program::compile(alloc, text)? {
-        Ok(program) => Ok(program),
-        Err(_) => Err(Fail::new(format_args!("not read: {text}"))),
-    }
-}
-
-/// What a text executes to.
-pub(crate) fn executed<F: Functions>(
-    alloc: Global,
-    context: &Context<'_, F>,
-    text: &str,
-) -> Result<String, Fail> {
-    let program = compiled(alloc, text)?;
-    told(alloc, program.execute(alloc, context))
-}
-
-/// What the run of a text's code ends with.
-fn run<F: Functions>(alloc: Global, context: &Context<'_, F>, text: &str) -> Result<String, Fail> {
-    let program = compiled(alloc, text)?;
-    let mut book = PatternBook::new(alloc);
-    told(alloc, run_code(alloc, program.code(), context, &mut book))
-}
-
-/// A row's text gives its value, as an execution and as a run of its code.
-fn check_both<F: Functions>(
-    rt: &impl Abort,
-    alloc: Global,
-    context: &Context<'_, F>,
-    line: &str,
-) -> Result<(), Fail> {
-    let text = given(alloc, line)?;
-    let found = executed(alloc, context, text.as_str())?;
-    check(rt, alloc, line, found.as_str())?;
-    let found = run(alloc, context, text.as_str())?;
-    check(rt, alloc, line, found.as_str())
-}
-
-/// Each text of a table gives its value under a set of functions.
-pub(crate) fn give_their_values<F: Functions>(
-    rt: &impl Abort,
-    alloc: Global,
-    context: &Context<'_, F>,
-    table: &str,
-) -> Result<(), Fail> {
-    for line in table.lines() {
-        if is_row(line) {
-            check_both(rt, alloc, context, line)?;
-        }
-    }
-    Ok(())
-}
-
-/// Each text of a table gives its value where nothing is bound and the standard functions alone are known.
-pub(crate) fn give_their_standard_values(
-    rt: &impl Abort,
-    alloc: Global,
-    table: &str,
-) -> Result<(), Fail> {
-    let context: Context<'_, StandardFunctions> = Context::default(alloc);
-    give_their_values(rt, alloc, &context, table)
-}
-
-/// The value of a text.
-fn value_of<F: Functions>(
-    alloc: Global,
-    context: &Context<'_, F>,
-    text: &str,
-) -> Result<Value, Fail> {
-    let program = compiled(alloc, text)?;
-    valued(program.execute(alloc, context))
-}
-
-/// The list that a text writes: the operands of a call.
-pub(crate) fn operands(alloc: Global, text: &str) -> Result<Value, Fail> {
-    let context: Context<'_, StandardFunctions> = Context::default(alloc);
-    value_of(alloc, &context, text)
-}
 
 /// What `self` is bound to.
 const SELF: &str =
@@ -208,8 +93,8 @@ fn expressions_give_their_values(rt: HostRuntime) -> Result<(), Fail> {
     let alloc = rt.alloc();
     let object = bind_plain(alloc, &Json::from_str(alloc, SELF)?)?;
     let mut context: Context<'_, StandardFunctions> = Context::default(alloc);
-    context.add_variable("self", object)?;
-    give_their_values(&rt, alloc, &context, TEXTS)
+    context.add_variable_from_value("self", object)?;
+    give_their_values(alloc, &context, TEXTS)
 }
 
 /// Texts that are no expressions.
@@ -251,22 +136,9 @@ self.null
 #
 "#;
 
-/// Whether the errors of a text that is not read are told so.
-fn is_told(alloc: Global, errors: &ParseErrors) -> Result<bool, Fail> {
-    Ok(errors.to_string(alloc)?.as_str() == "invalid CEL expression")
-}
-
-/// Whether a text is not read.
-pub(crate) fn is_not_read(alloc: Global, text: &str) -> Result<bool, Fail> {
-    match Program::compile(alloc, text)? {
-        Ok(_) => Ok(false),
-        Err(errors) => is_told(alloc, &errors),
-    }
-}
-
 #[test]
 fn other_texts_are_not_read(rt: HostRuntime) -> Result<(), Fail> {
-    hold(&rt, rt.alloc(), NOT_READ, is_not_read)
+    hold(rt.alloc(), NOT_READ, is_not_read)
 }
 
 /// How a level is made around a text: what stands before it, the text within, and what stands after it, cut by `~`.
@@ -274,6 +146,7 @@ const LEVELS: &str = r#"
 (~1~)
 !~true~
 ~a~.b
+has(~a~.b)
 ~1~<1
 -~x~
 [~1~]
@@ -285,24 +158,11 @@ a.all(x, ~true~)
 a ? b : ~c~
 "#;
 
-/// A text of so many levels of a form.
-fn nested(alloc: Global, form: &str, count: usize) -> Result<String, Fail> {
-    let (before, rest) = cut(form, "~")?;
-    let (within, after) = cut(rest, "~")?;
-    let mut text = String::new(alloc);
-    for _ in 0..count {
-        text.push_str(before)?;
-    }
-    text.push_str(within)?;
-    for _ in 0..count {
-        text.push_str(after)?;
-    }
-    Ok(text)
-}
-
 /// Whether a text of so many levels of a form is read.
 fn is_read(alloc: Global, form: &str, count: usize) -> Result<bool, Fail> {
-    let text = nested(alloc, form, count)?;
+    let (before, rest) = cut(form, "~")?;
+    let (within, after) = cut(rest, "~")?;
+    let text = nested_text(alloc, before, within, after, count)?;
     Ok(!is_not_read(alloc, text.as_str())?)
 }
 
@@ -318,5 +178,5 @@ fn ends_at_250(alloc: Global, form: &str) -> Result<bool, Fail> {
 
 #[test]
 fn levels_are_limited(rt: HostRuntime) -> Result<(), Fail> {
-    hold(&rt, rt.alloc(), LEVELS, ends_at_250)
+    hold(rt.alloc(), LEVELS, ends_at_250)
 }

@@ -1,8 +1,8 @@
 //! Rows of the whole language: arithmetic, membership, indexes, literals of lists and maps, conditions, macros and calls.
 
-use crate::expressions::{compiled, give_their_standard_values, is_not_read};
-use crate::rows::{give, hold};
 use cel::References;
+use conformance_expressions::{compiled, give_their_common_values, is_not_read};
+use conformance_rows::{give, hold};
 use std::alloc::Global;
 use std::test::Fail;
 
@@ -70,6 +70,7 @@ const MEMBERS: &str = r#"
 {'a': 1}['b'] => no such key: b
 {1: 2}[1u] => 2
 {1: 2}[[1]] => unsupported map key
+{[0.5]: 1} => unsupported map key
 {'a': 1}.a => 1
 has({'a': 1}.a) => true
 has({'a': 1}.b) => false
@@ -82,8 +83,8 @@ has(1.a) => no such overload: has
 
 #[test]
 fn the_whole_language(rt: HostRuntime) -> Result<(), Fail> {
-    give_their_standard_values(&rt, rt.alloc(), ARITHMETIC)?;
-    give_their_standard_values(&rt, rt.alloc(), MEMBERS)
+    give_their_common_values(rt.alloc(), ARITHMETIC)?;
+    give_their_common_values(rt.alloc(), MEMBERS)
 }
 
 const MACROS: &str = r#"
@@ -160,9 +161,9 @@ has({'a': 0.5}.a) => true
 
 #[test]
 fn macros_and_decisions(rt: HostRuntime) -> Result<(), Fail> {
-    give_their_standard_values(&rt, rt.alloc(), MACROS)?;
-    give_their_standard_values(&rt, rt.alloc(), DECISIONS)?;
-    give_their_standard_values(&rt, rt.alloc(), DOUBLES)
+    give_their_common_values(rt.alloc(), MACROS)?;
+    give_their_common_values(rt.alloc(), DECISIONS)?;
+    give_their_common_values(rt.alloc(), DOUBLES)
 }
 
 /// Texts that are no expressions.
@@ -195,7 +196,7 @@ b'\u0041'
 
 #[test]
 fn texts_past_the_grammar(rt: HostRuntime) -> Result<(), Fail> {
-    hold(&rt, rt.alloc(), NOT_READ, is_not_read)
+    hold(rt.alloc(), NOT_READ, is_not_read)
 }
 
 /// A text with its free names, the names of its calls, and whether `oldSelf` is a free name.
@@ -220,5 +221,5 @@ fn names(alloc: Global, text: &str) -> Result<String, Fail> {
 
 #[test]
 fn names_that_are_referred_to(rt: HostRuntime) -> Result<(), Fail> {
-    give(&rt, rt.alloc(), NAMES, names)
+    give(rt.alloc(), NAMES, names)
 }

@@ -1,7 +1,7 @@
 //! Rows of literals: what their spellings mean.
 
-use crate::expressions::{give_their_standard_values, is_not_read};
-use crate::rows::hold;
+use conformance_expressions::{give_their_common_values, is_not_read};
+use conformance_rows::hold;
 use std::test::Fail;
 
 /// A text with what it gives.
@@ -72,8 +72,8 @@ b'a' == 'a' => false
 
 #[test]
 fn literals_have_values(rt: HostRuntime) -> Result<(), Fail> {
-    give_their_standard_values(&rt, rt.alloc(), NUMBERS)?;
-    give_their_standard_values(&rt, rt.alloc(), STRINGS)
+    give_their_common_values(rt.alloc(), NUMBERS)?;
+    give_their_common_values(rt.alloc(), STRINGS)
 }
 
 /// Spellings that mean nothing.
@@ -147,5 +147,5 @@ b'\U00000041'
 
 #[test]
 fn spellings_without_a_value_are_not_read(rt: HostRuntime) -> Result<(), Fail> {
-    hold(&rt, rt.alloc(), NO_LITERALS, is_not_read)
+    hold(rt.alloc(), NO_LITERALS, is_not_read)
 }

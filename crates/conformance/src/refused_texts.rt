@@ -1,7 +1,7 @@
 //! Texts that the grammar refuses, with the reason.
 
-use crate::expressions::is_not_read;
-use crate::rows::hold;
+use conformance_expressions::is_not_read;
+use conformance_rows::hold;
 use std::test::Fail;
 
 const NUMBERS_AND_SIGNS: &str = r#"
@@ -232,14 +232,14 @@ a.all(true, x)
 
 #[test]
 fn texts_out_of_the_grammar(rt: HostRuntime) -> Result<(), Fail> {
-    hold(&rt, rt.alloc(), NUMBERS_AND_SIGNS, is_not_read)?;
-    hold(&rt, rt.alloc(), OPERATORS, is_not_read)?;
-    hold(&rt, rt.alloc(), CONDITIONS_AND_INDICES, is_not_read)
+    hold(rt.alloc(), NUMBERS_AND_SIGNS, is_not_read)?;
+    hold(rt.alloc(), OPERATORS, is_not_read)?;
+    hold(rt.alloc(), CONDITIONS_AND_INDICES, is_not_read)
 }
 
 #[test]
 fn brackets_out_of_the_grammar(rt: HostRuntime) -> Result<(), Fail> {
-    hold(&rt, rt.alloc(), CALLS, is_not_read)?;
-    hold(&rt, rt.alloc(), LISTS_AND_MAPS, is_not_read)?;
-    hold(&rt, rt.alloc(), MACROS, is_not_read)
+    hold(rt.alloc(), CALLS, is_not_read)?;
+    hold(rt.alloc(), LISTS_AND_MAPS, is_not_read)?;
+    hold(rt.alloc(), MACROS, is_not_read)
 }

@@ -1,8 +1,8 @@
 //! Rows of tokens: what a text is cut into.
 
-use crate::rows::give;
 use cel_syntax_tokens::lexer::tokens;
 use cel_syntax_tokens::token::Token;
+use conformance_rows::give;
 use std::alloc::Global;
 use std::test::Fail;
 
@@ -135,6 +135,6 @@ fn cut(alloc: Global, text: &str) -> Result<String, Fail> {
 
 #[test]
 fn texts_cut_into_tokens(rt: HostRuntime) -> Result<(), Fail> {
-    give(&rt, rt.alloc(), NUMBERS_AND_WORDS, cut)?;
-    give(&rt, rt.alloc(), STRINGS, cut)
+    give(rt.alloc(), NUMBERS_AND_WORDS, cut)?;
+    give(rt.alloc(), STRINGS, cut)
 }

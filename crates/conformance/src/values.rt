@@ -1,7 +1,7 @@
 //! Rows of values: the names of their kinds, their equality and their order.
 
-use crate::rows::{cut, give};
-use cel_value::{Duration, Kind, Timestamp, Value};
+use cel_value::{Duration, Key, Kind, OptionalValue, Timestamp, Value};
+use conformance_rows::{cut, give};
 use kube_types::{KubeCIDR, KubeFormat, KubeIP, KubeQuantity, KubeSemver, KubeUrl};
 use std::alloc::Global;
 use std::rc::Rc;
@@ -142,6 +142,24 @@ fn compared(alloc: Global, pair: &str) -> Result<String, Fail> {
 }
 
 #[test]
+fn keys_and_optionals_are_copied(rt: HostRuntime) -> Result<(), Fail> {
+    let alloc = rt.alloc();
+    let keys = [
+        Key::Bool(true),
+        Key::Int(-1),
+        Key::Uint(1),
+        Key::String(Rc::new(alloc, String::from_str(alloc, "a")?)?),
+    ];
+    for key in &keys {
+        assert!(rt; key.try_clone()? == *key);
+    }
+    let held = OptionalValue::of(alloc, Value::Int(7))?;
+    let copy = Value::Optional(held.try_clone()?);
+    assert!(rt; copy == Value::Optional(held));
+    Ok(())
+}
+
+#[test]
 fn values_are_compared(rt: HostRuntime) -> Result<(), Fail> {
-    give(&rt, rt.alloc(), PAIRS, compared)
+    give(rt.alloc(), PAIRS, compared)
 }

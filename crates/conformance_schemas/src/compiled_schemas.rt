@@ -1,6 +1,6 @@
 //! Rows of compiled schemas: how many nodes they have, what the nodes show, and how values are bound by them.
 
-use crate::judged::nested_text;
+use conformance_rows::nested_text;
 use kube_cel::cel::{Context, Program, StandardFunctions, Value as CelValue};
 use kube_schema::{SchemaFormat, bind, bind_node, compile_schema};
 use serde_json::Value;
@@ -14,15 +14,23 @@ struct Counted {
     nodes: usize,
 }
 
+/// The schema of the first run.
+const FIRST_RUN: &str =
+    r#"{"properties":{"spec":{"properties":{"replicas":{"x-kubernetes-validations":[{"rule":"self >= 0","message":"replicas must be non-negative"}]}},"x-kubernetes-validations":[{"rule":"self.replicas >= 1","message":"at least one replica"}]}}}"#;
+
+/// A schema with a rule, and items with one.
+const LAST_TWO: &str =
+    r#"{"items":{"x-kubernetes-validations":[{"rule":"false"}]},"x-kubernetes-validations":[{"rule":"false"}]}"#;
+
 const COUNTED: [Counted; 6] = [
     Counted {
         levels: 0,
-        schema: "{\"properties\":{\"spec\":{\"properties\":{\"replicas\":{}}}}}",
+        schema: FIRST_RUN,
         nodes: 3,
     },
     Counted {
-        levels: 65,
-        schema: "{}",
+        levels: 64,
+        schema: LAST_TWO,
         nodes: 66,
     },
     // A marker has no children.

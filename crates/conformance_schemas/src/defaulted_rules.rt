@@ -1,6 +1,7 @@
 //! Rows of rules over objects that get defaults and are bound by their schema.
 
-use crate::judged::{Case, check, cut, is_row, judged, nested_text};
+use crate::judged::{Case, check, judged};
+use conformance_rows::{cut, is_row, nested_text};
 use kube_cel::ErrorKind;
 use serde_json::Value;
 use std::alloc::Global;

@@ -1,6 +1,6 @@
 //! Rows of the defaults of a schema.
 
-use crate::judged::{cut, is_row, nested_text};
+use conformance_rows::{cut, is_row, nested_text};
 use kube_schema_filled::apply_defaults;
 use kube_schema_table::{compile_schema, fill_node};
 use serde_json::Value;

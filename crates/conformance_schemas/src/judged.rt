@@ -5,6 +5,7 @@
 //! and the errors in order, around `¶`. `§` stands for `"x-kubernetes-validations"` and `∅` for nothing. Empty lines and lines
 //! that begin with `//` are no rows.
 
+use conformance_rows::{cut, is_row};
 use kube_cel::cel::PatternBook;
 use kube_cel::{
     CompiledSchema, RootContext, ValidationError, ValidationErrors, Validator, compile_schema,
@@ -25,19 +26,6 @@ pub(crate) struct Case {
     pub(crate) old: Option<Value>,
 }
 
-/// Whether a line of a table is a row.
-pub(crate) fn is_row(line: &str) -> bool {
-    !line.is_empty() && !line.starts_with("//")
-}
-
-/// Both parts of a text, around the first separator in it.
-pub(crate) fn cut<'a>(text: &'a str, separator: &str) -> Result<(&'a str, &'a str), Fail> {
-    match text.split_once(separator) {
-        Some(parts) => Ok(parts),
-        None => Err(Fail::new(format_args!("no `{separator}` in: {text}"))),
-    }
-}
-
 /// What a row gives.
 pub(crate) fn case_of(alloc: Global, given: &str) -> Result<Case, Fail> {
     let given = given.replace(alloc, "§", "\"x-kubernetes-validations\"")?;
@@ -53,16 +41,38 @@ pub(crate) fn case_of(alloc: Global, given: &str) -> Result<Case, Fail> {
     })
 }
 
-/// Whether two answers are the same list.
-fn are_same(first: &Answer, second: &Answer) -> bool {
-    match (first, second) {
-        (Ok(()), Ok(())) => true,
-        (Err(first), Err(second)) => first == second,
-        _ => false,
+/// The cause of an error, if it has one.
+fn cause_text(alloc: Global, error: &ValidationError) -> Result<String, AllocError> {
+    match error.cause() {
+        Some(cause) => cause.to_string(alloc),
+        None => String::from_str(alloc, "none"),
     }
 }
 
-/// Both forms of a schema give this answer, where one book is lent to both.
+/// Fails where two answers are not the same list, each error with the same cause.
+fn check_same(
+    rt: &impl Abort,
+    alloc: Global,
+    first: &Answer,
+    second: &Answer,
+    way: &str,
+) -> Result<(), Fail> {
+    let is_same = match (first, second) {
+        (Ok(()), Ok(())) => true,
+        (Err(first), Err(second)) => first == second,
+        _ => false,
+    };
+    assert!(rt; is_same, "{way}");
+    let causes = told(alloc, first, cause_text)?;
+    assert_eq!(rt;
+        causes.as_str(),
+        told(alloc, second, cause_text)?.as_str(),
+        "{way}"
+    );
+    Ok(())
+}
+
+/// Both forms of a schema give this answer, where one book is lent to both, and where it comes back.
 fn check_with_one_book(
     rt: &impl Abort,
     alloc: Global,
@@ -75,10 +85,29 @@ fn check_with_one_book(
     let mut book = PatternBook::new(alloc);
     let judge = Validator::new();
     let raw = judge.validate_in(alloc, &case.schema, &case.object, old, root, &mut book)?;
-    assert!(rt; are_same(answer, &raw), "with a lent book");
+    check_same(rt, alloc, answer, &raw, "with a lent book")?;
     let table = judge.validate_compiled_in(alloc, compiled, &case.object, old, root, &mut book)?;
-    assert!(rt; are_same(answer, &table), "compiled, with a lent book");
-    Ok(())
+    check_same(rt, alloc, answer, &table, "compiled, with a lent book")?;
+    let again = judge.validate_in(alloc, &case.schema, &case.object, old, root, &mut book)?;
+    check_same(rt, alloc, answer, &again, "with the book once more")
+}
+
+/// The calls that take no context give this answer.
+fn check_without_context(
+    rt: &impl Abort,
+    alloc: Global,
+    case: &Case,
+    compiled: &CompiledSchema,
+    answer: &Answer,
+) -> Result<(), Fail> {
+    let old = case.old.as_ref();
+    let judge = Validator::default();
+    let raw = judge.validate(alloc, &case.schema, &case.object, old)?;
+    check_same(rt, alloc, answer, &raw, "without a context")?;
+    let filled = judge.validate_with_defaults(alloc, &case.schema, &case.object, old)?;
+    check_same(rt, alloc, answer, &filled, "with defaults")?;
+    let table = judge.validate_compiled(alloc, compiled, &case.object, old)?;
+    check_same(rt, alloc, answer, &table, "compiled, without a context")
 }
 
 /// The answer to a case, which is the same in every way.
@@ -88,13 +117,18 @@ pub(crate) fn judged(
     case: &Case,
     root: Option<&RootContext>,
 ) -> Result<Answer, Fail> {
-    let old = case.old.as_ref();
+    let (schema, object, old) = (&case.schema, &case.object, case.old.as_ref());
     let judge = Validator::new();
-    let answer = judge.validate_with_context(alloc, &case.schema, &case.object, old, root)?;
-    let compiled = compile_schema(alloc, &case.schema)?;
-    let table = judge.validate_compiled_with_context(alloc, &compiled, &case.object, old, root)?;
-    assert!(rt; are_same(&answer, &table), "compiled");
+    let answer = judge.validate_with_context(alloc, schema, object, old, root)?;
+    let filled = judge.validate_with_defaults_and_context(alloc, schema, object, old, root)?;
+    check_same(rt, alloc, &answer, &filled, "with defaults")?;
+    let compiled = compile_schema(alloc, schema)?;
+    let table = judge.validate_compiled_with_context(alloc, &compiled, object, old, root)?;
+    check_same(rt, alloc, &answer, &table, "compiled")?;
     check_with_one_book(rt, alloc, case, &compiled, root, &answer)?;
+    if root.is_none() {
+        check_without_context(rt, alloc, case, &compiled, &answer)?;
+    }
     Ok(answer)
 }
 
@@ -180,23 +214,4 @@ pub(crate) fn deployment(alloc: Global) -> Result<RootContext, AllocError> {
         api_group: String::from_str(alloc, "apps")?,
         kind: String::from_str(alloc, "Deployment")?,
     })
-}
-
-/// A text between so many openings and closings.
-pub(crate) fn nested_text(
-    alloc: Global,
-    open: &str,
-    inner: &str,
-    close: &str,
-    levels: usize,
-) -> Result<String, AllocError> {
-    let mut text = String::new(alloc);
-    for _ in 0..levels {
-        text.push_str(open)?;
-    }
-    text.push_str(inner)?;
-    for _ in 0..levels {
-        text.push_str(close)?;
-    }
-    Ok(text)
 }

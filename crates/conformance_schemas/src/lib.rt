@@ -2,10 +2,6 @@
 #![tactic(auto)]
 
 #[cfg(test)]
-mod analysis;
-#[cfg(test)]
-mod commands;
-#[cfg(test)]
 mod compiled_schemas;
 #[cfg(test)]
 mod defaulted_rules;
@@ -18,10 +14,6 @@ mod kube_rules;
 #[cfg(test)]
 mod places;
 #[cfg(test)]
-mod policies;
-#[cfg(test)]
 mod rule_fields;
 #[cfg(test)]
 mod rules;
-#[cfg(test)]
-mod written;

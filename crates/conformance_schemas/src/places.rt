@@ -1,9 +1,11 @@
 //! Rows of places: which parts of an object have a schema, in which order they are judged, and how their paths are written.
 
-use crate::judged::{Case, check, deployment, judged, member, nested_text};
+use crate::judged::{Case, check, deployment, judged, member};
+use conformance_rows::nested_text;
 use kube_cel::{ErrorKind, RootContext};
-use serde_json::Value;
+use serde_json::{Map, Value};
 use std::alloc::{AllocError, Global};
+use std::process::Abort;
 use std::test::Fail;
 
 const ROWS: &str = r#"
@@ -27,6 +29,8 @@ const ROWS: &str = r#"
 {"x-kubernetes-preserve-unknown-fields":true,"additionalProperties":{§:[{"rule":"false","message":"never"}]}} | {"a":1} =>
 {"x-kubernetes-preserve-unknown-fields":false,"additionalProperties":{§:[{"rule":"false","message":"not declared"}]}} | {"a":1} => a: not declared
 {"additionalProperties":true} | {"a":1} =>
+// A name that is empty leaves the path of the root empty.
+{"properties":{"":{§:[{"rule":"false","message":"empty"}],"properties":{"a":{§:[{"rule":"false","message":"below"}]}}}}} | {"":{"a":1}} => empty¶a: below
 // Branches are walked in the order of the keywords, and leave value and path as they are.
 {"anyOf":[{§:[{"rule":"false","message":"any"}]}],"oneOf":[{§:[{"rule":"false","message":"one"}]}],"allOf":[{§:[{"rule":"false","message":"all, first"}]},{§:[{"rule":"false","message":"all, second"}]}]} | 1 => all, first¶all, second¶one¶any
 {"properties":{"a":{"oneOf":[{"properties":{"b":{§:[{"rule":"self == 2"}]}}},{"items":{§:[{"rule":"false","message":"never"}]}}]}}} | {"a":{"b":1}} => a.b: failed rule: self == 2
@@ -52,83 +56,118 @@ fn list_of(alloc: Global, value: Value) -> Result<Value, AllocError> {
     Ok(Value::Array(items))
 }
 
-/// A schema of 65 nodes, each below the other by one keyword, with the rule `false` in the last two.
-fn nested(alloc: Global, keyword: &str, in_list: bool) -> Result<Value, Fail> {
+/// The keyword of a schema's rules.
+const RULES: &str = "x-kubernetes-validations";
+
+/// A schema of so many keywords, each below the other, with the rule `false` at so many of the deepest nodes.
+fn nested(alloc: Global, deep: &Deep) -> Result<Value, Fail> {
     let rules = Value::from_str(alloc, "[{\"rule\":\"false\"}]")?;
-    let mut schema = member(alloc, "x-kubernetes-validations", rules.clone()?)?;
-    for level in 0..65 {
+    let mut schema = member(alloc, RULES, rules.clone()?)?;
+    for level in 1..=deep.levels {
         let below = Value::Object(schema);
-        let below = if in_list {
+        let below = if deep.in_list {
             list_of(alloc, below)?
         } else {
             below
         };
-        schema = member(alloc, keyword, below)?;
-        if level == 0 {
-            let key = String::from_str(alloc, "x-kubernetes-validations")?;
-            schema.insert(key, rules.clone()?)?;
+        schema = member(alloc, deep.keyword, below)?;
+        if level < deep.rules {
+            schema.insert(String::from_str(alloc, RULES)?, rules.clone()?)?;
         }
     }
     Ok(Value::Object(schema))
 }
 
-/// A keyword that nests 65 times, and what a path gets at each step.
+/// A list in a list and so on, so many levels deep.
+fn nested_lists(alloc: Global, levels: usize) -> Result<Value, AllocError> {
+    let mut lists = Value::Object(Map::new(alloc));
+    for _ in 0..levels {
+        lists = list_of(alloc, lists)?;
+    }
+    Ok(lists)
+}
+
+/// A keyword that nests so many times, with rules at so many of the deepest nodes, what a path gets at each step, and whether the
+/// rule at depth 64 is told.
+#[derive(Drop)]
 struct Deep {
     keyword: &'static str,
     in_list: bool,
+    levels: usize,
+    rules: usize,
     step: &'static str,
+    is_told: bool,
 }
 
-const DEEP: [Deep; 4] = [
+/// A branch that nests 65 times, with rules at so many of the deepest nodes.
+const fn branch(keyword: &'static str, rules: usize) -> Deep {
+    Deep {
+        keyword,
+        in_list: true,
+        levels: 65,
+        rules,
+        step: "",
+        is_told: rules == 2,
+    }
+}
+
+/// Items that nest so many times, with rules from depth 64 on.
+const fn items(levels: usize) -> Deep {
     Deep {
         keyword: "items",
         in_list: false,
+        levels,
+        rules: levels - 63,
         step: "[0]",
-    },
-    Deep {
-        keyword: "allOf",
-        in_list: true,
-        step: "",
-    },
-    Deep {
-        keyword: "oneOf",
-        in_list: true,
-        step: "",
-    },
-    Deep {
-        keyword: "anyOf",
-        in_list: true,
-        step: "",
-    },
-];
+        is_told: true,
+    }
+}
 
 #[test]
 fn depth_counts_steps_of_each_kind(rt: HostRuntime) -> Result<(), Fail> {
     let alloc = rt.alloc();
-    let mut lists = Value::from_str(alloc, "1")?;
-    for _ in 0..65 {
-        lists = list_of(alloc, lists)?;
+    let rows = [
+        items(65),
+        items(66),
+        branch("allOf", 2),
+        branch("oneOf", 2),
+        branch("anyOf", 2),
+        branch("allOf", 1),
+    ];
+    for row in &rows {
+        check_deep(&rt, alloc, row)?;
     }
-    for row in &DEEP {
-        let case = Case {
-            schema: nested(alloc, row.keyword, row.in_list)?,
-            object: lists.clone()?,
-            old: None,
-        };
-        let errors = match judged(&rt, alloc, &case, None)? {
-            Ok(()) => return Err(Fail::from("no error")),
-            Err(errors) => errors.into_vec(),
-        };
-        assert_eq!(rt; errors.len(), 2, "keyword {}", row.keyword);
+    Ok(())
+}
+
+/// The errors of a row that nests: `false` at depth 64 where it is told, and what is too deep.
+fn check_deep(rt: &impl Abort, alloc: Global, row: &Deep) -> Result<(), Fail> {
+    let case = Case {
+        schema: nested(alloc, row)?,
+        object: nested_lists(alloc, if row.in_list { 0 } else { row.levels })?,
+        old: None,
+    };
+    let errors = match judged(rt, alloc, &case, None)? {
+        Ok(()) => return Err(Fail::from("no error")),
+        Err(errors) => errors.into_vec(),
+    };
+    assert_eq!(rt;
+        errors.len(),
+        if row.is_told { 2 } else { 1 },
+        "keyword {}",
+        row.keyword
+    );
+    if row.is_told {
         let before = nested_text(alloc, row.step, "", "", 64)?;
-        let deepest = nested_text(alloc, row.step, "", "", 65)?;
         assert_eq!(rt; errors[0].kind, ErrorKind::ValidationFailure);
         assert_eq!(rt; errors[0].message.as_str(), "failed rule: false");
         assert_eq!(rt; errors[0].field_path.as_str(), before.as_str());
-        assert_eq!(rt; errors[1].kind, ErrorKind::SchemaTooDeep);
-        assert_eq!(rt; errors[1].rule.as_str(), "");
-        assert_eq!(rt; errors[1].field_path.as_str(), deepest.as_str());
     }
+    let last = &errors[errors.len() - 1];
+    let deepest = nested_text(alloc, row.step, "", "", 65)?;
+    assert_eq!(rt; last.kind, ErrorKind::SchemaTooDeep);
+    assert_eq!(rt; last.rule.as_str(), "");
+    assert_eq!(rt; last.field_path.as_str(), deepest.as_str());
     Ok(())
 }
 

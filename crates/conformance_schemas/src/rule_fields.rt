@@ -1,8 +1,9 @@
 //! Rows of what a rule says: its fields and their faults, what is told where it is false, rules on the old value, and the
 //! names of the whole object.
 
-use crate::judged::{check, cut, deployment, is_row};
-use kube_schema::{CompilationError, rules_of};
+use crate::judged::{check, deployment};
+use conformance_rows::{cut, is_row};
+use kube_schema::{CompilationError, Rule, RuleFault, rules_of};
 use serde_json::Value;
 use std::alloc::Global;
 use std::test::Fail;
@@ -57,6 +58,7 @@ const MESSAGES: &str = r#"
 // An error tells nothing, and is none of the call.
 {"properties":{"a":{§:[{"rule":"false","messageExpression":"'1' + self","message":"no"}]}}} | {"a":1} => a: no
 {"properties":{"a":{§:[{"rule":"false","messageExpression":"string(1 / 0)"}]}}} | {"a":1} => a: failed rule: false
+{§:[{"rule":"false","messageExpression":"string(1/0)","message":"m"}]} | {"a":1} => m
 {"properties":{"a":{§:[{"rule":"false","messageExpression":"nope","message":"no"}]}}} | {"a":1} => a: no
 {"properties":{"a":{§:[{"rule":"false","messageExpression":"string(self)","message":"no"}]}}} | {"a":0.5} => a: no
 // It is asked where the rule is false alone.
@@ -186,6 +188,39 @@ fn rules_of_a_node_are_compiled(rt: HostRuntime) -> Result<(), Fail> {
     assert!(rt; !second.is_transition_rule);
     assert!(rt; second.message_program.is_none());
     assert_eq!(rt; second.rule.optional_old_self, None);
+    Ok(())
+}
+
+/// A rule with all its fields, as it is written.
+const WHOLE_RULE: &str =
+    r#"{"rule":"self > 1","message":"m","messageExpression":"'e'","reason":"FieldValueInvalid","fieldPath":".a","optionalOldSelf":true,"other":1}"#;
+
+/// A text that may be there.
+fn shown(text: &Option<String>) -> &str {
+    match text {
+        Some(text) => text.as_str(),
+        None => "none",
+    }
+}
+
+#[test]
+fn rules_are_read_and_copied(rt: HostRuntime) -> Result<(), Fail> {
+    let alloc = rt.alloc();
+    let Ok(rule) = Rule::from_json(alloc, &Value::from_str(alloc, WHOLE_RULE)?)? else {
+        return Err(Fail::from("a malformed rule"));
+    };
+    for one in [&rule, &rule.try_clone()?] {
+        assert_eq!(rt; one.rule.as_str(), "self > 1");
+        assert_eq!(rt; shown(&one.message), "m");
+        assert_eq!(rt; shown(&one.message_expression), "'e'");
+        assert_eq!(rt; shown(&one.reason), "FieldValueInvalid");
+        assert_eq!(rt; shown(&one.field_path), ".a");
+        assert_eq!(rt; one.optional_old_self, Some(true));
+    }
+    let Err(fault) = Rule::from_json(alloc, &Value::from_str(alloc, "{\"rule\":5}")?)? else {
+        return Err(Fail::from("a rule"));
+    };
+    assert_eq!(rt; fault, RuleFault::RuleNotString);
     Ok(())
 }
 

@@ -58,6 +58,16 @@ const ERRORS: &str = r#"
 {§:[{"rule":"self"}]} | 1 => InvalidResult | ∅ | self | ∅ | rule "self" did not evaluate to bool | ∅
 {§:[{"rule":"self.a"}]} | 1 => EvaluationError | ∅ | self.a | ∅ | rule evaluation error: no such overload: . | no such overload: .
 {§:[{"rule":"object"}]} | 1 => UnsupportedReference | ∅ | object | ∅ | rule references 'object', which this kube-cel build does not support (an unsupported CEL macro, or a feature disabled at compile time); it cannot be evaluated client-side | undeclared reference to 'object'
+// Decided operands, and names that nothing declares.
+{§:[{"rule":"nope && false"}]} | {} => ValidationFailure | ∅ | nope && false | ∅ | failed rule: nope && false | ∅
+{§:[{"rule":"false && nope()"}]} | {} => ValidationFailure | ∅ | false && nope() | ∅ | failed rule: false && nope() | ∅
+{§:[{"rule":"nope || false"}]} | {} => UnsupportedReference | ∅ | nope || false | ∅ | rule references 'nope', which this kube-cel build does not support (an unsupported CEL macro, or a feature disabled at compile time); it cannot be evaluated client-side | undeclared reference to 'nope'
+{§:[{"rule":"[1,2].all(i, v, i >= 0)"}]} | {} => UnsupportedReference | ∅ | [1,2].all(i, v, i >= 0) | ∅ | rule references 'all', which this kube-cel build does not support (an unsupported CEL macro, or a feature disabled at compile time); it cannot be evaluated client-side | undeclared reference to 'all'
+// A double is told as a name that nothing declares.
+{§:[{"rule":"self.x > 0"},{"rule":"has(self.x)"},{"rule":"self.x"}]} | {"x":0.5} => UnsupportedReference | ∅ | self.x > 0 | ∅ | rule references 'double', which this kube-cel build does not support (an unsupported CEL macro, or a feature disabled at compile time); it cannot be evaluated client-side | undeclared reference to 'double'¶InvalidResult | ∅ | self.x | ∅ | rule "self.x" did not evaluate to bool | ∅
+// An old value that isn't there.
+{§:[{"rule":"oldSelf != null"},{"rule":"oldSelf == null","optionalOldSelf":true},{"rule":"oldSelf != null","optionalOldSelf":true}]} | {} => ValidationFailure | ∅ | oldSelf != null | ∅ | failed rule: oldSelf != null | ∅
+{§:[{"rule":5},{"rule":"false"}]} | {} => InvalidRule | ∅ | ∅ | ∅ | invalid rule definition: field `rule` must be a string | ∅¶ValidationFailure | ∅ | false | ∅ | failed rule: false | ∅
 // The rule's own path and reason, at `spec` and at the root.
 {"properties":{"spec":{§:[{"rule":"false","reason":"FieldValueInvalid","fieldPath":".b"}]}}} | {"spec":{}} => ValidationFailure | spec.b | false | FieldValueInvalid | failed rule: false | ∅
 {"properties":{"spec":{§:[{"rule":"false","message":"no","fieldPath":"b"}]}}} | {"spec":{}} => ValidationFailure | spec.b | false | ∅ | no | ∅

@@ -1,6 +1,6 @@
 //! Rows of IP addresses and CIDRs, by the types' own calls.
 
-use crate::rows::{cut, give};
+use conformance_rows::{cut, give};
 use kube_types::{KubeCIDR, KubeIP};
 use std::alloc::Global;
 use std::test::Fail;
@@ -45,7 +45,7 @@ fn printed(alloc: Global, text: &str) -> Result<String, Fail> {
 
 #[test]
 fn addresses_are_read_and_printed(rt: HostRuntime) -> Result<(), Fail> {
-    give(&rt, rt.alloc(), ADDRESSES, printed)
+    give(rt.alloc(), ADDRESSES, printed)
 }
 
 /// An address with the class that it is of.
@@ -88,7 +88,7 @@ fn classes(alloc: Global, text: &str) -> Result<String, Fail> {
 
 #[test]
 fn addresses_are_of_classes(rt: HostRuntime) -> Result<(), Fail> {
-    give(&rt, rt.alloc(), CLASSES, classes)
+    give(rt.alloc(), CLASSES, classes)
 }
 
 /// A text with what the CIDR prints, its address and length, and what it prints masked, or why it is none.
@@ -124,7 +124,7 @@ fn parts(alloc: Global, text: &str) -> Result<String, Fail> {
 
 #[test]
 fn cidrs_are_read_and_printed(rt: HostRuntime) -> Result<(), Fail> {
-    give(&rt, rt.alloc(), CIDRS, parts)
+    give(rt.alloc(), CIDRS, parts)
 }
 
 /// Whether a CIDR has each address of another one.
@@ -162,6 +162,6 @@ fn has_address(alloc: Global, pair: &str) -> Result<String, Fail> {
 
 #[test]
 fn cidrs_contain_cidrs_and_addresses(rt: HostRuntime) -> Result<(), Fail> {
-    give(&rt, rt.alloc(), NESTED, has_cidr)?;
-    give(&rt, rt.alloc(), MEMBERS, has_address)
+    give(rt.alloc(), NESTED, has_cidr)?;
+    give(rt.alloc(), MEMBERS, has_address)
 }

@@ -1,6 +1,6 @@
 //! Rows of named formats, by the type's own calls.
 
-use crate::rows::{cut, give};
+use conformance_rows::{cut, give};
 use kube_types::KubeFormat;
 use std::alloc::Global;
 use std::test::Fail;
@@ -88,6 +88,9 @@ datetime 2024-01-01t00:00:00z => []
 datetime 2024-01-01T00:00:00.5+23:59 => []
 datetime 2024-01-01T00:00:00+24:00 => ["must be a valid RFC 3339 date-time"]
 datetime 2024-01-01T23:59:61Z => ["must be a valid RFC 3339 date-time"]
+datetime 2024-01-01T24:00:00Z => ["must be a valid RFC 3339 date-time"]
+datetime 2024-01-01T00:60:00Z => ["must be a valid RFC 3339 date-time"]
+date ٢٠٢٤-01-01 => ["must be a date in YYYY-MM-DD format"]
 datetime 2024-01-01T12:30:60+00:00 => []
 datetime 2024-01-01T00:00:00.Z => ["must be a valid RFC 3339 date-time"]
 datetime 2024-02-30T00:00:00Z => ["must be a valid RFC 3339 date-time"]
@@ -104,7 +107,7 @@ fn faults(alloc: Global, row: &str) -> Result<String, Fail> {
 
 #[test]
 fn texts_have_faults(rt: HostRuntime) -> Result<(), Fail> {
-    give(&rt, rt.alloc(), FAULTS, faults)
+    give(rt.alloc(), FAULTS, faults)
 }
 
 /// A name with the name that its format prints, or `none` where no format has it.
@@ -137,5 +140,5 @@ fn named(alloc: Global, name: &str) -> Result<String, Fail> {
 
 #[test]
 fn formats_have_names(rt: HostRuntime) -> Result<(), Fail> {
-    give(&rt, rt.alloc(), NAMES, named)
+    give(rt.alloc(), NAMES, named)
 }

@@ -8,8 +8,6 @@ mod formats;
 #[cfg(test)]
 mod quantities;
 #[cfg(test)]
-mod rows;
-#[cfg(test)]
 mod urls;
 #[cfg(test)]
 mod versions;

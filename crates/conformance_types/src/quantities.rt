@@ -1,6 +1,6 @@
 //! Rows of quantities, by the type's own calls.
 
-use crate::rows::{cut, give};
+use conformance_rows::{cut, give};
 use kube_types::KubeQuantity;
 use std::alloc::Global;
 use std::cmp::Ordering;
@@ -17,6 +17,9 @@ const READ: &str = r#"
 5. => 5
 .5 => 0.5
 ␠1␉ => 1
+// White space of Unicode too, but digits of ASCII alone.
+ 1　 => 1
+٣ => none
 200m => 0.2
 1u => 0.000001
 1n => 0.000000001
@@ -62,7 +65,6 @@ fn shown(alloc: Global, quantity: Option<KubeQuantity>) -> Result<String, Fail> 
 #[test]
 fn quantities_are_read_and_printed(rt: HostRuntime) -> Result<(), Fail> {
     give(
-        &rt,
         rt.alloc(),
         READ,
         |alloc, text| shown(alloc, KubeQuantity::read(text)),
@@ -105,7 +107,7 @@ fn compared(alloc: Global, pair: &str) -> Result<String, Fail> {
 
 #[test]
 fn quantities_are_compared(rt: HostRuntime) -> Result<(), Fail> {
-    give(&rt, rt.alloc(), COMPARED, compared)
+    give(rt.alloc(), COMPARED, compared)
 }
 
 /// What is added, and what it comes to.
@@ -133,8 +135,8 @@ fn difference(alloc: Global, pair: &str) -> Result<String, Fail> {
 
 #[test]
 fn quantities_are_added(rt: HostRuntime) -> Result<(), Fail> {
-    give(&rt, rt.alloc(), SUMS, sum)?;
-    give(&rt, rt.alloc(), DIFFERENCES, difference)
+    give(rt.alloc(), SUMS, sum)?;
+    give(rt.alloc(), DIFFERENCES, difference)
 }
 
 /// A text with its sign, and its integer or why it is none.
@@ -162,7 +164,7 @@ fn integer(alloc: Global, text: &str) -> Result<String, Fail> {
 
 #[test]
 fn quantities_are_integers_or_not(rt: HostRuntime) -> Result<(), Fail> {
-    give(&rt, rt.alloc(), INTEGERS, integer)
+    give(rt.alloc(), INTEGERS, integer)
 }
 
 #[test]

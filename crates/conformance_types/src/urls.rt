@@ -1,6 +1,6 @@
 //! Rows of URLs, by the type's own calls.
 
-use crate::rows::{cut, give};
+use conformance_rows::{cut, give};
 use kube_types::KubeUrl;
 use std::alloc::Global;
 use std::test::Fail;
@@ -42,7 +42,7 @@ fn parts(alloc: Global, text: &str) -> Result<String, Fail> {
 
 #[test]
 fn urls_have_parts(rt: HostRuntime) -> Result<(), Fail> {
-    give(&rt, rt.alloc(), PARTS, parts)
+    give(rt.alloc(), PARTS, parts)
 }
 
 /// Whether two URLs are equal.
@@ -65,7 +65,7 @@ fn compared(alloc: Global, pair: &str) -> Result<String, Fail> {
 
 #[test]
 fn a_path_equals_no_other_url(rt: HostRuntime) -> Result<(), Fail> {
-    give(&rt, rt.alloc(), COMPARED, compared)
+    give(rt.alloc(), COMPARED, compared)
 }
 
 /// A text with its query: each name with its values.
@@ -86,5 +86,5 @@ fn query(alloc: Global, text: &str) -> Result<String, Fail> {
 
 #[test]
 fn queries_are_maps(rt: HostRuntime) -> Result<(), Fail> {
-    give(&rt, rt.alloc(), QUERIES, query)
+    give(rt.alloc(), QUERIES, query)
 }

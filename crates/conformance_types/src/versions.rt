@@ -1,6 +1,6 @@
 //! Rows of versions, by the type's own calls.
 
-use crate::rows::{cut, give};
+use conformance_rows::{cut, give};
 use kube_types::KubeSemver;
 use std::alloc::Global;
 use std::cmp::Ordering;
@@ -52,14 +52,8 @@ fn numbers(alloc: Global, text: &str, lenient: bool) -> Result<String, Fail> {
 
 #[test]
 fn versions_are_read(rt: HostRuntime) -> Result<(), Fail> {
+    give(rt.alloc(), READ, |alloc, text| numbers(alloc, text, false))?;
     give(
-        &rt,
-        rt.alloc(),
-        READ,
-        |alloc, text| numbers(alloc, text, false),
-    )?;
-    give(
-        &rt,
         rt.alloc(),
         LENIENT,
         |alloc, text| numbers(alloc, text, true),
@@ -99,5 +93,5 @@ fn compared(alloc: Global, pair: &str) -> Result<String, Fail> {
 
 #[test]
 fn versions_are_compared(rt: HostRuntime) -> Result<(), Fail> {
-    give(&rt, rt.alloc(), COMPARED, compared)
+    give(rt.alloc(), COMPARED, compared)
 }

@@ -14,7 +14,7 @@ pub use kube_cel_errors::{ErrorKind, ValidationError, ValidationErrors};
 pub use kube_cel_lint::{LintFinding, LintKind, lint_schema};
 pub use kube_cel_policies::{
     AdmissionRequest, CompiledVapExpression, GroupVersionKind, GroupVersionResource, VapError,
-    VapEvaluator, VapEvaluatorBuilder, VapExpression, VapResult,
+    VapEvaluator, VapEvaluatorBuilder, VapExpression, VapResult, laws as policy_laws,
 };
 pub use kube_cel_verdicts::RootContext;
 pub use kube_functions::{Context, KubeCelExt};

@@ -2,13 +2,15 @@
 //! and schemas that are compiled once.
 #![tactic(auto)]
 
-pub use kube_schema_bound::{SchemaFormat, bind};
-pub use kube_schema_filled::apply_defaults;
+pub use kube_schema_bound::{SchemaFormat, bind, laws as bound_laws};
+pub use kube_schema_filled::{apply_defaults, laws as filled_laws};
 pub use kube_schema_rules::{
     CompilationError, CompilationResult, Rule, RuleFault, compile_rule, rule_values, rules_of,
 };
-pub use kube_schema_table::{CompiledSchema, SchemaNode, compile_schema, fill_node};
+pub use kube_schema_table::{
+    CompiledSchema, SchemaNode, compile_schema, fill_node, laws as table_laws,
+};
 pub use kube_schema_table_bound::bind_node;
 pub use kube_schema_values::{
-    Refused, bind_plain, bind_text, escape_field_name, unescape_field_name,
+    Refused, bind_plain, bind_text, escape_field_name, laws as name_laws, unescape_field_name,
 };

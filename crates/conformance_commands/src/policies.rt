@@ -288,6 +288,8 @@ fn requests_are_asked(rt: HostRuntime) -> Result<(), Fail> {
     let request = request_of(alloc)?;
     let copy = request.try_clone()?;
     assert_eq!(rt; copy, request);
+    assert_eq!(rt; request.kind.try_clone()?, request.kind);
+    assert_eq!(rt; request.resource.try_clone()?, request.resource);
     assert_ne!(rt; AdmissionRequest::default(alloc), request);
     let builder = VapEvaluatorBuilder::default(alloc).request(AdmissionRequest::default(alloc));
     let evaluator = builder.request(request).build();

@@ -1,10 +1,10 @@
 //! Rows of the functions of Kubernetes on strings: what a call gives to its operands, the receiver first.
 
 use crate::called::shown;
-use crate::expressions::operands;
-use crate::rows::{cut, give};
 use cel::{Answer, PatternBook};
 use cel_value::{Refused, Value};
+use conformance_expressions::operands;
+use conformance_rows::{cut, give};
 use kube_functions_texts as texts;
 use std::alloc::Global;
 use std::test::Fail;
@@ -218,10 +218,10 @@ fn called(alloc: Global, call: &str) -> Result<String, Fail> {
 
 #[test]
 fn calls_on_strings_give_their_answers(rt: HostRuntime) -> Result<(), Fail> {
-    give(&rt, rt.alloc(), CHARACTERS, called)?;
-    give(&rt, rt.alloc(), PLACES, called)?;
-    give(&rt, rt.alloc(), LETTERS, called)?;
-    give(&rt, rt.alloc(), ENCODINGS, called)?;
-    give(&rt, rt.alloc(), PIECES, called)?;
-    give(&rt, rt.alloc(), FOUND, called)
+    give(rt.alloc(), CHARACTERS, called)?;
+    give(rt.alloc(), PLACES, called)?;
+    give(rt.alloc(), LETTERS, called)?;
+    give(rt.alloc(), ENCODINGS, called)?;
+    give(rt.alloc(), PIECES, called)?;
+    give(rt.alloc(), FOUND, called)
 }

@@ -1,7 +1,7 @@
 //! What calls of the functions of Kubernetes answer, where each function is called by itself.
 
-use crate::expressions::{text_of, text_of_value};
 use cel::{Answer, Refused, Value};
+use conformance_expressions::{text_of, text_of_value};
 use std::alloc::Global;
 use std::test::Fail;
 
@@ -28,7 +28,8 @@ pub(crate) fn shown(
     match &answer {
         Some(Ok(Ok(value))) => told(alloc, value),
         Some(Ok(answer)) => text_of(alloc, answer),
-        Some(Err(_)) => Ok(String::from_str(alloc, "refused")?),
+        Some(Err(Refused::Memory)) => Ok(String::from_str(alloc, "refused")?),
+        Some(Err(Refused::TooLarge)) => Ok(String::from_str(alloc, "too large")?),
         None => Err(Fail::from("no such call")),
     }
 }

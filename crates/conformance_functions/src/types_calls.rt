@@ -1,10 +1,10 @@
 //! Rows of the functions of Kubernetes on its own types: what each answers to given values.
 
 use crate::called::shown;
-use crate::expressions::valued;
-use crate::rows::{cut, give};
 use cel::Answer;
 use cel_value::{Refused, Value};
+use conformance_expressions::valued;
+use conformance_rows::{cut, give};
 use kube_functions_types::{addresses, cidrs, formats, order, quantities, texts, urls, versions};
 use std::alloc::Global;
 use std::test::Fail;
@@ -270,8 +270,8 @@ fn pair(alloc: Global, call: &str) -> Result<String, Fail> {
 
 #[test]
 fn calls_on_texts_answer_as_told(rt: HostRuntime) -> Result<(), Fail> {
-    give(&rt, rt.alloc(), AMOUNTS, amount)?;
-    give(&rt, rt.alloc(), ADDRESSES, address)?;
-    give(&rt, rt.alloc(), URLS, url)?;
-    give(&rt, rt.alloc(), PAIRS, pair)
+    give(rt.alloc(), AMOUNTS, amount)?;
+    give(rt.alloc(), ADDRESSES, address)?;
+    give(rt.alloc(), URLS, url)?;
+    give(rt.alloc(), PAIRS, pair)
 }

@@ -1,6 +1,6 @@
 //! Rows of what is said of rules without an object: estimates of their cost, whole analyses, and findings of the linter.
 
-use crate::judged::nested_text;
+use conformance_rows::nested_text;
 use kube_cel_analysis::{AnalysisWarning, ScopeContext};
 use kube_cel_costs::{analyze_rule, estimate_rule_cost};
 use kube_cel_lint::{LintFinding, lint_schema};
@@ -22,6 +22,8 @@ const ESTIMATES: &str = r#"
 {"properties":{"a":{},"b":{"items":{},"maxItems":250001}}} | self.b.all(x, !true) => CostExceeded: estimated cost 1000004 exceeds K8s budget 1000000; consider adding maxItems/maxLength to schema bounds
 {"properties":{"a":{"items":{}},"b":{"items":{},"maxItems":250001}}} | self.b.all(x, !true) => MissingBounds: list field has no maxItems bound; cost estimate uses worst-case default
 {"properties":{"a":{"maxItems":250001}}} | self.a.all(x, !true)
+// A bound is a whole number.
+{"properties":{"a":{"items":{},"maxItems":1.0}}} | self.a.all(x, !true) => MissingBounds: list field has no maxItems bound; cost estimate uses worst-case default
 {"maxLength":9999970} | self.contains('a')
 {"maxLength":9999980} | self.contains('a') => CostExceeded: estimated cost 1000001 exceeds K8s budget 1000000; consider adding maxItems/maxLength to schema bounds
 {"properties":{"a":{},"b":{"maxLength":9999980}}} | self.a.contains(b) => CostExceeded: estimated cost 1000002 exceeds K8s budget 1000000; consider adding maxItems/maxLength to schema bounds

@@ -1,7 +1,7 @@
 //! Rows of the program: each command over files in memory, also where files can't be read and where writes are refused.
 
-use crate::judged::nested_text;
 use celcheck_run::{Sources, run};
+use conformance_rows::nested_text;
 use kube_cel::Refused;
 use std::alloc::Global;
 use std::io;
@@ -92,6 +92,9 @@ check | {"properties":{"a":{"x-kubernetes-validations":[{"rule":"self == oldSelf
 check | {"properties":{"a":{"x-kubernetes-validations":[{"rule":"self == oldSelf","message":"a is immutable"},{"rule":"self > 0"}]}}} | {"a":1} | {"a":1} => 0
 check | {"properties":{"a":{"x-kubernetes-validations":[{"rule":"self == oldSelf","message":"a is immutable"},{"rule":"self > 0"}]}}} | {"a":0} => 1 1 validation error(s):¶  - a: failed rule: self > 0
 check | {"properties":{"a":{"x-kubernetes-validations":[{"rule":"self == oldSelf","message":"a is immutable"},{"rule":"self > 0"}]}}} | {"a":0} | {"a":2} => 1 2 validation error(s):¶  - a: a is immutable¶  - a: failed rule: self > 0
+// An old object that is null is there.
+check | {"x-kubernetes-validations":[{"rule":"oldSelf != null"}]} | {"a":1} | null => 1 1 validation error(s):¶  - failed rule: oldSelf != null
+check | {"x-kubernetes-validations":[{"rule":"oldSelf != null"}]} | {"a":1} => 0
 // The first file that can't be read is told, and nothing is judged.
 check | { | {] => 2 celcheck: cannot read {
 check | {"properties":{"a":{"x-kubernetes-validations":[{"rule":"self == oldSelf","message":"a is immutable"},{"rule":"self > 0"}]}}} | {"a": => 2 celcheck: cannot read {"a":

@@ -1,10 +1,10 @@
 //! Rows of the functions on lists, sets and numbers, each called directly.
 
 use crate::called::shown;
-use crate::expressions::operands;
-use crate::rows::{cut, give};
 use cel::Answer;
 use cel_value::{Refused, Value};
+use conformance_expressions::operands;
+use conformance_rows::{cut, give};
 use kube_functions_lists::{bits, levels, lists, math, orders, places, ranges, sets, sums};
 use std::alloc::Global;
 use std::test::Fail;
@@ -191,16 +191,16 @@ fn called(alloc: Global, call: &str) -> Result<String, Fail> {
 
 #[test]
 fn functions_on_lists_give_their_values(rt: HostRuntime) -> Result<(), Fail> {
-    give(&rt, rt.alloc(), ORDERS, called)?;
-    give(&rt, rt.alloc(), SUMS, called)?;
-    give(&rt, rt.alloc(), PARTS, called)?;
-    give(&rt, rt.alloc(), SETS, called)
+    give(rt.alloc(), ORDERS, called)?;
+    give(rt.alloc(), SUMS, called)?;
+    give(rt.alloc(), PARTS, called)?;
+    give(rt.alloc(), SETS, called)
 }
 
 #[test]
 fn functions_on_numbers_give_their_values(rt: HostRuntime) -> Result<(), Fail> {
-    give(&rt, rt.alloc(), NUMBERS, called)?;
-    give(&rt, rt.alloc(), SHIFTS, called)
+    give(rt.alloc(), NUMBERS, called)?;
+    give(rt.alloc(), SHIFTS, called)
 }
 
 #[test]

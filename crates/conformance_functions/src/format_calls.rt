@@ -1,8 +1,8 @@
 //! Rows of `format`, and of the text that its `%s` gives to one value.
 
-use crate::expressions::{compiled, text_of};
 use cel::{Context, StandardFunctions};
 use cel_value::Value;
+use conformance_expressions::{compiled, text_of};
 use std::alloc::Global;
 use std::test::Fail;
 

@@ -1,7 +1,7 @@
 //! Rows of timestamps and durations, by the types' own calls.
 
-use crate::rows::{cut, give};
 use cel_value::{Duration, Timestamp};
+use conformance_rows::{cut, give};
 use std::alloc::Global;
 use std::test::Fail;
 
@@ -12,6 +12,7 @@ const DURATIONS: &str = r#"
 9223372036854775807ns => 2562047h47m16.854775807s
 -9223372036854775808ns => -2562047h47m16.854775808s
 9223372036854775808ns => none
+٣s => none
 1.5h => 1h30m0s
 90m => 1h30m0s
 // Each amount is cut to whole nanoseconds.
@@ -55,7 +56,7 @@ fn duration(alloc: Global, text: &str) -> Result<String, Fail> {
 
 #[test]
 fn durations_are_read_and_printed(rt: HostRuntime) -> Result<(), Fail> {
-    give(&rt, rt.alloc(), DURATIONS, duration)
+    give(rt.alloc(), DURATIONS, duration)
 }
 
 /// A text with what the timestamp prints, or `none` where the text is none.
@@ -104,7 +105,7 @@ fn timestamp(alloc: Global, text: &str) -> Result<String, Fail> {
 
 #[test]
 fn timestamps_are_read_and_printed(rt: HostRuntime) -> Result<(), Fail> {
-    give(&rt, rt.alloc(), TIMESTAMPS, timestamp)
+    give(rt.alloc(), TIMESTAMPS, timestamp)
 }
 
 /// A timestamp and a duration with their sum, or `none` where it is out of range.
@@ -145,8 +146,8 @@ fn apart(alloc: Global, pair: &str) -> Result<String, Fail> {
 
 #[test]
 fn timestamps_are_added_and_compared(rt: HostRuntime) -> Result<(), Fail> {
-    give(&rt, rt.alloc(), SUMS, later)?;
-    give(&rt, rt.alloc(), APART, apart)
+    give(rt.alloc(), SUMS, later)?;
+    give(rt.alloc(), APART, apart)
 }
 
 /// Two durations with their sum and their difference, or `none` where it is out of range, how they compare, and whether they are
@@ -171,5 +172,5 @@ fn lengths(alloc: Global, pair: &str) -> Result<String, Fail> {
 
 #[test]
 fn durations_are_added_and_compared(rt: HostRuntime) -> Result<(), Fail> {
-    give(&rt, rt.alloc(), LENGTHS, lengths)
+    give(rt.alloc(), LENGTHS, lengths)
 }

@@ -3,11 +3,8 @@
 //! A table is a text with a row on each line: a text and what it gives, around ` => `. What it gives is the value's text, or its kind
 //! where it has none, or the error's text, or `refused`; `∅` is an empty text. Lines that begin with `//` are no rows.
 
-use crate::expressions::{compiled, text_of};
-use cel::{Answer, Functions, PatternBook, Program, Refused, run_code};
+use conformance_expressions::{give_their_registered_values, give_their_values};
 use kube_functions::{Context, KubeCelExt};
-use std::alloc::Global;
-use std::process::Abort;
 use std::test::Fail;
 
 /// Each function of the standard, called rightly and wrongly.
@@ -479,98 +476,42 @@ format.uuid() => undeclared reference to 'format.uuid'
 sets.contains([1]) => undeclared reference to 'sets.contains'
 "#;
 
-/// The text of what a call gives.
-fn shown(alloc: Global, answer: Result<Answer, Refused>) -> Result<String, Fail> {
-    match answer {
-        Ok(answer) => text_of(alloc, &answer),
-        Err(_) => Ok(String::from_str(alloc, "refused")?),
-    }
-}
-
-/// What a row says that its text gives.
-fn wanted(text: &str) -> &str {
-    if text == "∅" { "" } else { text }
-}
-
-/// The text of a row gives what the row says, as an execution and as a run of its code.
-fn row_holds<F: Functions>(
-    rt: &impl Abort,
-    alloc: Global,
-    context: &cel::Context<'_, F>,
-    program: &Program,
-    want: &str,
-) -> Result<(), Fail> {
-    let found = shown(alloc, program.execute(alloc, context))?;
-    assert_eq!(rt; found.as_str(), want, "execute");
-    let mut book = PatternBook::new(alloc);
-    let found = shown(alloc, run_code(alloc, program.code(), context, &mut book))?;
-    assert_eq!(rt; found.as_str(), want, "run_code");
-    Ok(())
-}
-
-/// Each row of a table holds.
-fn rows_hold(
-    rt: &impl Abort,
-    alloc: Global,
-    context: &Context<'_>,
-    table: &str,
-) -> Result<(), Fail> {
-    for line in table.lines() {
-        if line.is_empty() || line.starts_with("//") {
-            continue;
-        }
-        match line.split_once(" => ") {
-            Some((text, want)) => {
-                let program = compiled(alloc, text)?;
-                row_holds(rt, alloc, context, &program, wanted(want))?;
-            }
-            None => return Err(Fail::new(format_args!("no row: {line}"))),
-        }
-    }
-    Ok(())
-}
-
 #[test]
 fn standard_functions_are_called(rt: HostRuntime) -> Result<(), Fail> {
-    let context = Context::default(rt.alloc()).with_all();
-    rows_hold(&rt, rt.alloc(), &context, STANDARD)
+    give_their_registered_values(rt.alloc(), STANDARD)
 }
 
 #[test]
 fn functions_of_strings_are_called(rt: HostRuntime) -> Result<(), Fail> {
-    let context = Context::default(rt.alloc()).with_all();
-    rows_hold(&rt, rt.alloc(), &context, STRINGS)
+    give_their_registered_values(rt.alloc(), STRINGS)
 }
 
 #[test]
 fn functions_of_lists_are_called(rt: HostRuntime) -> Result<(), Fail> {
-    let context = Context::default(rt.alloc()).with_all();
-    rows_hold(&rt, rt.alloc(), &context, LISTS)
+    give_their_registered_values(rt.alloc(), LISTS)
 }
 
 #[test]
 fn functions_of_amounts_are_called(rt: HostRuntime) -> Result<(), Fail> {
-    let context = Context::default(rt.alloc()).with_all();
-    rows_hold(&rt, rt.alloc(), &context, AMOUNTS)
+    give_their_registered_values(rt.alloc(), AMOUNTS)
 }
 
 #[test]
 fn functions_of_addresses_are_called(rt: HostRuntime) -> Result<(), Fail> {
-    let context = Context::default(rt.alloc()).with_all();
-    rows_hold(&rt, rt.alloc(), &context, ADDRESSES)
+    give_their_registered_values(rt.alloc(), ADDRESSES)
 }
 
 #[test]
 fn functions_of_formats_are_called(rt: HostRuntime) -> Result<(), Fail> {
-    let context = Context::default(rt.alloc()).with_all();
-    rows_hold(&rt, rt.alloc(), &context, FORMATS)
+    give_their_registered_values(rt.alloc(), FORMATS)
 }
 
 #[test]
 fn a_context_learns_all_functions(rt: HostRuntime) -> Result<(), Fail> {
     let alloc = rt.alloc();
     let mut context = Context::default(alloc);
-    rows_hold(&rt, alloc, &context, FIRST)?;
+    give_their_values(alloc, &context, FIRST)?;
     context.register_all();
-    rows_hold(&rt, alloc, &context, LANGUAGE)
+    give_their_values(alloc, &context, LANGUAGE)?;
+    give_their_values(alloc, &Context::default(alloc).with_all(), LANGUAGE)
 }

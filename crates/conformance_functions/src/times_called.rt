@@ -1,6 +1,6 @@
 //! Rows of times in expressions: what a text gives, by execution and by a run of its code.
 
-use crate::expressions::give_their_standard_values;
+use conformance_expressions::give_their_common_values;
 use std::test::Fail;
 
 /// Timestamps of texts, and the texts of timestamps.
@@ -102,9 +102,9 @@ timestamps('a') => undeclared reference to 'timestamps'
 
 #[test]
 fn times_that_are_called_give_their_values(rt: HostRuntime) -> Result<(), Fail> {
-    give_their_standard_values(&rt, rt.alloc(), TIMESTAMPS)?;
-    give_their_standard_values(&rt, rt.alloc(), DURATIONS)?;
-    give_their_standard_values(&rt, rt.alloc(), OPERANDS)
+    give_their_common_values(rt.alloc(), TIMESTAMPS)?;
+    give_their_common_values(rt.alloc(), DURATIONS)?;
+    give_their_common_values(rt.alloc(), OPERANDS)
 }
 
 /// Sums and differences of times.
@@ -169,6 +169,6 @@ timestamp('2024-03-01T00:00:00Z') in {1: 2} => false
 
 #[test]
 fn times_are_added_in_expressions(rt: HostRuntime) -> Result<(), Fail> {
-    give_their_standard_values(&rt, rt.alloc(), ARITHMETIC)?;
-    give_their_standard_values(&rt, rt.alloc(), RELATIONS)
+    give_their_common_values(rt.alloc(), ARITHMETIC)?;
+    give_their_common_values(rt.alloc(), RELATIONS)
 }
