@@ -133,7 +133,7 @@ pub(crate) fn judged(
 }
 
 /// The errors of an answer, each after a mark.
-fn told(
+pub(crate) fn told(
     alloc: Global,
     answer: &Answer,
     shown: fn(Global, &ValidationError) -> Result<String, AllocError>,
