@@ -30,10 +30,13 @@ given_spot schema value old root = judged_spot (view schema) (view value) (optio
 abbrev pub filled_spot : {S : Type 0} → S → Value → Option (Bor Value) → Option (Bor RootContext) → Spot S
 filled_spot node value old root = root_spot node (view value) (option_map (λ v. view v.now) old) (option_map (λ r. root_view r.now) root)
 
+-- the same at the tree of a schema, of which the values have their defaults
+abbrev pub tree_spot : Node → Data → Option Data → Option Root → Spot Node
+tree_spot tree value old root = root_spot tree (filled compiled 65 tree value) (option_map (filled compiled 65 tree) old) root
+
 -- where a walk over the tree of a compiled schema begins
 abbrev pub compiled_spot : CompiledSchema → Value → Option (Bor Value) → Option (Bor RootContext) → Spot Node
-compiled_spot schema value old root = root_spot (whole schema) (filled compiled 65 (whole schema) (view value))
-    (option_map (filled compiled 65 (whole schema)) (option_map (λ v. view v.now) old)) (option_map (λ r. root_view r.now) root)
+compiled_spot schema value old root = tree_spot (whole schema) (view value) (option_map (λ v. view v.now) old) (option_map (λ r. root_view r.now) root)
 
 -- a schema of which this is the compiled one, with values as a call is given them
 abbrev pub source_spot : Data → Value → Option (Bor Value) → Option (Bor RootContext) → Spot Data

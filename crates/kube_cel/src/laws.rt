@@ -4,16 +4,19 @@ ghost use Rattle.kube_cel.specs.Added.{NodeStep, with_rules};
 ghost use Rattle.kube_cel.specs.AddedVerdicts.{AddsAlone};
 ghost use Rattle.kube_cel.specs.Compiled.{compiled_form};
 ghost use Rattle.kube_cel.specs.Raw.{raw_form};
-ghost use Rattle.kube_cel.specs.Spots.{judged_spot};
+ghost use Rattle.kube_cel.specs.Spots.{judged_spot, tree_spot};
 ghost use Rattle.kube_cel_places.specs.Spot.{Root, root_spot};
 ghost use Rattle.kube_cel_walk.specs.Answers.{answer};
 ghost use Rattle.kube_schema_table.specs.View.{view_of};
 ghost use Rattle.serde_json.specs.Data.{Data, Items};
 ghost use Rattle.std.specs.Prelude.{◌≡◌, List, Option};
 
-/// Under one book the tree of a schema, which is what is left of it when it is compiled, answers as the schema does, also at depth 65.
+/// Under one book the tree of a schema, which is what is left of it when it is compiled, answers as the schema does, also at depth 65:
+/// of values that each has filled with its defaults, and of values as they are.
 pub fn a_compiled_schema_answers_alike()
-    ensures { (b : Book) (schema value : Data) (old : Option Data) (root : Option Root)
+    ensures filled { (b : Book) (schema value : Data) (old : Option Data) (root : Option Root)
+        → answer raw_form b 65 (judged_spot schema value old root) ≡ answer compiled_form b 65 (tree_spot (view_of 65 schema) value old root) }
+    ensures plain { (b : Book) (schema value : Data) (old : Option Data) (root : Option Root)
         → answer raw_form b 65 (root_spot schema value old root) ≡ answer compiled_form b 65 (root_spot (view_of 65 schema) value old root) }
 {}
 

@@ -3,8 +3,8 @@ use Rattle.std.proofs.Common.{◌≡◌, ℕ, ℤ, List, [], ◌∷◌, map, Boo
 use Rattle.std.specs.Prelude.{◌==◌, nat_lt}
 use Rattle.std.specs.Cmp.{IsTotalOrder, IsStrictWeakOrder}
 use Rattle.std.specs.Cmp.Lexicographic.{slice_cmp}
-use Rattle.std.specs.List.{list_all}
-use Rattle.std.specs.List.Sorted.{IsSortedBy, IsStableBy}
+use Rattle.std.specs.List.{list_all, filter}
+use Rattle.std.specs.List.Sorted.{IsSortedBy, IsStableBy, ties}
 use Rattle.std.specs.Ordering.{is_some_and, is_lt, nat_cmp, int_cmp, on, then_cmp, ordering_then}
 use Rattle.std.specs.declared.cmp.Ordering.{Ordering}
 use Rattle.std.specs.declared.cmp.Ordering.TheVariants.{Less, Equal, Greater}
@@ -16,8 +16,8 @@ use Rattle.cel_value.specs.View.{view}
 use Rattle.cel_value.specs.declared.value.Value.{Value}
 use Rattle.cel_value.specs.Same.{Shape, shape_of, leaf, shape, class_of, is_ordered, has_order, shape_order, compared}
 use Rattle.cel_standard.specs.Extremes.{all_compare}
-use Rattle.kube_functions_lists.specs.Orders.{sorted_by, comes_first, ascending, have_order, class_number, order_of_all}
-use Rattle.kube_functions_lists.proofs.Stable.{both, and_true, pass, stable_order, map_sorted, sorted_agree}
+use Rattle.kube_functions_lists.specs.Orders.{sorted_by, comes_first, ascending, have_order, class_number, order_of_all, goes_before}
+use Rattle.kube_functions_lists.proofs.Stable.{both, and_true, pass, stable_order, stable_sorted, rises_sorted, sorted_from, map_sorted, sorted_agree}
 
 -- ---- how two values compare
 
@@ -167,3 +167,17 @@ pub sorted_values : (vs copied ws : List Value) → have_order (map view vs) ≡
 sorted_values vs copied ws h same up stable =
     ap (map view) (stable_order earlier earlier_weak copied ws up stable) ∙ map_sorted view (λ d e. is_lt (order_of_all d e)) copied
     ∙ ap (sorted_by (λ d e. is_lt (order_of_all d e))) same ∙ ascending_alike (map view vs) h
+
+-- ---- the one stable order of a list
+
+before_weak : IsStrictWeakOrder goes_before
+before_weak = subst (λ lt. IsStrictWeakOrder lt) (λ i d e. is_lt (sym (same_order d e) i)) (ranks_by total (λ d. d))
+
+pub ascends : (ds : List Data) → have_order ds ≡ true → IsSortedBy goes_before (ascending ds)
+ascends ds h = subst (IsSortedBy goes_before) (ascending_alike ds h) (sorted_from goes_before before_weak (sorted_by goes_before ds) (rises_sorted goes_before before_weak ds))
+
+pub stays : (ds : List Data) → have_order ds ≡ true → IsStableBy goes_before ds (ascending ds)
+stays ds h w = ap (filter (ties goes_before w)) (sym (ascending_alike ds h)) ∙ stable_sorted goes_before before_weak w ds
+
+pub one_ascending : (ds es : List Data) → have_order ds ≡ true → IsSortedBy goes_before es → IsStableBy goes_before ds es → es ≡ ascending ds
+one_ascending ds es h up same = stable_order goes_before before_weak ds es up same ∙ ascending_alike ds h

@@ -1,5 +1,7 @@
 -- Which occurrences `distinct` keeps, and which values two equivalent lists have.
-use Rattle.std.proofs.Common.{◌≡◌, ◌↔◌, List, [], ◌∷◌, Bool, true, false, cond, not, ◌||◌, Some, refl, ap, sym, ◌∙◌}
+use Rattle.std.proofs.Common.{◌≡◌, ◌↔◌, List, [], ◌∷◌, ◌++◌, Bool, true, false, cond, not, ◌||◌, Some, refl, ap, sym, ◌∙◌}
+use Rattle.std.proofs.lemmas.List.{append-nil}
+use Rattle.std.proofs.lemmas.List.Elements.{filter-append}
 use Rattle.std.specs.List.{filter, find, list_all, AllByRecursion, IsDistinct}
 use Rattle.cel_value.specs.Data.{Data}
 use Rattle.cel_value.specs.Same.{same}
@@ -37,6 +39,28 @@ first_kept v (d ∷ ds) =
     let r = first_kept v ds in
     first_cond v d (same v d) (filter (λ e. not (same d e)) (distinct_items ds)) ds refl
     (λ h. find_filter (same v) (λ e. not (same d e)) (λ e k. apart v d e h k) (distinct_items ds) ∙ r)
+
+-- one more value behind the others, among those that differ from an earlier one
+next_at : (x d : Data) (es : List Data) (s m : Bool) → same x d ≡ s
+    → filter (λ e. not (same x e)) (cond m es (es ++ d ∷ [])) ≡ cond (s || m) (filter (λ e. not (same x e)) es) (filter (λ e. not (same x e)) es ++ d ∷ [])
+next_at x d es true true h = refl
+next_at x d es false true h = refl
+next_at x d es true false h =
+    filter-append (λ e. not (same x e)) es (d ∷ []) ∙ ap (λ b. filter (λ e. not (same x e)) es ++ cond (not b) (d ∷ []) []) h ∙ append-nil (filter (λ e. not (same x e)) es)
+next_at x d es false false h =
+    filter-append (λ e. not (same x e)) es (d ∷ []) ∙ ap (λ b. filter (λ e. not (same x e)) es ++ cond (not b) (d ∷ []) []) h
+
+before_both : (b : Bool) (x : Data) (ds es : List Data) → x ∷ cond b ds es ≡ cond b (x ∷ ds) (x ∷ es)
+before_both true x ds es = refl
+before_both false x ds es = refl
+
+-- a value behind the others is kept exactly where it is none of them
+pub next_kept : (ds : List Data) (d : Data) → distinct_items (ds ++ d ∷ []) ≡ cond (is_in ds d) (distinct_items ds) (distinct_items ds ++ d ∷ [])
+next_kept [] d = refl
+next_kept (x ∷ ds) d =
+    ap (λ es. x ∷ filter (λ e. not (same x e)) es) (next_kept ds d)
+    ∙ ap (λ es. x ∷ es) (next_at x d (distinct_items ds) (same d x) (is_in ds d) (same-equiv.symm x d))
+    ∙ before_both (same d x || is_in ds d) x _ _
 
 -- ---- each once
 

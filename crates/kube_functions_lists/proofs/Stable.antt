@@ -1,5 +1,5 @@
 -- A list has one stable ascending order by a test.
-use Rattle.std.proofs.Common.{◌≡◌, ℕ, suc, ◌+◌, List, [], ◌∷◌, map, ◌&&◌, not, Bool, true, false, cond, get_or, subst, refl, ap, sym, ◌∙◌, arith}
+use Rattle.std.proofs.Common.{◌≡◌, ℕ, zero, suc, ◌+◌, List, [], ◌∷◌, map, ◌&&◌, not, Bool, true, false, cond, get_or, subst, refl, ap, sym, ◌∙◌, arith}
 use Rattle.std.specs.Bool.{⊤}
 use Rattle.std.specs.Cmp.{IsStrictWeakOrder}
 use Rattle.std.specs.List.{list_all, filter}
@@ -168,6 +168,15 @@ module _ {X : Type 0} (lt : X → X → Bool) (o : IsStrictWeakOrder lt) where
   rises_from [] up = tt
   rises_from (x ∷ []) up = (refl, tt)
   rises_from (x ∷ y ∷ ys) up = rises_more x y ys (up 0 x (omega arith) (omega arith)) (rises_from (y ∷ ys) (λ k d a b. later x y ys k d (up (suc k) d (omega arith) (omega (arith, b)))))
+
+  sooner : (x y : X) (ys : List X) (k : ℕ) (d : X) → lt (get_or (y ∷ ys) (k + 1) d) (get_or (y ∷ ys) k d) ≡ false → lt (get_or (x ∷ y ∷ ys) (suc k + 1) d) (get_or (x ∷ y ∷ ys) (suc k) d) ≡ false
+  sooner x y ys k d h = subst (λ n. lt (get_or (x ∷ y ∷ ys) n d) (get_or (y ∷ ys) k d) ≡ false) (sym (further k)) h
+
+  pub sorted_from : (xs : List X) → Rises xs → IsSortedBy lt xs
+  sorted_from [] r k d a b = absurd (omega (arith, b))
+  sorted_from (x ∷ []) r k d a b = absurd (omega (arith, b))
+  sorted_from (x ∷ y ∷ ys) r zero d a b = from_not _ (both (not (lt y x)) _ r.0).0
+  sorted_from (x ∷ y ∷ ys) r (suc k) d a b = sooner x y ys k d (sorted_from (y ∷ ys) r.1 k d (omega arith) (omega (arith, b)))
 
   pub stable_order : (xs ys : List X) → IsSortedBy lt ys → IsStableBy lt xs ys → ys ≡ sorted_by lt xs
   stable_order xs ys up same = one_order ys (sorted_by lt xs) (rises_from ys up) (rises_sorted xs) (λ w. same w ∙ sym (stable_sorted w xs))

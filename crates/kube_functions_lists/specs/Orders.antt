@@ -77,3 +77,7 @@ class_number d = if has_order d then class_of (shape d) else 0
 -- an order of all values: by class, and within a class as they compare
 abbrev pub order_of_all : Data → Data → Ordering
 order_of_all d e = unwrap_or (compared d e) (nat_cmp (class_number d) (class_number e))
+
+-- whether a value stands before another one in that order: of two that have an order, where it is the lesser one
+abbrev pub goes_before : Data → Data → Bool
+goes_before d e = is_lt (order_of_all d e)

@@ -1,15 +1,26 @@
 //! Laws of lists and sets, each the contract of a call that does nothing.
-ghost use Rattle.std.specs.Prelude.{◌≡◌, ◌↔◌, List, true};
+ghost use Rattle.std.specs.Prelude.{◌≡◌, ◌↔◌, List, [], ◌∷◌, ◌++◌, true, if◌then◌else◌};
 ghost use Rattle.std.specs.List.{find, IsDistinct};
+ghost use Rattle.std.specs.List.Sorted.{IsSortedBy, IsStableBy};
 ghost use Rattle.cel_value.specs.Data.{Data};
 ghost use Rattle.cel_value.specs.Same.{same};
 ghost use Rattle.kube_functions_lists.specs.Lists.{distinct_items};
+ghost use Rattle.kube_functions_lists.specs.Orders.{ascending, goes_before, have_order};
 ghost use Rattle.kube_functions_lists.specs.Sets.{is_in, have_same};
 
-/// Of each value `distinct` keeps the first occurrence, and no two items that it keeps are equal.
+/// Of each value `distinct` keeps the first occurrence, where it stood among the others, and no two items that it keeps are equal.
 pub fn distinct_keeps_first_occurrences()
     ensures first { (v : Data) (ds : List Data) → find (same v) (distinct_items ds) ≡ find (same v) ds }
     ensures once { (ds : List Data) → IsDistinct same (distinct_items ds) }
+    ensures next { (ds : List Data) (d : Data)
+        → distinct_items (ds ++ d ∷ []) ≡ (if is_in ds d then distinct_items ds else distinct_items ds ++ d ∷ []) }
+{}
+
+/// Items any two of which have an order have one ascending order in which equal ones stay as they stood, and `sort` gives it.
+pub fn sort_gives_the_one_stable_order()
+    ensures ascends { (ds : List Data) → have_order ds ≡ true → IsSortedBy goes_before (ascending ds) }
+    ensures stable { (ds : List Data) → have_order ds ≡ true → IsStableBy goes_before ds (ascending ds) }
+    ensures one { (ds es : List Data) → have_order ds ≡ true → IsSortedBy goes_before es → IsStableBy goes_before ds es → es ≡ ascending ds }
 {}
 
 /// `sets.equivalent` holds exactly where the same values are in both lists.

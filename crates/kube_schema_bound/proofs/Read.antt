@@ -1,12 +1,12 @@
 -- Texts that are read as timestamps, durations or bytes, or stay.
-use Rattle.std.proofs.Common.{◌≡◌, ◌↔◌, ℕ, ℤ, List, Option, Some, None, Result, Ok, Err, refl, sym, ap, ◌∙◌, rules}
+use Rattle.std.proofs.Common.{◌≡◌, ◌↔◌, ℕ, ℤ, List, Option, Some, None, Result, Ok, Err, refl, sym, ap, rules}
 use Rattle.std.specs.Option.{option_map_or}
 use Rattle.std.specs.Result.{result_ok}
 use Rattle.base64.proofs.EngineFacts.{decode_of_iff}
 use Rattle.base64.specs.Engines.{standard}
 use Rattle.base64.specs.GeneralPurpose.{decode_of, decoded_of, encode_of, IsBytes, IsStrict}
 use Rattle.base64.specs.declared.decode.DecodeError.{DecodeError}
-use Rattle.cel_value.specs.Data.{Data, text, bytes, timestamp, duration}
+use Rattle.cel_value.specs.Data.{text, bytes, timestamp, duration}
 use Rattle.cel_value.specs.View.{view}
 use Rattle.cel_value.specs.declared.value.Value.{the_lemmas}
 use Rattle.cel_value.specs.declared.value.Value.TheVariants as value

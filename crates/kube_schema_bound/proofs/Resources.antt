@@ -4,7 +4,6 @@ use Rattle.std.specs.BTreeMap.{is_at}
 use Rattle.std.specs.Cmp.Lexicographic.{slice_cmp}
 use Rattle.std.specs.Map.{lookup}
 use Rattle.serde_json.proofs.Views.{Entry, view-lookup}
-use Rattle.serde_json.specs.Data.{Members}
 use Rattle.serde_json.specs.Find.{get_member}
 use Rattle.serde_json.specs.View.{view, members_view}
 use Rattle.serde_json.specs.declared.value.Value.{Value}

@@ -1,5 +1,5 @@
 -- What binding asks of a node of a schema, as JSON gives it: Kubernetes API reference, JSONSchemaProps.
-use Rattle.std.specs.Prelude.{ℕ, List, Bool, true, false, not, Option, Some, None, option_and_then, is_some, unwrap_or, if◌then◌else◌, codes}
+use Rattle.std.specs.Prelude.{ℕ, List, Bool, true, false, Option, Some, None, option_and_then, is_some, unwrap_or, if◌then◌else◌, codes}
 use Rattle.std.specs.Option.{option_map_or}
 use Rattle.serde_json.specs.Data.{Data}
 use Rattle.serde_json.specs.Find.{get, as_bool, as_str, as_object}

@@ -6,7 +6,7 @@ ghost use Rattle.cel_value.specs.View.{view, items_view, entries_view};
 ghost use Rattle.kube_schema_bound.specs.Bound.{bound, bound_by, entries_by, items_by, key_in, levels, member_by, member_key, object_by, raw};
 
 use crate::format::bind_formatted;
-use crate::node::{format_of, is_embedded, is_map, items_of, member_node};
+use crate::node::{Node, RawNode};
 use crate::resource::put_resource_fields;
 use cel_value::{Map, Refused, Value};
 use kube_schema_values::{bind_number, bind_plain, escape_field_name, put_entry};
@@ -24,79 +24,96 @@ const MAX_DEPTH: usize = 64;
 /// # Errors
 ///
 /// [`Refused`] where memory is refused.
-#[cycle(bind)]
 pub fn bind(alloc: Global, schema: &Json, value: &Json, depth: usize) -> Result<Value, Refused>
     ensures value { IfOk result (λ v. view v ≡ bound raw (levels depth) (json_view schema.now) (json_view value.now)) }
+    ensures memory { IfErr result (λ e. e ≡ Refused.Memory) }
+{
+    bind_at(alloc, RawNode { schema }, value, depth)
+}
+
+/// The same at a node of a schema in whatever form the schema is held.
+///
+/// # Errors
+///
+/// [`Refused`] where memory is refused.
+#[cycle(bind)]
+pub fn bind_at<N: Node>(
+    alloc: Global,
+    node: N,
+    value: &Json,
+    depth: usize,
+) -> Result<Value, Refused>
+    ensures value { IfOk result (λ v. view v ≡ bound N.look (levels depth) (N.seen node) (json_view value.now)) }
     ensures memory { IfErr result (λ e. e ≡ Refused.Memory) }
 {
     if depth > MAX_DEPTH {
         let plain = bind_plain(alloc, value)?;
         return Ok(plain);
     }
-    let bound = bind_by(alloc, schema, value, depth)?;
+    let bound = bind_by(alloc, node, value, depth)?;
     Ok(bound)
 }
 
 // The value at a node that is looked at.
 #[cycle(bind)]
-#[tactic(auto, unfolding(crate::specs::Bound::bound_by, crate::specs::Bound::raw))]
-fn bind_by(alloc: Global, schema: &Json, value: &Json, depth: usize) -> Result<Value, Refused>
+#[tactic(auto, unfolding(crate::specs::Bound::bound_by))]
+fn bind_by<N: Node>(alloc: Global, node: N, value: &Json, depth: usize) -> Result<Value, Refused>
     requires { depth ≤ 64 }
     ensures value { IfOk result (λ v. view v
-        ≡ bound_by raw (bound raw (64 - depth)) (json_view schema.now) (json_view value.now)) }
+        ≡ bound_by N.look (bound N.look (64 - depth)) (N.seen node) (json_view value.now)) }
     ensures memory { IfErr result (λ e. e ≡ Refused.Memory) }
 {
     match value {
         Json::Null => Ok(Value::Null),
         Json::Bool(truth) => Ok(Value::Bool(*truth)),
         Json::Number(number) => Ok(bind_number(number)),
-        Json::String(chars) => bind_formatted(alloc, format_of(schema), chars.as_str()),
-        Json::Array(items) => match items_of(schema) {
-            Some(node) => Value::from_items(alloc, bind_items(alloc, node, items, depth + 1)?),
+        Json::String(chars) => bind_formatted(alloc, node.format(), chars.as_str()),
+        Json::Array(items) => match node.items() {
+            Some(inner) => Value::from_items(alloc, bind_items(alloc, inner, items, depth + 1)?),
             None => bind_plain(alloc, value),
         },
         Json::Object(members) => {
-            Value::from_entries(alloc, bind_object(alloc, schema, members, depth)?)
+            Value::from_entries(alloc, bind_object(alloc, node, members, depth)?)
         }
     }
 }
 
 // The items of a list, at one node.
 #[cycle(bind)]
-fn bind_items(
+fn bind_items<N: Node>(
     alloc: Global,
-    schema: &Json,
+    node: N,
     items: &Vec<Json>,
     depth: usize,
 ) -> Result<Vec<Value>, Refused>
     requires { depth ≤ 65 }
     ensures items { IfOk result (λ v. items_view v.items
-        ≡ items_by (bound raw (65 - depth) (json_view schema.now)) (json_items_view items.now.items)) }
+        ≡ items_by (bound N.look (65 - depth) (N.seen node)) (json_items_view items.now.items)) }
     ensures memory { IfErr result (λ e. e ≡ Refused.Memory) }
 {
     let mut bound = Vec::with_capacity(alloc, items.len())?;
     for item in items {
-        bound.push(bind(alloc, schema, item, depth)?)?;
+        bound.push(bind_at(alloc, node, item, depth)?)?;
     }
     Ok(bound)
 }
 
 // The entries of an object, with the fields of a resource where the node is one.
 #[cycle(bind)]
-#[tactic(auto, unfolding(crate::specs::Bound::object_by, crate::specs::Bound::raw))]
-fn bind_object(
+#[tactic(auto, unfolding(crate::specs::Bound::object_by))]
+fn bind_object<N: Node>(
     alloc: Global,
-    schema: &Json,
+    node: N,
     members: &Members<String, Json>,
     depth: usize,
 ) -> Result<Map, Refused>
     requires { depth ≤ 64 }
     ensures entries { IfOk result (λ m. entries_view m.entries
-        ≡ object_by raw (bound raw (64 - depth)) (json_view schema.now) (members_view members.now.entries)) }
+        ≡ object_by N.look (bound N.look (64 - depth)) (N.seen node) (members_view members.now.entries)) }
     ensures memory { IfErr result (λ e. e ≡ Refused.Memory) }
 {
-    let mut entries = bind_members(alloc, schema, members, depth)?;
-    if !is_embedded(schema) {
+    let mut entries = bind_members(alloc, node, members, depth)?;
+    if !node.is_embedded() {
         return Ok(entries);
     }
     put_resource_fields(alloc, members, &mut entries)?;
@@ -104,33 +121,29 @@ fn bind_object(
 }
 
 #[cycle(bind)]
-fn bind_members(
+fn bind_members<N: Node>(
     alloc: Global,
-    schema: &Json,
+    node: N,
     members: &Members<String, Json>,
     depth: usize,
 ) -> Result<Map, Refused>
     requires { depth ≤ 64 }
     ensures entries { IfOk result (λ m. entries_view m.entries
-        ≡ entries_by (member_key raw (json_view schema.now)) (member_by raw (bound raw (64 - depth)) (json_view schema.now)) (members_view members.now.entries)) }
+        ≡ entries_by (member_key N.look (N.seen node)) (member_by N.look (bound N.look (64 - depth)) (N.seen node)) (members_view members.now.entries)) }
     ensures memory { IfErr result (λ e. e ≡ Refused.Memory) }
 {
-    let keeps_keys = is_map(schema);
+    let keeps_keys = node.is_map();
     let mut bound = Map::new(alloc);
     for (key, member) in members.iter().rev() {
         let name = bind_key(alloc, keeps_keys, key.as_str())?;
-        let value = bind_member(alloc, schema, key.as_str(), member, depth)?;
+        let value = bind_member(alloc, node, key.as_str(), member, depth)?;
         put_entry(alloc, &mut bound, name, value)?;
     }
     Ok(bound)
 }
 
-/// The key of a member: its name where the object is a map, else its name escaped.
-///
-/// # Errors
-///
-/// [`Refused`] where memory is refused.
-pub fn bind_key(alloc: Global, keeps_keys: bool, name: &str) -> Result<String, Refused>
+// The key of a member: its name where the object is a map, else its name escaped.
+fn bind_key(alloc: Global, keeps_keys: bool, name: &str) -> Result<String, Refused>
     ensures key { IfOk result (λ s. string_bytes s ≡ key_in keeps_keys name.now) }
     ensures memory { IfErr result (λ e. e ≡ Refused.Memory) }
 {
@@ -145,22 +158,22 @@ pub fn bind_key(alloc: Global, keeps_keys: bool, name: &str) -> Result<String, R
 // A member at the node that it goes by, or plainly.
 #[cycle(bind)]
 #[tactic(auto, unfolding(crate::specs::Bound::member_by))]
-fn bind_member(
+fn bind_member<N: Node>(
     alloc: Global,
-    schema: &Json,
+    node: N,
     name: &str,
     member: &Json,
     depth: usize,
 ) -> Result<Value, Refused>
     requires { depth ≤ 64 }
     ensures value { IfOk result (λ v. view v
-        ≡ member_by raw (bound raw (64 - depth)) (json_view schema.now) name.now (json_view member.now)) }
+        ≡ member_by N.look (bound N.look (64 - depth)) (N.seen node) name.now (json_view member.now)) }
     ensures memory { IfErr result (λ e. e ≡ Refused.Memory) }
 {
-    let Some(node) = member_node(schema, name) else {
+    let Some(inner) = node.member(name) else {
         let plain = bind_plain(alloc, member)?;
         return Ok(plain);
     };
-    let bound = bind(alloc, node, member, depth + 1)?;
+    let bound = bind_at(alloc, inner, member, depth + 1)?;
     Ok(bound)
 }

@@ -7,6 +7,7 @@ pub mod laws;
 pub mod node;
 pub mod resource;
 
-pub use binding::bind;
+pub use binding::{bind, bind_at};
 pub use format::SchemaFormat;
 pub use kube_schema_values::Refused;
+pub use node::Node;

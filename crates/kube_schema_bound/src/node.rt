@@ -1,11 +1,84 @@
-//! What binding asks of a node of a schema, as JSON gives it (Kubernetes API reference, JSONSchemaProps).
-ghost use Rattle.std.specs.Prelude.{◌≡◌, option_map};
+//! What binding asks of a node of a schema, and what a schema as JSON answers (Kubernetes API reference, JSONSchemaProps).
+ghost use Rattle.std.specs.Prelude.{◌≡◌, option_map, Option};
 ghost use Rattle.serde_json.specs.View.{view};
 ghost use Rattle.kube_schema_bound.specs.Node.{is_set, format_of, is_map, is_embedded, property_of, additional_of, items_of};
-ghost use Rattle.kube_schema_bound.specs.Bound.{raw, member_node};
+ghost use Rattle.kube_schema_bound.specs.Bound.{Look, raw, member_node};
 
 use crate::format::SchemaFormat;
 use serde_json::Value;
+
+/// A node of a schema, in whatever form the schema is held. Definitions see it as a `Seen`, and ask of it what the look says.
+pub trait Node: Copy {
+    ghost Seen: { Type 0 };
+
+    ghost seen: { Self → Seen };
+
+    ghost look: { Look Seen };
+
+    /// The node that a member goes by: its property, else the node of members that aren't declared.
+    fn member(&self, name: &str) -> Option<Self>
+        ensures { option_map seen result ≡ member_node look (seen self.now) name.now };
+
+    /// The node of the items of a list.
+    fn items(&self) -> Option<Self>
+        ensures { option_map seen result ≡ look.items (seen self.now) };
+
+    /// Whether the objects at the node are maps with keys of their own.
+    fn is_map(&self) -> bool
+        ensures { result ≡ look.is_map (seen self.now) };
+
+    /// Whether the objects at the node are whole Kubernetes objects.
+    fn is_embedded(&self) -> bool
+        ensures { result ≡ look.is_embedded (seen self.now) };
+
+    /// What the texts at the node become.
+    fn format(&self) -> SchemaFormat
+        ensures { result ≡ look.format (seen self.now) };
+}
+
+/// A node of a schema as JSON.
+#[derive(Clone, Copy)]
+pub(crate) struct RawNode<'a> {
+    pub(crate) schema: &'a Value,
+}
+
+impl Node for RawNode<'_> {
+    ghost use Rattle.kube_schema_bound.specs.Bound.{raw};
+    ghost use Rattle.serde_json.specs.Data.{Data};
+    ghost use Rattle.serde_json.specs.View.{view};
+
+    ghost Seen = { Data };
+
+    ghost seen = { λ n. view n.schema.now };
+
+    ghost look = { raw };
+
+    fn member(&self, name: &str) -> Option<Self> {
+        let schema = member_node(self.schema, name)?;
+        Some(RawNode { schema })
+    }
+
+    #[tactic(auto, unfolding(crate::specs::Bound::raw))]
+    fn items(&self) -> Option<Self> {
+        let schema = items_of(self.schema)?;
+        Some(RawNode { schema })
+    }
+
+    #[tactic(auto, unfolding(crate::specs::Bound::raw))]
+    fn is_map(&self) -> bool {
+        is_map(self.schema)
+    }
+
+    #[tactic(auto, unfolding(crate::specs::Bound::raw))]
+    fn is_embedded(&self) -> bool {
+        is_embedded(self.schema)
+    }
+
+    #[tactic(auto, unfolding(crate::specs::Bound::raw))]
+    fn format(&self) -> SchemaFormat {
+        format_of(self.schema)
+    }
+}
 
 /// Whether a keyword is there and is `true`.
 fn is_set(schema: &Value, keyword: &str) -> bool
@@ -49,7 +122,7 @@ pub fn is_embedded(schema: &Value) -> bool
 
 /// The node of the items of a list.
 #[tactic(auto, unfolding(crate::specs::Node::items_of))]
-pub fn items_of(schema: &Value) -> Option<&Value>
+fn items_of(schema: &Value) -> Option<&Value>
     ensures { option_map (λ v. view v.now) result ≡ items_of (view schema.now) }
 {
     schema.get("items")
@@ -79,7 +152,7 @@ fn additional_of(schema: &Value) -> Option<&Value>
 
 /// The node that a member goes by: its property, else the node of members that aren't declared.
 #[tactic(auto, unfolding(crate::specs::Bound::raw))]
-pub fn member_node<'a>(schema: &'a Value, name: &str) -> Option<&'a Value>
+fn member_node<'a>(schema: &'a Value, name: &str) -> Option<&'a Value>
     ensures { option_map (λ v. view v.now) result ≡ member_node raw (view schema.now) name.now }
 {
     if let Some(property) = property_of(schema, name) {

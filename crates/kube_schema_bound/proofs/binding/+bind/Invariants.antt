@@ -2,33 +2,33 @@ use Rattle.std.proofs.Common.{◌≡◌, ◌+◌, ◌*◌, ◌-◌, List, ◌++�
 use Rattle.serde_json.specs.View.{view as json_view, members_view}
 use Rattle.serde_json.proofs.Views.{Entry}
 use Rattle.cel_value.specs.View.{view, entries_view}
-use Rattle.kube_schema_bound.specs.Bound.{bound, entries_by, member_by, member_key, raw}
+use Rattle.kube_schema_bound.specs.Bound.{bound, entries_by, member_by, member_key}
 use Rattle.kube_schema_bound.proofs.binding.+bind.Given as goal
 
-abbrev pub decreases-bind : goal.decreases-bind
-decreases-bind l = 5 * (66 - l.depth)
+abbrev pub decreases-bind_at : goal.decreases-bind_at
+decreases-bind_at g l = 5 * (66 - l.depth)
 
 abbrev pub decreases-bind_by : goal.decreases-bind_by
-decreases-bind_by l = 5 * (66 - l.depth) - 1
+decreases-bind_by g l = 5 * (66 - l.depth) - 1
 
 abbrev pub decreases-bind_items : goal.decreases-bind_items
-decreases-bind_items l = 5 * (66 - l.depth) + 1
+decreases-bind_items g l = 5 * (66 - l.depth) + 1
 
 abbrev pub decreases-bind_object : goal.decreases-bind_object
-decreases-bind_object l = 5 * (66 - l.depth) - 2
+decreases-bind_object g l = 5 * (66 - l.depth) - 2
 
 abbrev pub decreases-bind_members : goal.decreases-bind_members
-decreases-bind_members l = 5 * (66 - l.depth) - 3
+decreases-bind_members g l = 5 * (66 - l.depth) - 3
 
 abbrev pub decreases-bind_member : goal.decreases-bind_member
-decreases-bind_member l = 5 * (66 - l.depth) - 4
+decreases-bind_member g l = 5 * (66 - l.depth) - 4
 
 abbrev pub invariant-bind_items-loop-item : goal.invariant-bind_items-loop-item
-invariant-bind_items-loop-item l = map view l.bound.items ≡ map (λ v. bound raw (65 - l.depth) (json_view l.schema) (json_view v)) (take l.item-index l.item-items)
+invariant-bind_items-loop-item g l = map view l.bound.items ≡ map (λ v. bound g.N.Node.look (65 - l.depth) (g.N.Node.seen l.node) (json_view v)) (take l.item-index l.item-items)
 
 abbrev pub invariant-bind_members-loop-key : goal.invariant-bind_members-loop-key
-invariant-bind_members-loop-key l = record {
+invariant-bind_members-loop-key g l = record {
   done : List Entry;
   all : l.members.entries ≡ l.key-iterator.iter ++ done;
-  same : entries_view l.bound.entries ≡ entries_by (member_key raw (json_view l.schema)) (member_by raw (bound raw (64 - l.depth)) (json_view l.schema)) (members_view done);
+  same : entries_view l.bound.entries ≡ entries_by (member_key g.N.Node.look (g.N.Node.seen l.node)) (member_by g.N.Node.look (bound g.N.Node.look (64 - l.depth)) (g.N.Node.seen l.node)) (members_view done);
 }

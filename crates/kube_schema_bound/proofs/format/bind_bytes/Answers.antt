@@ -1,4 +1,4 @@
-use Rattle.std.proofs.Common.{◌≡◌, ℕ, Vec, Global, sym, ap, ◌∙◌, subst}
+use Rattle.std.proofs.Common.{ℕ, Vec, Global, sym, ap, ◌∙◌, subst}
 use Rattle.base64.specs.Engines.{standard}
 use Rattle.base64.specs.GeneralPurpose.{decode_of, IsDecodeFailure}
 use Rattle.cel_value.specs.Data.{bytes}

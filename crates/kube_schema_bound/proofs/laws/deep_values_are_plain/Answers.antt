@@ -1,4 +1,4 @@
-use Rattle.std.proofs.Common.{◌-◌, ◌≡◌, arith}
+use Rattle.std.proofs.Common.{◌-◌, arith}
 use Rattle.kube_schema_bound.specs.Bound.{raw}
 use Rattle.kube_schema_bound.proofs.Bounds.{bound_past}
 use Rattle.kube_schema_bound.proofs.laws.deep_values_are_plain.Goals as goal

@@ -1,5 +1,5 @@
-use Rattle.std.proofs.Common.{[], ap, ◌∙◌}
-use Rattle.cel_value.specs.Data.{map_of, no_entries, text, text_key}
+use Rattle.std.proofs.Common.{ap, ◌∙◌}
+use Rattle.cel_value.specs.Data.{map_of, no_entries, text_key}
 use Rattle.cel_value.specs.Keys.{put}
 use Rattle.cel_value.specs.View.{entries_view}
 use Rattle.kube_schema_bound.proofs.Resources.{put_here, put_there}
