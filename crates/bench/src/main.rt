@@ -1,92 +1,24 @@
-//! Times how fast texts are compiled and run. It prints nothing unless it is asked by the word `syntax`, since times differ from run to run.
+//! Times how fast texts are compiled, expressions are executed and objects are validated. It prints nothing unless it is asked by the words
+//! `syntax`, `execution` and `validation`, since times differ from run to run.
 #![tactic(auto)]
 
-use cel::Program;
-use kube_types::Refused;
-use std::alloc::Global;
-use std::time::Instant;
+mod execution;
+mod syntax;
+mod validation;
+
 use std::{env, io};
 
-/// A text that is to be read, with what it is called.
-#[derive(Drop)]
-struct Sample {
-    name: &'static str,
-    text: String,
-}
-
-/// A beginning, a part so many times, and an end.
-fn repeated(
-    alloc: Global,
-    start: &str,
-    part: &str,
-    count: usize,
-    end: &str,
-) -> Result<String, Refused> {
-    let mut text = String::from_str(alloc, start)?;
-    for _turn in 0..count {
-        text.push_str(part)?;
-    }
-    text.push_str(end)?;
-    Ok(text)
-}
-
-/// The texts: a rule of some 1,000 bytes, a list of some 1,000,000 bytes, 200,000 signs, and 200,000 brackets.
-fn samples(alloc: Global) -> Result<Vec<Sample>, Refused> {
-    let mut samples = Vec::new(alloc);
-    samples.push(Sample {
-        name: "a rule of 1 KB",
-        text: repeated(
-            alloc,
-            "true",
-            " && self.spec.items[0] != 'some text'",
-            27,
-            "",
-        )?,
-    })?;
-    samples.push(Sample {
-        name: "a list of 1 MB",
-        text: repeated(alloc, "[", "12345, ", 142_857, "]")?,
-    })?;
-    samples.push(Sample {
-        name: "200,000 signs",
-        text: repeated(alloc, "", "!", 200_000, "true")?,
-    })?;
-    samples.push(Sample {
-        name: "200,000 brackets",
-        text: repeated(alloc, "", "(", 200_000, "true")?,
-    })?;
-    Ok(samples)
-}
-
-/// Whether the text is read.
-fn is_read(alloc: Global, text: &str) -> Result<bool, Refused> {
-    Ok(Program::compile(alloc, text)?.is_ok())
-}
+/// How many items the lists and maps have: what a part takes stays alike where the time is linear.
+const COUNTS: [u32; 3] = [1_000, 10_000, 100_000];
 
 fn main(rt: HostRuntime) -> io::Result<()> {
-    let alloc = rt.alloc();
-    if !env::args(&rt)?
-        .skip(1)
-        .any(|word| word.as_str() == "syntax")
-    {
-        return Ok(());
-    }
-    let Ok(samples) = samples(alloc) else {
-        return Ok(());
-    };
-    for sample in &samples {
-        let start = Instant::now(&rt)?;
-        let read = is_read(alloc, sample.text.as_str());
-        let passed = start.elapsed(&rt)?.as_nanos();
-        let bytes = sample.text.len() as u128;
-        let Ok(read) = read else {
-            return Ok(());
-        };
-        let per_byte = if bytes == 0 { 0 } else { passed / bytes };
-        println!(rt;
-            "{}: {bytes} bytes, read: {read}, {per_byte} ns a byte",
-            sample.name
-        )?;
+    for word in env::args(&rt)?.skip(1) {
+        match word.as_str() {
+            "syntax" => syntax::time_texts(&rt)?,
+            "execution" => execution::time_expressions(&rt)?,
+            "validation" => validation::time_schemas(&rt)?,
+            _ => {}
+        }
     }
     Ok(())
 }

@@ -22,6 +22,7 @@ pub(crate) fn answers(alloc: Global, words: &[String]) -> Option<Twice> {
             first: evaluated(alloc, text.as_str()),
             second: evaluated(alloc, text.as_str()),
         }),
+        [run, text] if run.as_str() == "execute" => executed_twice(alloc, text.as_str()),
         [run, schema, given] => with_schema(alloc, run.as_str(), schema.as_str(), given.as_str()),
         _ => None,
     }
@@ -58,16 +59,31 @@ fn with_schema(alloc: Global, run: &str, schema: &str, given: &str) -> Option<Tw
     None
 }
 
-/// What an expression comes to, with all functions.
+/// What a program comes to.
+fn executed(alloc: Global, program: &Program, context: &Context<'_>) -> Result<String, Refused> {
+    match program.execute(alloc, context)? {
+        Ok(value) => Ok(format!(in alloc; "{value:?}")?),
+        Err(fault) => Ok(format!(in alloc; "error: {fault}")?),
+    }
+}
+
+/// What an expression is read as, and comes to with all functions.
 fn evaluated(alloc: Global, text: &str) -> Result<String, Refused> {
     let Ok(program) = Program::compile(alloc, text)? else {
         return Ok(String::from_str(alloc, "not read")?);
     };
     let context: Context<'_> = Context::default(alloc).with_all();
-    match program.execute(alloc, &context)? {
-        Ok(value) => Ok(format!(in alloc; "{value:?}")?),
-        Err(fault) => Ok(format!(in alloc; "error: {fault}")?),
-    }
+    executed(alloc, &program, &context)
+}
+
+/// What one program comes to, executed twice in one context.
+fn executed_twice(alloc: Global, text: &str) -> Option<Twice> {
+    let program = Program::compile(alloc, text).ok()?.ok()?;
+    let context: Context<'_> = Context::default(alloc).with_all();
+    Some(Twice {
+        first: executed(alloc, &program, &context),
+        second: executed(alloc, &program, &context),
+    })
 }
 
 /// An object with the defaults of a schema.
