@@ -6,8 +6,8 @@ use std::alloc::Global;
 use std::io;
 use std::time::Instant;
 
-/// `l` is a list of ints and `m` a map from the same ints. The last three ask for the whole of both at each item.
-const EXPRESSIONS: [&str; 11] = [
+/// `l` is a list of ints and `m` a map from the same ints.
+const EXPRESSIONS: [&str; 8] = [
     "l.all(x, x >= 0)",
     "l.exists(x, x < 0)",
     "l.map(x, x + 1)",
@@ -16,6 +16,10 @@ const EXPRESSIONS: [&str; 11] = [
     "m.all(k, m[k] == k)",
     "l == l",
     "size(l) + size(m)",
+];
+
+/// What goes over the whole list or map at each item, and so isn't timed at the greatest size.
+const SQUARE_EXPRESSIONS: [&str; 3] = [
     "l.all(x, x < size(l))",
     "l.all(x, x in m)",
     "l.all(x, l.exists(y, x == y))",
@@ -77,20 +81,19 @@ fn time_expression(
     )
 }
 
-/// Whether an expression goes over the whole list or map at each item.
-fn is_square(index: usize) -> bool {
-    index >= 8
-}
-
 /// Times all expressions over a list and a map of one size.
 fn time_all(rt: &HostRuntime, count: u32) -> io::Result<()> {
     let Ok(context) = bound(rt.alloc(), count) else {
         return Ok(());
     };
-    for index in 0..EXPRESSIONS.len() {
-        if count <= 10_000 || !is_square(index) {
-            time_expression(rt, EXPRESSIONS[index], count, &context)?;
-        }
+    for text in EXPRESSIONS {
+        time_expression(rt, text, count, &context)?;
+    }
+    if count > 10_000 {
+        return Ok(());
+    }
+    for text in SQUARE_EXPRESSIONS {
+        time_expression(rt, text, count, &context)?;
     }
     Ok(())
 }
