@@ -28,8 +28,8 @@ use Rattle.kube_schema_table.specs.declared.node.CompiledSchema.{CompiledSchema}
 use Rattle.kube_schema_table.specs.Shown.{whole}
 use Rattle.kube_schema_table.specs.Tree.{Node, own}
 use Rattle.kube_schema_table.specs.View.{view_of, own_view, children_view}
-use Rattle.kube_schema_table_bound.proofs.Same.{bound_same}
-use Rattle.kube_schema_table_bound.specs.Compiled as tree_look
+use Rattle.kube_schema.proofs.Same.{bound_same}
+use Rattle.kube_schema.specs.Compiled as tree_look
 use Rattle.serde_json.specs.Data.{Data}
 use Rattle.serde_json.specs.declared.value.Value.{Value}
 use Rattle.serde_json.specs.View.{view}

@@ -21,7 +21,7 @@ use Rattle.kube_cel.specs.Added.{NodeStep, left_after, left_behind}
 use Rattle.kube_cel_places_table.specs.Moved.{moved}
 use Rattle.kube_cel_places_table.proofs.Alike as walk
 use Rattle.kube_schema_table.proofs.Same as filling
-use Rattle.kube_schema_table_bound.proofs.Same as binding
+use Rattle.kube_schema.proofs.Same as binding
 use Rattle.kube_cel.proofs.AddedKept.{counts_added, default_stays, embedded_stays, format_stays, int_or_string_stays, keys_added, maps_added, names_added, undeclared_added}
 use Rattle.kube_cel.proofs.AddedParts.{added, additional_added, branch_added, items_added, property_added}
 

@@ -2,7 +2,7 @@
 use Rattle.kube_cel_places_table.specs.Compiled.{compiled_shape}
 use Rattle.kube_cel_walk.specs.Form.{Form}
 use Rattle.kube_schema_table.specs.Tree.{Node, own}
-use Rattle.kube_schema_table_bound.specs.Compiled.{compiled}
+use Rattle.kube_schema.specs.Compiled.{compiled}
 
 -- its rules were read when it was compiled
 unfoldable pub compiled_form : Form Node

@@ -2,6 +2,10 @@
 //! and schemas that are compiled once.
 #![tactic(auto)]
 
+pub mod binding;
+pub mod laws;
+
+pub use binding::bind_node;
 pub use kube_schema_bound::{SchemaFormat, bind, laws as bound_laws};
 pub use kube_schema_filled::{apply_defaults, laws as filled_laws};
 pub use kube_schema_rules::{
@@ -10,7 +14,6 @@ pub use kube_schema_rules::{
 pub use kube_schema_table::{
     CompiledSchema, SchemaNode, compile_schema, fill_node, laws as table_laws,
 };
-pub use kube_schema_table_bound::bind_node;
 pub use kube_schema_values::{
     Refused, bind_plain, bind_text, escape_field_name, laws as name_laws, unescape_field_name,
 };

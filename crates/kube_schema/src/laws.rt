@@ -3,7 +3,7 @@ ghost use Rattle.std.specs.Prelude.{◌≡◌, ℕ};
 ghost use Rattle.serde_json.specs.Data.{Data};
 ghost use Rattle.kube_schema_bound.specs.Bound.{bound, raw};
 ghost use Rattle.kube_schema_table.specs.View.{view_of};
-ghost use Rattle.kube_schema_table_bound.specs.Compiled.{compiled};
+ghost use Rattle.kube_schema.specs.Compiled.{compiled};
 
 /// The tree of a schema binds each value as the schema does.
 pub fn the_tree_binds_alike()

@@ -5,7 +5,7 @@ ghost use Rattle.serde_json.specs.View.{view as json_view};
 ghost use Rattle.cel_value.specs.View.{view};
 ghost use Rattle.kube_schema_bound.specs.Bound.{bound, levels, member_node};
 ghost use Rattle.kube_schema_table.specs.Shown.{shown};
-ghost use Rattle.kube_schema_table_bound.specs.Compiled.{compiled};
+ghost use Rattle.kube_schema.specs.Compiled.{compiled};
 
 use cel_value::{Refused, Value};
 use kube_schema_bound::{Node, SchemaFormat, bind_at};
@@ -22,7 +22,7 @@ struct CompiledNode<'a> {
 impl Node for CompiledNode<'_> {
     ghost use Rattle.kube_schema_table.specs.Shown.{shown};
     ghost use Rattle.kube_schema_table.specs.Tree.{Node as Tree};
-    ghost use Rattle.kube_schema_table_bound.specs.Compiled.{compiled};
+    ghost use Rattle.kube_schema.specs.Compiled.{compiled};
 
     ghost Seen = { Tree };
 

@@ -13,7 +13,7 @@ use Rattle.kube_schema_filled.proofs.Fills.{property_is}
 use Rattle.kube_schema_values.specs.Plain.{plain}
 use Rattle.kube_schema_table.specs.View.{children_view, own_view, view_of}
 use Rattle.kube_schema_table.proofs.Same.{find_same, maybe_same}
-use Rattle.kube_schema_table_bound.specs.Compiled.{compiled}
+use Rattle.kube_schema.specs.Compiled.{compiled}
 
 -- ---- generic: two schemas that look alike, one level down
 

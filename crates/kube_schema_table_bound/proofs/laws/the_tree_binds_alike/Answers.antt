@@ -1,5 +1,0 @@
-use Rattle.kube_schema_table_bound.proofs.Same.{bound_same}
-use Rattle.kube_schema_table_bound.proofs.laws.the_tree_binds_alike.Goals as goal
-
-pub returns : goal.returns
-returns c = bound_same
