@@ -12,14 +12,4 @@ mod language;
 #[cfg(test)]
 mod literals;
 #[cfg(test)]
-mod names;
-#[cfg(test)]
 mod patterns;
-#[cfg(test)]
-mod refused_texts;
-#[cfg(test)]
-mod tokens;
-#[cfg(test)]
-mod trees;
-#[cfg(test)]
-mod values;

@@ -1,90 +1,65 @@
-//! Rows of URLs, by the type's own calls.
+//! What URLs answer.
 
-use conformance_rows::{cut, give};
-use kube_types::KubeUrl;
+use crate::item::{Item, ItemType};
+use crate::words::{said, yes_or_no};
+use kube_types::{KubeUrl, Refused};
 use std::alloc::Global;
-use std::test::Fail;
 
-/// A text with its scheme, host, host name, port and path, or `none` where it is no URL.
-const PARTS: &str = r#"
-https://example.com/a => "https" "example.com" "example.com" "" "/a"
-https://example.com:8443 => "https" "example.com:8443" "example.com" "8443" "/"
-https://example.com:443/ => "https" "example.com" "example.com" "" "/"
-https://[::1]:8443/ => "https" "[::1]:8443" "::1" "8443" "/"
-http://[2001:db8::1]/ => "http" "[2001:db8::1]" "2001:db8::1" "" "/"
-/a => "" "localhost" "localhost" "" "/a"
-/a b?c => "" "localhost" "localhost" "" "/a%20b"
-http://localhost/a => "http" "localhost" "localhost" "" "/a"
-mailto:a@b => "mailto" "" "" "" "a@b"
-∅ => none
-a => none
-http:// => none
-http://[::1 => none
-http://a:99999/ => none
-"#;
-
-/// The parts of a URL, each in quotes.
-fn shown(alloc: Global, url: &KubeUrl) -> Result<String, Fail> {
-    let scheme = url.scheme();
-    let hostname = url.hostname();
-    let path = url.escaped_path();
-    let host = url.host(alloc)?;
-    let port = url.port(alloc)?;
-    Ok(format!(in alloc; "{scheme:?} {host:?} {hostname:?} {port:?} {path:?}")?)
-}
-
-fn parts(alloc: Global, text: &str) -> Result<String, Fail> {
-    match KubeUrl::read(alloc, text)? {
-        Some(url) => shown(alloc, &url),
-        None => Ok(String::from_str(alloc, "none")?),
+/// The URL that an item is.
+pub(crate) fn url_of(alloc: Global, item: &Item) -> Result<Option<KubeUrl>, Refused> {
+    match item.of {
+        ItemType::Url => KubeUrl::read(alloc, item.text.as_str()),
+        _ => Ok(None),
     }
 }
 
-#[test]
-fn urls_have_parts(rt: HostRuntime) -> Result<(), Fail> {
-    give(rt.alloc(), PARTS, parts)
+/// The query of a URL: each name with its values.
+fn query(alloc: Global, url: &KubeUrl) -> Result<Option<String>, Refused> {
+    let query = url.query(alloc)?;
+    Ok(Some(format!(in alloc; "{query:?}")?))
 }
 
-/// Whether two URLs are equal.
-const COMPARED: &str = r#"
-/a and http://localhost/a => false
-/a and /a => true
-"#;
-
-/// The URL of a text that is one.
-fn url(alloc: Global, text: &str) -> Result<KubeUrl, Fail> {
-    Ok(KubeUrl::read(alloc, text)?.ok_or("a URL")?)
+/// Whether a URL is equal to a copy of another one.
+fn equal(alloc: Global, url: &KubeUrl, other: Option<KubeUrl>) -> Result<Option<String>, Refused> {
+    let Some(other) = other else {
+        return Ok(None);
+    };
+    let other = other.try_clone()?;
+    Ok(yes_or_no(alloc, *url == other)?)
 }
 
-fn compared(alloc: Global, pair: &str) -> Result<String, Fail> {
-    let (first, second) = cut(pair, " and ")?;
-    let left = url(alloc, first)?;
-    let right = url(alloc, second)?.try_clone()?;
-    Ok(format!(in alloc; "{}", left == right)?)
+/// What a field asks of a URL.
+fn of_url(
+    alloc: Global,
+    key: &str,
+    url: &KubeUrl,
+    other: Option<&Item>,
+) -> Result<Option<String>, Refused> {
+    match (key, other) {
+        ("scheme", _) => Ok(said(alloc, url.scheme())?),
+        ("host", _) => Ok(Some(url.host(alloc)?)),
+        ("host name", _) => Ok(said(alloc, url.hostname())?),
+        ("port", _) => Ok(Some(url.port(alloc)?)),
+        ("path", _) => Ok(said(alloc, url.escaped_path())?),
+        ("query", _) => query(alloc, url),
+        ("equal", Some(other)) => equal(alloc, url, url_of(alloc, other)?),
+        _ => Ok(None),
+    }
 }
 
-#[test]
-fn a_path_equals_no_other_url(rt: HostRuntime) -> Result<(), Fail> {
-    give(rt.alloc(), COMPARED, compared)
-}
-
-/// A text with its query: each name with its values.
-const QUERIES: &str = r#"
-/a?x=1&x=2 => {"x": ["1", "2"]}
-/a?b=2&a=1 => {"a": ["1"], "b": ["2"]}
-/a => {}
-/a?&&x => {"x": [""]}
-/a?x=1=2 => {"x": ["1=2"]}
-/a?x=a+b%21 => {"x": ["a b!"]}
-/a?%61=%62#c => {"a": ["b"]}
-"#;
-
-fn query(alloc: Global, text: &str) -> Result<String, Fail> {
-    let query = url(alloc, text)?.query(alloc)?;
-    Ok(format!(in alloc; "{query:?}")?)
-}
-
-#[test]
-fn queries_are_maps(rt: HostRuntime) -> Result<(), Fail> {
-    give(rt.alloc(), QUERIES, query)
+/// What a field asks of a text as a URL.
+pub(crate) fn answer(
+    alloc: Global,
+    key: &str,
+    item: &Item,
+    other: Option<&Item>,
+) -> Result<Option<String>, Refused> {
+    let url = url_of(alloc, item)?;
+    if key == "valid" {
+        return Ok(yes_or_no(alloc, url.is_some())?);
+    }
+    match url {
+        Some(url) => of_url(alloc, key, &url, other),
+        None => Ok(None),
+    }
 }
