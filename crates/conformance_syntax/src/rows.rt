@@ -4,9 +4,9 @@ use crate::given::Given;
 use crate::outline::outline;
 use crate::tokens::token_lines;
 use cel_syntax::{Expr, References, parse};
+use cel_value::Refused;
 use conformance_rows::{Field, Stop, Subject, Taken, compared};
 use kube_schema_values::{escape_field_name, unescape_field_name};
-use kube_types_refused::Refused;
 use std::alloc::{AllocError, Global};
 
 /// The row that is run, by the texts that it gave.

@@ -3,7 +3,7 @@
 use cel_syntax_tokens::lexer::tokens;
 use cel_syntax_tokens::mark::Mark;
 use cel_syntax_tokens::token::Token;
-use kube_types_refused::Refused;
+use cel_value::Refused;
 use std::alloc::{AllocError, Global};
 
 /// How a symbol is written.
