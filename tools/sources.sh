@@ -25,16 +25,27 @@ crate_names() { # TOP
     crates_below "$1" | cut -d' ' -f1
 }
 
+# Prints the folder of each of these parts of each of these crates.
+folders_of() { # TOP PART..
+    local name part names top=$1
+    shift
+    mapfile -t names < <(crate_names "$top")
+    for name in "${names[@]}"; do
+        for part in "$@"; do
+            echo "$top/crates/$name/$part"
+        done
+    done
+}
+
 # Prints one SHA-256 of all that the program of the repository TOP is made of: its crates' code, specifications and proofs, and
 # which crate stands on which.
 sum_of_sources() { # TOP
     (
         cd "$1" || exit
+        mapfile -t folders < <(folders_of . src specs proofs)
         {
             crates_below .
-            for name in $(crate_names .); do
-                find "crates/$name/src" "crates/$name/specs" "crates/$name/proofs" -type f -print0 2>/dev/null
-            done | LC_ALL=C sort -z | xargs -0 sha256sum
+            find "${folders[@]}" -type f -print0 2>/dev/null | LC_ALL=C sort -z | xargs -0 sha256sum
         } | sum_of
     )
 }
