@@ -21,7 +21,7 @@ use std::io::Write;
 use std::process::ExitCode;
 use std::{env, fs, io};
 use stop::Stop;
-use texts::Reader;
+use texts::Kind;
 
 /// Where the sequence of numbers begins.
 const SEED: u64 = 20_261_125;
@@ -88,20 +88,17 @@ fn run_texts(
     alloc: Global,
     grammar: &Grammar,
     random: &mut Random,
-    kind: &str,
-    reader: Reader,
+    kind: Kind,
     out: &mut impl Write,
-) -> Result<(), Stop>
-    requires { IsAlwaysCallable reader }
-{
-    let mut read = 0usize;
+) -> Result<(), Stop> {
+    let (name, mut read) = (kind.name(), 0usize);
     for _ in 0..TEXTS {
-        let text = grammar.made(alloc, random, kind, 8)?;
-        if reader(alloc, text.as_str())? {
+        let text = grammar.made(alloc, random, name, 8)?;
+        if kind.comes_back(alloc, text.as_str())? {
             read = read.saturating_add(1);
         }
     }
-    let _ = writeln!(out, "{kind}: {TEXTS} made, {read} read; each comes back");
+    let _ = writeln!(out, "{name}: {TEXTS} made, {read} read; each comes back");
     Ok(())
 }
 
@@ -111,25 +108,16 @@ fn run_all(alloc: Global, text: &str, out: &mut impl Write) -> Result<(), Stop> 
     let mut random = Random::new(SEED);
     run_expressions(alloc, &grammar, &mut random, out)?;
     run_schemas(alloc, &grammar, &mut random, out)?;
-    run_texts(alloc, &grammar, &mut random, "name", texts::name, out)?;
-    run_texts(
-        alloc,
-        &grammar,
-        &mut random,
-        "timestamp",
-        texts::timestamp,
-        out,
-    )?;
-    run_texts(
-        alloc,
-        &grammar,
-        &mut random,
-        "duration",
-        texts::duration,
-        out,
-    )?;
-    run_texts(alloc, &grammar, &mut random, "address", texts::address, out)?;
-    run_texts(alloc, &grammar, &mut random, "cidr", texts::cidr, out)
+    for kind in [
+        Kind::Name,
+        Kind::Timestamp,
+        Kind::Duration,
+        Kind::Address,
+        Kind::Cidr,
+    ] {
+        run_texts(alloc, &grammar, &mut random, kind, out)?;
+    }
+    Ok(())
 }
 
 /// Tells why the run stopped.

@@ -5,11 +5,42 @@ use kube_cel::cel::{Duration, KubeCIDR, KubeIP, Timestamp};
 use kube_cel::{escape_field_name, unescape_field_name};
 use std::alloc::Global;
 
-/// What a kind of text is read as: whether the text is read, and then whether what is printed of it is read as the same.
-pub type Reader = fn(Global, &str) -> Result<bool, Stop>;
+/// What a text is read as.
+#[derive(Clone, Copy)]
+pub enum Kind {
+    Name,
+    Timestamp,
+    Duration,
+    Address,
+    Cidr,
+}
+
+impl Kind {
+    /// Its name in the grammar.
+    pub fn name(self) -> &'static str {
+        match self {
+            Kind::Name => "name",
+            Kind::Timestamp => "timestamp",
+            Kind::Duration => "duration",
+            Kind::Address => "address",
+            Kind::Cidr => "cidr",
+        }
+    }
+
+    /// Whether a text of this kind is read. What is printed of it has to be read as the same.
+    pub fn comes_back(self, alloc: Global, text: &str) -> Result<bool, Stop> {
+        match self {
+            Kind::Name => name(alloc, text),
+            Kind::Timestamp => timestamp(alloc, text),
+            Kind::Duration => duration(alloc, text),
+            Kind::Address => address(alloc, text),
+            Kind::Cidr => cidr(alloc, text),
+        }
+    }
+}
 
 /// Escapes a name, and takes the escaping back.
-pub fn name(alloc: Global, text: &str) -> Result<bool, Stop> {
+fn name(alloc: Global, text: &str) -> Result<bool, Stop> {
     let escaped = escape_field_name(alloc, text)?;
     let back = unescape_field_name(alloc, escaped.as_str())?;
     let is_same = back.as_deref() == Some(text);
@@ -18,7 +49,7 @@ pub fn name(alloc: Global, text: &str) -> Result<bool, Stop> {
 }
 
 /// Reads a timestamp, prints it and reads it back.
-pub fn timestamp(alloc: Global, text: &str) -> Result<bool, Stop> {
+fn timestamp(alloc: Global, text: &str) -> Result<bool, Stop> {
     let Some(time) = Timestamp::read(text) else {
         return Ok(false);
     };
@@ -29,7 +60,7 @@ pub fn timestamp(alloc: Global, text: &str) -> Result<bool, Stop> {
 }
 
 /// Reads a duration, prints it and reads it back.
-pub fn duration(alloc: Global, text: &str) -> Result<bool, Stop> {
+fn duration(alloc: Global, text: &str) -> Result<bool, Stop> {
     let Some(duration) = Duration::read(text) else {
         return Ok(false);
     };
@@ -40,7 +71,7 @@ pub fn duration(alloc: Global, text: &str) -> Result<bool, Stop> {
 }
 
 /// Reads an address, prints it and reads it back.
-pub fn address(alloc: Global, text: &str) -> Result<bool, Stop> {
+fn address(alloc: Global, text: &str) -> Result<bool, Stop> {
     let Ok(address) = KubeIP::read(text) else {
         return Ok(false);
     };
@@ -51,7 +82,7 @@ pub fn address(alloc: Global, text: &str) -> Result<bool, Stop> {
 }
 
 /// Reads a CIDR, prints it and reads it back.
-pub fn cidr(alloc: Global, text: &str) -> Result<bool, Stop> {
+fn cidr(alloc: Global, text: &str) -> Result<bool, Stop> {
     let Ok(cidr) = KubeCIDR::read(text) else {
         return Ok(false);
     };
