@@ -1,0 +1,27 @@
+//! A fixed sequence of numbers that looks random (SplitMix64, Steele, Lea and Flood 2014).
+
+/// The state of the sequence.
+#[derive(Clone, Copy)]
+pub struct Random {
+    state: u64,
+}
+
+impl Random {
+    /// The sequence of a seed.
+    pub fn new(seed: u64) -> Random {
+        Random { state: seed }
+    }
+
+    /// The next number.
+    pub fn next(&mut self) -> u64 {
+        self.state = self.state.wrapping_add(0x9e37_79b9_7f4a_7c15);
+        let mixed = (self.state ^ (self.state >> 30)).wrapping_mul(0xbf58_476d_1ce4_e5b9);
+        let mixed = (mixed ^ (mixed >> 27)).wrapping_mul(0x94d0_49bb_1331_11eb);
+        mixed ^ (mixed >> 31)
+    }
+
+    /// One of so many numbers from 0 on; 0 where there is none.
+    pub fn below(&mut self, count: usize) -> usize {
+        (self.next() as usize).checked_rem(count).unwrap_or(0)
+    }
+}
