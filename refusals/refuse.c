@@ -1,5 +1,5 @@
 /* Refuses one growth of the program that it is loaded before: the one whose number is in REFUSE, from 1 on. At the end it
-   writes to the file descriptor 3 how many growths there were. */
+   writes to the file descriptor whose number is in GROWTHS how many growths there were. */
 #include <stddef.h>
 #include <stdio.h>
 #include <stdlib.h>
@@ -35,5 +35,7 @@ void *realloc(void *old, size_t size)
 __attribute__((destructor)) static void tell(void)
 {
     long told = growths;
-    dprintf(3, "%ld\n", told);
+    const char *to = getenv("GROWTHS");
+    if (to)
+        dprintf(atoi(to), "%ld\n", told);
 }

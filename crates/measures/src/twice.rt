@@ -1,0 +1,34 @@
+//! A run that is made twice, timed and told.
+
+use kube_cel::Refused;
+use kube_cel::cel::PatternBook;
+use std::alloc::Global;
+use std::fmt::Debug;
+use std::io;
+use std::time::Instant;
+
+/// What an answer prints.
+fn printed<T: Debug + Drop>(alloc: Global, answer: Result<T, Refused>) -> Result<String, Refused> {
+    Ok(format!(in alloc; "{:?}", answer?)?)
+}
+
+/// Makes a run twice, with one book of patterns lent to both, and tells what each came to and took.
+pub(crate) fn make_twice<T: Debug + Drop, F: Fn(&mut PatternBook) -> Result<T, Refused>>(
+    rt: &HostRuntime,
+    run: F,
+) -> io::Result<()>
+    requires { F.IsAlwaysCallable run }
+{
+    let mut book = PatternBook::new(rt.alloc());
+    for _turn in 0..2 {
+        let start = Instant::now(rt)?;
+        let answer = run(&mut book);
+        let passed = start.elapsed(rt)?;
+        match printed(rt.alloc(), answer) {
+            Ok(text) => println!(rt; "{text}")?,
+            Err(_) => println!(rt; "refused")?,
+        }
+        eprintln!(rt; "{}", passed.as_nanos())?;
+    }
+    Ok(())
+}
