@@ -1,0 +1,43 @@
+//! Asks whether the rules of a schema admit an object, and why they don't.
+#![tactic(auto)]
+
+ghost use Rattle.kube_cel.specs.Answers.{IsToldOf};
+ghost use Rattle.kube_cel.specs.Raw.{raw_form};
+ghost use Rattle.kube_cel.specs.Spots.{given_spot};
+ghost use Rattle.kube_cel_errors.specs.ErrorLists.{errors_in};
+ghost use Rattle.kube_cel_errors.specs.Texts.{errors_text};
+ghost use Rattle.kube_cel_errors.specs.declared.error.ValidationErrors.{ValidationErrors};
+ghost use Rattle.std.specs.Prelude.{◌≡◌, Err, IfOk, IfSome, None, Ok, string_bytes};
+
+use kube_cel::{Refused, validate};
+use serde_json::{Value, json};
+use std::alloc::Global;
+use std::io;
+
+/// Why an object is denied; `None` where it is admitted. `Refused` is neither: there was no memory.
+fn denial(alloc: Global, schema: &Value, object: &Value) -> Result<Option<String>, Refused>
+    ensures admitted { result ≡ Ok None → IsToldOf raw_form (given_spot schema.now object.now None None) (Ok tt) }
+    ensures denied { IfOk result (λ why. IfSome why (λ text. (errors : ValidationErrors)
+        × IsToldOf raw_form (given_spot schema.now object.now None None) (Err errors)
+        × (string_bytes text ≡ errors_text (errors_in errors)))) }
+{
+    match validate(alloc, schema, object, None)? {
+        Ok(()) => Ok(None),
+        Err(errors) => Ok(Some(errors.to_string(alloc)?)),
+    }
+}
+
+fn main(rt: HostRuntime) -> io::Result<()> {
+    let alloc = rt.alloc();
+    let schema = json!(in alloc; {"properties": {"replicas": {"x-kubernetes-validations": [
+        {"rule": "self >= 1", "message": "at least one replica"}]}}})?;
+    for replicas in [3, 0] {
+        let object = json!(in alloc; {"replicas": replicas})?;
+        match denial(alloc, &schema, &object) {
+            Ok(None) => println!(rt; "{object} is admitted")?,
+            Ok(Some(why)) => println!(rt; "{object} is denied: {why}")?,
+            Err(_) => return Err(io::Error::from(io::ErrorKind::OutOfMemory)),
+        }
+    }
+    Ok(())
+}
