@@ -1,9 +1,12 @@
 //! What is read and compiled of a node's rules.
 
+use crate::nesting::Nesting;
+use crate::nodes::node_at;
 use crate::object::{begin_line, push_json, push_text, push_text_if_there};
 use crate::odd::Odd;
 use kube_schema::{
-    CompilationError, CompilationResult, Rule, RuleFault, SchemaNode, rule_values, rules_of,
+    CompilationError, CompilationResult, Rule, RuleFault, SchemaNode, compile_schema, rule_values,
+    rules_of,
 };
 use serde_json::Value;
 use std::alloc::{AllocError, Global};
@@ -107,21 +110,24 @@ pub(crate) fn compare_rules(
     }
 }
 
-/// Errors as they are printed, one on a line.
-fn error_lines(alloc: Global, errors: &[&CompilationError]) -> Result<String, AllocError> {
-    let mut text = String::new(alloc);
-    for error in errors {
-        let line = error.to_string(alloc)?;
-        begin_line(&mut text, line.as_str())?;
-    }
-    Ok(text)
-}
-
 /// Why rules of a node weren't compiled, one on a line.
-pub(crate) fn compilation_errors(alloc: Global, node: &SchemaNode<'_>) -> Result<String, Odd> {
+pub(crate) fn compilation_errors(
+    alloc: Global,
+    schema: &Value,
+    nesting: Nesting,
+    steps: &str,
+) -> Result<String, Odd> {
+    let compiled = compile_schema(alloc, schema)?;
+    let Some(node) = node_at(&compiled, nesting, steps) else {
+        return Err(Odd::Broken("no such node"));
+    };
+    let mut text = String::new(alloc);
     let errors = node.compilation_errors(alloc)?;
-    if node.has_errors() == errors.is_empty() {
+    for index in 0..errors.len() {
+        begin_line(&mut text, errors[index].to_string(alloc)?.as_str())?;
+    }
+    if node.has_errors() == text.is_empty() {
         return Err(Odd::Broken("has_errors says something else"));
     }
-    Ok(error_lines(alloc, errors.as_slice())?)
+    Ok(text)
 }

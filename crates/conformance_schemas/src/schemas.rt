@@ -118,8 +118,7 @@ impl Schemas {
         match key {
             "node count" => Ok(compiled.node_count().to_string(alloc)?),
             "shown" => Ok(shown(alloc, &node)?),
-            "rules compiled" => rules_compiled(alloc, &node),
-            _ => compilation_errors(alloc, &node),
+            _ => rules_compiled(alloc, &node),
         }
     }
 
@@ -129,8 +128,9 @@ impl Schemas {
             "errors" | "error parts" | "printed" | "copied" | "told apart" => {
                 self.judged_for(alloc, key)
             }
-            "node count" | "shown" | "rules compiled" | "compilation errors" => {
-                self.compiled_for(alloc, key)
+            "node count" | "shown" | "rules compiled" => self.compiled_for(alloc, key),
+            "compilation errors" => {
+                compilation_errors(alloc, &self.case.schema, self.nesting, self.steps.as_str())
             }
             "rules read" => rules_read(alloc, &self.case.schema),
             "bound" => bound(alloc, &self.case, self.depth, self.expression.as_str()),
