@@ -4,8 +4,6 @@
 #[cfg(test)]
 mod analysis;
 #[cfg(test)]
-mod bound;
-#[cfg(test)]
 mod expressions;
 #[cfg(test)]
 mod language;
