@@ -2,8 +2,6 @@
 #![tactic(auto)]
 
 #[cfg(test)]
-mod analysis;
-#[cfg(test)]
 mod bound;
 #[cfg(test)]
 mod expressions;
