@@ -27,11 +27,11 @@ use texts::Kind;
 const SEED: u64 = 20_261_125;
 
 /// How many of each are made.
-const EXPRESSIONS: usize = 4_000;
+const EXPRESSIONS: usize = 100_000;
 
-const SCHEMAS: usize = 600;
+const SCHEMAS: usize = 20_000;
 
-const TEXTS: usize = 1_000;
+const TEXTS: usize = 50_000;
 
 /// What `self` is bound to in expressions.
 const SELF: &str =
