@@ -1,10 +1,14 @@
+pub mod Coded
 pub mod Data
+pub mod Falls
 pub mod Faults
 pub mod Find
 pub mod Keys
 pub mod Kinds
+pub mod Levels
 pub mod Parts
 pub mod Same
 pub mod SameLaws
 pub mod Texts
 pub mod View
+pub mod Weights

@@ -1,14 +1,14 @@
 //! Making values of parts, and finding the entries of maps.
 ghost use Rattle.std.specs.Prelude.{◌≡◌, IfOk, IfErr, MatchResult, IsSome, None, option_map, string_bytes};
-ghost use Rattle.cel_value.specs.Data.{item, no_items, list, map_of, text};
+ghost use Rattle.cel_value.specs.Data.{list, map_of, text};
 ghost use Rattle.cel_value.specs.Faults.{fault_view, duplicate_key};
-ghost use Rattle.cel_value.specs.Find.{find, first_item};
+ghost use Rattle.cel_value.specs.Find.{find};
 ghost use Rattle.cel_value.specs.Keys.{key_view, put};
-ghost use Rattle.cel_value.specs.View.{optional_view, view, items_view, entries_view};
+ghost use Rattle.cel_value.specs.View.{view, items_view, entries_view};
 
 use crate::error::ExecutionError;
 use crate::key::Key;
-use crate::value::{Map, OptionalValue, Value};
+use crate::value::{Entries, List, Map, Value};
 use kube_types::Refused;
 use std::alloc::Global;
 use std::rc::Rc;
@@ -23,75 +23,53 @@ impl Value {
     }
 
     /// The list of these items.
+    ///
+    /// # Errors
+    /// `Memory`, also where it would have more levels than [`MAX_VALUE_LEVELS`](crate::value::MAX_VALUE_LEVELS).
     pub fn from_items(alloc: Global, items: Vec<Value>) -> Result<Value, Refused>
         ensures value { IfOk result (λ v. view v ≡ list (items_view items.items)) }
         ensures memory { IfErr result (λ e. e ≡ Refused.Memory) }
     {
-        Ok(Value::List(Rc::new(alloc, items)?))
+        Ok(Value::List(Rc::new(alloc, List::of(items)?)?))
     }
 
     /// The map of these entries.
-    #[tactic(auto, using(crate::proofs::Views::view_map))]
-    pub fn from_entries(alloc: Global, entries: Map) -> Result<Value, Refused>
+    ///
+    /// # Errors
+    /// `Memory`, also where it would have more levels than [`MAX_VALUE_LEVELS`](crate::value::MAX_VALUE_LEVELS).
+    pub fn from_entries(alloc: Global, entries: Entries) -> Result<Value, Refused>
         ensures value { IfOk result (λ v. view v ≡ map_of (entries_view entries.entries)) }
         ensures memory { IfErr result (λ e. e ≡ Refused.Memory) }
     {
-        Ok(Value::Map(Rc::new(alloc, entries)?))
+        Ok(Value::Map(Rc::new(alloc, Map::of(entries)?)?))
     }
 }
 
-impl OptionalValue {
-    /// An optional that holds the value.
-    pub fn of(alloc: Global, value: Value) -> Result<OptionalValue, Refused>
-        ensures value { IfOk result (λ o. optional_view o ≡ item (view value) no_items) }
-        ensures memory { IfErr result (λ e. e ≡ Refused.Memory) }
-    {
-        Ok(OptionalValue {
-            held: Some(Rc::new(alloc, value)?),
-        })
-    }
-
-    /// An optional that holds none.
-    pub fn none() -> OptionalValue
-        ensures { optional_view result ≡ no_items }
-    {
-        OptionalValue { held: None }
-    }
-
-    /// The value that it holds.
-    pub fn value(&self) -> Option<&Value>
-        ensures { option_map (λ v. view v.now) result ≡ first_item (optional_view self.now) }
-    {
-        match &self.held {
-            Some(value) => Some(value.as_ref()),
-            None => None,
-        }
-    }
-}
-
-/// Puts a new entry into a map, unless the key is there; then the map has the new value, and is not to be used.
+/// Puts a new entry into a map, unless the key is there; then the map stays.
+///
+/// # Errors
+/// `Memory`, also where the map would have more levels than [`MAX_VALUE_LEVELS`](crate::value::MAX_VALUE_LEVELS).
 pub fn add_entry(
     entries: &mut Map,
     key: Key,
     value: Value,
 ) -> Result<Result<(), ExecutionError>, Refused>
     ensures value { IfOk result (λ r. MatchResult r
-        (λ _. (find (key_view key) (entries_view entries.old.entries) ≡ None)
-        × (entries_view entries.new.entries ≡ put (key_view key) (view value) (entries_view entries.old.entries)))
-        (λ e. (fault_view e ≡ duplicate_key)
-        × IsSome (find (key_view key) (entries_view entries.old.entries)))) }
+        (λ _. (find (key_view key) entries.old ≡ None) × (entries.new ≡ put (key_view key) (view value) entries.old))
+        (λ e. (fault_view e ≡ duplicate_key) × IsSome (find (key_view key) entries.old))) }
+    ensures kept { IfOk result (λ r. IfErr r (λ _. entries.new ≡ entries.old)) }
     ensures memory { IfErr result (λ e. e ≡ Refused.Memory) }
 {
-    match entries.insert(key, value)? {
-        None => Ok(Ok(())),
-        Some(_replaced) => Ok(Err(ExecutionError::DuplicateKey)),
+    if entries.get(&key).is_some() {
+        return Ok(Err(ExecutionError::DuplicateKey));
     }
+    entries.insert_new(key, value)?;
+    Ok(Ok(()))
 }
 
 /// The value at a key of a map.
 pub fn find_entry<'a>(entries: &'a Map, key: &Key) -> Option<&'a Value>
-    ensures { option_map (λ v. view v.now) result
-        ≡ find (key_view key.now) (entries_view entries.now.entries) }
+    ensures { option_map (λ v. view v.now) result ≡ find (key_view key.now) entries.now }
 {
     entries.get(key)
 }

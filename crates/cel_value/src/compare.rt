@@ -18,13 +18,15 @@ impl Value {
                 Some(y) => Some(x.cmp(&y)),
                 None => None,
             },
-            Value::Int(x) => match other.as_number() {
-                Some(y) => Some((*x as i128).cmp(&y)),
-                None => None,
+            Value::Int(x) => match other {
+                Value::Int(y) => Some(x.cmp(y)),
+                Value::UInt(y) => Some((*x as i128).cmp(&(*y as i128))),
+                _ => None,
             },
-            Value::UInt(x) => match other.as_number() {
-                Some(y) => Some((*x as i128).cmp(&y)),
-                None => None,
+            Value::UInt(x) => match other {
+                Value::Int(y) => Some((*x as i128).cmp(&(*y as i128))),
+                Value::UInt(y) => Some(x.cmp(y)),
+                _ => None,
             },
             Value::String(x) => match other.as_str() {
                 Some(y) => Some(x.as_str().cmp(y)),

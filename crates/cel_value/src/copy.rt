@@ -1,11 +1,11 @@
 //! Copies of values, which share what they hold, and their kinds.
 ghost use Rattle.std.specs.Prelude.{◌≡◌, IfOk, IfErr};
-ghost use Rattle.cel_value.specs.View.{view, optional_view, kind_of};
+ghost use Rattle.cel_value.specs.View.{view, kind_of};
 ghost use Rattle.cel_value.specs.Keys.{key_view};
 
 use crate::key::Key;
 use crate::kind::Kind;
-use crate::value::{OptionalValue, Value};
+use crate::value::Value;
 use kube_types::Refused;
 
 impl Key {
@@ -19,21 +19,6 @@ impl Key {
             Key::Int(n) => Ok(Key::Int(*n)),
             Key::Uint(n) => Ok(Key::Uint(*n)),
             Key::String(text) => Ok(Key::String(text.clone()?)),
-        }
-    }
-}
-
-impl OptionalValue {
-    /// The same optional. Its value is shared.
-    pub fn try_clone(&self) -> Result<OptionalValue, Refused>
-        ensures value { IfOk result (λ o. optional_view o ≡ optional_view self.now) }
-        ensures memory { IfErr result (λ e. e ≡ Refused.Memory) }
-    {
-        match &self.held {
-            None => Ok(OptionalValue { held: None }),
-            Some(value) => Ok(OptionalValue {
-                held: Some(value.clone()?),
-            }),
         }
     }
 }

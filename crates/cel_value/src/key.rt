@@ -87,9 +87,12 @@ impl Ord for Key {
     ghost matches_eq = { λ a b. refl };
 
     #[inline(always)]
+    #[tactic(auto, using(crate::proofs::KeyOrder::then_equal))]
     fn cmp(&self, other: &Key) -> Ordering {
         match (self, other) {
             (Key::String(a), Key::String(b)) => a.as_str().cmp(b.as_str()),
+            (Key::Int(a), Key::Int(b)) => a.cmp(b),
+            (Key::Uint(a), Key::Uint(b)) => a.cmp(b),
             _ => self
                 .class()
                 .cmp(&other.class())

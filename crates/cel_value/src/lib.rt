@@ -4,7 +4,6 @@
 pub mod build;
 pub mod compare;
 pub mod copy;
-pub mod doubles;
 pub mod error;
 pub mod key;
 pub mod kind;
@@ -19,4 +18,4 @@ pub use error::ExecutionError;
 pub use key::Key;
 pub use kind::Kind;
 pub use kube_types::Refused;
-pub use value::{Map, OptionalValue, Value};
+pub use value::{Entries, List, MAX_VALUE_LEVELS, Map, OptionalValue, Value};

@@ -1,6 +1,6 @@
 //! What is inside a value of one kind.
 ghost use Rattle.std.specs.Prelude.{◌≡◌, option_map, string_bytes};
-ghost use Rattle.cel_value.specs.View.{view, items_view, entries_view, optional_view};
+ghost use Rattle.cel_value.specs.View.{view};
 ghost use Rattle.cel_value.specs.Parts.{number_in, bool_in, text_in, bytes_in, items_in, entries_in, held_in, timestamp_in, duration_in, ip_in, cidr_in, quantity_in, semver_in, url_in, format_in};
 ghost use Rattle.cel_value_times.specs.Instants.{instant};
 ghost use Rattle.kube_types_address.specs.Networks.{network};
@@ -10,7 +10,7 @@ ghost use Rattle.kube_types_quantity.specs.Shown.{number};
 ghost use Rattle.kube_types_semver.specs.Shown.{parts};
 ghost use Rattle.kube_types_url.specs.Shown.{shown};
 
-use crate::value::{Map, OptionalValue, Value};
+use crate::value::{List, Map, OptionalValue, Value};
 use cel_value_times::{Duration, Timestamp};
 use kube_types::{KubeCIDR, KubeFormat, KubeIP, KubeQuantity, KubeSemver, KubeUrl};
 
@@ -57,8 +57,8 @@ impl Value {
     }
 
     /// The items of a list.
-    pub fn as_list(&self) -> Option<&Vec<Value>>
-        ensures { option_map (λ v. items_view v.now.items) result ≡ items_in (view self.now) }
+    pub fn as_list(&self) -> Option<&List>
+        ensures { option_map (λ l. l.now) result ≡ items_in (view self.now) }
     {
         match self {
             Value::List(items) => Some(items.as_ref()),
@@ -68,7 +68,7 @@ impl Value {
 
     /// The entries of a map.
     pub fn as_map(&self) -> Option<&Map>
-        ensures { option_map (λ m. entries_view m.now.entries) result ≡ entries_in (view self.now) }
+        ensures { option_map (λ m. m.now) result ≡ entries_in (view self.now) }
     {
         match self {
             Value::Map(entries) => Some(entries.as_ref()),
@@ -78,7 +78,7 @@ impl Value {
 
     /// The optional that it is.
     pub fn as_optional(&self) -> Option<&OptionalValue>
-        ensures { option_map (λ o. optional_view o.now) result ≡ held_in (view self.now) }
+        ensures { option_map (λ o. o.now) result ≡ held_in (view self.now) }
     {
         match self {
             Value::Optional(o) => Some(o),

@@ -1,9 +1,9 @@
 //! Equality of values.
 ghost use Rattle.std.specs.Prelude.{◌≡◌};
-ghost use Rattle.cel_value.specs.View.{view, items_view, entries_view, optional_view};
+ghost use Rattle.cel_value.specs.View.{view};
 ghost use Rattle.cel_value.specs.Same.{same, same_shapes, shapes, entry_shapes};
 
-use crate::value::{Map, OptionalValue, Value};
+use crate::value::{List, Map, OptionalValue, Value};
 
 impl PartialEq for Value {
     ghost use Rattle.std.specs.Cmp.{partial_equiv_from_equiv};
@@ -35,13 +35,15 @@ pub(crate) fn is_same(a: &Value, b: &Value) -> bool
             Some(y) => *x == y,
             None => false,
         },
-        Value::Int(x) => match b.as_number() {
-            Some(y) => *x as i128 == y,
-            None => false,
+        Value::Int(x) => match b {
+            Value::Int(y) => *x == *y,
+            Value::UInt(y) => *x as i128 == *y as i128,
+            _ => false,
         },
-        Value::UInt(x) => match b.as_number() {
-            Some(y) => *x as i128 == y,
-            None => false,
+        Value::UInt(x) => match b {
+            Value::Int(y) => *x as i128 == *y as i128,
+            Value::UInt(y) => *x == *y,
+            _ => false,
         },
         Value::String(x) => match b.as_str() {
             Some(y) => x.as_str() == y,
@@ -100,24 +102,23 @@ pub(crate) fn is_same(a: &Value, b: &Value) -> bool
 
 #[cycle(same)]
 fn held_same(a: &OptionalValue, b: &OptionalValue) -> bool
-    ensures { result ≡ same_shapes (shapes (optional_view a.now)) (shapes (optional_view b.now)) }
+    ensures { result ≡ same_shapes (shapes a.now) (shapes b.now) }
 {
-    match &a.held {
-        None => b.held.is_none(),
-        Some(x) => match &b.held {
+    match a.value() {
+        None => b.value().is_none(),
+        Some(x) => match b.value() {
             None => false,
-            Some(y) => is_same(x.as_ref(), y.as_ref()),
+            Some(y) => is_same(x, y),
         },
     }
 }
 
 #[cycle(same)]
-fn are_same(xs: &Vec<Value>, ys: &Vec<Value>) -> bool
-    ensures { result
-        ≡ same_shapes (shapes (items_view xs.now.items)) (shapes (items_view ys.now.items)) }
+fn are_same(xs: &List, ys: &List) -> bool
+    ensures { result ≡ same_shapes (shapes xs.now) (shapes ys.now) }
 {
-    let mut rest = ys.iter();
-    for x in xs {
+    let mut rest = ys.as_slice().iter();
+    for x in xs.as_slice() {
         match rest.next() {
             None => return false,
             Some(y) => {
@@ -132,8 +133,7 @@ fn are_same(xs: &Vec<Value>, ys: &Vec<Value>) -> bool
 
 #[cycle(same)]
 fn entries_same(xs: &Map, ys: &Map) -> bool
-    ensures { result
-        ≡ same_shapes (entry_shapes (entries_view xs.now.entries)) (entry_shapes (entries_view ys.now.entries)) }
+    ensures { result ≡ same_shapes (entry_shapes xs.now) (entry_shapes ys.now) }
 {
     let mut rest = ys.iter();
     for (key, x) in xs.iter() {

@@ -1,14 +1,14 @@
 //! The texts of values, keys and errors.
 ghost use Rattle.std.specs.Prelude.{◌≡◌, ◌∷◌, ◌++◌, IfOk, IfErr, OnOk, Some, string_bytes, option_map, true, false};
 ghost use Rattle.cel_value.specs.Keys.{key_view};
-ghost use Rattle.cel_value.specs.View.{view, items_view, entries_view};
+ghost use Rattle.cel_value.specs.View.{view};
 ghost use Rattle.cel_value.specs.Faults.{fault_view};
 ghost use Rattle.cel_value.specs.Texts.{shown, quoted_if, text_form, items_text, entries_text, key_form, textless, items_textless, entries_textless, printed, fault_text};
 
 use crate::error::ExecutionError;
 use crate::key::Key;
 use crate::kind::Kind;
-use crate::value::{Map, Value};
+use crate::value::{List, Map, Value};
 use kube_types::Refused;
 use std::alloc::Global;
 use std::fmt;
@@ -71,7 +71,6 @@ impl Value {
 }
 
 #[cycle(textless)]
-#[tactic(auto, using(crate::proofs::Views::view_map))]
 fn find_textless(value: &Value) -> Option<Kind>
     ensures { result ≡ textless (view value.now) }
 {
@@ -98,10 +97,10 @@ fn find_textless(value: &Value) -> Option<Kind>
 }
 
 #[cycle(textless)]
-fn find_textless_item(items: &Vec<Value>) -> Option<Kind>
-    ensures { result ≡ items_textless (items_view items.now.items) }
+fn find_textless_item(items: &List) -> Option<Kind>
+    ensures { result ≡ items_textless items.now }
 {
-    for item in items {
+    for item in items.as_slice() {
         if let Some(kind) = find_textless(item) {
             return Some(kind);
         }
@@ -111,7 +110,7 @@ fn find_textless_item(items: &Vec<Value>) -> Option<Kind>
 
 #[cycle(textless)]
 fn find_textless_entry(entries: &Map) -> Option<Kind>
-    ensures { result ≡ entries_textless (entries_view entries.now.entries) }
+    ensures { result ≡ entries_textless entries.now }
 {
     for (_key, value) in entries.iter() {
         if let Some(kind) = find_textless(value) {
@@ -182,14 +181,14 @@ fn write_value(value: &Value, inner: bool, out: &mut String) -> Result<(), Refus
 }
 
 #[cycle(write)]
-fn write_items(items: &Vec<Value>, out: &mut String) -> Result<(), Refused>
+fn write_items(items: &List, out: &mut String) -> Result<(), Refused>
     ensures written { OnOk result (string_bytes out.new
-        ≡ string_bytes out.old ++ (91 ∷ items_text false (items_view items.now.items))) }
+        ≡ string_bytes out.old ++ (91 ∷ items_text false items.now)) }
     ensures memory { IfErr result (λ e. e ≡ Refused.Memory) }
 {
     out.push_str("[")?;
     let mut later = false;
-    for item in items {
+    for item in items.as_slice() {
         if later {
             out.push_str(", ")?;
         }
@@ -203,7 +202,7 @@ fn write_items(items: &Vec<Value>, out: &mut String) -> Result<(), Refused>
 #[cycle(write)]
 fn write_entries(entries: &Map, out: &mut String) -> Result<(), Refused>
     ensures written { OnOk result (string_bytes out.new
-        ≡ string_bytes out.old ++ (123 ∷ entries_text false (entries_view entries.now.entries))) }
+        ≡ string_bytes out.old ++ (123 ∷ entries_text false entries.now)) }
     ensures memory { IfErr result (λ e. e ≡ Refused.Memory) }
 {
     out.push_str("{")?;

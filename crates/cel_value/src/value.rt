@@ -1,20 +1,62 @@
-//! The values of CEL. What is large is shared, so that a copy takes no memory.
+//! The values of CEL. What is large is shared, so that a copy takes no memory; a list, a map and an optional know whether a
+//! double stands in them and how many levels they have, so that neither question takes a walk.
+ghost use Rattle.std.specs.Prelude.{◌≡◌, ◌≤◌, suc, IfOk, IfErr};
+ghost use Rattle.cel_value.specs.Levels.{levels, max_levels};
+ghost use Rattle.cel_value.specs.Same.{has_double};
+ghost use Rattle.cel_value.specs.View.{view};
+
+mod lists;
+mod maps;
+mod optionals;
 
 use crate::key::Key;
 use cel_value_times::{Duration, Timestamp};
-use kube_types::{KubeCIDR, KubeFormat, KubeIP, KubeQuantity, KubeSemver, KubeUrl};
+use kube_types::{KubeCIDR, KubeFormat, KubeIP, KubeQuantity, KubeSemver, KubeUrl, Refused};
 use std::collections::BTreeMap;
+use std::marker::Model;
 use std::rc::Rc;
 
+/// The most levels that a value has: lists, maps and optionals inside one another.
+///
+/// Values are dropped, compared and printed level by level, and each level takes a part of the stack. An expression can
+/// wrap a value in one more list as often as it likes, so what would have more levels is refused as if there were no memory.
+pub const MAX_VALUE_LEVELS: u16 = 4096;
+
+/// Entries of a map that is being made, in the order of their keys.
+pub type Entries = BTreeMap<Key, Value>;
+
+/// The items of a list.
+#[derive(Debug, Drop)]
+#[cycle(values)]
+pub struct List {
+    items: Vec<Value>,
+    doubles: bool,
+    levels: u16,
+}
+
 /// A map's entries, in the order of their keys.
-pub type Map = BTreeMap<Key, Value>;
+#[derive(Debug, Drop)]
+#[cycle(values)]
+pub struct Map {
+    entries: BTreeMap<Key, Value>,
+    doubles: bool,
+    levels: u16,
+}
+
+/// What an optional holds.
+#[derive(Debug, Drop)]
+#[cycle(values)]
+struct Held {
+    value: Value,
+    doubles: bool,
+    levels: u16,
+}
 
 /// A value, or none.
 #[derive(Debug, Drop)]
 #[cycle(values)]
 pub struct OptionalValue {
-    /// The value that is there.
-    pub held: Option<Rc<Value>>,
+    held: Option<Rc<Held>>,
 }
 
 /// A value of CEL.
@@ -36,7 +78,7 @@ pub enum Value {
     /// A list of bytes.
     Bytes(Rc<Vec<u8>>),
     /// A list.
-    List(Rc<Vec<Value>>),
+    List(Rc<List>),
     /// A map, in key order.
     Map(Rc<Map>),
     /// An instant, with the offset of a local clock.
@@ -61,3 +103,154 @@ pub enum Value {
 
 // What a copy of a value moves: its kind and two words.
 const _: () = prove!(size_of::<Value>() == 24);
+
+impl Model for List {
+    ghost use Rattle.std.specs.Coded.{codes, code_by};
+    ghost use Rattle.cel_value.specs.Data as seen;
+    ghost use Rattle.cel_value.specs.Coded.{Marks, items_to, items_from, items_back};
+
+    ghost Value = { seen.Items };
+
+    ghost coded = { code_by Marks (Prim.hlevel codes) items_to items_from items_back };
+
+    ghost use Rattle.std.specs.Prelude.{◌≡◌, ◌≤◌, suc};
+    ghost use Rattle.cel_value.specs.Levels.{items_levels, max_levels};
+    ghost use Rattle.cel_value.specs.Same.{items_have_double};
+    ghost use Rattle.cel_value.specs.View.{items_view};
+    ghost use Rattle.cel_value.specs.Weights.{items_weight};
+
+    ghost view = { λ a. items_view a.items.items };
+
+    ghost invariant = { λ a. (a.doubles ≡ items_have_double (items_view a.items.items))
+        × (a.levels ≡ suc (items_levels (items_view a.items.items))) × (a.levels ≤ max_levels) };
+
+    ghost size = { items_weight };
+
+    ghost use Rattle.cel_value.specs.Falls.{items_fall};
+
+    ghost size_decreases = { λ a h. items_fall a };
+}
+
+impl Model for Map {
+    ghost use Rattle.std.specs.Coded.{codes, code_by};
+    ghost use Rattle.cel_value.specs.Data as seen;
+    ghost use Rattle.cel_value.specs.Coded.{Marks, entries_to, entries_from, entries_back};
+
+    ghost Value = { seen.Entries };
+
+    ghost coded = { code_by Marks (Prim.hlevel codes) entries_to entries_from entries_back };
+
+    ghost use Rattle.std.specs.Prelude.{◌≡◌, ◌≤◌, suc};
+    ghost use Rattle.cel_value.specs.Levels.{entries_levels, max_levels};
+    ghost use Rattle.cel_value.specs.Same.{entries_have_double};
+    ghost use Rattle.cel_value.specs.View.{entries_view};
+    ghost use Rattle.cel_value.specs.Weights.{entries_weight};
+
+    ghost view = { λ a. entries_view a.entries.entries };
+
+    ghost invariant = { λ a. (a.doubles ≡ entries_have_double (entries_view a.entries.entries))
+        × (a.levels ≡ suc (entries_levels (entries_view a.entries.entries))) × (a.levels ≤ max_levels) };
+
+    ghost size = { entries_weight };
+
+    ghost use Rattle.cel_value.specs.Falls.{entries_fall};
+
+    ghost size_decreases = { λ a h. entries_fall a };
+}
+
+impl Model for Held {
+    ghost use Rattle.std.specs.Coded.{codes, code_by};
+    ghost use Rattle.cel_value.specs.Data as seen;
+    ghost use Rattle.cel_value.specs.Coded.{Marks, items_to, items_from, items_back};
+
+    ghost Value = { seen.Items };
+
+    ghost coded = { code_by Marks (Prim.hlevel codes) items_to items_from items_back };
+
+    ghost use Rattle.std.specs.Prelude.{◌≡◌, ◌≤◌, suc};
+    ghost use Rattle.cel_value.specs.Levels.{items_levels, max_levels};
+    ghost use Rattle.cel_value.specs.Same.{items_have_double};
+    ghost use Rattle.cel_value.specs.View.{view as seen_as, alone};
+    ghost use Rattle.cel_value.specs.Weights.{items_weight};
+
+    ghost view = { λ a. alone (seen_as a.value) };
+
+    ghost invariant = { λ a. (a.doubles ≡ items_have_double (alone (seen_as a.value)))
+        × (a.levels ≡ suc (items_levels (alone (seen_as a.value)))) × (a.levels ≤ max_levels) };
+
+    ghost size = { items_weight };
+
+    ghost use Rattle.cel_value.specs.Falls.{held_falls};
+
+    ghost size_decreases = { λ a h. held_falls a };
+}
+
+impl Model for OptionalValue {
+    ghost use Rattle.std.specs.Coded.{codes, code_by};
+    ghost use Rattle.cel_value.specs.Data as seen;
+    ghost use Rattle.cel_value.specs.Coded.{Marks, items_to, items_from, items_back};
+
+    ghost Value = { seen.Items };
+
+    ghost coded = { code_by Marks (Prim.hlevel codes) items_to items_from items_back };
+
+    ghost use Rattle.cel_value.specs.View.{held_view};
+    ghost use Rattle.cel_value.specs.Weights.{held_weight};
+
+    ghost view = { λ a. held_view a.held };
+
+    ghost size = { held_weight };
+
+    ghost use Rattle.cel_value.specs.Falls.{optional_falls};
+
+    ghost size_decreases = { λ a h. optional_falls a };
+}
+
+/// The levels of what holds values of so many levels.
+///
+/// # Errors
+/// `Memory` where they are more than [`MAX_VALUE_LEVELS`].
+fn level_around(inner: u16) -> Result<u16, Refused>
+    ensures value { IfOk result (λ n. (n ≡ suc inner) × (n ≤ max_levels)) }
+    ensures memory { IfErr result (λ e. e ≡ Refused.Memory) }
+{
+    if inner < MAX_VALUE_LEVELS {
+        Ok(inner + 1)
+    } else {
+        Err(Refused::Memory)
+    }
+}
+
+impl Value {
+    /// Whether a double stands in the value, at any depth.
+    pub fn holds_double(&self) -> bool
+        ensures { result ≡ has_double (view self.now) }
+    {
+        match self {
+            Value::Float => true,
+            Value::List(items) => items.doubles,
+            Value::Map(entries) => entries.doubles,
+            Value::Optional(optional) => match &optional.held {
+                Some(held) => held.doubles,
+                None => false,
+            },
+            _ => false,
+        }
+    }
+
+    /// How many lists, maps and optionals stand inside one another.
+    pub fn levels(&self) -> u16
+        ensures value { result ≡ levels (view self.now) }
+        ensures limit { result ≤ max_levels }
+    {
+        match self {
+            Value::List(items) => items.levels,
+            Value::Map(entries) => entries.levels,
+            Value::Optional(optional) => match &optional.held {
+                Some(held) => held.levels,
+                None => 1,
+            },
+            _ => 0,
+        }
+    }
+}

@@ -6,13 +6,13 @@ ghost use Rattle.kube_cel_admission.specs.Requests.{kind_value, kind_view, reque
 ghost use Rattle.std.specs.Prelude.{◌≡◌, IfErr, IfOk, map, OnOk, string_bytes};
 
 use crate::request::{AdmissionRequest, GroupVersionKind, GroupVersionResource};
-use cel_value::{Map, Value};
+use cel_value::{Entries, Value};
 use kube_schema_values::{bind_text, put_entry};
 use kube_types_refused::Refused;
 use std::alloc::Global;
 
 /// Puts a value into a map.
-fn put_value(alloc: Global, entries: &mut Map, key: &str, value: Value) -> Result<(), Refused>
+fn put_value(alloc: Global, entries: &mut Entries, key: &str, value: Value) -> Result<(), Refused>
     ensures entered { OnOk result (entries_view entries.new.entries
         ≡ put (text_key key.now) (view value) (entries_view entries.old.entries)) }
     ensures memory { IfErr result (λ e. e ≡ Refused.Memory) }
@@ -22,7 +22,7 @@ fn put_value(alloc: Global, entries: &mut Map, key: &str, value: Value) -> Resul
 }
 
 /// Puts a text into a map.
-fn put_text(alloc: Global, entries: &mut Map, key: &str, chars: &str) -> Result<(), Refused>
+fn put_text(alloc: Global, entries: &mut Entries, key: &str, chars: &str) -> Result<(), Refused>
     ensures entered { OnOk result (entries_view entries.new.entries
         ≡ put (text_key key.now) (text chars.now) (entries_view entries.old.entries)) }
     ensures memory { IfErr result (λ e. e ≡ Refused.Memory) }
@@ -56,7 +56,7 @@ fn kind_value(alloc: Global, kind: &GroupVersionKind) -> Result<Value, Refused>
     ensures value { IfOk result (λ v. view v ≡ kind_value (kind_view kind.now)) }
     ensures memory { IfErr result (λ e. e ≡ Refused.Memory) }
 {
-    let mut entries = Map::new(alloc);
+    let mut entries = Entries::new(alloc);
     put_text(alloc, &mut entries, "kind", kind.kind.as_str())?;
     put_text(alloc, &mut entries, "version", kind.version.as_str())?;
     put_text(alloc, &mut entries, "group", kind.group.as_str())?;
@@ -69,7 +69,7 @@ fn resource_value(alloc: Global, resource: &GroupVersionResource) -> Result<Valu
     ensures value { IfOk result (λ v. view v ≡ resource_value (resource_view resource.now)) }
     ensures memory { IfErr result (λ e. e ≡ Refused.Memory) }
 {
-    let mut entries = Map::new(alloc);
+    let mut entries = Entries::new(alloc);
     put_text(alloc, &mut entries, "resource", resource.resource.as_str())?;
     put_text(alloc, &mut entries, "version", resource.version.as_str())?;
     put_text(alloc, &mut entries, "group", resource.group.as_str())?;
@@ -83,7 +83,7 @@ fn user_value(alloc: Global, request: &AdmissionRequest) -> Result<Value, Refuse
     ensures memory { IfErr result (λ e. e ≡ Refused.Memory) }
 {
     let groups = texts_value(alloc, &request.groups)?;
-    let mut entries = Map::new(alloc);
+    let mut entries = Entries::new(alloc);
     put_value(alloc, &mut entries, "groups", groups)?;
     put_text(alloc, &mut entries, "uid", request.uid.as_str())?;
     put_text(alloc, &mut entries, "username", request.username.as_str())?;
@@ -103,7 +103,7 @@ pub fn request_value(alloc: Global, request: &AdmissionRequest) -> Result<Value,
     let user = user_value(alloc, request)?;
     let resource = resource_value(alloc, &request.resource)?;
     let kind = kind_value(alloc, &request.kind)?;
-    let mut entries = Map::new(alloc);
+    let mut entries = Entries::new(alloc);
     put_value(alloc, &mut entries, "userInfo", user)?;
     put_value(alloc, &mut entries, "resource", resource)?;
     put_value(alloc, &mut entries, "kind", kind)?;

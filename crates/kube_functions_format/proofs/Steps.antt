@@ -2,7 +2,7 @@
 use Rattle.std.proofs.Common.{◌≡◌, ℕ, ◌+◌, ◌<◌, arith, List, [], ◌∷◌, ◌++◌, length, drop, get_or, map, String, Global, Option, Some, None, Ok, Err, refl, ap, sym, ◌∙◌, option_map}
 use Rattle.std.specs.Prelude.{Result, IfOk}
 use Rattle.std.proofs.lemmas.List.{drop_more, drop_all, length_push}
-use Rattle.cel_value.specs.Data.{Data}
+use Rattle.cel_value.specs.Data.{Data, Items}
 use Rattle.cel_value.specs.Faults.{fault_view}
 use Rattle.cel_value.specs.Parts.{items_in}
 use Rattle.cel_value.specs.View.{view, items_view}
@@ -18,8 +18,8 @@ use Rattle.kube_functions_format.specs.Verbs.{Shown}
 use Rattle.kube_functions_format.specs.declared.reading.Mark.{Mark}
 use Rattle.kube_functions_format.specs.declared.reading.Mark.TheVariants.{Outside}
 
-pub listed : (v : Data) (xs ys : List Value) → xs ≡ ys → Some (items_view ys) ≡ items_in v → Some (map view xs) ≡ option_map items_list (items_in v)
-listed v xs ys e h = ap (λ zs. Some (map view zs)) e ∙ ap Some (sym (items_list-items_of (map view ys))) ∙ ap (option_map items_list) h
+pub listed : (v : Data) (xs : List Value) (ds : Items) → items_view xs ≡ ds → Some ds ≡ items_in v → Some (map view xs) ≡ option_map items_list (items_in v)
+listed v xs ds e h = ap Some (sym (items_list-items_of (map view xs))) ∙ ap (λ es. Some (items_list es)) e ∙ ap (option_map items_list) h
 
 before_nothing : (r : Shown) → r ≡ before [] r
 before_nothing (Ok t) = refl

@@ -1,7 +1,7 @@
 //! Calls on named formats.
 ghost use Rattle.std.specs.Prelude.{◌≡◌, Ok, map, option_map, string_bytes, IfOk, IfErr};
 ghost use Rattle.cel_value.specs.Data as plain;
-ghost use Rattle.cel_value.specs.View.{view, optional_view};
+ghost use Rattle.cel_value.specs.View.{view};
 ghost use Rattle.cel_meaning.specs.Outcome.{outcome_view};
 ghost use Rattle.kube_types_formats.specs.Formats.{kind_of};
 ghost use Rattle.kube_functions_types.specs.Formats as spec;
@@ -43,7 +43,7 @@ pub fn named(alloc: Global, value: &Value) -> Result<Answer, Refused>
 }
 
 fn held_faults(alloc: Global, faults: Vec<String>) -> Result<OptionalValue, Refused>
-    ensures value { IfOk result (λ o. optional_view o ≡ spec.held_faults (map string_bytes faults.items)) }
+    ensures value { IfOk result (λ o. o ≡ spec.held_faults (map string_bytes faults.items)) }
     ensures memory { IfErr result (λ e. e ≡ Refused.Memory) }
 {
     if faults.is_empty() {

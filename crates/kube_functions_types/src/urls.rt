@@ -14,7 +14,7 @@ ghost use Rattle.kube_functions_types.specs.Urls as spec;
 
 use crate::answers::{refusal, text_answer, text_values, wrong_kind};
 use cel_meaning::Answer;
-use cel_value::{Key, Map, Refused, Value};
+use cel_value::{Entries, Key, Refused, Value};
 use kube_types::KubeUrl;
 use std::alloc::Global;
 use std::collections::BTreeMap;
@@ -156,7 +156,7 @@ pub fn escaped_path(alloc: Global, value: &Value) -> Result<Answer, Refused>
 
 // Adds a name with the list of its values.
 fn add_values(
-    entries: &mut Map,
+    entries: &mut Entries,
     alloc: Global,
     name: String,
     values: Vec<String>,
@@ -173,7 +173,7 @@ fn add_values(
 }
 
 // The same map, of values.
-fn map_of(alloc: Global, query: BTreeMap<String, Vec<String>>) -> Result<Map, Refused>
+fn map_of(alloc: Global, query: BTreeMap<String, Vec<String>>) -> Result<Entries, Refused>
     ensures value { IfOk result (λ m. (pairs : List (List ℕ × List ℕ))
         → ((name : List ℕ) → option_map texts (get_by_text query name) ≡ values_of pairs name)
         → entries_view m.entries ≡ spec.entries_among pairs pairs) }
@@ -186,7 +186,7 @@ fn map_of(alloc: Global, query: BTreeMap<String, Vec<String>>) -> Result<Map, Re
     Ok(entries)
 }
 
-fn query_map(alloc: Global, url: &KubeUrl) -> Result<Map, Refused>
+fn query_map(alloc: Global, url: &KubeUrl) -> Result<Entries, Refused>
     ensures value { IfOk result (λ m. entries_view m.entries ≡ spec.entries_among (spec.query_pairs (shown url.now)) (spec.query_pairs (shown url.now))) }
     ensures memory { IfErr result (λ e. e ≡ Refused.Memory) }
 {

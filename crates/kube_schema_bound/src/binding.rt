@@ -8,7 +8,7 @@ ghost use Rattle.kube_schema_bound.specs.Bound.{bound, bound_by, entries_by, ite
 use crate::format::bind_formatted;
 use crate::node::{Node, RawNode};
 use crate::resource::put_resource_fields;
-use cel_value::{Map, Refused, Value};
+use cel_value::{Entries, Refused, Value};
 use kube_schema_values::{bind_number, bind_plain, escape_field_name, put_entry};
 use serde_json::{Map as Members, Value as Json};
 use std::alloc::Global;
@@ -106,7 +106,7 @@ fn bind_object<N: Node>(
     node: N,
     members: &Members<String, Json>,
     depth: usize,
-) -> Result<Map, Refused>
+) -> Result<Entries, Refused>
     requires { depth ≤ 64 }
     ensures entries { IfOk result (λ m. entries_view m.entries
         ≡ object_by N.look (bound N.look (64 - depth)) (N.seen node) (members_view members.now.entries)) }
@@ -126,14 +126,14 @@ fn bind_members<N: Node>(
     node: N,
     members: &Members<String, Json>,
     depth: usize,
-) -> Result<Map, Refused>
+) -> Result<Entries, Refused>
     requires { depth ≤ 64 }
     ensures entries { IfOk result (λ m. entries_view m.entries
         ≡ entries_by (member_key N.look (N.seen node)) (member_by N.look (bound N.look (64 - depth)) (N.seen node)) (members_view members.now.entries)) }
     ensures memory { IfErr result (λ e. e ≡ Refused.Memory) }
 {
     let keeps_keys = node.is_map();
-    let mut bound = Map::new(alloc);
+    let mut bound = Entries::new(alloc);
     for (key, member) in members.iter().rev() {
         let name = bind_key(alloc, keeps_keys, key.as_str())?;
         let value = bind_member(alloc, node, key.as_str(), member, depth)?;

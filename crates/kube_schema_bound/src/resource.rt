@@ -6,7 +6,7 @@ ghost use Rattle.cel_value.specs.Data.{map_of, no_entries, text};
 ghost use Rattle.cel_value.specs.View.{entries_view};
 ghost use Rattle.kube_schema_bound.specs.Bound.{put_absent, with_resource_fields};
 
-use cel_value::{Map, Refused, Value};
+use cel_value::{Entries, Refused, Value};
 use kube_schema_values::{bind_text, put_entry};
 use serde_json::{Map as Members, Value as Json};
 use std::alloc::Global;
@@ -20,7 +20,7 @@ use std::alloc::Global;
 pub fn put_resource_fields(
     alloc: Global,
     members: &Members<String, Json>,
-    entries: &mut Map,
+    entries: &mut Entries,
 ) -> Result<(), Refused>
     ensures fields { OnOk result (entries_view entries.new.entries
         ≡ with_resource_fields (members_view members.now.entries) (entries_view entries.old.entries)) }
@@ -37,7 +37,7 @@ fn put_absent_text(
     alloc: Global,
     members: &Members<String, Json>,
     name: &str,
-    entries: &mut Map,
+    entries: &mut Entries,
 ) -> Result<(), Refused>
     ensures field { OnOk result (entries_view entries.new.entries
         ≡ put_absent (members_view members.now.entries) name.now (text []) (entries_view entries.old.entries)) }
@@ -57,7 +57,7 @@ fn put_absent_map(
     alloc: Global,
     members: &Members<String, Json>,
     name: &str,
-    entries: &mut Map,
+    entries: &mut Entries,
 ) -> Result<(), Refused>
     ensures field { OnOk result (entries_view entries.new.entries
         ≡ put_absent (members_view members.now.entries) name.now (map_of no_entries) (entries_view entries.old.entries)) }
@@ -66,7 +66,7 @@ fn put_absent_map(
     if members.contains_key(name) {
         return Ok(());
     }
-    let value = Value::from_entries(alloc, Map::new(alloc))?;
+    let value = Value::from_entries(alloc, Entries::new(alloc))?;
     let key = String::from_str(alloc, name)?;
     put_entry(alloc, entries, key, value)?;
     Ok(())

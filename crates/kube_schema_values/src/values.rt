@@ -8,7 +8,7 @@ ghost use Rattle.cel_value.specs.View.{view, items_view, entries_view};
 ghost use Rattle.kube_schema_values.specs.Plain.{plain, plain_number, plain_items, plain_entries};
 
 use crate::escaping::escape_field_name;
-use cel_value::{Key, Map, Refused, Value};
+use cel_value::{Entries, Key, Refused, Value};
 use serde_json::{Map as Members, Number, Value as Json};
 use std::alloc::Global;
 use std::rc::Rc;
@@ -73,11 +73,11 @@ fn bind_items(alloc: Global, items: &Vec<Json>) -> Result<Vec<Value>, Refused>
 }
 
 #[cycle(plain)]
-fn bind_members(alloc: Global, members: &Members<String, Json>) -> Result<Map, Refused>
+fn bind_members(alloc: Global, members: &Members<String, Json>) -> Result<Entries, Refused>
     ensures entries { IfOk result (λ m. entries_view m.entries ≡ plain_entries (members_view members.now.entries)) }
     ensures memory { IfErr result (λ e. e ≡ Refused.Memory) }
 {
-    let mut bound = Map::new(alloc);
+    let mut bound = Entries::new(alloc);
     for (key, member) in members.iter().rev() {
         let name = escape_field_name(alloc, key.as_str())?;
         let value = bind_plain(alloc, member)?;
@@ -91,7 +91,12 @@ fn bind_members(alloc: Global, members: &Members<String, Json>) -> Result<Map, R
 /// # Errors
 ///
 /// [`Refused`] where memory is refused; the value is dropped, and the map is as it was.
-pub fn put_entry(alloc: Global, entries: &mut Map, key: String, value: Value) -> Result<(), Refused>
+pub fn put_entry(
+    alloc: Global,
+    entries: &mut Entries,
+    key: String,
+    value: Value,
+) -> Result<(), Refused>
     ensures entered { OnOk result (entries_view entries.new.entries
         ≡ put (text_key (string_bytes key)) (view value) (entries_view entries.old.entries)) }
     ensures unchanged { OnErr result (entries_view entries.new.entries ≡ entries_view entries.old.entries) }

@@ -1,18 +1,14 @@
 use Rattle.std.proofs.Common.{sym, ap, ◌∙◌}
-use Rattle.cel_value.specs.View.{view, entries_view}
-use Rattle.cel_value.specs.Same.{same, same_shapes, entry_shapes}
+use Rattle.cel_value.specs.View.{view}
+use Rattle.cel_value.specs.Same.{same}
 use Rattle.kube_types_formats.specs.Formats.{kind_of}
 use Rattle.kube_types_semver.specs.Order.{same_parts}
 use Rattle.kube_types_semver.specs.Shown.{parts}
 use Rattle.kube_types_url.specs.Equality.{same_url}
 use Rattle.kube_types_url.specs.Shown.{shown}
-use Rattle.cel_value.proofs.Views.{view_map, view_quantity, view_semver, view_url, view_format}
-use Rattle.cel_value.proofs.Equal.{same_maps, same_fields, same_quantities, same_versions, same_urls, same_formats}
+use Rattle.cel_value.proofs.Views.{view_quantity, view_semver, view_url, view_format}
+use Rattle.cel_value.proofs.Equal.{same_fields, same_quantities, same_versions, same_urls, same_formats}
 use Rattle.cel_value.proofs.same.+same.Goals as goal
-
-pub is_same-returns-in-Some-as_map : goal.is_same-returns-in-Some-as_map
-is_same-returns-in-Some-as_map t c =
-    c.entries_same.ensures ∙ ap (λ m. same_shapes (entry_shapes (entries_view m.entries)) (entry_shapes (entries_view c.in-Some-as_map.y.now.entries))) c.as_ref-in-Some-as_map.ensures ∙ sym (ap (λ d. same d (view c.args.b.now)) (ap view c.in-Map.is ∙ view_map c.in-Map.x) ∙ same_maps _ (view c.args.b.now) _ c.in-Some-as_map.ensures)
 
 pub is_same-returns-in-Some-as_quantity : goal.is_same-returns-in-Some-as_quantity
 is_same-returns-in-Some-as_quantity t c =

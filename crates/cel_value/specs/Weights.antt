@@ -1,0 +1,22 @@
+-- How many parts a value has, each of them counted: what recursion over a value ends by.
+use Rattle.std.specs.Prelude.{ℕ, suc, ◌+◌}
+use Rattle.cel_value.specs.Data.{Data, list, map_of, optional, Items, no_items, item, Entries, no_entries, entry}
+
+abbrev mutual
+  pub weight : Data → ℕ
+  weight (list ds) = suc (items_weight ds)
+  weight (map_of es) = suc (entries_weight es)
+  weight (optional ds) = suc (suc (items_weight ds))
+  weight _ = 1
+
+  pub items_weight : Items → ℕ
+  items_weight no_items = 1
+  items_weight (item d ds) = weight d + items_weight ds
+
+  pub entries_weight : Entries → ℕ
+  entries_weight no_entries = 1
+  entries_weight (entry k d es) = weight d + entries_weight es
+
+-- of an optional, without its kind
+abbrev pub held_weight : Items → ℕ
+held_weight ds = suc (items_weight ds)

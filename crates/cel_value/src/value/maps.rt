@@ -1,0 +1,119 @@
+//! Maps.
+ghost use Rattle.std.specs.Prelude.{◌≡◌, IfOk, IfErr, OnOk, OnErr, None, max, length, option_map};
+ghost use Rattle.cel_value.specs.Data.{no_entries};
+ghost use Rattle.cel_value.specs.Find.{find, entries_listed};
+ghost use Rattle.cel_value.specs.Keys.{key_order, key_view, put};
+ghost use Rattle.std.specs.List.Sorted.{IsStrictlySortedBy};
+ghost use Rattle.std.specs.Map.{keys_of};
+ghost use Rattle.cel_value.specs.Same.{entries_have_double};
+ghost use Rattle.cel_value.specs.View.{view, entries_view};
+
+use super::{Entries, Map, Value, level_around};
+use crate::key::Key;
+use kube_types::Refused;
+use std::alloc::Global;
+use std::collections::BTreeMap;
+use std::collections::btree_map::Iter;
+
+fn deeper(levels: u16, others: u16) -> u16
+    ensures { result ≡ max levels others }
+{
+    if levels < others { others } else { levels }
+}
+
+fn put_into(entries: &mut Entries, key: Key, value: Value) -> Result<(), Refused>
+    ensures added { OnOk result (entries_view entries.new.entries
+        ≡ put (key_view key) (view value) (entries_view entries.old.entries)) }
+    ensures unchanged { OnErr result (entries.new.entries ≡ entries.old.entries) }
+    ensures memory { IfErr result (λ e. e ≡ Refused.Memory) }
+{
+    drop(entries.insert(key, value)?);
+    Ok(())
+}
+
+impl Map {
+    /// A map with no entries.
+    pub fn new(alloc: Global) -> Map
+        ensures { result ≡ no_entries }
+    {
+        Map {
+            entries: BTreeMap::new(alloc),
+            doubles: false,
+            levels: 1,
+        }
+    }
+
+    /// The map of these entries.
+    ///
+    /// # Errors
+    /// `Memory` where it would have more levels than [`MAX_VALUE_LEVELS`](super::MAX_VALUE_LEVELS).
+    pub fn of(entries: Entries) -> Result<Map, Refused>
+        ensures value { IfOk result (λ m. m ≡ entries_view entries.entries) }
+        ensures memory { IfErr result (λ e. e ≡ Refused.Memory) }
+    {
+        let mut doubles = false;
+        let mut inner = 0;
+        for (_key, value) in entries.iter() {
+            if value.holds_double() {
+                doubles = true;
+            }
+            if inner < value.levels() {
+                inner = value.levels();
+            }
+        }
+        let levels = level_around(inner)?;
+        Ok(Map {
+            entries,
+            doubles,
+            levels,
+        })
+    }
+
+    /// One more entry, whose key isn't there.
+    ///
+    /// # Errors
+    /// `Memory`, also where the map would have more levels than [`MAX_VALUE_LEVELS`](super::MAX_VALUE_LEVELS).
+    #[tactic(auto, using(crate::proofs::Members::more_doubles, crate::proofs::Members::more_levels))]
+    pub(crate) fn insert_new(&mut self, key: Key, value: Value) -> Result<(), Refused>
+        requires { find (key_view key) self.now ≡ None }
+        ensures added { OnOk result (self.new ≡ put (key_view key) (view value) self.old) }
+        ensures memory { IfErr result (λ e. e ≡ Refused.Memory) }
+    {
+        let doubles = value.holds_double();
+        let levels = deeper(self.levels, level_around(value.levels())?);
+        put_into(&mut self.entries, key, value)?;
+        self.doubles = self.doubles || doubles;
+        self.levels = levels;
+        Ok(())
+    }
+
+    /// The value at a key.
+    pub fn get(&self, key: &Key) -> Option<&Value>
+        ensures { option_map (λ v. view v.now) result ≡ find (key_view key.now) self.now }
+    {
+        self.entries.get(key)
+    }
+
+    /// How many entries there are.
+    #[tactic(auto, using(crate::proofs::Members::entries_length))]
+    pub fn len(&self) -> usize
+        ensures { result ≡ length (entries_listed self.now) }
+    {
+        self.entries.len()
+    }
+
+    /// The entries in the order of their keys, one after the other.
+    pub fn iter(&self) -> Iter<'_, Key, Value>
+        ensures value { entries_view result ≡ self.now }
+        ensures ordered { IsStrictlySortedBy (λ (a b : Key). key_order (key_view a) (key_view b)) (keys_of result) }
+    {
+        self.entries.iter()
+    }
+
+    /// Whether a double stands in the map, at any depth.
+    pub fn holds_double(&self) -> bool
+        ensures { result ≡ entries_have_double self.now }
+    {
+        self.doubles
+    }
+}
