@@ -1,20 +1,20 @@
--- What a `PatternBook` shows is a book.
-use Rattle.std.proofs.Common.{◌≡◌, true, Option, Some, None, is_some, option_map, refl, IsSome}
-use Rattle.std.proofs.lemmas.Option.{none-some}
-use Rattle.regex.specs.declared.string.regex.Regex.{Regex}
-use Rattle.cel_book.specs.Book.{IsBook, pattern_of_text}
+-- What a `PatternBook` shows is a book, and rests on its answers alone.
+use Rattle.std.proofs.Common.{◌≡◌, ◌∙◌, ap, ℕ, List}
+use Rattle.cel_book.specs.Book.{Agrees, Book, IsBook}
 use Rattle.cel_book.specs.Built.{Answers, IsFaithful, book_of}
 use Rattle.cel_book.specs.Entries.{entries_of}
 use Rattle.cel_book.specs.declared.book.PatternBook.{PatternBook}
 
-reads_by : (P : Type 0) (o : Option (Option Regex)) → ((regex : Regex) → o ≡ Some (Some regex) → P) → option_map is_some o ≡ Some true → P
-reads_by P None here e = absurd (none-some true e)
-reads_by P (Some None) here e = cc
-reads_by P (Some (Some regex)) here e = here regex refl
-
-pub faithful-IsBook : (answers : Answers) → IsFaithful answers → IsBook (book_of answers)
-faithful-IsBook answers faithful text e = reads_by (IsSome (pattern_of_text text)) _ (λ regex held. (faithful text regex held).0) e
-
 pub entries-IsBook : (b : PatternBook) → IsBook (entries_of b)
 unfolding entries_of
-entries-IsBook b = faithful-IsBook b.answers b.faithful
+entries-IsBook b = b.faithful
+
+pub entries-same : (a b : PatternBook) → a.answers ≡ b.answers → (text : List ℕ) → entries_of a text ≡ entries_of b text
+unfolding entries_of
+entries-same a b same text = ap (λ (m : Answers). book_of m text) same
+
+pub entries-agree : (a b : PatternBook) (earlier : Book) → a.answers ≡ b.answers → Agrees (entries_of b) earlier → Agrees (entries_of a) earlier
+entries-agree a b earlier same h = record { keeps = λ text built e. entries-same a b same text ∙ h.keeps text built e }
+
+pub faithful-IsBook : (answers : Answers) → IsFaithful answers → IsBook (book_of answers)
+faithful-IsBook answers faithful = faithful

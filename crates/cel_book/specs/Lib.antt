@@ -2,3 +2,4 @@ pub mod Book
 pub mod Settled
 pub mod Built
 pub mod Entries
+pub mod Kept

@@ -1,77 +1,36 @@
-ghost use Rattle.std.specs.Prelude.{◌≡◌, ◌≢◌, ◌↔◌, ℕ, All, IfErr, IfOk, IfSome, IsSome, IsTrue, List, map, None, option_map};
-ghost use Rattle.regex.specs.Patterns.{find_all_str, span};
-ghost use Rattle.regex.specs.Strings.{matcher_pattern, matches_haystack, spans_left};
-ghost use Rattle.cel_book.specs.Book.{Agrees, first_of, found_by, IsBook, IsPlain, IsRefused, IsSpanIn, matched_by};
-ghost use Rattle.cel_book.specs.Built.{IsFaithful, IsRegexOf};
+ghost use Rattle.std.specs.Prelude.{◌≡◌, ◌≢◌, ◌↔◌, ◌<◌, ◌≤◌, ℕ, is_some, string_bytes, All, IfErr, IfOk, IfSome, IsSome, IsTrue, List, MatchOption, None, Some, false, true, if◌then◌else◌, option_map, vec_len};
+ghost use Rattle.cel_book.specs.Book.{Agrees, found_by, IsBook, IsPlain, IsRefused, IsSpanIn, matched_by, pattern_of_text};
+ghost use Rattle.cel_book.specs.Built.{FindsAll, IsFaithful, Tells};
+ghost use Rattle.cel_book.specs.Kept.{IsKeptAt};
 ghost use Rattle.cel_book.specs.Settled.{Settles};
 
+use crate::pattern::Pattern;
 use kube_types_refused::Refused;
-use regex::{Error, Matcher, Matches, Regex};
-use std::alloc::{AllocError, Global};
+use std::alloc::Global;
 use std::collections::BTreeMap;
 
-/// The regex of a text, or none where it is refused for another cause than memory.
-fn answer_to(alloc: Global, pattern: &str) -> Result<Option<Regex>, Refused>
-    ensures built { IfOk result (λ answer. IfSome answer (IsRegexOf pattern.now)) }
-    ensures memory { IfErr result (λ e. e ≡ Refused.Memory) }
-{
-    match Regex::new(alloc, pattern) {
-        Ok(regex) => Ok(Some(regex)),
-        Err(Error::OutOfMemory) => Err(Refused::Memory),
-        Err(_) => Ok(None),
-    }
-}
+/// How many patterns a book keeps at most.
+const MOST_PATTERNS: usize = 256;
 
-/// Whether so many are as many as the limit allows.
-fn is_full(limit: Option<usize>, count: usize) -> bool
-    ensures { IsTrue result ↔ (limit ≡ Some count) }
-{
-    match limit {
-        Some(most) => most == count,
-        None => false,
-    }
-}
+/// About how many bytes the patterns that a book keeps may take together.
+const MOST_BYTES: usize = 64 << 20;
 
-/// The byte spans of the matches that are left, the first `limit` or all.
-fn spans_of(
-    alloc: Global,
-    found: Matches<'_, '_, '_>,
-    limit: Option<usize>,
-) -> Result<Vec<(usize, usize)>, AllocError>
-    ensures value { IfOk result (λ v. v.items ≡ first_of limit (spans_left found.entry)) }
-    ensures within { IfOk result (λ v. All (IsSpanIn (matches_haystack found.entry)) v.items) }
-{
-    let mut spans = Vec::new(alloc);
-    for m in found {
-        if is_full(limit, spans.as_slice().len()) {
-            return Ok(spans);
-        }
-        spans.push((m.start(), m.end()))?;
-    }
-    Ok(spans)
-}
-
-/// The byte spans where the matcher's pattern matches, the first `limit` or all.
-fn spans_in(
-    alloc: Global,
-    matcher: &mut Matcher<'_>,
-    text: &str,
-    limit: Option<usize>,
-) -> Result<Vec<(usize, usize)>, AllocError>
-    ensures value { IfOk result (λ v. v.items ≡ first_of limit (map span (find_all_str (matcher_pattern matcher.old) text.now))) }
-    ensures within { IfOk result (λ v. All (IsSpanIn text.now) v.items) }
-{
-    spans_of(alloc, matcher.find_iter(text), limit)
-}
-
-/// What `regex` answered to each pattern text. A text that it holds is not asked again.
+/// Which pattern texts were built and which were refused. An answer stays, also where memory is short later.
+///
+/// The patterns themselves take room, so it keeps some of them at a time. A text whose pattern was forgotten is
+/// built again when it is asked for.
 ///
 /// It shows a book, `entries_of`: true at each text that was built, false at each that was refused.
 #[derive(Drop)]
 pub struct PatternBook {
     alloc: Global,
-    answers: BTreeMap<String, Option<Regex>>,
+    /// Where the pattern of a text was put, or none where the text was refused.
+    answers: BTreeMap<String, Option<usize>>,
+    patterns: Vec<Pattern>,
+    /// About how many bytes the patterns take.
+    weight: usize,
     ghost faithful: { IsFaithful answers },
+    ghost few: { vec_len patterns ≤ 256 },
 }
 
 impl PatternBook {
@@ -86,24 +45,129 @@ impl PatternBook {
         PatternBook {
             alloc,
             answers: BTreeMap::new(alloc),
+            patterns: Vec::new(alloc),
+            weight: 0,
         }
     }
 
-    /// Asks `regex` for a text that the book does not hold.
-    fn ask(&mut self, pattern: &str) -> Result<(), Refused>
-        ensures kept { Agrees (entries_of self.new) (entries_of self.old) }
-        ensures others { (text : List ℕ) → text ≢ pattern.now → entries_of self.new text ≡ entries_of self.old text }
-        ensures held { IfOk result (λ _. IsSome (entries_of self.new pattern.now)) }
-        ensures book { IsBook (entries_of self.new) }
+    /// Whether the pattern of this text is kept there.
+    fn has(&self, place: usize, pattern: &str) -> bool
+        ensures { IsTrue result → IsKeptAt self.now.patterns.items place pattern.now }
+    {
+        match self.patterns.get(place) {
+            Some(kept) => kept.text.as_str() == pattern,
+            None => false,
+        }
+    }
+
+    /// Keeps a pattern, and gives its place. Where there are too many it forgets the others.
+    fn keep(&mut self, pattern: Pattern) -> Result<usize, Refused>
+        ensures place { IfOk result (λ place.
+            IsKeptAt self.new.patterns.items place (string_bytes pattern.text)) }
+        ensures same { self.new.answers ≡ self.old.answers }
         ensures memory { IfErr result (λ e. e ≡ Refused.Memory) }
     {
-        if self.answers.contains_key(pattern) {
-            return Ok(());
+        let weight = pattern.weight();
+        if self.patterns.len() >= MOST_PATTERNS || self.weight.saturating_add(weight) > MOST_BYTES {
+            self.patterns.clear();
+            self.weight = 0;
         }
+        let place = self.patterns.len();
+        self.patterns.push(pattern)?;
+        self.weight = self.weight.saturating_add(weight);
+        Ok(place)
+    }
+
+    /// Builds a text, and gives the place of its pattern, or none where it is refused.
+    ///
+    /// `again` says that it was built before. It isn't refused now then, and if it were, for want of memory.
+    fn place_of(&mut self, pattern: &str, again: bool) -> Result<Option<usize>, Refused>
+        ensures place { IfOk result (λ found.
+            IfSome found (λ place. IsKeptAt self.new.patterns.items place pattern.now)) }
+        ensures reads { IfOk result (λ found. IsSome found → IsSome (pattern_of_text pattern.now)) }
+        ensures again { IfOk result (λ found. IsTrue again → IsSome found) }
+        ensures same { self.new.answers ≡ self.old.answers }
+        ensures memory { IfErr result (λ e. e ≡ Refused.Memory) }
+    {
+        match Pattern::new(self.alloc, pattern)? {
+            Some(built) => Ok(Some(self.keep(built)?)),
+            None => {
+                if again {
+                    Err(Refused::Memory)
+                } else {
+                    Ok(None)
+                }
+            }
+        }
+    }
+
+    /// Builds a text that has no pattern here, and enters what came of it.
+    // Not inlined, since a pattern is large, and a function pays at entry for the size of its locals.
+    #[inline(never)]
+    fn build(&mut self, pattern: &str, again: bool) -> Result<Option<usize>, Refused>
+        requires { entries_of self.old pattern.now ≡ (if again then Some true else None) }
+        ensures kept { Agrees (entries_of self.new) (entries_of self.old) }
+        ensures others { (text : List ℕ) → text ≢ pattern.now → entries_of self.new text ≡ entries_of self.old text }
+        ensures answer { IfOk result (λ found. entries_of self.new pattern.now ≡ Some (is_some found)) }
+        ensures place { IfOk result (λ found.
+            IfSome found (λ place. IsKeptAt self.new.patterns.items place pattern.now)) }
+        ensures memory { IfErr result (λ e. e ≡ Refused.Memory) }
+    {
+        let place = self.place_of(pattern, again)?;
         let key = String::from_str(self.alloc, pattern)?;
-        let answer = answer_to(self.alloc, pattern)?;
-        self.answers.insert(key, answer)?;
-        Ok(())
+        self.answers.insert(key, place)?;
+        Ok(place)
+    }
+
+    /// Where the pattern of a text is kept, or none where the text is refused.
+    fn ask(&mut self, pattern: &str) -> Result<Option<usize>, Refused>
+        ensures kept { Agrees (entries_of self.new) (entries_of self.old) }
+        ensures others { (text : List ℕ) → text ≢ pattern.now → entries_of self.new text ≡ entries_of self.old text }
+        ensures answer { IfOk result (λ found. entries_of self.new pattern.now ≡ Some (is_some found)) }
+        ensures place { IfOk result (λ found.
+            IfSome found (λ place. IsKeptAt self.new.patterns.items place pattern.now)) }
+        ensures memory { IfErr result (λ e. e ≡ Refused.Memory) }
+    {
+        match self.answers.get(pattern) {
+            Some(None) => Ok(None),
+            Some(Some(place)) => {
+                let place = *place;
+                if self.has(place, pattern) {
+                    Ok(Some(place))
+                } else {
+                    self.build(pattern, true)
+                }
+            }
+            None => self.build(pattern, false),
+        }
+    }
+
+    /// Whether the pattern that is kept there matches somewhere in the text.
+    fn is_match_at(&mut self, place: usize, text: &str) -> Result<bool, Refused>
+        requires { place < vec_len self.old.patterns }
+        ensures found { IfOk result (λ found. (pattern : List ℕ)
+            → IsKeptAt self.old.patterns.items place pattern → Tells pattern text.now found) }
+        ensures same { self.new.answers ≡ self.old.answers }
+        ensures memory { IfErr result (λ e. e ≡ Refused.Memory) }
+    {
+        self.patterns[place].is_match(self.alloc, text)
+    }
+
+    /// The byte spans where the pattern that is kept there matches, the first `limit` or all.
+    fn find_all_at(
+        &mut self,
+        place: usize,
+        text: &str,
+        limit: Option<usize>,
+    ) -> Result<Vec<(usize, usize)>, Refused>
+        requires { place < vec_len self.old.patterns }
+        ensures found { IfOk result (λ v. (pattern : List ℕ)
+            → IsKeptAt self.old.patterns.items place pattern → FindsAll pattern text.now limit v.items) }
+        ensures within { IfOk result (λ v. All (IsSpanIn text.now) v.items) }
+        ensures same { self.new.answers ≡ self.old.answers }
+        ensures memory { IfErr result (λ e. e ≡ Refused.Memory) }
+    {
+        self.patterns[place].find_all(self.alloc, text, limit)
     }
 
     /// Whether the pattern matches somewhere in the text, or none where the pattern is refused.
@@ -119,14 +183,9 @@ impl PatternBook {
         ensures refused { IfOk result (λ found. (found ≡ None) ↔ IsRefused (entries_of self.new) pattern.now) }
         ensures memory { IfErr result (λ e. e ≡ Refused.Memory) }
     {
-        self.ask(pattern)?;
-        match self.answers.get(pattern) {
-            Some(Some(regex)) => {
-                let mut matcher = regex.matcher(self.alloc)?;
-                Ok(Some(matcher.is_match(text)))
-            }
-            Some(None) => Ok(None),
-            None => unreachable!(),
+        match self.ask(pattern)? {
+            Some(place) => Ok(Some(self.is_match_at(place, text)?)),
+            None => Ok(None),
         }
     }
 
@@ -151,15 +210,9 @@ impl PatternBook {
         ensures within { IfOk result (λ found. IfSome found (λ v. All (IsSpanIn text.now) v.items)) }
         ensures memory { IfErr result (λ e. e ≡ Refused.Memory) }
     {
-        self.ask(pattern)?;
-        match self.answers.get(pattern) {
-            Some(Some(regex)) => {
-                let mut matcher = regex.matcher(self.alloc)?;
-                let spans = spans_in(self.alloc, &mut matcher, text, limit)?;
-                Ok(Some(spans))
-            }
-            Some(None) => Ok(None),
-            None => unreachable!(),
+        match self.ask(pattern)? {
+            Some(place) => Ok(Some(self.find_all_at(place, text, limit)?)),
+            None => Ok(None),
         }
     }
 }

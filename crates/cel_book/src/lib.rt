@@ -2,5 +2,7 @@
 #![tactic(auto)]
 
 mod book;
+mod pattern;
+mod spans;
 
 pub use book::PatternBook;

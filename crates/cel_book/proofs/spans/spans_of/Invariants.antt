@@ -2,7 +2,7 @@ use Rattle.std.proofs.Common.{◌≡◌, ◌++◌, length, All}
 use Rattle.regex.specs.Strings.{placed_spans_left, matches_haystack}
 use Rattle.cel_book.specs.Book.{IsSpanIn}
 use Rattle.cel_book.proofs.Places.{IsUpTo, placed_in}
-use Rattle.cel_book.proofs.book.spans_of.Given as goal
+use Rattle.cel_book.proofs.spans.spans_of.Given as goal
 
 abbrev pub invariant-loop-m : goal.invariant-loop-m
 invariant-loop-m l = record {
