@@ -38,6 +38,15 @@ inserted name s n key is u x =
     btree_set_updates_text key s n true u x ∙ or_of_cond (bytes_eq key x) (contains_text s x)
     ∙ ap (λ e. contains_text s x || e) (bytes_eq_flip key x ∙ ap (bytes_eq x) is)
 
+no_change : (c e : Bool) → (e ≡ true → c ≡ true) → c ≡ (c || e)
+no_change true e h = refl
+no_change false true h = h refl
+no_change false false h = refl
+
+-- a name that is there adds nothing
+pub already_there : (name : List ℕ) (s : BTreeSet (String Global)) → contains_text s name ≡ true → (x : List ℕ) → contains_text s x ≡ (contains_text s x || bytes_eq x name)
+already_there name s there x = no_change (contains_text s x) (bytes_eq x name) (λ e. ap (contains_text s) ((bytes_eq-Decides x name).0 e) ∙ there)
+
 less_than_all : (k : String Global) (ks : List (String Global)) → AllByRecursion (λ y. string_cmp k y ≡ Less) ks
     → AllByRecursion (λ y. slice_cmp nat_cmp (string_bytes k) y ≡ Less) (map string_bytes ks)
 less_than_all k [] h = h

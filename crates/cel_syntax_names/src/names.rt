@@ -14,6 +14,9 @@ pub(crate) fn add(alloc: Global, name: &str, names: &mut BTreeSet<String>) -> Re
     ensures added { OnOk result ((x : List ℕ) → contains_text names.new x ≡ (contains_text names.old x || bytes_eq x name.now)) }
     ensures memory { IfErr result (λ e. e ≡ Memory) }
 {
+    if names.contains(name) {
+        return Ok(());
+    }
     let _is_new = names.insert(String::from_str(alloc, name)?)?;
     Ok(())
 }

@@ -1,6 +1,9 @@
-use Rattle.std.proofs.Common.{string_bytes}
-use Rattle.cel_syntax_names.proofs.Sets.{inserted}
+use Rattle.std.proofs.Common.{string_bytes, sym, ◌∙◌}
+use Rattle.cel_syntax_names.proofs.Sets.{already_there, inserted}
 use Rattle.cel_syntax_names.proofs.names.add.Goals as goal
+
+pub returns-then-contains-clause-added : goal.returns-then-contains-clause-added
+returns-then-contains-clause-added c = already_there c.args.name.now c.args.names.now (sym c.contains.ensures ∙ c.if-contains.true)
 
 pub returns-clause-added : goal.returns-clause-added
 returns-clause-added c = λ x.
