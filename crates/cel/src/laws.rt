@@ -1,5 +1,10 @@
-//! Laws of code, each the contract of a call that does nothing.
-ghost use Rattle.std.specs.Prelude.{◌≤◌, ◌+◌, ◌*◌, length};
+//! Laws of code and of meanings, each the contract of a call that does nothing.
+ghost use Rattle.std.specs.Prelude.{◌≡◌, ◌≤◌, ◌+◌, ◌*◌, ℕ, List, true, length};
+ghost use Rattle.cel_book.specs.Book.{Book};
+ghost use Rattle.cel_meaning.specs.Bindings.{Bindings, binding};
+ghost use Rattle.cel_meaning.specs.Library.{Library};
+ghost use Rattle.cel_meaning.specs.Meaning.{meaning};
+ghost use Rattle.cel_syntax_tree.specs.FreeNames.{is_free};
 ghost use Rattle.cel_syntax_tree.specs.Term.{Term};
 ghost use Rattle.cel_machine.specs.Code.{code_of};
 ghost use Rattle.cel_machine.specs.Size.{nodes};
@@ -8,4 +13,11 @@ ghost use Rattle.cel_machine.specs.Size.{nodes};
 #[tactic(auto, using(cel_machine::proofs::Sizes::code_is_short))]
 pub fn code_is_short()
     ensures { (t : Term) → length (code_of t) + 2 ≤ 5 * nodes t }
+{}
+
+/// What a tree means depends only on what its free names are bound to. So a variable that it doesn't read need not be bound.
+pub fn unread_names_change_nothing()
+    ensures { (library : Library) (book : Book) (t : Term) (e f : Bindings)
+        → ((x : List ℕ) → is_free x t ≡ true → binding x e ≡ binding x f)
+        → meaning library book t e ≡ meaning library book t f }
 {}

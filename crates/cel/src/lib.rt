@@ -12,7 +12,8 @@ pub use cel_syntax::ParseErrors;
 pub use cel_syntax_names::References;
 pub use cel_syntax_tree::{BinaryOperator, Expr, MacroKind, UnaryOperator};
 pub use cel_value::{
-    Duration, ExecutionError, Key, Kind, Map, OptionalValue, Refused, Timestamp, Value,
+    Duration, Entries, ExecutionError, Key, Kind, List, MAX_VALUE_LEVELS, Map, OptionalValue,
+    Refused, Timestamp, Value,
 };
 pub use kube_types::{
     FormatKind, IntegerError, KubeCIDR, KubeFormat, KubeIP, KubeQuantity, KubeSemver, KubeUrl,

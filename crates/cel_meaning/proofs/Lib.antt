@@ -1,5 +1,6 @@
 pub mod Decisions
 pub mod Lookups
+pub mod Anew
 pub mod Sets
 pub mod Numbers
 pub mod MapCopies

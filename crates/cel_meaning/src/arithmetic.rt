@@ -1,7 +1,7 @@
 //! Sums, differences, products, quotients and remainders of values without doubles.
 ghost use Rattle.std.specs.Prelude.{◌≡◌, ◌+◌, ◌*◌, ◌++◌, ◌+ℤ◌, ◌-ℤ◌, ◌*ℤ◌, neg_ℤ, IfOk, IfErr, Ok, string_bytes, map};
 ghost use Rattle.cel_value.specs.Data.{int, uint, text, bytes, list};
-ghost use Rattle.cel_value.specs.View.{view, items_view};
+ghost use Rattle.cel_value.specs.View.{view};
 ghost use Rattle.cel_meaning.specs.Arithmetic.{int_in, uint_in, or_overflow, int_or_overflow, uint_or_overflow, opposite, items_joined, sum_of, difference_of, product_of, quotient_of, remainder_of};
 ghost use Rattle.cel_meaning.specs.Outcome.{outcome_view};
 
@@ -10,7 +10,7 @@ use crate::ranges::push_copies;
 use crate::times::{
     add_to_duration, add_to_timestamp, subtract_from_duration, subtract_from_timestamp,
 };
-use cel_value::{ExecutionError, Refused, Value};
+use cel_value::{ExecutionError, List, Refused, Value};
 use std::alloc::Global;
 use std::rc::Rc;
 
@@ -67,25 +67,25 @@ fn negate_int(n: i64) -> Answer
     checked_int(n.checked_neg())
 }
 
-fn add_ints(m: i64, n: i64) -> Answer
+pub(crate) fn add_ints(m: i64, n: i64) -> Answer
     ensures { outcome_view result ≡ int_or_overflow (m +ℤ n) }
 {
     checked_int(m.checked_add(n))
 }
 
-fn subtract_ints(m: i64, n: i64) -> Answer
+pub(crate) fn subtract_ints(m: i64, n: i64) -> Answer
     ensures { outcome_view result ≡ int_or_overflow (m -ℤ n) }
 {
     checked_int(m.checked_sub(n))
 }
 
-fn multiply_ints(m: i64, n: i64) -> Answer
+pub(crate) fn multiply_ints(m: i64, n: i64) -> Answer
     ensures { outcome_view result ≡ int_or_overflow (m *ℤ n) }
 {
     checked_int(m.checked_mul(n))
 }
 
-fn divide_ints(m: i64, n: i64) -> Answer
+pub(crate) fn divide_ints(m: i64, n: i64) -> Answer
     ensures { outcome_view result ≡ quotient_of (int m) (int n) }
 {
     if n == 0 {
@@ -95,7 +95,7 @@ fn divide_ints(m: i64, n: i64) -> Answer
     }
 }
 
-fn remainder_of_ints(m: i64, n: i64) -> Answer
+pub(crate) fn remainder_of_ints(m: i64, n: i64) -> Answer
     ensures { outcome_view result ≡ remainder_of (int m) (int n) }
 {
     if n == 0 {
@@ -143,7 +143,7 @@ fn remainder_of_uints(m: u64, n: u64) -> Answer
     }
 }
 
-fn join_texts(alloc: Global, left: &str, right: &str) -> Result<Answer, Refused>
+pub(crate) fn join_texts(alloc: Global, left: &str, right: &str) -> Result<Answer, Refused>
     ensures value { IfOk result (λ r. outcome_view r ≡ Ok (text (left.now ++ right.now))) }
     ensures memory { IfErr result (λ e. e ≡ Refused.Memory) }
 {
@@ -163,12 +163,8 @@ fn join_bytes(alloc: Global, left: &[u8], right: &[u8]) -> Result<Answer, Refuse
     Ok(Ok(Value::Bytes(Rc::new(alloc, joined)?)))
 }
 
-fn copies_of_both(
-    alloc: Global,
-    left: &Vec<Value>,
-    right: &Vec<Value>,
-) -> Result<Vec<Value>, Refused>
-    ensures value { IfOk result (λ v. map view v.items ≡ map view left.now.items ++ map view right.now.items) }
+fn copies_of_both(alloc: Global, left: &[Value], right: &[Value]) -> Result<Vec<Value>, Refused>
+    ensures value { IfOk result (λ v. map view v.items ≡ map view left.now ++ map view right.now) }
     ensures memory { IfErr result (λ e. e ≡ Refused.Memory) }
 {
     let mut joined = Vec::with_capacity(alloc, left.len().saturating_add(right.len()))?;
@@ -178,11 +174,11 @@ fn copies_of_both(
 }
 
 #[tactic(auto, using(crate::proofs::Items::joined_items))]
-fn join_lists(alloc: Global, left: &Vec<Value>, right: &Vec<Value>) -> Result<Answer, Refused>
-    ensures value { IfOk result (λ r. outcome_view r ≡ Ok (list (items_joined (items_view left.now.items) (items_view right.now.items)))) }
+fn join_lists(alloc: Global, left: &List, right: &List) -> Result<Answer, Refused>
+    ensures value { IfOk result (λ r. outcome_view r ≡ Ok (list (items_joined left.now right.now))) }
     ensures memory { IfErr result (λ e. e ≡ Refused.Memory) }
 {
-    let joined = copies_of_both(alloc, left, right)?;
+    let joined = copies_of_both(alloc, left.as_slice(), right.as_slice())?;
     Ok(Ok(Value::from_items(alloc, joined)?))
 }
 

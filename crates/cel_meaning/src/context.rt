@@ -5,17 +5,17 @@ ghost use Rattle.cel_value.specs.View.{view};
 ghost use Rattle.cel_meaning.specs.Bindings.{binding, bindings_of, functions_of};
 
 use crate::functions::Functions;
-use crate::scope::{Scope, named_value};
+use crate::names::Names;
+use crate::scope::Scope;
 use cel_value::{Refused, Value};
 use std::alloc::Global;
-use std::collections::BTreeMap;
 
 /// Variables, inside those of the scopes around it, and a set of functions.
 #[derive(Drop)]
 pub struct Context<'a, F> {
     alloc: Global,
     functions: F,
-    variables: BTreeMap<String, Value>,
+    names: Names,
     outer: Scope<'a>,
 }
 
@@ -28,7 +28,7 @@ impl<'a, F: Functions> Context<'a, F> {
         Context {
             alloc,
             functions: F::start(),
-            variables: BTreeMap::new(alloc),
+            names: Names::new(alloc),
             outer: Scope::Empty,
         }
     }
@@ -52,8 +52,7 @@ impl<'a, F: Functions> Context<'a, F> {
         ensures refused { IfErr result (λ _. bindings_of self.new ≡ bindings_of self.old) }
         ensures memory { IfErr result (λ e. e ≡ Refused.Memory) }
     {
-        let key = String::from_str(self.alloc, name)?;
-        self.variables.insert(key, value)?;
+        self.names.set(self.alloc, name, value)?;
         Ok(())
     }
 
@@ -79,8 +78,8 @@ impl<'a, F: Functions> Context<'a, F> {
         Context {
             alloc: self.alloc,
             functions: self.functions,
-            variables: BTreeMap::new(self.alloc),
-            outer: Scope::Named(&self.variables, &self.outer),
+            names: Names::new(self.alloc),
+            outer: Scope::Named(&self.names, &self.outer),
         }
     }
 
@@ -88,7 +87,7 @@ impl<'a, F: Functions> Context<'a, F> {
     pub fn get(&self, name: &str) -> Option<&Value>
         ensures { option_map (λ v. view v.now) result ≡ binding name.now (bindings_of self.now) }
     {
-        match named_value(&self.variables, name) {
+        match self.names.find(name) {
             Some(value) => Some(value),
             None => self.outer.get(name),
         }

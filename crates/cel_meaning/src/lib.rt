@@ -8,6 +8,7 @@ pub mod functions;
 pub mod macros;
 mod map_literals;
 pub mod members;
+mod names;
 pub mod operators;
 pub mod ranges;
 pub mod scope;

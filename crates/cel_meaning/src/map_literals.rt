@@ -10,12 +10,11 @@ ghost use Rattle.cel_meaning.specs.Outcome.{outcome_view};
 use crate::members::{key_from, refuse_key};
 use crate::operators::{Answer, no_such_overload};
 use cel_value::build::add_entry;
-use cel_value::{Key, Map, Refused, Value};
+use cel_value::{Entries, Key, Map, Refused, Value};
 use std::alloc::Global;
-use std::collections::BTreeMap;
 use std::rc::Rc;
 
-fn insert_copy(copy: &mut Map, key: &Key, value: &Value) -> Result<(), Refused>
+fn insert_copy(copy: &mut Entries, key: &Key, value: &Value) -> Result<(), Refused>
     ensures written { OnOk result (entries_view copy.new.entries ≡ with_entry (key_view key.now) (view value.now) (entries_view copy.old.entries)) }
     ensures memory { IfErr result (λ e. e ≡ Refused.Memory) }
 {
@@ -26,19 +25,19 @@ fn insert_copy(copy: &mut Map, key: &Key, value: &Value) -> Result<(), Refused>
 }
 
 fn copy_of(alloc: Global, entries: &Map) -> Result<Map, Refused>
-    ensures value { IfOk result (λ m. entries_view m.entries ≡ entries_view entries.now.entries) }
+    ensures value { IfOk result (λ m. m ≡ entries.now) }
     ensures memory { IfErr result (λ e. e ≡ Refused.Memory) }
 {
-    let mut copy = BTreeMap::new(alloc);
+    let mut copy = Entries::new(alloc);
     for (key, value) in entries.iter() {
         insert_copy(&mut copy, key, value)?;
     }
-    Ok(copy)
+    Map::of(copy)
 }
 
 /// The entries, without a copy where nobody else holds them.
 fn owned(alloc: Global, shared: Rc<Map>) -> Result<Map, Refused>
-    ensures value { IfOk result (λ m. entries_view m.entries ≡ entries_view shared.value.entries) }
+    ensures value { IfOk result (λ m. m ≡ shared.value) }
     ensures memory { IfErr result (λ e. e ≡ Refused.Memory) }
 {
     match Rc::try_unwrap(shared) {
@@ -49,19 +48,19 @@ fn owned(alloc: Global, shared: Rc<Map>) -> Result<Map, Refused>
 
 #[tactic(auto, using(crate::proofs::MapCopies::entry_is_new, crate::proofs::MapCopies::entry_is_old))]
 fn add(alloc: Global, shared: Rc<Map>, key: Key, value: &Value) -> Result<Answer, Refused>
-    ensures value { IfOk result (λ r. outcome_view r ≡ new_entry (entries_view shared.value.entries) (view value.now) (find (key_view key) (entries_view shared.value.entries)) (key_view key)) }
+    ensures value { IfOk result (λ r. outcome_view r ≡ new_entry shared.value (view value.now) (find (key_view key) shared.value) (key_view key)) }
     ensures memory { IfErr result (λ e. e ≡ Refused.Memory) }
 {
     let mut entries = owned(alloc, shared)?;
     match add_entry(&mut entries, key, value.try_clone()?)? {
-        Ok(()) => Ok(Ok(Value::from_entries(alloc, entries)?)),
+        Ok(()) => Ok(Ok(Value::Map(Rc::new(alloc, entries)?))),
         Err(fault) => Ok(Err(fault)),
     }
 }
 
 #[tactic(auto, using(crate::proofs::MapCopies::put_at_none))]
 fn add_at(alloc: Global, shared: Rc<Map>, key: &Value, value: &Value) -> Result<Answer, Refused>
-    ensures value { IfOk result (λ r. outcome_view r ≡ put_in (map_of (entries_view shared.value.entries)) (view key.now) (view value.now)) }
+    ensures value { IfOk result (λ r. outcome_view r ≡ put_in (map_of shared.value) (view key.now) (view value.now)) }
     ensures memory { IfErr result (λ e. e ≡ Refused.Memory) }
 {
     match key_from(key)? {
@@ -74,7 +73,6 @@ fn add_at(alloc: Global, shared: Rc<Map>, key: &Value, value: &Value) -> Result<
 ///
 /// # Errors
 /// `Memory` alone.
-#[tactic(auto, using(crate::proofs::Lookups::view_map))]
 pub fn put(alloc: Global, map: Value, key: &Value, value: &Value) -> Result<Answer, Refused>
     ensures value { IfOk result (λ r. outcome_view r ≡ put_in (view map) (view key.now) (view value.now)) }
     ensures memory { IfErr result (λ e. e ≡ Refused.Memory) }

@@ -4,19 +4,19 @@ ghost use Rattle.std.specs.Option.{option_map_or};
 ghost use Rattle.cel_value.specs.Faults.{fault_view, no_key, out_of_bounds};
 ghost use Rattle.cel_value.specs.Find.{find};
 ghost use Rattle.cel_value.specs.Keys.{key_view};
-ghost use Rattle.cel_value.specs.View.{view, items_view, entries_view};
+ghost use Rattle.cel_value.specs.View.{view};
 ghost use Rattle.cel_meaning.specs.Members.{selected, has_member, key_of, not_key, nth_item, list_indexed, map_indexed, not_indexed, indexed, is_item, is_key, contained};
 ghost use Rattle.cel_meaning.specs.Outcome.{outcome_view};
 
 pub use crate::map_literals::put;
 use crate::operators::{Answer, double_fault, no_such_overload};
 use cel_value::build::find_entry;
-use cel_value::{ExecutionError, Key, Map, Refused, Value};
+use cel_value::{ExecutionError, Key, List, Map, Refused, Value};
 use std::alloc::Global;
 
 fn member(entries: &Map, key: &Key) -> Result<Answer, Refused>
     ensures value { IfOk result (λ r. outcome_view r
-        ≡ option_map_or Ok (find (key_view key.now) (entries_view entries.now.entries)) (Err (no_key (key_view key.now)))) }
+        ≡ option_map_or Ok (find (key_view key.now) entries.now) (Err (no_key (key_view key.now)))) }
     ensures memory { IfErr result (λ e. e ≡ Refused.Memory) }
 {
     match find_entry(entries, key) {
@@ -26,7 +26,7 @@ fn member(entries: &Map, key: &Key) -> Result<Answer, Refused>
 }
 
 fn has_entry(entries: &Map, key: &Key) -> bool
-    ensures { result ≡ is_some (find (key_view key.now) (entries_view entries.now.entries)) }
+    ensures { result ≡ is_some (find (key_view key.now) entries.now) }
 {
     find_entry(entries, key).is_some()
 }
@@ -35,7 +35,6 @@ fn has_entry(entries: &Map, key: &Key) -> bool
 ///
 /// # Errors
 /// `Memory` alone.
-#[tactic(auto, using(crate::proofs::Lookups::view_map))]
 pub fn select(alloc: Global, key: &Key, value: &Value) -> Result<Answer, Refused>
     ensures value { IfOk result (λ r. outcome_view r ≡ selected (key_view key.now) (view value.now)) }
     ensures memory { IfErr result (λ e. e ≡ Refused.Memory) }
@@ -50,7 +49,6 @@ pub fn select(alloc: Global, key: &Key, value: &Value) -> Result<Answer, Refused
 ///
 /// # Errors
 /// `Memory` alone.
-#[tactic(auto, using(crate::proofs::Lookups::view_map))]
 pub fn has(alloc: Global, key: &Key, value: &Value) -> Result<Answer, Refused>
     ensures value { IfOk result (λ r. outcome_view r ≡ has_member (key_view key.now) (view value.now)) }
     ensures memory { IfErr result (λ e. e ≡ Refused.Memory) }
@@ -75,15 +73,15 @@ pub(crate) fn key_from(value: &Value) -> Result<Option<Key>, Refused>
     }
 }
 
-fn nth(items: &Vec<Value>, position: u64) -> Option<&Value>
-    ensures { option_map (λ v. view v.now) result ≡ nth_item position (items_view items.now.items) }
+fn nth(items: &List, position: u64) -> Option<&Value>
+    ensures { option_map (λ v. view v.now) result ≡ nth_item position items.now }
 {
     items.as_slice().get(position as usize)
 }
 
-fn item(items: &Vec<Value>, position: u64) -> Result<Answer, Refused>
+fn item(items: &List, position: u64) -> Result<Answer, Refused>
     ensures value { IfOk result (λ r. outcome_view r
-        ≡ option_map_or Ok (nth_item position (items_view items.now.items)) (Err out_of_bounds)) }
+        ≡ option_map_or Ok (nth_item position items.now) (Err out_of_bounds)) }
     ensures memory { IfErr result (λ e. e ≡ Refused.Memory) }
 {
     match nth(items, position) {
@@ -92,8 +90,8 @@ fn item(items: &Vec<Value>, position: u64) -> Result<Answer, Refused>
     }
 }
 
-fn index_list(alloc: Global, items: &Vec<Value>, index: &Value) -> Result<Answer, Refused>
-    ensures value { IfOk result (λ r. outcome_view r ≡ list_indexed (items_view items.now.items) (view index.now)) }
+fn index_list(alloc: Global, items: &List, index: &Value) -> Result<Answer, Refused>
+    ensures value { IfOk result (λ r. outcome_view r ≡ list_indexed items.now (view index.now)) }
     ensures memory { IfErr result (λ e. e ≡ Refused.Memory) }
 {
     match index {
@@ -123,7 +121,7 @@ pub(crate) fn refuse_key(alloc: Global, value: &Value) -> Result<ExecutionError,
 
 #[tactic(auto, using(crate::proofs::MapCopies::indexed_at_none))]
 fn index_map(alloc: Global, entries: &Map, index: &Value) -> Result<Answer, Refused>
-    ensures value { IfOk result (λ r. outcome_view r ≡ map_indexed (entries_view entries.now.entries) (view index.now)) }
+    ensures value { IfOk result (λ r. outcome_view r ≡ map_indexed entries.now (view index.now)) }
     ensures memory { IfErr result (λ e. e ≡ Refused.Memory) }
 {
     match key_from(index)? {
@@ -146,7 +144,6 @@ fn refuse_index(alloc: Global, index: &Value) -> Result<Answer, Refused>
 ///
 /// # Errors
 /// `Memory` alone.
-#[tactic(auto, using(crate::proofs::Lookups::view_map))]
 pub fn index(alloc: Global, value: &Value, index: &Value) -> Result<Answer, Refused>
     ensures value { IfOk result (λ r. outcome_view r ≡ indexed (view value.now) (view index.now)) }
     ensures memory { IfErr result (λ e. e ≡ Refused.Memory) }
@@ -158,10 +155,10 @@ pub fn index(alloc: Global, value: &Value, index: &Value) -> Result<Answer, Refu
     }
 }
 
-fn is_among(value: &Value, items: &Vec<Value>) -> bool
-    ensures { result ≡ is_item (view value.now) (items_view items.now.items) }
+fn is_among(value: &Value, items: &List) -> bool
+    ensures { result ≡ is_item (view value.now) items.now }
 {
-    for other in items {
+    for other in items.as_slice() {
         if *value == *other {
             return true;
         }
@@ -170,7 +167,7 @@ fn is_among(value: &Value, items: &Vec<Value>) -> bool
 }
 
 fn is_key_of(value: &Value, entries: &Map) -> Result<bool, Refused>
-    ensures value { IfOk result (λ b. b ≡ is_key (entries_view entries.now.entries) (key_of (view value.now))) }
+    ensures value { IfOk result (λ b. b ≡ is_key entries.now (key_of (view value.now))) }
     ensures memory { IfErr result (λ e. e ≡ Refused.Memory) }
 {
     match key_from(value)? {
@@ -180,7 +177,6 @@ fn is_key_of(value: &Value, entries: &Map) -> Result<bool, Refused>
 }
 
 /// Whether a value is an item of a list or a key of a map.
-#[tactic(auto, using(crate::proofs::Lookups::view_map))]
 pub(crate) fn is_in(alloc: Global, value: &Value, range: &Value) -> Result<Answer, Refused>
     ensures value { IfOk result (λ r. outcome_view r ≡ contained (view value.now) (view range.now)) }
     ensures memory { IfErr result (λ e. e ≡ Refused.Memory) }

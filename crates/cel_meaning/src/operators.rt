@@ -1,14 +1,19 @@
 //! What operators do with values.
 ghost use Rattle.std.specs.Prelude.{◌≡◌, IfOk, IfErr, Ok, Err, option_map, not};
 ghost use Rattle.std.specs.Option.{option_map_or};
-ghost use Rattle.cel_value.specs.Data.{bool};
+ghost use Rattle.std.specs.Cmp.Lexicographic.{slice_cmp};
+ghost use Rattle.std.specs.Ordering.{nat_cmp};
+ghost use Rattle.cel_value.specs.Data.{bool, int, text};
 ghost use Rattle.cel_value.specs.Faults.{fault_view, no_overload};
 ghost use Rattle.cel_value.specs.View.{view};
 ghost use Rattle.cel_meaning.specs.Operators.{negated, operator_text, holds_of, ordered, related, operated_on_one, operated};
 ghost use Rattle.cel_meaning.specs.Outcome.{no_doubles, outcome_view};
 ghost use Rattle.cel_meaning.specs.Progress.{Absorbs};
 
-use crate::arithmetic::{add, divide, multiply, negate, remainder, subtract};
+use crate::arithmetic::{
+    add, add_ints, divide, divide_ints, join_texts, multiply, multiply_ints, negate, remainder,
+    remainder_of_ints, subtract, subtract_ints,
+};
 use crate::members::is_in;
 use cel_syntax_tree::{BinaryOperator, UnaryOperator};
 use cel_value::{ExecutionError, Refused, Value};
@@ -212,6 +217,80 @@ fn relate(
     }
 }
 
+/// An operator on two ints.
+fn relate_ints(alloc: Global, operator: BinaryOperator, m: i64, n: i64) -> Result<Answer, Refused>
+    ensures value { IfOk result (λ r. outcome_view r ≡ related operator (int m) (int n)) }
+    ensures memory { IfErr result (λ e. e ≡ Refused.Memory) }
+{
+    match operator {
+        BinaryOperator::Less => Ok(Ok(Value::Bool(m < n))),
+        BinaryOperator::LessOrEqual => Ok(Ok(Value::Bool(m <= n))),
+        BinaryOperator::Greater => Ok(Ok(Value::Bool(m > n))),
+        BinaryOperator::GreaterOrEqual => Ok(Ok(Value::Bool(m >= n))),
+        BinaryOperator::Equal => Ok(Ok(Value::Bool(m == n))),
+        BinaryOperator::NotEqual => Ok(Ok(Value::Bool(m != n))),
+        BinaryOperator::Add => Ok(add_ints(m, n)),
+        BinaryOperator::Subtract => Ok(subtract_ints(m, n)),
+        BinaryOperator::Multiply => Ok(multiply_ints(m, n)),
+        BinaryOperator::Divide => Ok(divide_ints(m, n)),
+        BinaryOperator::Remainder => Ok(remainder_of_ints(m, n)),
+        BinaryOperator::Or => Ok(Err(no_such_overload(alloc, "||")?)),
+        BinaryOperator::And => Ok(Err(no_such_overload(alloc, "&&")?)),
+        BinaryOperator::In => Ok(Err(no_such_overload(alloc, "in")?)),
+    }
+}
+
+/// Whether two texts stand in the operator's order.
+fn order_texts(operator: BinaryOperator, s: &str, t: &str) -> bool
+    ensures { result ≡ holds_of operator (slice_cmp nat_cmp s.now t.now) }
+{
+    holds(operator, s.cmp(t))
+}
+
+/// An operator on two texts.
+fn relate_texts(
+    alloc: Global,
+    operator: BinaryOperator,
+    s: &str,
+    t: &str,
+) -> Result<Answer, Refused>
+    ensures value { IfOk result (λ r. outcome_view r ≡ related operator (text s.now) (text t.now)) }
+    ensures memory { IfErr result (λ e. e ≡ Refused.Memory) }
+{
+    match operator {
+        BinaryOperator::Equal => Ok(Ok(Value::Bool(s == t))),
+        BinaryOperator::NotEqual => Ok(Ok(Value::Bool(s != t))),
+        BinaryOperator::Less => Ok(Ok(Value::Bool(order_texts(operator, s, t)))),
+        BinaryOperator::LessOrEqual => Ok(Ok(Value::Bool(order_texts(operator, s, t)))),
+        BinaryOperator::Greater => Ok(Ok(Value::Bool(order_texts(operator, s, t)))),
+        BinaryOperator::GreaterOrEqual => Ok(Ok(Value::Bool(order_texts(operator, s, t)))),
+        BinaryOperator::Add => join_texts(alloc, s, t),
+        BinaryOperator::Or => Ok(Err(no_such_overload(alloc, "||")?)),
+        BinaryOperator::And => Ok(Err(no_such_overload(alloc, "&&")?)),
+        BinaryOperator::In => Ok(Err(no_such_overload(alloc, "in")?)),
+        BinaryOperator::Subtract => Ok(Err(no_such_overload(alloc, "-")?)),
+        BinaryOperator::Multiply => Ok(Err(no_such_overload(alloc, "*")?)),
+        BinaryOperator::Divide => Ok(Err(no_such_overload(alloc, "/")?)),
+        BinaryOperator::Remainder => Ok(Err(no_such_overload(alloc, "%")?)),
+    }
+}
+
+/// An operator on two values, either of which may hold a double.
+fn operate_on_any(
+    alloc: Global,
+    operator: BinaryOperator,
+    left: &Value,
+    right: &Value,
+) -> Result<Answer, Refused>
+    ensures value { IfOk result (λ r. outcome_view r ≡ operated operator (view left.now) (view right.now)) }
+    ensures memory { IfErr result (λ e. e ≡ Refused.Memory) }
+{
+    if left.holds_double() || right.holds_double() {
+        return Ok(Err(double_fault(alloc)?));
+    }
+    relate(alloc, operator, left, right)
+}
+
 /// An operator on two values.
 ///
 /// # Errors
@@ -225,8 +304,12 @@ pub fn operate(
     ensures value { IfOk result (λ r. outcome_view r ≡ operated operator (view left.now) (view right.now)) }
     ensures memory { IfErr result (λ e. e ≡ Refused.Memory) }
 {
-    if left.holds_double() || right.holds_double() {
-        return Ok(Err(double_fault(alloc)?));
+    match (left, right) {
+        (Value::Int(m), Value::Int(n)) => relate_ints(alloc, operator, *m, *n),
+        (Value::String(s), Value::String(t)) => {
+            relate_texts(alloc, operator, s.as_str(), t.as_str())
+        }
+        (Value::Bool(_), Value::Bool(_)) => relate(alloc, operator, left, right),
+        _ => operate_on_any(alloc, operator, left, right),
     }
-    relate(alloc, operator, left, right)
 }

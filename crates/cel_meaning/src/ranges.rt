@@ -1,31 +1,23 @@
 //! What a macro goes over.
 ghost use Rattle.std.specs.Prelude.{◌≡◌, ◌++◌, IfOk, IfErr, OnOk, map};
 ghost use Rattle.cel_value.specs.Keys.{key_view};
-ghost use Rattle.cel_value.specs.View.{view, entries_view};
-ghost use Rattle.cel_meaning.specs.Ranges.{key_data, keys_list, range_of, values_view};
+ghost use Rattle.cel_value.specs.View.{view};
+ghost use Rattle.cel_meaning.specs.Ranges.{key_data, keys_list, range_of, range_list, range_view};
 
 use crate::operators::no_such_overload;
-use cel_value::{ExecutionError, Key, Map, Refused, Value};
+use cel_value::{ExecutionError, Key, List, Map, Refused, Value};
 use std::alloc::Global;
+use std::rc::Rc;
 
 /// Copies of the items, at the end.
-pub(crate) fn push_copies(values: &mut Vec<Value>, items: &Vec<Value>) -> Result<(), Refused>
-    ensures pushed { OnOk result (map view values.new.items ≡ map view values.old.items ++ map view items.now.items) }
+pub(crate) fn push_copies(values: &mut Vec<Value>, items: &[Value]) -> Result<(), Refused>
+    ensures pushed { OnOk result (map view values.new.items ≡ map view values.old.items ++ map view items.now) }
     ensures memory { IfErr result (λ e. e ≡ Refused.Memory) }
 {
     for item in items {
         values.push(item.try_clone()?)?;
     }
     Ok(())
-}
-
-fn copies(alloc: Global, items: &Vec<Value>) -> Result<Vec<Value>, Refused>
-    ensures value { IfOk result (λ v. map view v.items ≡ map view items.now.items) }
-    ensures memory { IfErr result (λ e. e ≡ Refused.Memory) }
-{
-    let mut values = Vec::with_capacity(alloc, items.len())?;
-    push_copies(&mut values, items)?;
-    Ok(values)
 }
 
 fn key_value(key: &Key) -> Result<Value, Refused>
@@ -41,7 +33,7 @@ fn key_value(key: &Key) -> Result<Value, Refused>
 }
 
 fn key_values(alloc: Global, entries: &Map) -> Result<Vec<Value>, Refused>
-    ensures value { IfOk result (λ v. map view v.items ≡ keys_list (entries_view entries.now.entries)) }
+    ensures value { IfOk result (λ v. map view v.items ≡ keys_list entries.now) }
     ensures memory { IfErr result (λ e. e ≡ Refused.Memory) }
 {
     let mut values = Vec::with_capacity(alloc, entries.len())?;
@@ -51,21 +43,41 @@ fn key_values(alloc: Global, entries: &Map) -> Result<Vec<Value>, Refused>
     Ok(values)
 }
 
-/// The items that a macro of this name goes over: a list's items, or a map's keys in key order.
+/// What a macro goes over: the items of a list, which stay where they are, or a map's keys in key order.
+#[derive(Drop)]
+pub enum Range {
+    Items(Rc<List>),
+    Keys(Vec<Value>),
+}
+
+impl Range {
+    /// The items, the first one first.
+    #[tactic(auto, using(crate::proofs::Lookups::listed_items))]
+    pub fn as_slice(&self) -> &[Value]
+        ensures { map view result.now ≡ range_list self.now }
+    {
+        match self {
+            Range::Items(items) => items.as_slice(),
+            Range::Keys(keys) => keys.as_slice(),
+        }
+    }
+}
+
+/// What a macro of this name goes over.
 ///
 /// # Errors
 /// `Memory` alone.
-pub fn range_items(
+pub fn range_in(
     alloc: Global,
     name: &str,
-    value: &Value,
-) -> Result<Result<Vec<Value>, ExecutionError>, Refused>
-    ensures value { IfOk result (λ r. values_view r ≡ range_of name.now (view value.now)) }
+    value: Value,
+) -> Result<Result<Range, ExecutionError>, Refused>
+    ensures value { IfOk result (λ r. range_view r ≡ range_of name.now (view value)) }
     ensures memory { IfErr result (λ e. e ≡ Refused.Memory) }
 {
     match value {
-        Value::List(items) => Ok(Ok(copies(alloc, items.as_ref())?)),
-        Value::Map(entries) => Ok(Ok(key_values(alloc, entries.as_ref())?)),
+        Value::List(items) => Ok(Ok(Range::Items(items))),
+        Value::Map(entries) => Ok(Ok(Range::Keys(key_values(alloc, entries.as_ref())?))),
         _ => Ok(Err(no_such_overload(alloc, name)?)),
     }
 }

@@ -1,10 +1,10 @@
 //! The names around a scope.
 ghost use Rattle.std.specs.Prelude.{◌≡◌, option_map};
 ghost use Rattle.cel_value.specs.View.{view};
-ghost use Rattle.cel_meaning.specs.Bindings.{bindings, binding, named};
+ghost use Rattle.cel_meaning.specs.Bindings.{bindings, binding};
 
+use crate::names::Names;
 use cel_value::Value;
-use std::collections::BTreeMap;
 
 /// Names with their values, the innermost first.
 #[derive(Drop)]
@@ -12,7 +12,7 @@ pub enum Scope<'a> {
     /// No name.
     Empty,
     /// These names, and those around them.
-    Named(&'a BTreeMap<String, Value>, &'a Scope<'a>),
+    Named(&'a Names, &'a Scope<'a>),
 }
 
 impl<'a> Scope<'a> {
@@ -22,17 +22,10 @@ impl<'a> Scope<'a> {
     {
         match self {
             Scope::Empty => None,
-            Scope::Named(values, outer) => match named_value(values, name) {
+            Scope::Named(names, outer) => match names.find(name) {
                 Some(value) => Some(value),
                 None => outer.get(name),
             },
         }
     }
-}
-
-/// What one map binds the name to.
-pub(crate) fn named_value<'m>(values: &'m BTreeMap<String, Value>, name: &str) -> Option<&'m Value>
-    ensures { option_map (λ v. view v.now) result ≡ binding name.now (named values.now.entries) }
-{
-    values.get(name)
 }

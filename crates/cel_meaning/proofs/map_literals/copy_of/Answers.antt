@@ -1,4 +1,8 @@
-use Rattle.std.proofs.Common.{[], ◌∷◌, ◌++◌, sym, ap, ◌∙◌, append_assoc}
+use Rattle.std.proofs.Common.{[], ◌∷◌, ◌++◌, refl, sym, ap, ◌∙◌, append_assoc, subst}
+use Rattle.std.specs.List.Sorted.{IsStrictlySortedBy}
+use Rattle.std.specs.Map.{keys_of}
+use Rattle.cel_value.specs.View.{entries_view}
+use Rattle.cel_value.proofs.Entries.{key_cmp}
 use Rattle.cel_meaning.proofs.Lookups.{Entry}
 use Rattle.cel_meaning.proofs.MapCopies.{copied_entry}
 use Rattle.cel_meaning.proofs.map_literals.copy_of.Goals as goal
@@ -8,8 +12,11 @@ loop-key-preserved c =
     let l = c.loop-key in
     let done = l.invariant.0 in
     let e : Entry = (c.in-Some.key.now, c.in-Some.value.now) in
-    let is = l.invariant.1 ∙ ap (λ es. done ++ es) c.in-Some.ensures.steps in (
+    let rest = c.next.new.self in
+    let next = ap (λ es. done ++ es) c.in-Some.ensures.steps in
+    let moved = next ∙ sym (append_assoc done (e ∷ []) rest) in (
       done ++ e ∷ [],
-      is ∙ sym (append_assoc done (e ∷ []) c.next.new.self),
-      copied_entry c.args.entries.now.entries done e c.next.new.self l.copy.entries c.insert_copy.new.copy.entries c.iter-key-items.ensures.ordered is l.invariant.2 c.in_ok-insert_copy.ensures.written,
+      sym (ap entries_view moved) ∙ l.invariant.1,
+      subst (λ es. IsStrictlySortedBy key_cmp (keys_of es)) moved l.invariant.2,
+      copied_entry (done ++ e ∷ rest) done e rest l.copy.entries c.insert_copy.new.copy.entries (subst (λ es. IsStrictlySortedBy key_cmp (keys_of es)) next l.invariant.2) refl l.invariant.3 c.in_ok-insert_copy.ensures.written,
     )

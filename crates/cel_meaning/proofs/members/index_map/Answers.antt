@@ -1,7 +1,7 @@
 use Rattle.std.proofs.Common.{◌≡◌, Some, subst, IfOk, arith}
 use Rattle.std.proofs.lemmas.Grind.{common_steps}
 use Rattle.cel_value.specs.Keys.{key_view}
-use Rattle.cel_value.specs.View.{view, entries_view}
+use Rattle.cel_value.specs.View.{view}
 use Rattle.cel_meaning.specs.Members.{key_of}
 use Rattle.cel_meaning.specs.Outcome.{outcome_view}
 use Rattle.cel_meaning.proofs.MapCopies.{indexed_at_key}
@@ -10,5 +10,5 @@ use Rattle.cel_meaning.proofs.members.index_map.Goals as goal
 pub returns-in-Some-clause-value : goal.returns-in-Some-clause-value
 returns-in-Some-clause-value c =
     let is_key : Some (key_view c.in-Some.key) ≡ key_of (view c.args.index.now) = grind (arith, common_steps) in
-    let same = indexed_at_key (entries_view c.args.entries.now.entries) (view c.args.index.now) (key_view c.in-Some.key) is_key in
+    let same = indexed_at_key c.args.entries.now (view c.args.index.now) (key_view c.in-Some.key) is_key in
     subst (λ o. IfOk c.member.result (λ r. outcome_view r ≡ o)) same c.member.ensures.value

@@ -4,4 +4,4 @@ use Rattle.cel_meaning.specs.Members.{is_item}
 use Rattle.cel_meaning.proofs.members.is_among.Given as goal
 
 abbrev pub invariant-loop-other : goal.invariant-loop-other
-invariant-loop-other l = is_item (view l.value) (items_view l.other-items) ≡ is_item (view l.value) (items_view (drop l.other-index l.other-items))
+invariant-loop-other l = is_item (view l.value) l.items ≡ is_item (view l.value) (items_view (drop l.other-index l.other-items))

@@ -1,9 +1,8 @@
-use Rattle.std.proofs.Common.{◌≡◌, List, ◌++◌, map}
+use Rattle.std.proofs.Common.{◌≡◌, ◌++◌, map}
 use Rattle.cel_value.specs.View.{view, entries_view}
 use Rattle.cel_meaning.specs.Ranges.{keys_list}
-use Rattle.cel_meaning.proofs.Lookups.{Entry}
 use Rattle.cel_meaning.proofs.ranges.key_values.Given as goal
 
 abbrev pub invariant-loop-key : goal.invariant-loop-key
 invariant-loop-key l =
-    (done : List Entry) × (l.entries.entries ≡ done ++ l.key-iterator) × (map view l.values.items ≡ keys_list (entries_view done))
+    map view l.values.items ++ keys_list (entries_view l.key-iterator) ≡ keys_list l.entries

@@ -3,4 +3,4 @@ use Rattle.cel_value.specs.View.{view}
 use Rattle.cel_meaning.proofs.ranges.push_copies.Given as goal
 
 abbrev pub invariant-loop-item : goal.invariant-loop-item
-invariant-loop-item l = map view l.values.items ≡ map view l.initial.values.items ++ map view (take l.item-index l.item-items)
+invariant-loop-item l = map view l.values.items ≡ map view l.initial.values.items ++ map view (take l.item-index l.items)

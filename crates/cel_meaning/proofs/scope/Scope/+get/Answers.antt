@@ -3,7 +3,7 @@ use Rattle.cel_meaning.proofs.Lookups.{named_here, named_past}
 use Rattle.cel_meaning.proofs.scope.Scope.+get.Goals as goal
 
 pub returns-in-Some : goal.returns-in-Some
-returns-in-Some t c = named_here c.args.name.now c.in-Named.values c.in-Named.outer c.args.self.now (view c.in-Some.value.now) c.in-Named.is c.in-Some.ensures
+returns-in-Some t c = named_here c.args.name.now c.in-Named.names c.in-Named.outer c.args.self.now (view c.in-Some.value.now) c.in-Named.is c.in-Some.ensures
 
 pub returns-in-None : goal.returns-in-None
-returns-in-None t c = named_past c.args.name.now c.in-Named.values c.in-Named.outer c.args.self.now _ c.in-Named.is c.in-None.ensures c.get.ensures
+returns-in-None t c = named_past c.args.name.now c.in-Named.names c.in-Named.outer c.args.self.now _ c.in-Named.is c.in-None.ensures c.get.ensures
