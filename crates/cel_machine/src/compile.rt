@@ -8,7 +8,7 @@ ghost use Rattle.cel_machine.specs.State.{codes_view, pairs_view, filter_codes, 
 
 use crate::instr::{Instr, Operation, Test};
 use cel_syntax_tree::{BinaryOperator, Expr, MacroKind};
-use cel_value::{Key, Map, OptionalValue, Refused, Value};
+use cel_value::{Entries, Key, OptionalValue, Refused, Value};
 use std::alloc::{AllocError, Global};
 use std::rc::Rc;
 
@@ -256,7 +256,7 @@ fn empty_map(alloc: Global) -> Result<Instr, Refused>
     ensures value { IfOk result (λ i. op i ≡ push (map_of no_entries)) }
     ensures memory { IfErr result (λ e. e ≡ Refused.Memory) }
 {
-    Ok(Instr::Push(Value::from_entries(alloc, Map::new(alloc))?))
+    Ok(Instr::Push(Value::from_entries(alloc, Entries::new(alloc))?))
 }
 
 /// The code of a map literal.

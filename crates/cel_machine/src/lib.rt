@@ -4,10 +4,12 @@
 mod calls;
 mod compile;
 mod instr;
+mod items;
 mod loops;
 mod operands;
 mod operations;
 mod run;
+mod stack;
 mod state;
 mod turns;
 

@@ -1,22 +1,26 @@
 //! What the start and the end of a loop do.
-ghost use Rattle.std.specs.Prelude.{◌≡◌, ◌∷◌, ◌<◌, ◌+◌, ℕ, IfOk, IfErr, List, Option, Ok, option_map, map, reverse, nat_lt, MatchOption};
+ghost use Rattle.std.specs.Prelude.{◌≡◌, ◌∷◌, ◌<◌, ◌+◌, ℕ, IfOk, IfErr, IsTrue, List, Option, Ok, not, option_map, map, nat_lt, MatchOption};
+ghost use Rattle.cel_value.specs.Data.{bool};
 ghost use Rattle.cel_value.specs.Faults.{Fault, fault_view};
 ghost use Rattle.cel_value.specs.View.{view};
 ghost use Rattle.cel_meaning.specs.Macros.{gift_view};
 ghost use Rattle.cel_meaning.specs.Outcome.{outcome_view};
+ghost use Rattle.cel_meaning.specs.Ranges.{range_list};
 ghost use Rattle.cel_machine.specs.Machine.{Loop, go, begun, looped, allowed, limit, loop_name, again, entered, over_none, held_gift, gift_at, weighed, collected, turned};
 ghost use Rattle.cel_machine.specs.Op.{op, next};
-ghost use Rattle.cel_machine.specs.State.{loop_view, at_end, outcomes, values_of, aside_of, loops_of};
+ghost use Rattle.cel_machine.specs.State.{at_end, outcomes, values_of, aside_of, loops_of};
 ghost use Rattle.cel_machine.specs.Correct.{Enters, Advances, Top};
+ghost use Rattle.cel_machine.specs.declared.state.Entry.TheVariants.{Past};
 
 use crate::instr::Instr;
-use crate::state::{
-    End, Entry, LoopState, Stacks, Way, pop_answer, pop_aside, pop_loop, pop_value, push_answer,
-    push_aside, push_loop,
+use crate::items::{give, go_on, top_item};
+use crate::stack::{
+    keeps_none, pop_answer, pop_aside, pop_loop, push_answer, push_aside, push_loop,
 };
+use crate::state::{End, Entry, LoopState, Stacks, Way};
 use cel_meaning::macros::{finish, gift, name_of};
 use cel_meaning::operators::{Answer, Progress, absorb, no_such_overload, settle};
-use cel_meaning::ranges::range_items;
+use cel_meaning::ranges::{Range, range_in};
 use cel_syntax_tree::MacroKind;
 use cel_value::{ExecutionError, Refused, Value};
 use std::alloc::{AllocError, Global};
@@ -48,15 +52,6 @@ fn leave(
     }
 }
 
-/// The items, the last of them first.
-fn reversed(items: Vec<Value>) -> Vec<Value>
-    ensures { reverse (map view result.items) ≡ map view items.items }
-{
-    let mut rest = items;
-    rest.reverse();
-    rest
-}
-
 /// The outcome of a macro over no items.
 fn answer_over_none(alloc: Global, kind: MacroKind) -> Result<Answer, Refused>
     ensures value { IfOk result (λ r. outcome_view r ≡ over_none kind) }
@@ -79,44 +74,40 @@ fn enter<'c>(
     past: usize,
     place: usize,
     end: usize,
-    items: Vec<Value>,
+    range: Range,
     stacks: &mut Stacks<'c>,
 ) -> Result<Entry, Refused>
     requires { place < end }
     ensures value { IfOk result (λ e. (size : ℕ) → limit size (loops_of stacks.old) ≡ end →
-        Enters size end (entered size kind variable.now past place (Ok (map view items.items)) (values_of stacks.old) (aside_of stacks.old) (loops_of stacks.old))
+        Enters size end (entered size kind variable.now past place (Ok (range_list range)) (values_of stacks.old) (aside_of stacks.old) (loops_of stacks.old))
         place past e (values_of stacks.new) (aside_of stacks.new) (loops_of stacks.old) (loops_of stacks.new)) }
     ensures memory { IfErr result (λ e. e ≡ Refused.Memory) }
 {
-    let mut rest = reversed(items);
-    let given = Vec::new(alloc);
-    match pop_value(&mut rest) {
-        None => {
-            let answer = answer_over_none(alloc, kind)?;
-            Ok(leave(answer, past, place, end, &mut stacks.values)?)
-        }
-        Some(item) => {
-            if past == 0 {
-                return Ok(Entry::Out);
-            }
-            if past < end - place {
-                push_loop(
-                    &mut stacks.loops,
-                    LoopState {
-                        variable,
-                        item,
-                        rest,
-                        given,
-                        start: place + 1,
-                        finish: place + past,
-                    },
-                )?;
-                push_aside(&mut stacks.absorbed, None)?;
-                Ok(Entry::Inside)
-            } else {
-                Ok(Entry::Out)
-            }
-        }
+    let count = range.as_slice().len();
+    if count == 0 {
+        let answer = answer_over_none(alloc, kind)?;
+        return Ok(leave(answer, past, place, end, &mut stacks.values)?);
+    }
+    if past == 0 {
+        return Ok(Entry::Out);
+    }
+    if past < end - place {
+        let given = Vec::new(alloc);
+        push_loop(
+            &mut stacks.loops,
+            LoopState {
+                variable,
+                range,
+                index: 0,
+                given,
+                start: place + 1,
+                finish: place + past,
+            },
+        )?;
+        push_aside(&mut stacks.absorbed, None)?;
+        Ok(Entry::Inside)
+    } else {
+        Ok(Entry::Out)
     }
 }
 
@@ -140,9 +131,9 @@ pub(crate) fn begin<'c>(
         None => Ok(Entry::Out),
         Some(answer) => match answer {
             Err(e) => Ok(leave(Err(e), past, place, end, &mut stacks.values)?),
-            Ok(value) => match range_items(alloc, name_of(kind), &value)? {
+            Ok(value) => match range_in(alloc, name_of(kind), value)? {
                 Err(e) => Ok(leave(Err(e), past, place, end, &mut stacks.values)?),
-                Ok(items) => enter(alloc, kind, variable, past, place, end, items, stacks),
+                Ok(range) => enter(alloc, kind, variable, past, place, end, range, stacks),
             },
         },
     }
@@ -164,64 +155,116 @@ fn outcome_after(
     }
 }
 
-/// The next item of a loop, or its end.
-fn next_item<'c>(
-    alloc: Global,
-    way: Way,
-    place: usize,
-    kept: Option<ExecutionError>,
-    state: LoopState<'c>,
-    stacks: &mut Stacks<'c>,
-) -> Result<Entry, Refused>
-    ensures value { IfOk result (λ e. (body : ℕ) → state.entry.start ≡ body → state.entry.finish ≡ place →
-        Advances (again (at_end way (option_map fault_view kept) (loop_view state.entry).given) place (option_map fault_view kept) (loop_view state.entry) (loop_view state.entry).rest (values_of stacks.old) (aside_of stacks.old) (loops_of stacks.old))
-        body place e (values_of stacks.new) (aside_of stacks.new) (loop_view state.entry ∷ loops_of stacks.old) (loops_of stacks.new)) }
+/// Out of the innermost loop, with this outcome.
+fn close(answer: Answer, stacks: &mut Stacks<'_>) -> Result<Entry, AllocError>
+    ensures { IfOk result (λ e. (k : Option Fault) (ab : List (Option Fault)) (l : Loop) (ls : List Loop)
+        → aside_of stacks.old ≡ k ∷ ab → loops_of stacks.old ≡ l ∷ ls
+        → (e ≡ Past) × (values_of stacks.new ≡ outcome_view answer ∷ values_of stacks.old) × (aside_of stacks.new ≡ ab) × (loops_of stacks.new ≡ ls)) }
+{
+    let _ = pop_loop(&mut stacks.loops);
+    let _ = pop_aside(&mut stacks.absorbed);
+    push_answer(&mut stacks.values, answer)?;
+    Ok(Entry::Past)
+}
+
+/// Past the last item of the innermost loop, with its outcome.
+fn end_loop(alloc: Global, way: Way, stacks: &mut Stacks<'_>) -> Result<Entry, Refused>
+    ensures value { IfOk result (λ e. (k : Option Fault) (ab : List (Option Fault)) (l : Loop) (ls : List Loop)
+        → aside_of stacks.old ≡ k ∷ ab → loops_of stacks.old ≡ l ∷ ls
+        → (e ≡ Past) × (values_of stacks.new ≡ at_end way k l.given ∷ values_of stacks.old) × (aside_of stacks.new ≡ ab) × (loops_of stacks.new ≡ ls)) }
     ensures memory { IfErr result (λ e. e ≡ Refused.Memory) }
 {
-    let mut rest = state.rest;
-    match pop_value(&mut rest) {
-        None => {
-            let answer = outcome_after(alloc, way, kept, state.given)?;
-            push_answer(&mut stacks.values, answer)?;
-            Ok(Entry::Past)
-        }
-        Some(item) => {
-            let next = LoopState {
-                variable: state.variable,
-                item,
-                rest,
-                given: state.given,
-                start: state.start,
-                finish: state.finish,
-            };
-            push_loop(&mut stacks.loops, next)?;
-            push_aside(&mut stacks.absorbed, kept)?;
-            Ok(Entry::Inside)
-        }
+    match pop_aside(&mut stacks.absorbed) {
+        None => Ok(Entry::Out),
+        Some(kept) => match pop_loop(&mut stacks.loops) {
+            None => Ok(Entry::Out),
+            Some(state) => {
+                let answer = outcome_after(alloc, way, kept, state.given)?;
+                push_answer(&mut stacks.values, answer)?;
+                Ok(Entry::Past)
+            }
+        },
     }
 }
 
-/// After an item of a loop that the bool `stop` ends.
-fn weigh<'c>(
+/// The next item of the innermost loop, or its end.
+fn next_item(
+    alloc: Global,
+    way: Way,
+    place: usize,
+    stacks: &mut Stacks<'_>,
+) -> Result<Entry, Refused>
+    ensures value { IfOk result (λ e. (body : ℕ) (k : Option Fault) (ab : List (Option Fault)) (l : Loop) (ls : List Loop)
+        → aside_of stacks.old ≡ k ∷ ab → loops_of stacks.old ≡ l ∷ ls → l.start ≡ body → l.finish ≡ place →
+        Advances (again (at_end way k l.given) place k l l.rest (values_of stacks.old) ab ls)
+        body place e (values_of stacks.new) (aside_of stacks.new) (l ∷ ls) (loops_of stacks.new)) }
+    ensures memory { IfErr result (λ e. e ≡ Refused.Memory) }
+{
+    if go_on(&mut stacks.loops) {
+        Ok(Entry::Inside)
+    } else {
+        end_loop(alloc, way, stacks)
+    }
+}
+
+/// Whether an outcome is the bool that decides nothing.
+fn passes(stop: bool, answer: &Answer) -> bool
+    ensures { IsTrue result → outcome_view answer.now ≡ Ok (bool (not stop)) }
+{
+    match answer {
+        Ok(Value::Bool(b)) => *b != stop,
+        _ => false,
+    }
+}
+
+/// After an item of a loop that the bool `stop` ends, whose outcome is an error or decides.
+fn take_outcome(
     alloc: Global,
     stop: bool,
     place: usize,
     answer: Answer,
-    kept: Option<ExecutionError>,
-    state: LoopState<'c>,
-    stacks: &mut Stacks<'c>,
+    stacks: &mut Stacks<'_>,
 ) -> Result<Entry, Refused>
-    ensures value { IfOk result (λ e. (body : ℕ) → state.entry.start ≡ body → state.entry.finish ≡ place →
-        Advances (weighed stop place (outcome_view answer) (values_of stacks.old) (option_map fault_view kept) (aside_of stacks.old) (loop_view state.entry) (loops_of stacks.old))
-        body place e (values_of stacks.new) (aside_of stacks.new) (loop_view state.entry ∷ loops_of stacks.old) (loops_of stacks.new)) }
+    ensures value { IfOk result (λ e. (body : ℕ) (k : Option Fault) (ab : List (Option Fault)) (l : Loop) (ls : List Loop)
+        → aside_of stacks.old ≡ k ∷ ab → loops_of stacks.old ≡ l ∷ ls → l.start ≡ body → l.finish ≡ place →
+        Advances (weighed stop place (outcome_view answer) (values_of stacks.old) k ab l ls)
+        body place e (values_of stacks.new) (aside_of stacks.new) (l ∷ ls) (loops_of stacks.new)) }
     ensures memory { IfErr result (λ e. e ≡ Refused.Memory) }
 {
-    match absorb(alloc, stop, loop_text(stop), kept, answer)? {
-        Progress::Decided => {
-            push_answer(&mut stacks.values, Ok(Value::Bool(stop)))?;
-            Ok(Entry::Past)
-        }
-        Progress::Open(last) => next_item(alloc, Way::Decided(stop), place, last, state, stacks),
+    match pop_aside(&mut stacks.absorbed) {
+        None => Ok(Entry::Out),
+        Some(kept) => match absorb(alloc, stop, loop_text(stop), kept, answer)? {
+            Progress::Decided => {
+                let _ = pop_loop(&mut stacks.loops);
+                push_answer(&mut stacks.values, Ok(Value::Bool(stop)))?;
+                Ok(Entry::Past)
+            }
+            Progress::Open(last) => {
+                push_aside(&mut stacks.absorbed, last)?;
+                next_item(alloc, Way::Decided(stop), place, stacks)
+            }
+        },
+    }
+}
+
+/// After an item of a loop that the bool `stop` ends.
+fn weigh(
+    alloc: Global,
+    stop: bool,
+    place: usize,
+    answer: Answer,
+    stacks: &mut Stacks<'_>,
+) -> Result<Entry, Refused>
+    ensures value { IfOk result (λ e. (body : ℕ) (k : Option Fault) (ab : List (Option Fault)) (l : Loop) (ls : List Loop)
+        → aside_of stacks.old ≡ k ∷ ab → loops_of stacks.old ≡ l ∷ ls → l.start ≡ body → l.finish ≡ place →
+        Advances (weighed stop place (outcome_view answer) (values_of stacks.old) k ab l ls)
+        body place e (values_of stacks.new) (aside_of stacks.new) (l ∷ ls) (loops_of stacks.new)) }
+    ensures memory { IfErr result (λ e. e ≡ Refused.Memory) }
+{
+    if passes(stop, &answer) {
+        next_item(alloc, Way::Decided(stop), place, stacks)
+    } else {
+        take_outcome(alloc, stop, place, answer, stacks)
     }
 }
 
@@ -257,55 +300,73 @@ fn gift_from(
     }
 }
 
+/// Into the innermost loop what its item gives, then its next item or its end.
+fn gather(
+    alloc: Global,
+    kind: MacroKind,
+    place: usize,
+    gift: Result<Option<Value>, ExecutionError>,
+    stacks: &mut Stacks<'_>,
+) -> Result<Entry, Refused>
+    ensures value { IfOk result (λ e. (body : ℕ) (k : Option Fault) (ab : List (Option Fault)) (l : Loop) (ls : List Loop)
+        → aside_of stacks.old ≡ k ∷ ab → loops_of stacks.old ≡ l ∷ ls → l.start ≡ body → l.finish ≡ place →
+        Advances (collected kind place (gift_view gift) (values_of stacks.old) k ab l ls)
+        body place e (values_of stacks.new) (aside_of stacks.new) (l ∷ ls) (loops_of stacks.new)) }
+    ensures memory { IfErr result (λ e. e ≡ Refused.Memory) }
+{
+    match gift {
+        Err(e) => Ok(close(Err(e), stacks)?),
+        Ok(None) => next_item(alloc, Way::Made(kind), place, stacks),
+        Ok(Some(value)) => {
+            give(&mut stacks.loops, value)?;
+            next_item(alloc, Way::Made(kind), place, stacks)
+        }
+    }
+}
+
 /// After an item of a loop that gathers.
-fn collect<'c>(
+fn collect(
     alloc: Global,
     end: End,
     place: usize,
     answer: Answer,
-    kept: Option<ExecutionError>,
-    mut state: LoopState<'c>,
-    stacks: &mut Stacks<'c>,
+    stacks: &mut Stacks<'_>,
 ) -> Result<Entry, Refused>
-    ensures value { IfOk result (λ e. (body : ℕ) → state.entry.start ≡ body → state.entry.finish ≡ place →
-        Advances (collected end.kind place (gift_at end.kind end.filtered (view state.entry.item) (outcome_view answer)) (values_of stacks.old) (option_map fault_view kept) (aside_of stacks.old) (loop_view state.entry) (loops_of stacks.old))
-        body place e (values_of stacks.new) (aside_of stacks.new) (loop_view state.entry ∷ loops_of stacks.old) (loops_of stacks.new)) }
+    ensures value { IfOk result (λ e. (body : ℕ) (k : Option Fault) (ab : List (Option Fault)) (l : Loop) (ls : List Loop)
+        → aside_of stacks.old ≡ k ∷ ab → loops_of stacks.old ≡ l ∷ ls → l.start ≡ body → l.finish ≡ place →
+        Advances (collected end.kind place (gift_at end.kind end.filtered l.item (outcome_view answer)) (values_of stacks.old) k ab l ls)
+        body place e (values_of stacks.new) (aside_of stacks.new) (l ∷ ls) (loops_of stacks.new)) }
     ensures memory { IfErr result (λ e. e ≡ Refused.Memory) }
 {
-    match gift_from(alloc, end, &state.item, answer)? {
-        Err(e) => {
-            push_answer(&mut stacks.values, Err(e))?;
-            Ok(Entry::Past)
-        }
-        Ok(None) => next_item(alloc, Way::Made(end.kind), place, kept, state, stacks),
-        Ok(Some(value)) => {
-            state.given.push(value)?;
-            next_item(alloc, Way::Made(end.kind), place, kept, state, stacks)
+    match top_item(&stacks.loops) {
+        None => Ok(Entry::Out),
+        Some(item) => {
+            let gift = gift_from(alloc, end, item, answer)?;
+            gather(alloc, end.kind, place, gift, stacks)
         }
     }
 }
 
 /// After an item.
-fn turn_back<'c>(
+fn turn_back(
     alloc: Global,
     end: End,
     place: usize,
     answer: Answer,
-    kept: Option<ExecutionError>,
-    state: LoopState<'c>,
-    stacks: &mut Stacks<'c>,
+    stacks: &mut Stacks<'_>,
 ) -> Result<Entry, Refused>
-    ensures value { IfOk result (λ e. (body : ℕ) → state.entry.start ≡ body → state.entry.finish ≡ place →
-        Advances (turned end.kind end.filtered place (outcome_view answer) (values_of stacks.old) (option_map fault_view kept) (aside_of stacks.old) (loop_view state.entry) (loops_of stacks.old))
-        body place e (values_of stacks.new) (aside_of stacks.new) (loop_view state.entry ∷ loops_of stacks.old) (loops_of stacks.new)) }
+    ensures value { IfOk result (λ e. (body : ℕ) (k : Option Fault) (ab : List (Option Fault)) (l : Loop) (ls : List Loop)
+        → aside_of stacks.old ≡ k ∷ ab → loops_of stacks.old ≡ l ∷ ls → l.start ≡ body → l.finish ≡ place →
+        Advances (turned end.kind end.filtered place (outcome_view answer) (values_of stacks.old) k ab l ls)
+        body place e (values_of stacks.new) (aside_of stacks.new) (l ∷ ls) (loops_of stacks.new)) }
     ensures memory { IfErr result (λ e. e ≡ Refused.Memory) }
 {
     match end.kind {
-        MacroKind::All => weigh(alloc, false, place, answer, kept, state, stacks),
-        MacroKind::Exists => weigh(alloc, true, place, answer, kept, state, stacks),
-        MacroKind::ExistsOne => collect(alloc, end, place, answer, kept, state, stacks),
-        MacroKind::Map => collect(alloc, end, place, answer, kept, state, stacks),
-        MacroKind::Filter => collect(alloc, end, place, answer, kept, state, stacks),
+        MacroKind::All => weigh(alloc, false, place, answer, stacks),
+        MacroKind::Exists => weigh(alloc, true, place, answer, stacks),
+        MacroKind::ExistsOne => collect(alloc, end, place, answer, stacks),
+        MacroKind::Map => collect(alloc, end, place, answer, stacks),
+        MacroKind::Filter => collect(alloc, end, place, answer, stacks),
     }
 }
 
@@ -323,13 +384,13 @@ pub(crate) fn advance(
 {
     match pop_answer(&mut stacks.values) {
         None => Ok(Entry::Out),
-        Some(answer) => match pop_aside(&mut stacks.absorbed) {
-            None => Ok(Entry::Out),
-            Some(kept) => match pop_loop(&mut stacks.loops) {
-                None => Ok(Entry::Out),
-                Some(state) => turn_back(alloc, end, place, answer, kept, state, stacks),
-            },
-        },
+        Some(answer) => {
+            if keeps_none(&stacks.absorbed) {
+                Ok(Entry::Out)
+            } else {
+                turn_back(alloc, end, place, answer, stacks)
+            }
+        }
     }
 }
 

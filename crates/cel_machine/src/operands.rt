@@ -1,16 +1,17 @@
 //! Operands on the stack, and the instructions that test them.
-ghost use Rattle.std.specs.Prelude.{◌≡◌, ◌∷◌, [], ◌<◌, ◌≤◌, ◌+◌, ℕ, IfOk, IfErr, List, Ok, Err, drop, length, map, Some, None, MatchOption, MatchResult};
+ghost use Rattle.std.specs.Prelude.{◌≡◌, ◌∷◌, [], ◌<◌, ◌≤◌, ◌+◌, ℕ, IfOk, IfErr, List, Ok, Err, drop, length, map, Some, None, MatchBool, MatchOption, MatchResult};
 ghost use Rattle.cel_value.specs.Data.{Data};
 ghost use Rattle.cel_value.specs.Faults.{fault_view};
 ghost use Rattle.cel_value.specs.View.{view};
 ghost use Rattle.cel_meaning.specs.Decisions.{truth};
+ghost use Rattle.cel_meaning.specs.Outcome.{Outcome, outcome_view};
 ghost use Rattle.cel_machine.specs.Machine.{guarded, branched, absorbed, joined, logic_name, taken};
 ghost use Rattle.cel_machine.specs.Op.{test_name};
 ghost use Rattle.cel_machine.specs.State.{outcomes, aside};
 ghost use Rattle.cel_machine.specs.Correct.{Turns, TurnsValues, Lacks};
 
 use crate::instr::Test;
-use crate::state::{pop_answer, pop_aside, push_answer, push_aside};
+use crate::stack::{pop_answer, pop_aside, push_answer, push_aside, put_top, top};
 use cel_meaning::operators::{Answer, Progress, absorb, no_such_overload, settle};
 use cel_value::{ExecutionError, Refused, Value};
 use std::alloc::{AllocError, Global};
@@ -42,8 +43,8 @@ fn drop_top(values: &mut Vec<Answer>, count: usize)
     values.truncate(kept);
 }
 
-/// A test for an error.
-pub(crate) fn guard(
+/// A test for an error that finds one: drops what is under it.
+fn fail(
     under: usize,
     past: usize,
     place: usize,
@@ -66,6 +67,24 @@ pub(crate) fn guard(
                 Ok(jump(place, past, end))
             }
         },
+    }
+}
+
+/// A test for an error. A value stays where it is.
+pub(crate) fn guard(
+    under: usize,
+    past: usize,
+    place: usize,
+    end: usize,
+    values: &mut Vec<Answer>,
+) -> Result<Option<usize>, AllocError>
+    requires { place < end }
+    ensures { IfOk result (λ q. TurnsValues place end (guarded under past place (outcomes values.old.items)) q (outcomes values.new.items)) }
+{
+    match top(values) {
+        None => Ok(None),
+        Some(Ok(_)) => Ok(Some(place + 1)),
+        Some(Err(_)) => fail(under, past, place, end, values),
     }
 }
 
@@ -214,22 +233,60 @@ pub(crate) fn pop_two(values: &mut Vec<Answer>) -> Option<(Value, Value)>
     }
 }
 
-/// So many values from the top, the lowest first; none where there are not so many, or where one of them is an error.
+/// The topmost value, unless it is an error.
+pub(crate) fn top_value(values: &Vec<Answer>) -> Option<&Value>
+    ensures { MatchOption result (Lacks (outcomes values.now.items))
+        (λ v. (vs : List Outcome) × (outcomes values.now.items ≡ Ok (view v.now) ∷ vs)) }
+{
+    match top(values) {
+        Some(Ok(value)) => Some(value),
+        Some(Err(_)) => None,
+        None => None,
+    }
+}
+
+/// The two topmost values, the lower one first.
+pub(crate) fn top_two(values: &Vec<Answer>) -> Option<(&Value, &Value)>
+    ensures { MatchOption result ((ds : List Data) → taken 2 (outcomes values.now.items) ds ≡ None)
+        (λ p. (vs : List Outcome) × (outcomes values.now.items ≡ Ok (view p.1.now) ∷ Ok (view p.0.now) ∷ vs)) }
+{
+    match values.as_slice().split_last() {
+        None => None,
+        Some((Err(_), _)) => None,
+        Some((Ok(upper), rest)) => match rest.split_last() {
+            None => None,
+            Some((Err(_), _)) => None,
+            Some((Ok(lower), _)) => Some((lower, upper)),
+        },
+    }
+}
+
+/// This answer in place of the two topmost ones.
+pub(crate) fn put_over_two(values: &mut Vec<Answer>, answer: Answer)
+    ensures { (r : Outcome) (s : Outcome) (vs : List Outcome) → outcomes values.old.items ≡ r ∷ s ∷ vs
+        → outcomes values.new.items ≡ outcome_view answer ∷ vs }
+{
+    let _ = pop_answer(values);
+    put_top(values, answer);
+}
+
+/// Puts so many values from the top into `found`, the lowest first. Gives whether there are so many, and none of them is an error.
 pub(crate) fn take_values(
-    alloc: Global,
     count: usize,
     values: &mut Vec<Answer>,
-) -> Result<Option<Vec<Value>>, AllocError>
-    ensures { IfOk result (λ o. MatchOption o (taken count (outcomes values.old.items) [] ≡ None)
-        (λ v. (length v.items ≡ count) × (taken count (outcomes values.old.items) [] ≡ Some (map view v.items, outcomes values.new.items)))) }
+    found: &mut Vec<Value>,
+) -> Result<bool, AllocError>
+    ensures { IfOk result (λ done. MatchBool done
+        ((length found.new.items ≡ count) × (taken count (outcomes values.old.items) [] ≡ Some (map view found.new.items, outcomes values.new.items)))
+        (taken count (outcomes values.old.items) [] ≡ None)) }
 {
-    let mut found = Vec::new(alloc);
+    found.clear();
     while found.len() < count {
         match pop_operand(values) {
-            None => return Ok(None),
+            None => return Ok(false),
             Some(value) => found.push(value)?,
         }
     }
     found.reverse();
-    Ok(Some(found))
+    Ok(true)
 }

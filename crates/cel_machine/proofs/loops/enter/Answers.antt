@@ -1,8 +1,16 @@
-use Rattle.std.proofs.Common.{map, reverse, ap, arith}
+use Rattle.std.proofs.Common.{◌<◌, length, map, ap, arith}
+use Rattle.std.proofs.lemmas.List.{length-map}
 use Rattle.cel_value.specs.View.{view}
+use Rattle.cel_meaning.specs.Ranges.{range_list}
 use Rattle.cel_machine.specs.State.{values_of, aside_of, loops_of}
-use Rattle.cel_machine.proofs.Stacks.{enter_inside}
+use Rattle.cel_machine.proofs.Rounds.{enter_inside}
 use Rattle.cel_machine.proofs.loops.enter.Goals as goal
 
-pub returns-in_ok-push_aside-in-Some-clause-value : goal.returns-in_ok-push_aside-in-Some-clause-value
-returns-in_ok-push_aside-in-Some-clause-value c = λ size lim. enter_inside size c.args.end c.args.place c.args.past c.args.kind c.args.variable.now (map view c.args.items.items) _ (map view c.new-given.result.items) (view c.in-Some.item) (reverse (map view c.pop_value.new.rest.items)) (values_of c.args.stacks.now) (aside_of c.args.stacks.now) _ (loops_of c.args.stacks.now) _ (ap (map view) c.new-given.ensures.items) c.reversed-rest.ensures c.in-Some.ensures (omega (arith, c.if-past-end.true, c.requires)) (omega (arith, c.if-past-eq0.false)) c.in_ok-push_loop-in-Some.ensures c.in_ok-push_aside-in-Some.ensures lim
+pub returns-in_ok-push_aside-clause-value : goal.returns-in_ok-push_aside-clause-value
+returns-in_ok-push_aside-clause-value c = λ size lim.
+    let s = c.args.stacks.now in
+    let ds = range_list c.args.range in
+    let xs = c.as_slice-count.result.now in
+    let some : 0 < length ds = omega (arith, c.if-count-eq0.false, length-map xs view, ap length c.as_slice-count.ensures) in
+    enter_inside size c.args.end c.args.place c.args.past c.args.kind c.args.variable.now ds (map view c.new-given.result.items) (values_of s) (aside_of s) _ (loops_of s) _ (ap (map view) c.new-given.ensures.items) some
+    (omega (arith, c.if-past-end.true, c.requires)) (omega (arith, c.if-past-eq0.false)) c.in_ok-push_loop.ensures c.in_ok-push_aside.ensures lim

@@ -1,9 +1,11 @@
 use Rattle.std.proofs.Common.{sym, ap, ◌∙◌, arith, map, length, refl}
 use Rattle.std.specs.Prelude.{string_bytes}
+use Rattle.cel_book.specs.Entries.{entries_of}
+use Rattle.cel_meaning.specs.Bindings.{bindings_of, functions_of}
 use Rattle.cel_machine.specs.Machine.{limit}
-use Rattle.cel_machine.specs.Op.{op, begin, next}
-use Rattle.cel_machine.specs.State.{left}
-use Rattle.cel_machine.proofs.Walks.{ordinary, stands, walk_more, ends_after, top_limit, placed, body_over, begin_inside, begin_past, begin_out, last_inside, last_past, last_out, not_last, no_last, turn_goes, turn_out}
+use Rattle.cel_machine.specs.Op.{op, begin, invoke, next, receivers}
+use Rattle.cel_machine.specs.State.{left, aside_of, loops_of}
+use Rattle.cel_machine.proofs.Walks.{ordinary, stands, walk_more, ends_after, top_limit, placed, body_over, begin_inside, begin_past, begin_out, last_inside, last_past, last_out, not_last, no_last, call_known, turn_goes, turn_out}
 use Rattle.cel_machine.proofs.run.+run.Goals as goal
 
 pub run_loop-run_to-requires : goal.run_loop-run_to-requires
@@ -97,17 +99,30 @@ run_to-loop-place-smaller g t c =
     let b = placed c.args.end c.loop-place.invariant.0 c.requires.ends c.loop-place.invariant.1 c.requires.end c.loop-place-test.true in
     let at = stands c.args.code.now c.loop-place.place c.index-code-place.result _ (omega (arith, c.loop-place-test.true, c.requires.within)) c.index-code-place.is refl in
     let r = turn_goes _ _ c.in-Some.next b at (ordinary c.index-code-place.result c.in_default.not-Next) c.turn.ensures.keeps c.in_ok-next-in_default.ensures.loops c.in-Some.is c.in_ok-next-in_default.ensures.value in
-    omega (arith, r.1, c.loop-place-test.true)
+    omega (arith, r.1, c.past_guard-place.ensures.onward, c.loop-place-test.true)
 
 pub run_to-loop-place-preserved : goal.run_to-loop-place-preserved
 run_to-loop-place-preserved g t c =
     let b = placed c.args.end c.loop-place.invariant.0 c.requires.ends c.loop-place.invariant.1 c.requires.end c.loop-place-test.true in
     let at = stands c.args.code.now c.loop-place.place c.index-code-place.result _ (omega (arith, c.loop-place-test.true, c.requires.within)) c.index-code-place.is refl in
     let r = turn_goes _ _ c.in-Some.next b at (ordinary c.index-code-place.result c.in_default.not-Next) c.turn.ensures.keeps c.in_ok-next-in_default.ensures.loops c.in-Some.is c.in_ok-next-in_default.ensures.value in
-    (r.0, r.3, omega (arith, c.loop-place.invariant.2, r.1), r.2)
+    let w = c.past_guard-place.ensures in
+    let s = c.turn.new.stacks in
+    let lim = ap (limit (length (map op c.args.code.now))) r.3 ∙ c.requires.end in
+    let past = w.runs (g.F.Functions.library (functions_of c.args.context.now)) (bindings_of c.args.context.now) (entries_of c.turn.new.book) (aside_of s) (loops_of s) lim in
+    (walk_more r.0 past, r.3, omega (arith, c.loop-place.invariant.2, r.1, w.onward), w.before r.2)
 
 pub run_to-unreachable-requires-in-None : goal.run_to-unreachable-requires-in-None
 run_to-unreachable-requires-in-None g t c =
     let b = placed c.args.end c.loop-place.invariant.0 c.requires.ends c.loop-place.invariant.1 c.requires.end c.loop-place-test.true in
     let at = stands c.args.code.now c.loop-place.place c.index-code-place.result _ (omega (arith, c.loop-place-test.true, c.requires.within)) c.index-code-place.is refl in
     turn_out _ _ _ _ _ b at c.turn.ensures.keeps c.in-None.is c.in_ok-next-in_default.ensures.value
+
+pub run_to-turn-requires-clause-known : goal.run_to-turn-requires-clause-known
+run_to-turn-requires-clause-known g t c = λ x r n is.
+    let b = placed c.args.end c.loop-place.invariant.0 c.requires.ends c.loop-place.invariant.1 c.requires.end c.loop-place-test.true in
+    let at = stands c.args.code.now c.loop-place.place c.index-code-place.result (invoke (string_bytes x.value) (receivers r) n) (omega (arith, c.loop-place-test.true, c.requires.within)) c.index-code-place.is (ap op is) in
+    call_known (string_bytes x.value) r n b at
+
+pub run_to-past_guard-place-requires : goal.run_to-past_guard-place-requires
+run_to-past_guard-place-requires g t c = c.requires.within
