@@ -1,14 +1,13 @@
 -- How many items and entries a value has.
-use Rattle.std.proofs.Common.{◌≡◌, suc, List, [], ◌∷◌, length, refl, ap}
-use Rattle.cel_value.specs.View.{items_view, entries_view}
-use Rattle.cel_value.specs.declared.key.Key.{Key}
-use Rattle.cel_value.specs.declared.value.Value.{Value}
+use Rattle.std.proofs.Common.{◌≡◌, suc, length, refl, ap}
+use Rattle.cel_value.specs.Data.{Items, no_items, item, Entries, no_entries, entry}
+use Rattle.cel_value.specs.Find.{listed, entries_listed}
 use Rattle.cel_standard.specs.Sizes.{item_count, entry_count}
 
-pub item_count-length : (vs : List Value) → item_count (items_view vs) ≡ length vs
-item_count-length [] = refl
-item_count-length (v ∷ vs) = ap suc (item_count-length vs)
+pub item_count-length : (ds : Items) → item_count ds ≡ length (listed ds)
+item_count-length no_items = refl
+item_count-length (item d ds) = ap suc (item_count-length ds)
 
-pub entry_count-length : (es : List (Key × Value)) → entry_count (entries_view es) ≡ length es
-entry_count-length [] = refl
-entry_count-length (e ∷ es) = ap suc (entry_count-length es)
+pub entry_count-length : (es : Entries) → entry_count es ≡ length (entries_listed es)
+entry_count-length no_entries = refl
+entry_count-length (entry k d es) = ap suc (entry_count-length es)

@@ -11,7 +11,7 @@ use Rattle.std.proofs.lemmas.Bool.{eqb-true}
 use Rattle.std.proofs.lemmas.Cmp.{int_cmp_total, nat_list_cmp_total, lists_total, on_total, then_total, back_total, tied_itself, alike_right, nat_eq_equiv}
 use Rattle.std.proofs.lemmas.List.{take_more, take_all, map_push, map-append, take-append-drop}
 use Rattle.std.proofs.lemmas.List.Folds.{list_all-append}
-use Rattle.cel_value.specs.Data.{Data}
+use Rattle.cel_value.specs.Data.{Data, Items}
 use Rattle.cel_value.specs.Parts.{items_in}
 use Rattle.cel_value.specs.View.{view, items_view}
 use Rattle.cel_value.specs.declared.value.Value.{Value}
@@ -371,8 +371,8 @@ ended end d v xs i past l = leads_chosen end d v (map view (take i xs)) l ∙ ap
 
 -- ---- the arguments
 
-pub listed : (v : Data) (xs ys : List Value) → xs ≡ ys → Some (items_view ys) ≡ items_in v → Some (map view xs) ≡ option_map items_list (items_in v)
-listed v xs ys e h = ap (λ zs. Some (map view zs)) e ∙ ap Some (sym (items_list-items_of (map view ys))) ∙ ap (option_map items_list) h
+pub listed : (v : Data) (xs : List Value) (ds : Items) → items_view xs ≡ ds → Some ds ≡ items_in v → Some (map view xs) ≡ option_map items_list (items_in v)
+listed v xs ds e h = ap Some (sym (items_list-items_of (map view xs))) ∙ ap (λ es. Some (items_list es)) e ∙ ap (option_map items_list) h
 
 pub among_more : (v : Data) (xs : List Value) → 0 < length xs → values_among (v ∷ map view xs) ≡ v ∷ map view xs
 among_more v [] h = absurd (omega arith)

@@ -1,8 +1,9 @@
 -- The standard functions: their names, and with which receiver and how many arguments each is called (CEL language definition, "List of
 -- Standard Definitions"; documentation of CEL-Go, "Optional types" for `hasValue` and `value`, "Math" and "Lists" for `min` and `max`).
-use Rattle.std.specs.Prelude.{ℕ, ◌==◌, nat_lt, ◌&&◌, ◌||◌, not, List, [], ◌∷◌, codes, Bool, Option, option_map}
+use Rattle.std.specs.Prelude.{ℕ, ◌==◌, nat_eq, nat_lt, ◌&&◌, ◌||◌, not, List, [], ◌∷◌, length, codes, Bool, Option, Some, None, if◌then◌else◌}
+use Rattle.std.specs.List.{filter}
 use Rattle.std.specs.Map.{lookup}
-use Rattle.std.specs.Option.{option_or}
+use Rattle.std.specs.Option.{option_and_then}
 use Rattle.std.specs.Str.{bytes_eq}
 use Rattle.cel_standard.specs.declared.names.OfOne.{OfOne}
 use Rattle.cel_standard.specs.declared.names.OfOne.TheVariants.{Size, Int, Uint, String, Bytes, Timestamp, Duration, HasValue, Value}
@@ -10,38 +11,33 @@ use Rattle.cel_standard.specs.declared.names.OfTwo.{OfTwo}
 use Rattle.cel_standard.specs.declared.names.OfTwo.TheVariants.{Contains, StartsWith, EndsWith, Matches}
 use Rattle.cel_standard.specs.declared.names.Function.{Function}
 use Rattle.cel_standard.specs.declared.names.Function.TheVariants.{One, Two, Many}
-use Rattle.cel_standard.specs.declared.extremes.Extreme.{Extreme}
 use Rattle.cel_standard.specs.declared.extremes.Extreme.TheVariants.{Least, Greatest}
 
-abbrev pub one_named : List ℕ → Option OfOne
-one_named name = lookup (bytes_eq name) (
-    (codes "size", Size)
-    ∷ (codes "int", Int)
-    ∷ (codes "uint", Uint)
-    ∷ (codes "string", String)
-    ∷ (codes "bytes", Bytes)
-    ∷ (codes "timestamp", Timestamp)
-    ∷ (codes "duration", Duration)
-    ∷ (codes "hasValue", HasValue)
-    ∷ (codes "value", Value)
-    ∷ [])
+-- the entries of a table whose names have so many bytes
+abbrev pub of_length : {A : Type 0} → ℕ → List (List ℕ × A) → List (List ℕ × A)
+of_length n es = filter (λ e. nat_eq (length e.0) n) es
 
-abbrev pub two_named : List ℕ → Option OfTwo
-two_named name = lookup (bytes_eq name) (
-    (codes "contains", Contains)
-    ∷ (codes "startsWith", StartsWith)
-    ∷ (codes "endsWith", EndsWith)
-    ∷ (codes "matches", Matches)
-    ∷ [])
-
-abbrev pub extreme_named : List ℕ → Option Extreme
-extreme_named name = lookup (bytes_eq name) (
-    (codes "min", Least)
-    ∷ (codes "max", Greatest)
-    ∷ [])
+abbrev pub standard_functions : List (List ℕ × Function)
+standard_functions =
+    (codes "size", One Size)
+    ∷ (codes "int", One Int)
+    ∷ (codes "uint", One Uint)
+    ∷ (codes "string", One String)
+    ∷ (codes "bytes", One Bytes)
+    ∷ (codes "timestamp", One Timestamp)
+    ∷ (codes "duration", One Duration)
+    ∷ (codes "hasValue", One HasValue)
+    ∷ (codes "value", One Value)
+    ∷ (codes "contains", Two Contains)
+    ∷ (codes "startsWith", Two StartsWith)
+    ∷ (codes "endsWith", Two EndsWith)
+    ∷ (codes "matches", Two Matches)
+    ∷ (codes "min", Many Least)
+    ∷ (codes "max", Many Greatest)
+    ∷ []
 
 abbrev pub function_named : List ℕ → Option Function
-function_named name = option_or (option_map One (one_named name)) (option_or (option_map Two (two_named name)) (option_map Many (extreme_named name)))
+function_named name = lookup (bytes_eq name) standard_functions
 
 -- called as v.f(..), or as f(..), with so many arguments
 abbrev pub method : ℕ → Bool → ℕ → Bool
@@ -75,3 +71,7 @@ abbrev pub takes : Function → Bool → ℕ → Bool
 takes (One f) receiver count = takes_one f receiver count
 takes (Two f) receiver count = takes_two f receiver count
 takes (Many end) receiver count = takes_many receiver count
+
+-- the function that is called so, if one is
+abbrev pub known_function : List ℕ → Bool → ℕ → Option Function
+known_function name receiver count = option_and_then (λ f. if takes f receiver count then Some f else None) (function_named name)

@@ -1,5 +1,5 @@
 //! The set of the standard functions.
-ghost use Rattle.std.specs.Prelude.{◌≡◌, Err, IfOk, IfErr, map, option_map};
+ghost use Rattle.std.specs.Prelude.{◌≡◌, Some, Err, IfOk, IfErr, map, option_map};
 ghost use Rattle.std.specs.Option.{option_map_or};
 ghost use Rattle.cel_book.specs.Book.{Agrees};
 ghost use Rattle.cel_book.specs.Entries.{entries_of};
@@ -9,6 +9,7 @@ ghost use Rattle.cel_value.specs.View.{view, items_view};
 ghost use Rattle.cel_meaning.specs.Members.{nth_item};
 ghost use Rattle.cel_meaning.specs.Outcome.{outcome_view};
 ghost use Rattle.cel_standard.specs.Standard as spec;
+ghost use Rattle.cel_standard.specs.Table.{function_named};
 
 use crate::extremes::extreme_among;
 use crate::names::{Function, OfOne, OfTwo, function_named, takes};
@@ -146,6 +147,27 @@ fn answer_of(
         }
         Function::Many(end) => extreme_among(alloc, end, args),
     }
+}
+
+/// The answer of the function of that name, once it is found. The book keeps its entries in any case.
+///
+/// # Errors
+/// `Memory` alone.
+pub fn answer_of_function(
+    alloc: Global,
+    function: Function,
+    name: &str,
+    receiver: Option<&Value>,
+    args: &[Value],
+    book: &mut PatternBook,
+) -> Result<Answer, Refused>
+    requires { function_named name.now ≡ Some function }
+    ensures keeps { Agrees (entries_of book.new) (entries_of book.old) }
+    ensures value { IfOk result (λ r. Settles (entries_of book.new) (outcome_view r)
+        (λ b. spec.standard_answer name.now (option_map (λ v. view v.now) receiver.entry) (map view args.now) b)) }
+    ensures memory { IfErr result (λ e. e ≡ Refused.Memory) }
+{
+    answer_of(alloc, function, name, receiver, args, book)
 }
 
 impl Functions for StandardFunctions {

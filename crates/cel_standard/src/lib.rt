@@ -11,4 +11,5 @@ mod sizes;
 mod texts;
 mod times;
 
-pub use dispatch::StandardFunctions;
+pub use dispatch::{StandardFunctions, answer_of_function};
+pub use names::{Function, known_function};

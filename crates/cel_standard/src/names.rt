@@ -1,92 +1,123 @@
 //! The names of the standard functions, and how they are called.
-ghost use Rattle.std.specs.Prelude.{◌≡◌};
+ghost use Rattle.std.specs.Prelude.{◌≡◌, Some, None, if◌then◌else◌};
+ghost use Rattle.std.specs.Map.{lookup};
+ghost use Rattle.std.specs.Str.{bytes_eq};
+ghost use Rattle.cel_standard.specs.Table.{of_length};
 ghost use Rattle.cel_standard.specs.Table as spec;
 
 use crate::extremes::Extreme;
 
 /// A function of one value.
 #[derive(Clone, Copy, Debug, PartialEq, Eq)]
-pub(crate) enum OfOne {
+pub enum OfOne {
+    /// `size`.
     Size,
+    /// `int`.
     Int,
+    /// `uint`.
     Uint,
+    /// `string`.
     String,
+    /// `bytes`.
     Bytes,
+    /// `timestamp`.
     Timestamp,
+    /// `duration`.
     Duration,
+    /// `hasValue`.
     HasValue,
+    /// `value`.
     Value,
 }
 
 /// A function of two values.
 #[derive(Clone, Copy, Debug, PartialEq, Eq)]
-pub(crate) enum OfTwo {
+pub enum OfTwo {
+    /// `contains`.
     Contains,
+    /// `startsWith`.
     StartsWith,
+    /// `endsWith`.
     EndsWith,
+    /// `matches`.
     Matches,
 }
 
 /// A standard function.
 #[derive(Clone, Copy, Debug, PartialEq, Eq)]
-pub(crate) enum Function {
+pub enum Function {
+    /// Of one value.
     One(OfOne),
+    /// Of two values.
     Two(OfTwo),
+    /// Of one value or more.
     Many(Extreme),
 }
 
-fn one_named(name: &str) -> Option<OfOne>
-    ensures { result ≡ spec.one_named name.now }
+// The function, if that is its name.
+fn only(name: &str, wanted: &str, function: Function) -> Option<Function>
+    ensures { result ≡ (if bytes_eq name.now wanted.now then Some function else None) }
+{
+    if name == wanted { Some(function) } else { None }
+}
+
+fn functions_of_three(name: &str) -> Option<Function>
+    ensures { result ≡ lookup (bytes_eq name.now) (of_length 3 spec.standard_functions) }
 {
     match name {
-        "size" => Some(OfOne::Size),
-        "int" => Some(OfOne::Int),
-        "uint" => Some(OfOne::Uint),
-        "string" => Some(OfOne::String),
-        "bytes" => Some(OfOne::Bytes),
-        "timestamp" => Some(OfOne::Timestamp),
-        "duration" => Some(OfOne::Duration),
-        "hasValue" => Some(OfOne::HasValue),
-        "value" => Some(OfOne::Value),
+        "int" => Some(Function::One(OfOne::Int)),
+        "min" => Some(Function::Many(Extreme::Least)),
+        "max" => Some(Function::Many(Extreme::Greatest)),
         _ => None,
     }
 }
 
-fn two_named(name: &str) -> Option<OfTwo>
-    ensures { result ≡ spec.two_named name.now }
+fn functions_of_four(name: &str) -> Option<Function>
+    ensures { result ≡ lookup (bytes_eq name.now) (of_length 4 spec.standard_functions) }
 {
     match name {
-        "contains" => Some(OfTwo::Contains),
-        "startsWith" => Some(OfTwo::StartsWith),
-        "endsWith" => Some(OfTwo::EndsWith),
-        "matches" => Some(OfTwo::Matches),
+        "size" => Some(Function::One(OfOne::Size)),
+        "uint" => Some(Function::One(OfOne::Uint)),
         _ => None,
     }
 }
 
-fn extreme_named(name: &str) -> Option<Extreme>
-    ensures { result ≡ spec.extreme_named name.now }
+fn functions_of_five(name: &str) -> Option<Function>
+    ensures { result ≡ lookup (bytes_eq name.now) (of_length 5 spec.standard_functions) }
 {
     match name {
-        "min" => Some(Extreme::Least),
-        "max" => Some(Extreme::Greatest),
+        "bytes" => Some(Function::One(OfOne::Bytes)),
+        "value" => Some(Function::One(OfOne::Value)),
         _ => None,
     }
 }
 
-/// The function of that name.
+fn functions_of_eight(name: &str) -> Option<Function>
+    ensures { result ≡ lookup (bytes_eq name.now) (of_length 8 spec.standard_functions) }
+{
+    match name {
+        "duration" => Some(Function::One(OfOne::Duration)),
+        "hasValue" => Some(Function::One(OfOne::HasValue)),
+        "contains" => Some(Function::Two(OfTwo::Contains)),
+        "endsWith" => Some(Function::Two(OfTwo::EndsWith)),
+        _ => None,
+    }
+}
+
+/// The function of that name, looked for among the names of its length.
 pub(crate) fn function_named(name: &str) -> Option<Function>
     ensures { result ≡ spec.function_named name.now }
 {
-    match one_named(name) {
-        Some(function) => Some(Function::One(function)),
-        None => match two_named(name) {
-            Some(function) => Some(Function::Two(function)),
-            None => match extreme_named(name) {
-                Some(end) => Some(Function::Many(end)),
-                None => None,
-            },
-        },
+    match name.len() {
+        3 => functions_of_three(name),
+        4 => functions_of_four(name),
+        5 => functions_of_five(name),
+        6 => only(name, "string", Function::One(OfOne::String)),
+        7 => only(name, "matches", Function::Two(OfTwo::Matches)),
+        8 => functions_of_eight(name),
+        9 => only(name, "timestamp", Function::One(OfOne::Timestamp)),
+        10 => only(name, "startsWith", Function::Two(OfTwo::StartsWith)),
+        _ => None,
     }
 }
 
@@ -141,5 +172,21 @@ pub(crate) fn takes(function: Function, receiver: bool, count: usize) -> bool
         Function::One(function) => one_takes(function, receiver, count),
         Function::Two(function) => two_takes(function, receiver, count),
         Function::Many(_) => many_takes(receiver, count),
+    }
+}
+
+/// The function that is called so, if one is.
+pub fn known_function(name: &str, receiver: bool, count: usize) -> Option<Function>
+    ensures { result ≡ spec.known_function name.now receiver count }
+{
+    match function_named(name) {
+        Some(function) => {
+            if takes(function, receiver, count) {
+                Some(function)
+            } else {
+                None
+            }
+        }
+        None => None,
     }
 }

@@ -1,7 +1,7 @@
 //! `hasValue` and `value`: what an optional holds.
 ghost use Rattle.std.specs.Prelude.{◌≡◌, IfOk, IfErr, is_some};
 ghost use Rattle.cel_value.specs.Find.{first_item};
-ghost use Rattle.cel_value.specs.View.{view, optional_view};
+ghost use Rattle.cel_value.specs.View.{view};
 ghost use Rattle.cel_meaning.specs.Outcome.{outcome_view};
 ghost use Rattle.cel_standard.specs.Optionals as spec;
 
@@ -11,7 +11,7 @@ use cel_value::{OptionalValue, Refused, Value};
 use std::alloc::Global;
 
 fn is_there(optional: &OptionalValue) -> bool
-    ensures { result ≡ is_some (first_item (optional_view optional.now)) }
+    ensures { result ≡ is_some (first_item optional.now) }
 {
     optional.value().is_some()
 }
@@ -28,7 +28,7 @@ pub(crate) fn has_value(alloc: Global, value: &Value) -> Result<Answer, Refused>
 }
 
 fn held(alloc: Global, optional: &OptionalValue) -> Result<Answer, Refused>
-    ensures value { IfOk result (λ r. outcome_view r ≡ spec.held (optional_view optional.now)) }
+    ensures value { IfOk result (λ r. outcome_view r ≡ spec.held optional.now) }
     ensures memory { IfErr result (λ e. e ≡ Refused.Memory) }
 {
     match optional.value() {

@@ -1,13 +1,13 @@
 //! `size`: how large a value is.
 ghost use Rattle.std.specs.Prelude.{◌≡◌, IfOk, IfErr, length, pos};
 ghost use Rattle.std.specs.Str.{chars};
-ghost use Rattle.cel_value.specs.View.{view, entries_view, items_view};
+ghost use Rattle.cel_value.specs.View.{view};
 ghost use Rattle.cel_meaning.specs.Arithmetic.{int_or_overflow};
 ghost use Rattle.cel_meaning.specs.Outcome.{outcome_view};
 ghost use Rattle.cel_standard.specs.Sizes.{item_count, entry_count, sized};
 
 use cel_meaning::operators::{Answer, no_such_overload};
-use cel_value::{ExecutionError, Map, Refused, Value};
+use cel_value::{ExecutionError, List, Map, Refused, Value};
 use std::alloc::Global;
 
 fn character_count(text: &str) -> usize
@@ -16,14 +16,14 @@ fn character_count(text: &str) -> usize
     text.chars().count()
 }
 
-fn item_count(items: &Vec<Value>) -> usize
-    ensures { result ≡ item_count (items_view items.now.items) }
+fn item_count(items: &List) -> usize
+    ensures { result ≡ item_count items.now }
 {
     items.len()
 }
 
 fn entry_count(entries: &Map) -> usize
-    ensures { result ≡ entry_count (entries_view entries.now.entries) }
+    ensures { result ≡ entry_count entries.now }
 {
     entries.len()
 }
@@ -38,7 +38,6 @@ fn counted(count: usize) -> Answer
 }
 
 /// The size of a string, bytes, a list or a map.
-#[tactic(auto, using(cel_value::proofs::Views::view_map))]
 pub(crate) fn size(alloc: Global, value: &Value) -> Result<Answer, Refused>
     ensures value { IfOk result (λ r. outcome_view r ≡ sized (view value.now)) }
     ensures memory { IfErr result (λ e. e ≡ Refused.Memory) }

@@ -1,5 +1,8 @@
 //! The functions that Kubernetes has without receivers: their names, and with how many arguments they are called.
 ghost use Rattle.std.specs.Prelude.{◌≡◌};
+ghost use Rattle.std.specs.Map.{lookup};
+ghost use Rattle.std.specs.Str.{bytes_eq};
+ghost use Rattle.cel_standard.specs.Table.{of_length};
 ghost use Rattle.kube_functions.specs.Globals as spec;
 
 use cel_standard::extremes::Extreme;
@@ -86,155 +89,242 @@ pub(crate) enum GlobalFunction {
     Many(Extreme),
 }
 
-fn format_named(name: &str) -> Option<FormatKind>
-    ensures { result ≡ spec.format_named name.now }
+fn globals_of_two(name: &str) -> Option<GlobalFunction>
+    ensures { result ≡ lookup (bytes_eq name.now) (of_length 2 spec.globals) }
 {
     match name {
-        "format.dns1123Label" => Some(FormatKind::Dns1123Label),
-        "format.dns1035Label" => Some(FormatKind::Dns1035Label),
-        "format.dns1035LabelPrefix" => Some(FormatKind::Dns1035LabelPrefix),
-        "format.dns1123LabelPrefix" => Some(FormatKind::Dns1123LabelPrefix),
-        "format.dns1123Subdomain" => Some(FormatKind::Dns1123Subdomain),
-        "format.dns1123SubdomainPrefix" => Some(FormatKind::Dns1123SubdomainPrefix),
-        "format.qualifiedName" => Some(FormatKind::QualifiedName),
-        "format.labelValue" => Some(FormatKind::LabelValue),
-        "format.uri" => Some(FormatKind::Uri),
-        "format.uuid" => Some(FormatKind::Uuid),
-        "format.byte" => Some(FormatKind::Byte),
-        "format.date" => Some(FormatKind::Date),
-        "format.datetime" => Some(FormatKind::DateTime),
+        "ip" => Some(GlobalFunction::One(OfOne::Address(OfAddressText::Ip))),
         _ => None,
     }
 }
 
-fn of_spelling_named(name: &str) -> Option<OfSpelling>
-    ensures { result ≡ spec.of_spelling_named name.now }
+fn globals_of_three(name: &str) -> Option<GlobalFunction>
+    ensures { result ≡ lookup (bytes_eq name.now) (of_length 3 spec.globals) }
 {
     match name {
-        "strings.quote" => Some(OfSpelling::Quote),
-        "base64.encode" => Some(OfSpelling::Encode),
-        "base64.decode" => Some(OfSpelling::Decode),
-        "jsonpatch.escapeKey" => Some(OfSpelling::EscapeKey),
+        "url" => Some(GlobalFunction::One(OfOne::Text(OfText::Url))),
         _ => None,
     }
 }
 
-fn of_number_named(name: &str) -> Option<OfNumber>
-    ensures { result ≡ spec.of_number_named name.now }
+fn globals_of_four(name: &str) -> Option<GlobalFunction>
+    ensures { result ≡ lookup (bytes_eq name.now) (of_length 4 spec.globals) }
 {
     match name {
-        "lists.range" => Some(OfNumber::Range),
-        "math.abs" => Some(OfNumber::Abs),
-        "math.sign" => Some(OfNumber::Sign),
-        "math.bitNot" => Some(OfNumber::BitNot),
+        "isIP" => Some(GlobalFunction::One(OfOne::Address(OfAddressText::IsIp))),
+        "cidr" => Some(GlobalFunction::One(OfOne::Address(OfAddressText::Cidr))),
         _ => None,
     }
 }
 
-fn of_address_text_named(name: &str) -> Option<OfAddressText>
-    ensures { result ≡ spec.of_address_text_named name.now }
+fn globals_of_five(name: &str) -> Option<GlobalFunction>
+    ensures { result ≡ lookup (bytes_eq name.now) (of_length 5 spec.globals) }
 {
     match name {
-        "ip" => Some(OfAddressText::Ip),
-        "isIP" => Some(OfAddressText::IsIp),
-        "isIPv4" => Some(OfAddressText::IsIpv4),
-        "isIPv6" => Some(OfAddressText::IsIpv6),
-        "ip.isCanonical" => Some(OfAddressText::IsCanonical),
-        "cidr" => Some(OfAddressText::Cidr),
-        "isCIDR" => Some(OfAddressText::IsCidr),
-        "isCIDRv4" => Some(OfAddressText::IsCidrV4),
-        "isCIDRv6" => Some(OfAddressText::IsCidrV6),
+        "isURL" => Some(GlobalFunction::One(OfOne::Text(OfText::IsUrl))),
         _ => None,
     }
 }
 
-fn of_text_named(name: &str) -> Option<OfText>
-    ensures { result ≡ spec.of_text_named name.now }
+fn globals_of_six(name: &str) -> Option<GlobalFunction>
+    ensures { result ≡ lookup (bytes_eq name.now) (of_length 6 spec.globals) }
 {
     match name {
-        "url" => Some(OfText::Url),
-        "isURL" => Some(OfText::IsUrl),
-        "quantity" => Some(OfText::Quantity),
-        "isQuantity" => Some(OfText::IsQuantity),
-        "format.named" => Some(OfText::FormatNamed),
+        "isIPv4" => Some(GlobalFunction::One(OfOne::Address(OfAddressText::IsIpv4))),
+        "isIPv6" => Some(GlobalFunction::One(OfOne::Address(OfAddressText::IsIpv6))),
+        "isCIDR" => Some(GlobalFunction::One(OfOne::Address(OfAddressText::IsCidr))),
+        "semver" => Some(GlobalFunction::OneOrTwo(OfOneOrTwo::Semver)),
         _ => None,
     }
 }
 
-fn of_one_named(name: &str) -> Option<OfOne>
-    ensures { result ≡ spec.of_one_named name.now }
-{
-    if let Some(function) = of_spelling_named(name) {
-        return Some(OfOne::Spelling(function));
-    }
-    if let Some(function) = of_number_named(name) {
-        return Some(OfOne::Number(function));
-    }
-    if let Some(function) = of_address_text_named(name) {
-        return Some(OfOne::Address(function));
-    }
-    if let Some(function) = of_text_named(name) {
-        return Some(OfOne::Text(function));
-    }
-    None
-}
-
-fn of_one_or_two_named(name: &str) -> Option<OfOneOrTwo>
-    ensures { result ≡ spec.of_one_or_two_named name.now }
+fn globals_of_eight(name: &str) -> Option<GlobalFunction>
+    ensures { result ≡ lookup (bytes_eq name.now) (of_length 8 spec.globals) }
 {
     match name {
-        "semver" => Some(OfOneOrTwo::Semver),
-        "isSemver" => Some(OfOneOrTwo::IsSemver),
+        "math.abs" => Some(GlobalFunction::One(OfOne::Number(OfNumber::Abs))),
+        "isCIDRv4" => Some(GlobalFunction::One(OfOne::Address(OfAddressText::IsCidrV4))),
+        "isCIDRv6" => Some(GlobalFunction::One(OfOne::Address(OfAddressText::IsCidrV6))),
+        "quantity" => Some(GlobalFunction::One(OfOne::Text(OfText::Quantity))),
+        "isSemver" => Some(GlobalFunction::OneOrTwo(OfOneOrTwo::IsSemver)),
         _ => None,
     }
 }
 
-fn of_two_named(name: &str) -> Option<OfTwo>
-    ensures { result ≡ spec.of_two_named name.now }
+fn globals_of_nine(name: &str) -> Option<GlobalFunction>
+    ensures { result ≡ lookup (bytes_eq name.now) (of_length 9 spec.globals) }
 {
     match name {
-        "sets.contains" => Some(OfTwo::Contains),
-        "sets.equivalent" => Some(OfTwo::Equivalent),
-        "sets.intersects" => Some(OfTwo::Intersects),
-        "math.bitAnd" => Some(OfTwo::BitAnd),
-        "math.bitOr" => Some(OfTwo::BitOr),
-        "math.bitXor" => Some(OfTwo::BitXor),
-        "math.bitShiftLeft" => Some(OfTwo::BitShiftLeft),
-        "math.bitShiftRight" => Some(OfTwo::BitShiftRight),
+        "math.sign" => Some(GlobalFunction::One(OfOne::Number(OfNumber::Sign))),
         _ => None,
     }
 }
 
-fn extreme_named(name: &str) -> Option<Extreme>
-    ensures { result ≡ spec.extreme_named name.now }
+fn globals_of_ten(name: &str) -> Option<GlobalFunction>
+    ensures { result ≡ lookup (bytes_eq name.now) (of_length 10 spec.globals) }
 {
     match name {
-        "math.greatest" => Some(Extreme::Greatest),
-        "math.least" => Some(Extreme::Least),
+        "format.uri" => Some(GlobalFunction::Format(FormatKind::Uri)),
+        "isQuantity" => Some(GlobalFunction::One(OfOne::Text(OfText::IsQuantity))),
+        "math.bitOr" => Some(GlobalFunction::Two(OfTwo::BitOr)),
+        "math.least" => Some(GlobalFunction::Many(Extreme::Least)),
         _ => None,
     }
 }
 
-/// The function without a receiver of that name.
+fn globals_of_eleven(name: &str) -> Option<GlobalFunction>
+    ensures { result ≡ lookup (bytes_eq name.now) (of_length 11 spec.globals) }
+{
+    match name {
+        "format.uuid" => Some(GlobalFunction::Format(FormatKind::Uuid)),
+        "format.byte" => Some(GlobalFunction::Format(FormatKind::Byte)),
+        "format.date" => Some(GlobalFunction::Format(FormatKind::Date)),
+        "lists.range" => Some(GlobalFunction::One(OfOne::Number(OfNumber::Range))),
+        "math.bitNot" => Some(GlobalFunction::One(OfOne::Number(OfNumber::BitNot))),
+        "math.bitAnd" => Some(GlobalFunction::Two(OfTwo::BitAnd)),
+        "math.bitXor" => Some(GlobalFunction::Two(OfTwo::BitXor)),
+        _ => None,
+    }
+}
+
+fn globals_of_twelve(name: &str) -> Option<GlobalFunction>
+    ensures { result ≡ lookup (bytes_eq name.now) (of_length 12 spec.globals) }
+{
+    match name {
+        "format.named" => Some(GlobalFunction::One(OfOne::Text(OfText::FormatNamed))),
+        _ => None,
+    }
+}
+
+fn globals_of_thirteen(name: &str) -> Option<GlobalFunction>
+    ensures { result ≡ lookup (bytes_eq name.now) (of_length 13 spec.globals) }
+{
+    match name {
+        "strings.quote" => Some(GlobalFunction::One(OfOne::Spelling(OfSpelling::Quote))),
+        "base64.encode" => Some(GlobalFunction::One(OfOne::Spelling(OfSpelling::Encode))),
+        "base64.decode" => Some(GlobalFunction::One(OfOne::Spelling(OfSpelling::Decode))),
+        "sets.contains" => Some(GlobalFunction::Two(OfTwo::Contains)),
+        "math.greatest" => Some(GlobalFunction::Many(Extreme::Greatest)),
+        _ => None,
+    }
+}
+
+fn globals_of_fourteen(name: &str) -> Option<GlobalFunction>
+    ensures { result ≡ lookup (bytes_eq name.now) (of_length 14 spec.globals) }
+{
+    match name {
+        "ip.isCanonical" => Some(GlobalFunction::One(OfOne::Address(OfAddressText::IsCanonical))),
+        _ => None,
+    }
+}
+
+fn globals_of_fifteen(name: &str) -> Option<GlobalFunction>
+    ensures { result ≡ lookup (bytes_eq name.now) (of_length 15 spec.globals) }
+{
+    match name {
+        "format.datetime" => Some(GlobalFunction::Format(FormatKind::DateTime)),
+        "sets.equivalent" => Some(GlobalFunction::Two(OfTwo::Equivalent)),
+        "sets.intersects" => Some(GlobalFunction::Two(OfTwo::Intersects)),
+        _ => None,
+    }
+}
+
+fn globals_of_seventeen(name: &str) -> Option<GlobalFunction>
+    ensures { result ≡ lookup (bytes_eq name.now) (of_length 17 spec.globals) }
+{
+    match name {
+        "format.labelValue" => Some(GlobalFunction::Format(FormatKind::LabelValue)),
+        "math.bitShiftLeft" => Some(GlobalFunction::Two(OfTwo::BitShiftLeft)),
+        _ => None,
+    }
+}
+
+fn globals_of_eighteen(name: &str) -> Option<GlobalFunction>
+    ensures { result ≡ lookup (bytes_eq name.now) (of_length 18 spec.globals) }
+{
+    match name {
+        "math.bitShiftRight" => Some(GlobalFunction::Two(OfTwo::BitShiftRight)),
+        _ => None,
+    }
+}
+
+fn globals_of_nineteen(name: &str) -> Option<GlobalFunction>
+    ensures { result ≡ lookup (bytes_eq name.now) (of_length 19 spec.globals) }
+{
+    match name {
+        "format.dns1123Label" => Some(GlobalFunction::Format(FormatKind::Dns1123Label)),
+        "format.dns1035Label" => Some(GlobalFunction::Format(FormatKind::Dns1035Label)),
+        "jsonpatch.escapeKey" => Some(GlobalFunction::One(OfOne::Spelling(OfSpelling::EscapeKey))),
+        _ => None,
+    }
+}
+
+fn globals_of_twenty(name: &str) -> Option<GlobalFunction>
+    ensures { result ≡ lookup (bytes_eq name.now) (of_length 20 spec.globals) }
+{
+    match name {
+        "format.qualifiedName" => Some(GlobalFunction::Format(FormatKind::QualifiedName)),
+        _ => None,
+    }
+}
+
+fn globals_of_twenty_three(name: &str) -> Option<GlobalFunction>
+    ensures { result ≡ lookup (bytes_eq name.now) (of_length 23 spec.globals) }
+{
+    match name {
+        "format.dns1123Subdomain" => Some(GlobalFunction::Format(FormatKind::Dns1123Subdomain)),
+        _ => None,
+    }
+}
+
+fn globals_of_twenty_five(name: &str) -> Option<GlobalFunction>
+    ensures { result ≡ lookup (bytes_eq name.now) (of_length 25 spec.globals) }
+{
+    match name {
+        "format.dns1035LabelPrefix" => Some(GlobalFunction::Format(FormatKind::Dns1035LabelPrefix)),
+        "format.dns1123LabelPrefix" => Some(GlobalFunction::Format(FormatKind::Dns1123LabelPrefix)),
+        _ => None,
+    }
+}
+
+fn globals_of_twenty_nine(name: &str) -> Option<GlobalFunction>
+    ensures { result ≡ lookup (bytes_eq name.now) (of_length 29 spec.globals) }
+{
+    match name {
+        "format.dns1123SubdomainPrefix" => Some(GlobalFunction::Format(
+            FormatKind::Dns1123SubdomainPrefix,
+        )),
+        _ => None,
+    }
+}
+
+/// The function without a receiver of that name, looked for among the names of its length.
 pub(crate) fn global_named(name: &str) -> Option<GlobalFunction>
     ensures { result ≡ spec.global_named name.now }
 {
-    if let Some(function) = format_named(name) {
-        return Some(GlobalFunction::Format(function));
+    match name.len() {
+        2 => globals_of_two(name),
+        3 => globals_of_three(name),
+        4 => globals_of_four(name),
+        5 => globals_of_five(name),
+        6 => globals_of_six(name),
+        8 => globals_of_eight(name),
+        9 => globals_of_nine(name),
+        10 => globals_of_ten(name),
+        11 => globals_of_eleven(name),
+        12 => globals_of_twelve(name),
+        13 => globals_of_thirteen(name),
+        14 => globals_of_fourteen(name),
+        15 => globals_of_fifteen(name),
+        17 => globals_of_seventeen(name),
+        18 => globals_of_eighteen(name),
+        19 => globals_of_nineteen(name),
+        20 => globals_of_twenty(name),
+        23 => globals_of_twenty_three(name),
+        25 => globals_of_twenty_five(name),
+        29 => globals_of_twenty_nine(name),
+        _ => None,
     }
-    if let Some(function) = of_one_named(name) {
-        return Some(GlobalFunction::One(function));
-    }
-    if let Some(function) = of_one_or_two_named(name) {
-        return Some(GlobalFunction::OneOrTwo(function));
-    }
-    if let Some(function) = of_two_named(name) {
-        return Some(GlobalFunction::Two(function));
-    }
-    if let Some(function) = extreme_named(name) {
-        return Some(GlobalFunction::Many(function));
-    }
-    None
 }
 
 /// Whether the function is called with so many arguments.

@@ -1,5 +1,8 @@
 //! The functions that Kubernetes has on receivers: their names, and with how many arguments they are called.
 ghost use Rattle.std.specs.Prelude.{◌≡◌};
+ghost use Rattle.std.specs.Map.{lookup};
+ghost use Rattle.std.specs.Str.{bytes_eq};
+ghost use Rattle.cel_standard.specs.Table.{of_length};
 ghost use Rattle.kube_functions.specs.Methods as spec;
 
 /// A function of a string. `Reverse` is one of a list, too.
@@ -114,170 +117,212 @@ pub(crate) enum Method {
     Replace,
 }
 
-fn of_text_named(name: &str) -> Option<OfText>
-    ensures { result ≡ spec.of_text_named name.now }
+fn methods_of_two(name: &str) -> Option<Method>
+    ensures { result ≡ lookup (bytes_eq name.now) (of_length 2 spec.methods) }
 {
     match name {
-        "lowerAscii" => Some(OfText::LowerAscii),
-        "upperAscii" => Some(OfText::UpperAscii),
-        "trim" => Some(OfText::Trim),
-        "reverse" => Some(OfText::Reverse),
+        "ip" => Some(Method::One(OfOne::Address(OfAddress::Ip))),
         _ => None,
     }
 }
 
-fn of_list_named(name: &str) -> Option<OfList>
-    ensures { result ≡ spec.of_list_named name.now }
+fn methods_of_three(name: &str) -> Option<Method>
+    ensures { result ≡ lookup (bytes_eq name.now) (of_length 3 spec.methods) }
 {
     match name {
-        "isSorted" => Some(OfList::IsSorted),
-        "sum" => Some(OfList::Sum),
-        "min" => Some(OfList::Min),
-        "max" => Some(OfList::Max),
-        "sort" => Some(OfList::Sort),
-        "distinct" => Some(OfList::Distinct),
-        "first" => Some(OfList::First),
-        "last" => Some(OfList::Last),
+        "sum" => Some(Method::One(OfOne::List(OfList::Sum))),
+        "min" => Some(Method::One(OfOne::List(OfList::Min))),
+        "max" => Some(Method::One(OfOne::List(OfList::Max))),
+        "add" => Some(Method::Two(OfTwo::Add)),
+        "sub" => Some(Method::Two(OfTwo::Sub)),
         _ => None,
     }
 }
 
-fn of_address_named(name: &str) -> Option<OfAddress>
-    ensures { result ≡ spec.of_address_named name.now }
+fn methods_of_four(name: &str) -> Option<Method>
+    ensures { result ≡ lookup (bytes_eq name.now) (of_length 4 spec.methods) }
 {
     match name {
-        "family" => Some(OfAddress::Family),
-        "isLoopback" => Some(OfAddress::IsLoopback),
-        "isUnspecified" => Some(OfAddress::IsUnspecified),
-        "isLinkLocalMulticast" => Some(OfAddress::IsLinkLocalMulticast),
-        "isLinkLocalUnicast" => Some(OfAddress::IsLinkLocalUnicast),
-        "isGlobalUnicast" => Some(OfAddress::IsGlobalUnicast),
-        "prefixLength" => Some(OfAddress::PrefixLength),
-        "masked" => Some(OfAddress::Masked),
-        "ip" => Some(OfAddress::Ip),
-        _ => None,
-    }
-}
-
-fn of_amount_named(name: &str) -> Option<OfAmount>
-    ensures { result ≡ spec.of_amount_named name.now }
-{
-    match name {
-        "major" => Some(OfAmount::Major),
-        "minor" => Some(OfAmount::Minor),
-        "patch" => Some(OfAmount::Patch),
-        "isInteger" => Some(OfAmount::IsInteger),
-        "asInteger" => Some(OfAmount::AsInteger),
-        "sign" => Some(OfAmount::Sign),
-        _ => None,
-    }
-}
-
-fn of_url_named(name: &str) -> Option<OfUrl>
-    ensures { result ≡ spec.of_url_named name.now }
-{
-    match name {
-        "getScheme" => Some(OfUrl::Scheme),
-        "getHost" => Some(OfUrl::Host),
-        "getHostname" => Some(OfUrl::Hostname),
-        "getPort" => Some(OfUrl::Port),
-        "getEscapedPath" => Some(OfUrl::EscapedPath),
-        "getQuery" => Some(OfUrl::Query),
-        _ => None,
-    }
-}
-
-fn of_one_named(name: &str) -> Option<OfOne>
-    ensures { result ≡ spec.of_one_named name.now }
-{
-    if let Some(function) = of_text_named(name) {
-        return Some(OfOne::Text(function));
-    }
-    if let Some(function) = of_list_named(name) {
-        return Some(OfOne::List(function));
-    }
-    if let Some(function) = of_address_named(name) {
-        return Some(OfOne::Address(function));
-    }
-    if let Some(function) = of_amount_named(name) {
-        return Some(OfOne::Amount(function));
-    }
-    if let Some(function) = of_url_named(name) {
-        return Some(OfOne::Url(function));
-    }
-    None
-}
-
-fn of_one_or_two_named(name: &str) -> Option<OfOneOrTwo>
-    ensures { result ≡ spec.of_one_or_two_named name.now }
-{
-    match name {
-        "join" => Some(OfOneOrTwo::Join),
-        "flatten" => Some(OfOneOrTwo::Flatten),
-        _ => None,
-    }
-}
-
-fn of_two_named(name: &str) -> Option<OfTwo>
-    ensures { result ≡ spec.of_two_named name.now }
-{
-    match name {
-        "charAt" => Some(OfTwo::CharAt),
-        "containsIP" => Some(OfTwo::ContainsIp),
-        "containsCIDR" => Some(OfTwo::ContainsCidr),
-        "isGreaterThan" => Some(OfTwo::IsGreaterThan),
-        "isLessThan" => Some(OfTwo::IsLessThan),
-        "compareTo" => Some(OfTwo::CompareTo),
-        "add" => Some(OfTwo::Add),
-        "sub" => Some(OfTwo::Sub),
-        "validate" => Some(OfTwo::Validate),
-        "format" => Some(OfTwo::Format),
-        _ => None,
-    }
-}
-
-fn of_two_or_three_named(name: &str) -> Option<OfTwoOrThree>
-    ensures { result ≡ spec.of_two_or_three_named name.now }
-{
-    match name {
-        "indexOf" => Some(OfTwoOrThree::IndexOf),
-        "lastIndexOf" => Some(OfTwoOrThree::LastIndexOf),
-        "split" => Some(OfTwoOrThree::Split),
-        "substring" => Some(OfTwoOrThree::Substring),
-        _ => None,
-    }
-}
-
-// Those that are in no group.
-fn single_named(name: &str) -> Option<Method>
-    ensures { result ≡ spec.single_named name.now }
-{
-    match name {
+        "trim" => Some(Method::One(OfOne::Text(OfText::Trim))),
+        "sort" => Some(Method::One(OfOne::List(OfList::Sort))),
+        "last" => Some(Method::One(OfOne::List(OfList::Last))),
+        "sign" => Some(Method::One(OfOne::Amount(OfAmount::Sign))),
+        "join" => Some(Method::OneOrTwo(OfOneOrTwo::Join)),
         "find" => Some(Method::Find),
-        "findAll" => Some(Method::FindAll),
+        _ => None,
+    }
+}
+
+fn methods_of_five(name: &str) -> Option<Method>
+    ensures { result ≡ lookup (bytes_eq name.now) (of_length 5 spec.methods) }
+{
+    match name {
+        "first" => Some(Method::One(OfOne::List(OfList::First))),
+        "major" => Some(Method::One(OfOne::Amount(OfAmount::Major))),
+        "minor" => Some(Method::One(OfOne::Amount(OfAmount::Minor))),
+        "patch" => Some(Method::One(OfOne::Amount(OfAmount::Patch))),
+        "split" => Some(Method::TwoOrThree(OfTwoOrThree::Split)),
         "slice" => Some(Method::Slice),
+        _ => None,
+    }
+}
+
+fn methods_of_six(name: &str) -> Option<Method>
+    ensures { result ≡ lookup (bytes_eq name.now) (of_length 6 spec.methods) }
+{
+    match name {
+        "family" => Some(Method::One(OfOne::Address(OfAddress::Family))),
+        "masked" => Some(Method::One(OfOne::Address(OfAddress::Masked))),
+        "charAt" => Some(Method::Two(OfTwo::CharAt)),
+        "format" => Some(Method::Two(OfTwo::Format)),
+        _ => None,
+    }
+}
+
+fn methods_of_seven(name: &str) -> Option<Method>
+    ensures { result ≡ lookup (bytes_eq name.now) (of_length 7 spec.methods) }
+{
+    match name {
+        "reverse" => Some(Method::One(OfOne::Text(OfText::Reverse))),
+        "getHost" => Some(Method::One(OfOne::Url(OfUrl::Host))),
+        "getPort" => Some(Method::One(OfOne::Url(OfUrl::Port))),
+        "flatten" => Some(Method::OneOrTwo(OfOneOrTwo::Flatten)),
+        "indexOf" => Some(Method::TwoOrThree(OfTwoOrThree::IndexOf)),
+        "findAll" => Some(Method::FindAll),
         "replace" => Some(Method::Replace),
         _ => None,
     }
 }
 
-/// The function on a receiver of that name.
+fn methods_of_eight(name: &str) -> Option<Method>
+    ensures { result ≡ lookup (bytes_eq name.now) (of_length 8 spec.methods) }
+{
+    match name {
+        "isSorted" => Some(Method::One(OfOne::List(OfList::IsSorted))),
+        "distinct" => Some(Method::One(OfOne::List(OfList::Distinct))),
+        "getQuery" => Some(Method::One(OfOne::Url(OfUrl::Query))),
+        "validate" => Some(Method::Two(OfTwo::Validate)),
+        _ => None,
+    }
+}
+
+fn methods_of_nine(name: &str) -> Option<Method>
+    ensures { result ≡ lookup (bytes_eq name.now) (of_length 9 spec.methods) }
+{
+    match name {
+        "isInteger" => Some(Method::One(OfOne::Amount(OfAmount::IsInteger))),
+        "asInteger" => Some(Method::One(OfOne::Amount(OfAmount::AsInteger))),
+        "getScheme" => Some(Method::One(OfOne::Url(OfUrl::Scheme))),
+        "compareTo" => Some(Method::Two(OfTwo::CompareTo)),
+        "substring" => Some(Method::TwoOrThree(OfTwoOrThree::Substring)),
+        _ => None,
+    }
+}
+
+fn methods_of_ten(name: &str) -> Option<Method>
+    ensures { result ≡ lookup (bytes_eq name.now) (of_length 10 spec.methods) }
+{
+    match name {
+        "lowerAscii" => Some(Method::One(OfOne::Text(OfText::LowerAscii))),
+        "upperAscii" => Some(Method::One(OfOne::Text(OfText::UpperAscii))),
+        "isLoopback" => Some(Method::One(OfOne::Address(OfAddress::IsLoopback))),
+        "containsIP" => Some(Method::Two(OfTwo::ContainsIp)),
+        "isLessThan" => Some(Method::Two(OfTwo::IsLessThan)),
+        _ => None,
+    }
+}
+
+fn methods_of_eleven(name: &str) -> Option<Method>
+    ensures { result ≡ lookup (bytes_eq name.now) (of_length 11 spec.methods) }
+{
+    match name {
+        "getHostname" => Some(Method::One(OfOne::Url(OfUrl::Hostname))),
+        "lastIndexOf" => Some(Method::TwoOrThree(OfTwoOrThree::LastIndexOf)),
+        _ => None,
+    }
+}
+
+fn methods_of_twelve(name: &str) -> Option<Method>
+    ensures { result ≡ lookup (bytes_eq name.now) (of_length 12 spec.methods) }
+{
+    match name {
+        "prefixLength" => Some(Method::One(OfOne::Address(OfAddress::PrefixLength))),
+        "containsCIDR" => Some(Method::Two(OfTwo::ContainsCidr)),
+        _ => None,
+    }
+}
+
+fn methods_of_thirteen(name: &str) -> Option<Method>
+    ensures { result ≡ lookup (bytes_eq name.now) (of_length 13 spec.methods) }
+{
+    match name {
+        "isUnspecified" => Some(Method::One(OfOne::Address(OfAddress::IsUnspecified))),
+        "isGreaterThan" => Some(Method::Two(OfTwo::IsGreaterThan)),
+        _ => None,
+    }
+}
+
+fn methods_of_fourteen(name: &str) -> Option<Method>
+    ensures { result ≡ lookup (bytes_eq name.now) (of_length 14 spec.methods) }
+{
+    match name {
+        "getEscapedPath" => Some(Method::One(OfOne::Url(OfUrl::EscapedPath))),
+        _ => None,
+    }
+}
+
+fn methods_of_fifteen(name: &str) -> Option<Method>
+    ensures { result ≡ lookup (bytes_eq name.now) (of_length 15 spec.methods) }
+{
+    match name {
+        "isGlobalUnicast" => Some(Method::One(OfOne::Address(OfAddress::IsGlobalUnicast))),
+        _ => None,
+    }
+}
+
+fn methods_of_eighteen(name: &str) -> Option<Method>
+    ensures { result ≡ lookup (bytes_eq name.now) (of_length 18 spec.methods) }
+{
+    match name {
+        "isLinkLocalUnicast" => Some(Method::One(OfOne::Address(OfAddress::IsLinkLocalUnicast))),
+        _ => None,
+    }
+}
+
+fn methods_of_twenty(name: &str) -> Option<Method>
+    ensures { result ≡ lookup (bytes_eq name.now) (of_length 20 spec.methods) }
+{
+    match name {
+        "isLinkLocalMulticast" => Some(Method::One(OfOne::Address(
+            OfAddress::IsLinkLocalMulticast,
+        ))),
+        _ => None,
+    }
+}
+
+/// The function on a receiver of that name, looked for among the names of its length.
 pub(crate) fn method_named(name: &str) -> Option<Method>
     ensures { result ≡ spec.method_named name.now }
 {
-    if let Some(function) = of_one_named(name) {
-        return Some(Method::One(function));
+    match name.len() {
+        2 => methods_of_two(name),
+        3 => methods_of_three(name),
+        4 => methods_of_four(name),
+        5 => methods_of_five(name),
+        6 => methods_of_six(name),
+        7 => methods_of_seven(name),
+        8 => methods_of_eight(name),
+        9 => methods_of_nine(name),
+        10 => methods_of_ten(name),
+        11 => methods_of_eleven(name),
+        12 => methods_of_twelve(name),
+        13 => methods_of_thirteen(name),
+        14 => methods_of_fourteen(name),
+        15 => methods_of_fifteen(name),
+        18 => methods_of_eighteen(name),
+        20 => methods_of_twenty(name),
+        _ => None,
     }
-    if let Some(function) = of_one_or_two_named(name) {
-        return Some(Method::OneOrTwo(function));
-    }
-    if let Some(function) = of_two_named(name) {
-        return Some(Method::Two(function));
-    }
-    if let Some(function) = of_two_or_three_named(name) {
-        return Some(Method::TwoOrThree(function));
-    }
-    single_named(name)
 }
 
 /// Whether the function is called with so many arguments.

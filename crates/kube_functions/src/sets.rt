@@ -1,11 +1,11 @@
 //! The sets of functions.
-ghost use Rattle.std.specs.Prelude.{◌≡◌, is_some, length, map, option_map, IfOk, IfErr};
+ghost use Rattle.std.specs.Prelude.{◌≡◌, Some, map, option_map, IfOk, IfErr};
 ghost use Rattle.cel_book.specs.Book.{Agrees};
 ghost use Rattle.cel_book.specs.Entries.{entries_of};
 ghost use Rattle.cel_book.specs.Settled.{Settles};
 ghost use Rattle.cel_value.specs.View.{view};
 ghost use Rattle.cel_meaning.specs.Outcome.{outcome_view};
-ghost use Rattle.cel_standard.specs.Standard.{standard_form};
+ghost use Rattle.cel_standard.specs.Table.{function_named};
 ghost use Rattle.kube_functions.specs.Kube as spec;
 
 use crate::global_calls::answer_of_global;
@@ -16,7 +16,7 @@ use crate::overloads::address_operand;
 use cel_book::PatternBook;
 use cel_meaning::operators::{Answer, no_such_overload};
 use cel_meaning::{Form, Functions};
-use cel_standard::StandardFunctions;
+use cel_standard::{Function, StandardFunctions, answer_of_function, known_function};
 use cel_value::{Refused, Value};
 use kube_functions_types::texts;
 use std::alloc::Global;
@@ -109,12 +109,13 @@ fn added_answer(
 // The standard answer, but for the string of an address.
 fn kept_answer(
     alloc: Global,
+    function: Function,
     name: &str,
     receiver: Option<&Value>,
     args: &[Value],
     book: &mut PatternBook,
 ) -> Result<Answer, Refused>
-    requires { standard_form name.now (is_some receiver) (length args.now) ≡ Form.Known }
+    requires { function_named name.now ≡ Some function }
     ensures keeps { Agrees (entries_of book.new) (entries_of book.old) }
     ensures value { IfOk result (λ r. Settles (entries_of book.new) (outcome_view r)
         (λ b. spec.kept_answer name.now (option_map (λ v. view v.now) receiver.entry) (map view args.now) b)) }
@@ -122,7 +123,7 @@ fn kept_answer(
 {
     match address_operand(name, receiver, args) {
         Some(address) => texts::string(alloc, address),
-        None => StandardFunctions.call(alloc, name, receiver, args, book),
+        None => answer_of_function(alloc, function, name, receiver, args, book),
     }
 }
 
@@ -137,7 +138,10 @@ impl Functions for AllFunctions {
 
     fn form(&self, name: &str, receiver: bool, count: usize) -> Form {
         let standard = StandardFunctions.form(name, receiver, count);
-        either_form(standard, added_form(name, receiver, count))
+        match standard {
+            Form::Known => Form::Known,
+            Form::Wrong | Form::Unknown => either_form(standard, added_form(name, receiver, count)),
+        }
     }
 
     fn call(
@@ -148,9 +152,9 @@ impl Functions for AllFunctions {
         args: &[Value],
         book: &mut PatternBook,
     ) -> Result<Answer, Refused> {
-        match StandardFunctions.form(name, receiver.is_some(), args.len()) {
-            Form::Known => kept_answer(alloc, name, receiver, args, book),
-            Form::Wrong | Form::Unknown => added_answer(alloc, name, receiver, args, book),
+        match known_function(name, receiver.is_some(), args.len()) {
+            Some(function) => kept_answer(alloc, function, name, receiver, args, book),
+            None => added_answer(alloc, name, receiver, args, book),
         }
     }
 }

@@ -3,4 +3,4 @@ use Rattle.cel_standard.proofs.Counts.{entry_count-length}
 use Rattle.cel_standard.proofs.sizes.entry_count.Goals as goal
 
 pub returns : goal.returns
-returns c = c.len.ensures.len ∙ sym (entry_count-length c.args.entries.now.entries)
+returns c = c.len.ensures ∙ sym (entry_count-length c.args.entries.now)
