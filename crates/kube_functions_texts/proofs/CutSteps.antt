@@ -1,24 +1,91 @@
--- A text cut at one separator after the other: each step leaves the pieces of the whole text as they are.
-use Rattle.std.proofs.Common.{◌≡◌, ℕ, suc, ◌+◌, ◌-◌, ◌<◌, ◌≤◌, arith, List, [], ◌∷◌, ◌++◌, length, map, take, drop, Bool, true, false, cond, Option, Some, None, refl, ap, sym, ◌∙◌, true≢false, append_assoc, string_bytes}
-use Rattle.std.specs.List.{range_with_len, flat_map, join_by}
-use Rattle.std.specs.Option.{unwrap_or}
-use Rattle.std.specs.Prelude.{slice_range}
-use Rattle.std.specs.Str.{encode_utf8_all}
-use Rattle.std.specs.declared.alloc.Global.{Global}
-use Rattle.std.specs.declared.string.String.{String}
-use Rattle.std.proofs.lemmas.Bool.{ltb-true, ltb-false}
-use Rattle.std.proofs.lemmas.List.{take_all, length_push, length-map, map_push}
+-- A text cut at one separator after the other: each cut leaves the pieces of what stands behind it.
+use Rattle.std.proofs.Common.{◌≡◌, ℕ, zero, suc, ◌+◌, ◌-◌, ◌<◌, ◌≤◌, min, arith, add-one, Bor, MatchOption, IfSome, option_map, subst, append_assoc, take-append-drop, length-take-le, List, [], ◌∷◌, ◌++◌, length, map, take, drop, Bool, true, false, cond, Option, Some, None, refl, ap, sym, ◌∙◌, true≢false, take_at, drop_at, drop-drop, length-append, le-leb}
+use Rattle.std.specs.Prelude.{slice_range, nat_le, ◌&&◌}
+use Rattle.std.specs.List.{range_with_len}
+use Rattle.std.specs.Str.{chars, encode_utf8_all, IsUtf8}
+use Rattle.std.proofs.lemmas.Str.{encodes-chars}
+use Rattle.kube_functions_texts.proofs.Between.{is_around, none_around}
+use Rattle.std.proofs.lemmas.Bool.{ltb-true, ltb-false, leb-true, leb-false, lt-leb, and_left, and_right, and_from}
+use Rattle.std.proofs.lemmas.List.{take_all, take-map, length_push, map_push}
 use Rattle.cel_book.specs.Book.{first_of}
-use Rattle.cel_value.specs.Data.{text}
-use Rattle.kube_functions_texts.specs.Cuts.{has_room, cut_at, left_of, spans_from, pieces_from, all_pieces}
-use Rattle.kube_functions_texts.specs.Pieces.{is_next, spans_among, around, pieces, joined}
-use Rattle.kube_functions_texts.proofs.Standing.{range_more}
+use Rattle.kube_functions_texts.specs.Cuts.{has_room, left_of, passed, around_place, pieces_behind, StandsFirst, StandsNowhere}
+use Rattle.kube_functions_texts.specs.Pieces.{is_next, spans_among, around, pieces}
+use Rattle.kube_functions_texts.specs.Places.{stands_at}
+use Rattle.kube_functions_texts.proofs.Occurring.{stands_between}
+use Rattle.kube_functions_texts.proofs.Standing.{stands_behind}
 
-spans_next : (cs part : List ℕ) (end k : ℕ) → k < suc (length cs) → spans_from cs part end k ≡ cond (is_next cs part end k) ((k, k + length part) ∷ spans_from cs part (k + length part) (k + 1)) (spans_from cs part end (k + 1))
-spans_next cs part end k h = ap (spans_among cs part end) (range_more k (suc (length cs)) h)
+-- ---- spans and pieces behind a place
 
-spans_by : (cs part : List ℕ) (end k : ℕ) (b : Bool) → k < suc (length cs) → is_next cs part end k ≡ b → spans_from cs part end k ≡ cond b ((k, k + length part) ∷ spans_from cs part (k + length part) (k + 1)) (spans_from cs part end (k + 1))
-spans_by cs part end k b h e = spans_next cs part end k h ∙ ap (λ t. cond t ((k, k + length part) ∷ spans_from cs part (k + length part) (k + 1)) (spans_from cs part end (k + 1))) e
+abbrev shifted : ℕ → List (ℕ × ℕ) → List (ℕ × ℕ)
+shifted n ps = map (λ p. (n + p.0, n + p.1)) ps
+
+around_shifted : (cs : List ℕ) (n a b : ℕ) (ps : List (ℕ × ℕ)) → b ≡ n + a → around cs b (shifted n ps) ≡ around (drop n cs) a ps
+around_shifted cs n a b [] e = ap (λ k. drop k cs ∷ []) e ∙ ap (λ l. l ∷ []) (sym (drop-drop a n cs))
+around_shifted cs n a b (p ∷ ps) e =
+    let count : (n + p.0) - b ≡ p.0 - a = omega arith in
+    let piece : slice_range cs b (n + p.0) ≡ slice_range (drop n cs) a p.0 =
+    ap (λ j. take j (drop b cs)) count ∙ ap (λ k. take (p.0 - a) (drop k cs)) e ∙ ap (take (p.0 - a)) (sym (drop-drop a n cs)) in
+    ap (λ l. l ∷ around cs (n + p.1) (shifted n ps)) piece ∙ ap (λ ls. slice_range (drop n cs) a p.0 ∷ ls) (around_shifted cs n p.1 (n + p.1) ps refl)
+
+same_order : (b i a k : ℕ) → (b ≤ i → a ≤ k) → (i < b → k < a) → nat_le b i ≡ nat_le a k
+same_order b i a k up down = at (nat_le b i) refl
+  where
+    at : (t : Bool) → nat_le b i ≡ t → nat_le b i ≡ nat_le a k
+    at true e = e ∙ sym (le-leb a k (up (leb-true b i e)))
+    at false e = e ∙ sym (lt-leb a k (down (leb-false b i e)))
+
+next_shifted : (cs part : List ℕ) (n a b i k : ℕ) → b ≡ n + a → i ≡ n + k → is_next cs part b i ≡ is_next (drop n cs) part a k
+next_shifted cs part n a b i k e f =
+    let up : b ≤ i → a ≤ k = λ h. omega arith in
+    let down : i < b → k < a = λ h. omega arith in
+    let order : nat_le b i ≡ nat_le a k = same_order b i a k up down in
+    let rest : i - n ≡ k = omega arith in
+    ap (λ t. t && stands_at cs part i) order ∙ ap (λ t. nat_le a k && t) (stands_behind cs part n i (omega arith) ∙ ap (stands_at (drop n cs) part) rest)
+
+-- one more place, where the spans from the next one on are shifted
+spans_step : (cs part : List ℕ) (j n a b i k : ℕ) → b ≡ n + a → i ≡ n + k
+    → spans_among cs part (i + length part) (range_with_len (i + 1) j) ≡ shifted n (spans_among (drop n cs) part (k + length part) (range_with_len (k + 1) j))
+    → spans_among cs part b (range_with_len (i + 1) j) ≡ shifted n (spans_among (drop n cs) part a (range_with_len (k + 1) j))
+    → spans_among cs part b (range_with_len i (suc j)) ≡ shifted n (spans_among (drop n cs) part a (range_with_len k (suc j)))
+spans_step cs part j n a b i k e f taken skipped = at (is_next (drop n cs) part a k) refl
+  where
+    at : (t : Bool) → is_next (drop n cs) part a k ≡ t → spans_among cs part b (range_with_len i (suc j)) ≡ shifted n (spans_among (drop n cs) part a (range_with_len k (suc j)))
+    at true h =
+        let ends : i + length part ≡ n + (k + length part) = omega arith in
+        ap (λ t. cond t ((i, i + length part) ∷ spans_among cs part (i + length part) (range_with_len (i + 1) j)) (spans_among cs part b (range_with_len (i + 1) j))) (next_shifted cs part n a b i k e f ∙ h)
+        ∙ ap (λ x. (x, i + length part) ∷ spans_among cs part (i + length part) (range_with_len (i + 1) j)) f
+        ∙ ap (λ x. (n + k, x) ∷ spans_among cs part (i + length part) (range_with_len (i + 1) j)) ends
+        ∙ ap (λ ps. (n + k, n + (k + length part)) ∷ ps) taken
+        ∙ sym (ap (λ t. shifted n (cond t ((k, k + length part) ∷ spans_among (drop n cs) part (k + length part) (range_with_len (k + 1) j)) (spans_among (drop n cs) part a (range_with_len (k + 1) j)))) h)
+    at false h =
+        ap (λ t. cond t ((i, i + length part) ∷ spans_among cs part (i + length part) (range_with_len (i + 1) j)) (spans_among cs part b (range_with_len (i + 1) j))) (next_shifted cs part n a b i k e f ∙ h)
+        ∙ skipped
+        ∙ sym (ap (λ t. shifted n (cond t ((k, k + length part) ∷ spans_among (drop n cs) part (k + length part) (range_with_len (k + 1) j)) (spans_among (drop n cs) part a (range_with_len (k + 1) j)))) h)
+
+spans_shifted : (cs part : List ℕ) (j n a b i k : ℕ) → b ≡ n + a → i ≡ n + k → spans_among cs part b (range_with_len i j) ≡ shifted n (spans_among (drop n cs) part a (range_with_len k j))
+spans_shifted cs part zero n a b i k e f = refl
+spans_shifted cs part (suc j) n a b i k e f =
+    let ends : i + length part ≡ n + (k + length part) = omega arith in
+    let next : i + 1 ≡ n + (k + 1) = omega arith in
+    spans_step cs part j n a b i k e f (spans_shifted cs part j n (k + length part) (i + length part) (i + 1) (k + 1) ends next) (spans_shifted cs part j n a b (i + 1) (k + 1) e next)
+
+left_shifted : (limit : Option ℕ) (m n : ℕ) (ps : List (ℕ × ℕ)) → left_of limit m (shifted n ps) ≡ shifted n (left_of limit m ps)
+left_shifted None m n ps = refl
+left_shifted (Some l) m n ps = take-map (λ p. (n + p.0, n + p.1)) (l - m) ps
+
+-- places at which no separator is next
+spans_skip : (cs part : List ℕ) (j r end k m : ℕ) → m ≡ k + j → ((i : ℕ) → k ≤ i → i < m → is_next cs part end i ≡ false) → spans_among cs part end (range_with_len k (j + r)) ≡ spans_among cs part end (range_with_len m r)
+spans_skip cs part zero r end k m e none =
+    let same : k ≡ m = omega arith in
+    let count : 0 + r ≡ r = omega arith in
+    ap (λ x. spans_among cs part end (range_with_len k x)) count ∙ ap (λ x. spans_among cs part end (range_with_len x r)) same
+spans_skip cs part (suc j) r end k m e none =
+    let count : suc j + r ≡ suc (j + r) = omega arith in
+    ap (λ x. spans_among cs part end (range_with_len k x)) count
+    ∙ ap (λ t. cond t ((k, k + length part) ∷ spans_among cs part (k + length part) (range_with_len (k + 1) (j + r))) (spans_among cs part end (range_with_len (k + 1) (j + r)))) (none k (omega arith) (omega arith))
+    ∙ spans_skip cs part j r end (k + 1) m (omega arith) (λ i from lt. none i (omega arith) lt)
+
+-- ---- how many separators count
 
 left_more : (limit : Option ℕ) (m : ℕ) (p : ℕ × ℕ) (ps : List (ℕ × ℕ)) → has_room limit m ≡ true → left_of limit m (p ∷ ps) ≡ p ∷ left_of limit (m + 1) ps
 left_more None m p ps h = refl
@@ -27,12 +94,12 @@ left_more (Some n) m p ps h =
     let e : n - m ≡ suc (n - (m + 1)) = omega arith in
     ap (λ j. take j (p ∷ ps)) e
 
-left_full : (limit : Option ℕ) (m : ℕ) (ps qs : List (ℕ × ℕ)) → has_room limit m ≡ false → left_of limit m ps ≡ left_of limit m qs
-left_full None m ps qs h = absurd (true≢false h)
-left_full (Some n) m ps qs h =
+left_full : (limit : Option ℕ) (m : ℕ) (ps : List (ℕ × ℕ)) → has_room limit m ≡ false → left_of limit m ps ≡ []
+left_full None m ps h = absurd (true≢false h)
+left_full (Some n) m ps h =
     let le : n ≤ m = ltb-false m n h in
     let e : n - m ≡ 0 = omega arith in
-    ap (λ j. take j ps) e ∙ sym (ap (λ j. take j qs) e)
+    ap (λ j. take j ps) e
 
 left_none : (limit : Option ℕ) (m : ℕ) (ps : List (ℕ × ℕ)) → ps ≡ [] → left_of limit m ps ≡ []
 left_none None m ps h = h
@@ -42,82 +109,148 @@ left_start : (limit : Option ℕ) (ps : List (ℕ × ℕ)) → left_of limit 0 p
 left_start None ps = refl
 left_start (Some n) ps = let e : n - 0 ≡ n = omega arith in ap (λ j. take j ps) e
 
-abbrev texts_around : List ℕ → ℕ → List (ℕ × ℕ) → List (List ℕ)
-texts_around cs end ps = map encode_utf8_all (around cs end ps)
+-- ---- one separator after the other
 
-cut : (cs part : List ℕ) (limit : Option ℕ) (m end k : ℕ) → k < suc (length cs) → has_room limit m ≡ true → is_next cs part end k ≡ true → encode_utf8_all (slice_range cs end k) ∷ pieces_from cs part limit (m + 1) (k + length part) (k + 1) ≡ pieces_from cs part limit m end k
-cut cs part limit m end k h r e =
-    sym (ap (λ ps. texts_around cs end (left_of limit m ps)) (spans_by cs part end k true h e)
-    ∙ ap (texts_around cs end) (left_more limit m (k, k + length part) (spans_from cs part (k + length part) (k + 1)) r))
+abbrev texts_around : List ℕ → List (ℕ × ℕ) → List (List ℕ)
+texts_around cs ps = map encode_utf8_all (around cs 0 ps)
 
 -- no separator counts any more
-pub cut_full : (cs part : List ℕ) (limit : Option ℕ) (done : List (List ℕ)) (end k : ℕ) → has_room limit (length done) ≡ false → all_pieces cs part limit done end (k + 1) ≡ all_pieces cs part limit done end k
-cut_full cs part limit done end k h =
-    ap (λ ps. done ++ texts_around cs end ps) (left_full limit (length done) (spans_from cs part end (k + 1)) (spans_from cs part end k) h)
+pub cut_full : (cs part : List ℕ) (limit : Option ℕ) (m : ℕ) → has_room limit m ≡ false → pieces_behind cs part limit m ≡ encode_utf8_all cs ∷ []
+cut_full cs part limit m h = ap (texts_around cs) (left_full limit m (spans_among cs part 0 (range_with_len (passed part m) (suc (length cs) - passed part m))) h)
 
-not_next : (cs part : List ℕ) (end k : ℕ) → None ≡ cut_at cs part end k → is_next cs part end k ≡ false
-not_next cs part end k h = at (is_next cs part end k) refl
-  where
-    at : (b : Bool) → is_next cs part end k ≡ b → is_next cs part end k ≡ false
-    at false e = e
-    at true e = let none : ◌≡◌ {A = Option (List ℕ × ℕ)} None (Some (slice_range cs end k, k + length part)) = h ∙ ap (λ t. cond t (Some (slice_range cs end k, k + length part)) None) e in absurd (cc)
-
-is_cut : (cs part : List ℕ) (end k : ℕ) (p : List ℕ × ℕ) → Some p ≡ cut_at cs part end k → (is_next cs part end k ≡ true) × (p ≡ (slice_range cs end k, k + length part))
-is_cut cs part end k p h = at (is_next cs part end k) refl
-  where
-    at : (b : Bool) → is_next cs part end k ≡ b → (is_next cs part end k ≡ true) × (p ≡ (slice_range cs end k, k + length part))
-    at true e =
-        let some : Some p ≡ Some (slice_range cs end k, k + length part) = h ∙ ap (λ t. cond t (Some (slice_range cs end k, k + length part)) None) e in
-        (e, ap (λ o. unwrap_or o p) some)
-    at false e = let none : Some p ≡ None = h ∙ ap (λ t. cond t (Some (slice_range cs end k, k + length part)) None) e in absurd (cc)
-
--- no separator is at this place
-pub cut_missed : (cs part : List ℕ) (limit : Option ℕ) (done : List (List ℕ)) (end k : ℕ) → k < suc (length cs) → None ≡ cut_at cs part end k → all_pieces cs part limit done end (k + 1) ≡ all_pieces cs part limit done end k
-cut_missed cs part limit done end k h e =
-    sym (ap (λ ps. done ++ texts_around cs end (left_of limit (length done) ps)) (spans_by cs part end k false h (not_next cs part end k e)))
-
-cut_here : (cs part : List ℕ) (limit : Option ℕ) (done : List (List ℕ)) (end k : ℕ) → k < suc (length cs) → has_room limit (length done) ≡ true → is_next cs part end k ≡ true → all_pieces cs part limit (done ++ encode_utf8_all (slice_range cs end k) ∷ []) (k + length part) (k + 1) ≡ all_pieces cs part limit done end k
-cut_here cs part limit done end k h r e =
-    let x = encode_utf8_all (slice_range cs end k) in
-    ap (λ n. (done ++ x ∷ []) ++ pieces_from cs part limit n (k + length part) (k + 1)) (length_push done x)
-    ∙ append_assoc done (x ∷ []) (pieces_from cs part limit (length done + 1) (k + length part) (k + 1))
-    ∙ ap (λ ps. done ++ ps) (cut cs part limit (length done) end k h r e)
-
--- a separator is at this place, and counts
-pub cut_made : (cs part : List ℕ) (limit : Option ℕ) (old new : List (String Global)) (s : String Global) (piece : List ℕ) (end e k : ℕ) → k < suc (length cs) → has_room limit (length old) ≡ true → Some (piece, e) ≡ cut_at cs part end k → string_bytes s ≡ encode_utf8_all piece → new ≡ old ++ s ∷ [] → all_pieces cs part limit (map string_bytes new) e (k + 1) ≡ all_pieces cs part limit (map string_bytes old) end k
-cut_made cs part limit old new s piece end e k h r is bytes pushed =
-    let found = is_cut cs part end k (piece, e) is in
-    let room : has_room limit (length (map string_bytes old)) ≡ true = ap (has_room limit) (length-map old string_bytes) ∙ r in
-    let items : map string_bytes new ≡ map string_bytes old ++ encode_utf8_all piece ∷ [] =
-    ap (map string_bytes) pushed ∙ map_push string_bytes old s ∙ ap (λ t. map string_bytes old ++ t ∷ []) bytes in
-    ap (λ ts. all_pieces cs part limit ts e (k + 1)) items
-    ∙ ap (λ p. all_pieces cs part limit (map string_bytes old ++ encode_utf8_all p.0 ∷ []) p.1 (k + 1)) found.1
-    ∙ cut_here cs part limit (map string_bytes old) end k h room found.0
+passed_start : (part : List ℕ) → passed part 0 ≡ 0
+passed_start [] = refl
+passed_start (c ∷ part) = refl
 
 -- all pieces are to come
-pub cut_begun : (cs part : List ℕ) (limit : Option ℕ) (none : List (String Global)) → none ≡ [] → all_pieces cs part limit (map string_bytes none) 0 0 ≡ pieces cs part limit
-cut_begun cs part limit none h =
-    let e : suc (length cs) - 0 ≡ suc (length cs) = omega arith in
-    ap (λ ts. all_pieces cs part limit (map string_bytes ts) 0 0) h
-    ∙ ap (λ n. texts_around cs 0 (left_of limit 0 (spans_among cs part 0 (range_with_len 0 n)))) e
-    ∙ ap (texts_around cs 0) (left_start limit (spans_among cs part 0 (range_with_len 0 (suc (length cs)))))
+pub cut_begun : (cs part : List ℕ) (limit : Option ℕ) → pieces_behind cs part limit 0 ≡ pieces cs part limit
+cut_begun cs part limit =
+    ap (λ n. texts_around cs (left_of limit 0 (spans_among cs part 0 (range_with_len n (suc (length cs) - n))))) (passed_start part)
+    ∙ ap (λ n. texts_around cs (left_of limit 0 (spans_among cs part 0 (range_with_len 0 n)))) (let e : suc (length cs) - 0 ≡ suc (length cs) = omega arith in e)
+    ∙ ap (texts_around cs) (left_start limit (spans_among cs part 0 (range_with_len 0 (suc (length cs)))))
 
--- the last piece alone is to come
-pub cut_ended : (cs part : List ℕ) (limit : Option ℕ) (done : List (List ℕ)) (end k : ℕ) → suc (length cs) ≤ k → done ++ encode_utf8_all (drop end cs) ∷ [] ≡ all_pieces cs part limit done end k
-cut_ended cs part limit done end k h =
-    let e : suc (length cs) - k ≡ 0 = omega arith in
-    sym (ap (λ ps. done ++ texts_around cs end ps) (left_none limit (length done) (spans_from cs part end k) (ap (λ n. spans_among cs part end (range_with_len k n)) e)))
+-- no separator stands any more
+pub cut_ended : (cs part : List ℕ) (limit : Option ℕ) (m : ℕ) → StandsNowhere (passed part m) cs part → pieces_behind cs part limit m ≡ encode_utf8_all cs ∷ []
+cut_ended cs part limit m none =
+    let n = passed part m in
+    let j = suc (length cs) - n in
+    let count : j ≡ j + 0 = omega arith in
+    let no_spans : spans_among cs part 0 (range_with_len n j) ≡ [] =
+    ap (λ x. spans_among cs part 0 (range_with_len n x)) count
+    ∙ spans_skip cs part j 0 0 n (n + j) refl (λ i from lt. and_right (nat_le 0 i) (stands_at cs part i) (none i from (omega arith))) in
+    ap (texts_around cs) (left_none limit m (spans_among cs part 0 (range_with_len n j)) no_spans)
 
--- ---- texts of strings
+passed_next : (part : List ℕ) (m : ℕ) → passed part (m + 1) ≡ 1 - length part
+passed_next [] m = ap (passed []) (add-one m)
+passed_next (c ∷ part) m = omega arith
 
-between_texts : (sep : List ℕ) (xs : List (String Global)) → flat_map (λ y. sep ++ string_bytes y) xs ≡ flat_map (λ y. sep ++ y) (map string_bytes xs)
-between_texts sep [] = refl
-between_texts sep (x ∷ xs) = ap (λ r. (sep ++ string_bytes x) ++ r) (between_texts sep xs)
+-- what stands behind the first separator
+spans_first : (cs part before behind : List ℕ) (n m : ℕ) → StandsFirst n cs part before behind
+    → spans_among cs part 0 (range_with_len n (suc (length cs) - n))
+    ≡ (length before, length before + length part) ∷ shifted (length before + length part) (spans_among behind part 0 (range_with_len (passed part (m + 1)) (suc (length behind) - passed part (m + 1))))
+spans_first cs part before behind n m h =
+    let q = length before in
+    let e = q + length part in
+    let more = passed part (m + 1) in
+    let few : more ≡ 1 - length part = passed_next part m in
+    let long : length cs ≡ q + (length part + length behind) = omega (arith, ap length h.0, length-append before (part ++ behind), length-append part behind) in
+    let rest : drop e cs ≡ behind = ap (drop e) h.0 ∙ sym (drop-drop (length part) q (before ++ (part ++ behind))) ∙ ap (drop (length part)) (drop_at before (part ++ behind) q refl) ∙ drop_at part behind (length part) refl in
+    let first : n ≤ q = h.1 in
+    let count : suc (length cs) - n ≡ (q - n) + suc (length cs - q) = omega arith in
+    let here : is_next cs part 0 q ≡ true = and_from (nat_le 0 q) (stands_at cs part q) (le-leb 0 q (omega arith)) (stands_between cs part before behind h.0) in
+    let later : length cs - q ≡ ((e + more) - (q + 1)) + (suc (length behind) - more) = omega arith in
+    ap (λ x. spans_among cs part 0 (range_with_len n x)) count
+    ∙ spans_skip cs part (q - n) (suc (length cs - q)) 0 n q (omega arith) (λ i from lt. and_right (nat_le 0 i) (stands_at cs part i) (h.2 i from lt))
+    ∙ ap (λ t. cond t ((q, e) ∷ spans_among cs part e (range_with_len (q + 1) (length cs - q))) (spans_among cs part 0 (range_with_len (q + 1) (length cs - q)))) here
+    ∙ ap (λ x. (q, e) ∷ spans_among cs part e (range_with_len (q + 1) x)) later
+    ∙ ap (λ ps. (q, e) ∷ ps)
+    (spans_skip cs part ((e + more) - (q + 1)) (suc (length behind) - more) e (q + 1) (e + more) (omega arith) (λ i from lt. and_left (nat_le e i) (stands_at cs part i) (lt-leb e i (omega arith)))
+    ∙ spans_shifted cs part (suc (length behind) - more) e 0 e (e + more) more (omega arith) refl
+    ∙ ap (λ l. shifted e (spans_among l part 0 (range_with_len more (suc (length behind) - more)))) rest)
 
-pub join-texts : (sep : List ℕ) (xs : List (String Global)) → join_by string_bytes sep xs ≡ joined sep (map string_bytes xs)
-join-texts sep [] = refl
-join-texts sep (x ∷ xs) = ap (λ r. string_bytes x ++ r) (between_texts sep xs)
+-- the next separator counts
+pub cut_made : (cs part before behind : List ℕ) (limit : Option ℕ) (m : ℕ) → has_room limit m ≡ true → StandsFirst (passed part m) cs part before behind
+    → pieces_behind cs part limit m ≡ encode_utf8_all before ∷ pieces_behind behind part limit (m + 1)
+cut_made cs part before behind limit m room h =
+    let q = length before in
+    let e = q + length part in
+    let ps = spans_among behind part 0 (range_with_len (passed part (m + 1)) (suc (length behind) - passed part (m + 1))) in
+    let rest : drop e cs ≡ behind = ap (drop e) h.0 ∙ sym (drop-drop (length part) q (before ++ (part ++ behind))) ∙ ap (drop (length part)) (drop_at before (part ++ behind) q refl) ∙ drop_at part behind (length part) refl in
+    let count : q - 0 ≡ q = omega arith in
+    let front : slice_range cs 0 q ≡ before = ap (λ j. take j cs) count ∙ ap (take q) h.0 ∙ take_at before (part ++ behind) q refl in
+    ap (λ l. texts_around cs (left_of limit m l)) (spans_first cs part before behind (passed part m) m h)
+    ∙ ap (texts_around cs) (left_more limit m (q, e) (shifted e ps) room)
+    ∙ ap (λ t. encode_utf8_all t ∷ map encode_utf8_all (around cs e (left_of limit (m + 1) (shifted e ps)))) front
+    ∙ ap (λ l. encode_utf8_all before ∷ map encode_utf8_all (around cs e l)) (left_shifted limit (m + 1) e ps)
+    ∙ ap (λ ls. encode_utf8_all before ∷ map encode_utf8_all ls) (around_shifted cs e 0 e (left_of limit (m + 1) ps) (omega arith) ∙ ap (λ l. around l 0 (left_of limit (m + 1) ps)) rest)
 
-pub map-texts : (xs : List (String Global)) → map (λ s. text (string_bytes s)) xs ≡ map text (map string_bytes xs)
-map-texts [] = refl
-map-texts (x ∷ xs) = ap (λ r. text (string_bytes x) ∷ r) (map-texts xs)
+-- ---- the next piece of a text
+
+pub piece_next : (text ps : List ℕ) (limit : Option ℕ) (m : ℕ) (r : Option (Bor (List ℕ) × Bor (List ℕ))) → IsUtf8 text → has_room limit m ≡ true
+    → MatchOption r (StandsNowhere (passed ps m) (chars text) ps) (λ p. StandsFirst (passed ps m) (chars text) ps (chars p.0.now) (chars p.1.now)) → IfSome r (λ p. IsUtf8 p.0.now)
+    → MatchOption r (pieces_behind (chars text) ps limit m ≡ text ∷ []) (λ p. pieces_behind (chars text) ps limit m ≡ p.0.now ∷ pieces_behind (chars p.1.now) ps limit (m + 1))
+piece_next text ps limit m None u room h t = cut_ended (chars text) ps limit m h ∙ ap (λ l. l ∷ []) (encodes-chars text u)
+piece_next text ps limit m (Some p) u room h t =
+    cut_made (chars text) ps (chars p.0.now) (chars p.1.now) limit m room h ∙ ap (λ l. l ∷ pieces_behind (chars p.1.now) ps limit (m + 1)) (encodes-chars p.0.now t)
+
+pub piece_last : (text ps : List ℕ) (limit : Option ℕ) (m : ℕ) → IsUtf8 text → has_room limit m ≡ false → pieces_behind (chars text) ps limit m ≡ text ∷ []
+piece_last text ps limit m u full = cut_full (chars text) ps limit m full ∙ ap (λ l. l ∷ []) (encodes-chars text u)
+
+passed_covers : (ps : List ℕ) (m : ℕ) → min m 1 ≤ passed ps m + length ps
+passed_covers [] zero = omega arith
+passed_covers [] (suc m) = omega arith
+passed_covers (c ∷ ps) m = omega arith
+
+pub piece_shorter : (cs ps : List ℕ) (m : ℕ) (r : Option (Bor (List ℕ) × Bor (List ℕ)))
+    → MatchOption r (StandsNowhere (passed ps m) cs ps) (λ p. StandsFirst (passed ps m) cs ps (chars p.0.now) (chars p.1.now)) → IfSome r (λ p. length (chars p.1.now) + min m 1 ≤ length cs)
+piece_shorter cs ps m None h = tt
+piece_shorter cs ps m (Some p) h =
+    let first : passed ps m ≤ length (chars p.0.now) = h.1 in
+    omega (arith, passed_covers ps m, ap length h.0, length-append (chars p.0.now) (ps ++ chars p.1.now), length-append ps (chars p.1.now))
+
+-- an empty separator stands one character further on
+pub next_of_none : (cs ps : List ℕ) (m : ℕ) (r : Option (Bor (List ℕ) × Bor (List ℕ))) → ps ≡ [] → 0 < m → option_map (λ p. (chars p.0.now, chars p.1.now)) r ≡ around_place cs 1
+    → MatchOption r (StandsNowhere (passed ps m) cs ps) (λ p. StandsFirst (passed ps m) cs ps (chars p.0.now) (chars p.1.now))
+next_of_none cs ps m r none some h = subst (λ n. MatchOption r (StandsNowhere n cs ps) (λ p. StandsFirst n cs ps (chars p.0.now) (chars p.1.now))) (sym (once ps m none some)) (at r h)
+  where
+    once : (ps : List ℕ) (m : ℕ) → ps ≡ [] → 0 < m → passed ps m ≡ 1
+    once [] zero e some = absurd (omega arith)
+    once [] (suc m) e some = refl
+    once (c ∷ ps) m e some = absurd (cc)
+
+    at : (r : Option (Bor (List ℕ) × Bor (List ℕ))) → option_map (λ p. (chars p.0.now, chars p.1.now)) r ≡ around_place cs 1 → MatchOption r (StandsNowhere 1 cs ps) (λ p. StandsFirst 1 cs ps (chars p.0.now) (chars p.1.now))
+    at None e = let short = none_around cs 1 e in λ k from le. absurd (omega (arith, short))
+    at (Some p) e =
+        let around = is_around cs (chars p.0.now) (chars p.1.now) 1 e in
+        let one : length (chars p.0.now) ≡ 1 = ap length around.1 ∙ length-take-le 1 cs around.0 in
+        let whole : cs ≡ chars p.0.now ++ (ps ++ chars p.1.now) =
+        sym (take-append-drop 1 cs) ∙ ap (λ l. l ++ drop 1 cs) (sym around.1) ∙ ap (λ l. chars p.0.now ++ l) (sym around.2) ∙ ap (λ l. chars p.0.now ++ (l ++ chars p.1.now)) (sym none) in
+        (whole, omega arith, λ k from lt. absurd (omega arith))
+
+pub next_of_other : (cs ps : List ℕ) (m : ℕ) (r : Option (Bor (List ℕ) × Bor (List ℕ))) → passed ps m ≡ 0 → MatchOption r (StandsNowhere 0 cs ps) (λ p. StandsFirst 0 cs ps (chars p.0.now) (chars p.1.now))
+    → MatchOption r (StandsNowhere (passed ps m) cs ps) (λ p. StandsFirst (passed ps m) cs ps (chars p.0.now) (chars p.1.now))
+next_of_other cs ps m r e h = subst (λ n. MatchOption r (StandsNowhere n cs ps) (λ p. StandsFirst n cs ps (chars p.0.now) (chars p.1.now))) (sym e) h
+
+pub passed_some : (ps : List ℕ) (m : ℕ) → 0 < length ps → passed ps m ≡ 0
+passed_some [] m some = absurd (omega arith)
+passed_some (c ∷ ps) m some = refl
+
+pub passed_first : (ps : List ℕ) (m : ℕ) → m ≡ 0 → passed ps m ≡ 0
+passed_first ps m e = ap (passed ps) e ∙ passed_start ps
+
+-- ---- the pieces so far, and those to come
+
+pub pieces_begun : (cs ps : List ℕ) (limit : Option ℕ) (made : List (Bor (List ℕ))) → made ≡ [] → map (λ s. s.now) made ++ pieces_behind cs ps limit (length made) ≡ pieces cs ps limit
+pieces_begun cs ps limit made e = ap (λ ss. map (λ s. s.now) ss ++ pieces_behind cs ps limit (length ss)) e ∙ cut_begun cs ps limit
+
+pub pieces_more : (cs ds ps : List ℕ) (limit : Option ℕ) (old new : List (Bor (List ℕ))) (piece : Bor (List ℕ)) (n : ℕ) → n ≡ length old → new ≡ old ++ piece ∷ []
+    → pieces_behind cs ps limit n ≡ piece.now ∷ pieces_behind ds ps limit (n + 1) → map (λ s. s.now) new ++ pieces_behind ds ps limit (length new) ≡ map (λ s. s.now) old ++ pieces_behind cs ps limit (length old)
+pieces_more cs ds ps limit old new piece n e pushed cut =
+    ap (λ ss. map (λ s. s.now) ss ++ pieces_behind ds ps limit (length ss)) pushed
+    ∙ ap (λ k. map (λ s. s.now) (old ++ piece ∷ []) ++ pieces_behind ds ps limit k) (length_push old piece)
+    ∙ ap (λ ts. ts ++ pieces_behind ds ps limit (length old + 1)) (map_push (λ s. s.now) old piece)
+    ∙ append_assoc (map (λ s. s.now) old) (piece.now ∷ []) (pieces_behind ds ps limit (length old + 1))
+    ∙ ap (λ ts. map (λ s. s.now) old ++ ts) (ap (λ k. piece.now ∷ pieces_behind ds ps limit (k + 1)) (sym e) ∙ sym cut ∙ ap (pieces_behind cs ps limit) e)
+
+pub fewer : (a b n m : ℕ) → a + min n 1 ≤ b → m ≡ n + 1 → a + (1 - m) < b + (1 - n)
+fewer a b n m h e = omega arith

@@ -1,10 +1,10 @@
 -- The texts of a list's items, one item after the other.
-use Rattle.std.proofs.Common.{◌≡◌, ℕ, ◌+◌, ◌<◌, ◌≤◌, List, [], ◌∷◌, ◌++◌, length, map, drop, get_or, option_map, Some, None, Ok, Err, refl, ap, sym, ◌∙◌, append_assoc}
+use Rattle.std.proofs.Common.{◌≡◌, ℕ, ◌+◌, ◌<◌, ◌≤◌, List, [], ◌∷◌, ◌++◌, length, map, take, drop, get_or, option_map, Some, None, Ok, Err, refl, ap, sym, ◌∙◌, append_assoc}
 use Rattle.std.specs.Prelude.{Result}
 use Rattle.std.specs.List.{flat_map, join_by}
 use Rattle.std.specs.Option.{option_map_or}
-use Rattle.std.proofs.lemmas.List.{drop_more, drop_all, append-nil}
-use Rattle.cel_value.specs.Data.{Data}
+use Rattle.std.proofs.lemmas.List.{drop_more, drop_all, append-nil, map_push, take_more}
+use Rattle.cel_value.specs.Data.{Data, Items, text}
 use Rattle.cel_value.specs.Parts.{text_in, items_in}
 use Rattle.cel_value.specs.View.{view, items_view, kind_of}
 use Rattle.cel_value.specs.declared.kind.Kind.{Kind}
@@ -46,8 +46,8 @@ text_missing xs i x ts lt is h =
 pub text_last : (xs : List Value) (i : ℕ) (ts : List (List ℕ)) → length xs ≤ i → all_before ts (texts_of (map view (drop i xs))) ≡ Ok ts
 text_last xs i ts h = ap (λ ys. all_before ts (texts_of (map view ys))) (drop_all i xs h) ∙ ap Ok (append-nil ts)
 
-pub listed : (v : Data) (xs ys : List Value) → xs ≡ ys → Some (items_view ys) ≡ items_in v → Some (map view xs) ≡ listed_in v
-listed v xs ys e h = ap (λ zs. Some (map view zs)) e ∙ ap Some (sym (items_list-items_of (map view ys))) ∙ ap (option_map items_list) h
+pub listed : (v : Data) (xs : List Value) (ds : Items) → items_view xs ≡ ds → Some ds ≡ items_in v → Some (map view xs) ≡ listed_in v
+listed v xs ds e h = ap Some (sym (items_list-items_of (map view xs))) ∙ ap (λ es. Some (items_list es)) e ∙ ap (option_map items_list) h
 
 between_lent : (sep : List ℕ) (xs : List (Bor (List ℕ))) → flat_map (λ y. sep ++ y.now) xs ≡ flat_map (λ y. sep ++ y) (map (λ s. s.now) xs)
 between_lent sep [] = refl
@@ -56,3 +56,11 @@ between_lent sep (x ∷ xs) = ap (λ r. (sep ++ x.now) ++ r) (between_lent sep x
 pub join-lent : (sep : List ℕ) (xs : List (Bor (List ℕ))) → join_by (λ y. y.now) sep xs ≡ joined sep (map (λ s. s.now) xs)
 join-lent sep [] = refl
 join-lent sep (x ∷ xs) = ap (λ r. x.now ++ r) (between_lent sep xs)
+
+-- one more text made into a value
+pub values_more : (vs new : List Value) (v : Value) (ts : List (Bor (List ℕ))) (i : ℕ) (d : Bor (List ℕ)) (t : List ℕ) → i < length ts → new ≡ vs ++ v ∷ [] → view v ≡ text t → t ≡ (get_or ts i d).now
+    → map view vs ≡ map text (map (λ s. s.now) (take i ts)) → map view new ≡ map text (map (λ s. s.now) (take (i + 1) ts))
+values_more vs new v ts i d t lt pushed seen same before =
+    ap (map view) pushed ∙ map_push view vs v ∙ ap (λ ds. ds ++ view v ∷ []) before
+    ∙ ap (λ x. map text (map (λ s. s.now) (take i ts)) ++ x ∷ []) (seen ∙ ap text same)
+    ∙ sym (ap (λ ss. map text (map (λ s. s.now) ss)) (take_more ts i d lt) ∙ ap (map text) (map_push (λ s. s.now) (take i ts) (get_or ts i d)) ∙ map_push text (map (λ s. s.now) (take i ts)) (get_or ts i d).now)

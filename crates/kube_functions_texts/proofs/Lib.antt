@@ -1,4 +1,7 @@
+pub mod Past
+pub mod Occurring
 pub mod Standing
+pub mod Between
 pub mod CutSteps
 pub mod Joining
 pub mod KeysApart

@@ -1,6 +1,6 @@
 //! Answers that several functions give.
 ghost use Rattle.std.specs.Prelude.{◌≡◌, IfOk, IfErr, Ok, Err, string_bytes};
-ghost use Rattle.std.specs.Str.{chars, encode_utf8_all};
+ghost use Rattle.std.specs.Str.{chars};
 ghost use Rattle.cel_value.specs.Data as plain;
 ghost use Rattle.cel_value.specs.Faults as fault;
 ghost use Rattle.cel_meaning.specs.Outcome.{outcome_view};
@@ -14,13 +14,6 @@ pub(crate) fn characters(alloc: Global, text: &str) -> Result<Vec<char>, AllocEr
     ensures { IfOk result (λ v. v.items ≡ chars text.now) }
 {
     text.chars().collect(alloc)
-}
-
-/// The text of some characters.
-pub(crate) fn spelled(alloc: Global, characters: &[char]) -> Result<String, AllocError>
-    ensures { IfOk result (λ t. string_bytes t ≡ encode_utf8_all characters.now) }
-{
-    characters.iter().copied().collect(alloc)
 }
 
 /// A string as an answer.

@@ -24,7 +24,8 @@ fn texts_of<'a>(alloc: Global, items: &'a [Value]) -> Result<Result<Vec<&'a str>
     Ok(Ok(texts))
 }
 
-fn joined(alloc: Global, texts: &[&str], between: &str) -> Result<String, AllocError>
+/// Texts as one, with another text between them.
+pub(crate) fn joined(alloc: Global, texts: &[&str], between: &str) -> Result<String, AllocError>
     ensures { IfOk result (λ t. string_bytes t ≡ joined between.now (map (λ s. s.now) texts.now)) }
 {
     let text = texts.join(alloc, between)?;

@@ -2,6 +2,7 @@
 #![tactic(auto)]
 
 mod answers;
+mod cuts;
 mod encodings;
 mod escapes;
 mod found;

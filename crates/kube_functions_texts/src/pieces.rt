@@ -1,6 +1,6 @@
 //! `split` and `replace`: strings cut at a separator.
-ghost use Rattle.std.specs.Prelude.{◌≡◌, ◌≤◌, [], ◌∷◌, ◌++◌, ◌+◌, drop, length, map, IfOk, IfErr, IfSome, OnOk, option_map, string_bytes};
-ghost use Rattle.std.specs.Str.{chars, encode_utf8_all};
+ghost use Rattle.std.specs.Prelude.{◌≡◌, ◌≤◌, [], ◌∷◌, ◌++◌, ◌+◌, min, length, map, IfOk, IfErr, IfSome, MatchOption, option_map, string_bytes};
+ghost use Rattle.std.specs.Str.{chars, IsUtf8};
 ghost use Rattle.cel_value.specs.Data as plain;
 ghost use Rattle.cel_value.specs.View.{view};
 ghost use Rattle.cel_meaning.specs.Outcome.{outcome_view};
@@ -10,19 +10,13 @@ ghost use Rattle.kube_functions_texts.specs.Operands.{optional_int_in};
 ghost use Rattle.cel_value.specs.Parts.{text_in};
 ghost use Rattle.std.specs.Option.{option_zip};
 
-use crate::answers::{characters, spelled, text_answer};
+use crate::answers::text_answer;
+use crate::cuts::{around_first, around_place};
+use crate::joins::joined;
 use crate::operands::{both_texts, optional_int};
-use crate::places::stands_at;
 use cel_meaning::operators::{Answer, no_such_overload};
 use cel_value::{Refused, Value};
 use std::alloc::{AllocError, Global};
-
-/// The pieces so far, and the end of the last separator.
-#[derive(Drop)]
-struct Cutting {
-    pieces: Vec<String>,
-    end: usize,
-}
 
 // Whether one more separator counts, after so many.
 fn has_room(limit: Option<usize>, count: usize) -> bool
@@ -34,94 +28,76 @@ fn has_room(limit: Option<usize>, count: usize) -> bool
     }
 }
 
-// The characters up to the separator at a place, and its end, if it is the next one.
-fn cut_at<'a>(
-    text: &'a [char],
-    separator: &[char],
-    end: usize,
-    place: usize,
-) -> Option<(&'a [char], usize)>
-    requires { place ≤ length text.now }
-    ensures value { option_map (λ p. (p.0.now, p.1)) result ≡ cuts.cut_at text.now separator.now end place }
-    ensures within { IfSome result (λ p. p.1 ≤ length text.now) }
+// What stands before the next separator after so many, and behind it. An empty one stands once at a place.
+fn around_next<'a>(text: &'a str, separator: &str, count: usize) -> Option<(&'a str, &'a str)>
+    ensures value { MatchOption result
+        (cuts.StandsNowhere (cuts.passed (chars separator.now) count) (chars text.now) (chars separator.now))
+        (λ p. cuts.StandsFirst (cuts.passed (chars separator.now) count) (chars text.now) (chars separator.now)
+        (chars p.0.now) (chars p.1.now)) }
+    ensures utf8 { IfSome result (λ p. IsUtf8 p.0.now) }
 {
-    if end <= place {
-        if stands_at(text, separator, place) {
-            Some((&text[end..place], place + separator.len()))
-        } else {
-            None
-        }
+    if 0 < count && separator.is_empty() {
+        around_place(text, 1)
+    } else {
+        around_first(text, separator)
+    }
+}
+
+// The piece before the next separator, and what stands behind it, if one more counts after so many.
+fn next_piece<'a>(
+    text: &'a str,
+    separator: &str,
+    limit: Option<usize>,
+    count: usize,
+) -> Option<(&'a str, &'a str)>
+    ensures value { MatchOption result
+        (cuts.pieces_behind (chars text.now) (chars separator.now) limit count ≡ text.now ∷ [])
+        (λ p. cuts.pieces_behind (chars text.now) (chars separator.now) limit count
+        ≡ p.0.now ∷ cuts.pieces_behind (chars p.1.now) (chars separator.now) limit (count + 1)) }
+    ensures shorter { IfSome result (λ p.
+        length (chars p.1.now) + min count 1 ≤ length (chars text.now)) }
+{
+    if has_room(limit, count) {
+        around_next(text, separator, count)
     } else {
         None
     }
 }
 
-// Cuts at the separator at one more place, if it is the next one and counts.
-fn step(
-    alloc: Global,
-    cutting: &mut Cutting,
-    text: &[char],
-    separator: &[char],
-    limit: Option<usize>,
-    place: usize,
-) -> Result<(), AllocError>
-    requires place { place ≤ length text.now }
-    requires end { cutting.old.end ≤ length text.now }
-    ensures end { OnOk result (cutting.new.end ≤ length text.now) }
-    ensures value { OnOk result (cuts.all_pieces text.now separator.now limit (map string_bytes cutting.new.pieces.items) cutting.new.end (place + 1)
-        ≡ cuts.all_pieces text.now separator.now limit (map string_bytes cutting.old.pieces.items) cutting.old.end place) }
-{
-    if !has_room(limit, cutting.pieces.len()) {
-        return Ok(());
-    }
-    match cut_at(text, separator, cutting.end, place) {
-        Some((piece, end)) => {
-            cutting.pieces.push(spelled(alloc, piece)?)?;
-            cutting.end = end;
-            Ok(())
-        }
-        None => Ok(()),
-    }
-}
-
 // The pieces, with what stands behind the last separator.
-fn finished(alloc: Global, cutting: Cutting, text: &[char]) -> Result<Vec<String>, AllocError>
-    requires { cutting.end ≤ length text.now }
-    ensures { IfOk result (λ v. map string_bytes v.items
-        ≡ map string_bytes cutting.pieces.items ++ encode_utf8_all (drop cutting.end text.now) ∷ []) }
+fn finished<'a>(mut pieces: Vec<&'a str>, rest: &'a str) -> Result<Vec<&'a str>, AllocError>
+    ensures { IfOk result (λ v. map (λ s. s.now) v.items ≡ map (λ s. s.now) pieces.entry.items ++ rest.now ∷ []) }
 {
-    let Cutting { mut pieces, end } = cutting;
-    pieces.push(spelled(alloc, &text[end..])?)?;
+    pieces.push(rest)?;
     Ok(pieces)
 }
 
 // The texts around the first so many separators, or around all.
-fn pieces(
+fn pieces<'a>(
     alloc: Global,
-    text: &[char],
-    separator: &[char],
+    text: &'a str,
+    separator: &str,
     limit: Option<usize>,
-) -> Result<Vec<String>, AllocError>
-    ensures { IfOk result (λ v. map string_bytes v.items ≡ spec.pieces text.now separator.now limit) }
+) -> Result<Vec<&'a str>, AllocError>
+    ensures { IfOk result (λ v. map (λ s. s.now) v.items ≡ spec.pieces (chars text.now) (chars separator.now) limit) }
 {
-    let mut cutting = Cutting {
-        pieces: Vec::new(alloc),
-        end: 0,
-    };
-    for place in 0..text.len() + 1 {
-        step(alloc, &mut cutting, text, separator, limit, place)?;
+    let mut pieces = Vec::new(alloc);
+    let mut rest = text;
+    while let Some((piece, behind)) = next_piece(rest, separator, limit, pieces.len()) {
+        pieces.push(piece)?;
+        rest = behind;
     }
-    let pieces = finished(alloc, cutting, text)?;
+    let pieces = finished(pieces, rest)?;
     Ok(pieces)
 }
 
-fn split_pieces(
+fn split_pieces<'a>(
     alloc: Global,
-    text: &[char],
-    separator: &[char],
+    text: &'a str,
+    separator: &str,
     count: Option<i64>,
-) -> Result<Vec<String>, AllocError>
-    ensures { IfOk result (λ v. map string_bytes v.items ≡ spec.split_pieces text.now separator.now count) }
+) -> Result<Vec<&'a str>, AllocError>
+    ensures { IfOk result (λ v. map (λ s. s.now) v.items ≡ spec.split_pieces (chars text.now) (chars separator.now) count) }
 {
     match count {
         Some(count) => match usize::try_from(count) {
@@ -138,19 +114,19 @@ fn split_pieces(
     }
 }
 
-fn text_values(alloc: Global, texts: Vec<String>) -> Result<Vec<Value>, Refused>
-    ensures value { IfOk result (λ v. map view v.items ≡ map plain.text (map string_bytes texts.items)) }
+fn text_values(alloc: Global, texts: &[&str]) -> Result<Vec<Value>, Refused>
+    ensures value { IfOk result (λ v. map view v.items ≡ map plain.text (map (λ s. s.now) texts.now)) }
     ensures memory { IfErr result (λ e. e ≡ Refused.Memory) }
 {
     let mut values = Vec::with_capacity(alloc, texts.len())?;
     for text in texts {
-        values.push(Value::from_text(alloc, text)?)?;
+        values.push(Value::from_text(alloc, String::from_str(alloc, text)?)?)?;
     }
     Ok(values)
 }
 
-fn text_list(alloc: Global, texts: Vec<String>) -> Result<Value, Refused>
-    ensures value { IfOk result (λ v. view v ≡ spec.text_list (map string_bytes texts.items)) }
+fn text_list(alloc: Global, texts: &[&str]) -> Result<Value, Refused>
+    ensures value { IfOk result (λ v. view v ≡ spec.text_list (map (λ s. s.now) texts.now)) }
     ensures memory { IfErr result (λ e. e ≡ Refused.Memory) }
 {
     let values = text_values(alloc, texts)?;
@@ -166,10 +142,8 @@ fn split_text(
     ensures value { IfOk result (λ v. view v ≡ spec.text_list (spec.split_pieces (chars text.now) (chars separator.now) count)) }
     ensures memory { IfErr result (λ e. e ≡ Refused.Memory) }
 {
-    let text = characters(alloc, text)?;
-    let separator = characters(alloc, separator)?;
-    let texts = split_pieces(alloc, text.as_slice(), separator.as_slice(), count)?;
-    text_list(alloc, texts)
+    let texts = split_pieces(alloc, text, separator, count)?;
+    text_list(alloc, texts.as_slice())
 }
 
 /// The pieces of a string around a separator, at most so many, or all where the count is absent or negative.
@@ -207,13 +181,6 @@ fn most(count: Option<i64>) -> Option<usize>
     }
 }
 
-fn joined(alloc: Global, texts: &[String], between: &str) -> Result<String, AllocError>
-    ensures { IfOk result (λ t. string_bytes t ≡ spec.joined between.now (map string_bytes texts.now)) }
-{
-    let text = texts.join(alloc, between)?;
-    Ok(text)
-}
-
 fn replaced_text(
     alloc: Global,
     text: &str,
@@ -223,9 +190,7 @@ fn replaced_text(
 ) -> Result<String, AllocError>
     ensures { IfOk result (λ t. string_bytes t ≡ spec.replaced_text text.now separator.now new.now count) }
 {
-    let text = characters(alloc, text)?;
-    let separator = characters(alloc, separator)?;
-    let texts = pieces(alloc, text.as_slice(), separator.as_slice(), most(count))?;
+    let texts = pieces(alloc, text, separator, most(count))?;
     joined(alloc, texts.as_slice(), new)
 }
 

@@ -1,41 +1,54 @@
 //! `charAt`, `substring`, `indexOf` and `lastIndexOf`: characters by their places, and places of parts.
-ghost use Rattle.std.specs.Prelude.{◌≡◌, ◌≤◌, ◌<◌, ◌+◌, ◌^◌, length, if◌then◌else◌, IfOk, IfErr, IfSome, IsTrue, Some, option_map, string_bytes};
+ghost use Rattle.std.specs.Prelude.{◌≡◌, ◌≤◌, ◌<◌, ◌^◌, ℕ, suc, min, pos, List, length, take, drop, slice_get, slice_range, IfOk, IfErr, IfSome, option_map, string_bytes};
+ghost use Rattle.std.specs.Option.{unwrap_or};
+ghost use Rattle.std.specs.Str.{chars};
 ghost use Rattle.cel_value.specs.View.{view};
 ghost use Rattle.cel_meaning.specs.Outcome.{outcome_view};
+ghost use Rattle.kube_functions_texts.specs.Cuts as cuts;
 ghost use Rattle.kube_functions_texts.specs.Places as spec;
 
-use crate::answers::{characters, function_fault, spelled, text_answer};
+use crate::answers::{function_fault, text_answer};
+use crate::cuts::{around_first, around_last, around_place, character_count, copied};
 use crate::operands::{both_texts, optional_int, text_and_int};
 use cel_meaning::operators::{Answer, no_such_overload};
 use cel_value::{Refused, Value};
 use std::alloc::{AllocError, Global};
 
-// The place from `low` to `high` that an int is.
-fn place_within(low: usize, high: usize, index: i64) -> Option<usize>
-    ensures { result ≡ spec.place_within low high index }
+// The place that an int is.
+fn as_place(index: i64) -> Option<usize>
+    ensures value { result ≡ cuts.place_of index }
+    ensures small { IfSome result (λ k. k < 2 ^ 63) }
 {
     match usize::try_from(index) {
-        Ok(place) => {
-            if low <= place && place <= high {
-                Some(place)
-            } else {
-                None
-            }
-        }
+        Ok(place) => Some(place),
         Err(_) => None,
     }
 }
 
-fn character_text(alloc: Global, character: Option<&char>) -> Result<String, AllocError>
-    ensures { IfOk result (λ t. string_bytes t ≡ spec.character_text (option_map (λ c. c.now) character.entry)) }
+// The place in a text that an int is, with what stands from there on.
+fn from_index(text: &str, index: i64) -> Option<(usize, &str)>
+    ensures { option_map (λ p. (p.0, chars p.1.now)) result ≡ cuts.from_index (chars text.now) index }
 {
-    let mut text = String::new(alloc);
-    match character {
-        Some(c) => {
-            text.push(*c)?;
-            Ok(text)
+    match as_place(index) {
+        Some(place) => match around_place(text, place) {
+            Some((_, rest)) => Some((place, rest)),
+            None => None,
+        },
+        None => None,
+    }
+}
+
+// The first character of a text, or an empty one.
+fn first_character(alloc: Global, text: &str) -> Result<String, AllocError>
+    ensures { IfOk result (λ t. string_bytes t ≡ spec.character_text (slice_get (chars text.now) 0)) }
+{
+    let mut first = String::new(alloc);
+    match text.chars().next() {
+        Some(character) => {
+            first.push(character)?;
+            Ok(first)
         }
-        None => Ok(text),
+        None => Ok(first),
     }
 }
 
@@ -45,15 +58,14 @@ fn past_length(alloc: Global, what: &str, index: i64, length: usize) -> Result<S
     format!(in alloc; "{what} {index} out of range for string of length {length}")
 }
 
-fn character_at(alloc: Global, text: &[char], index: i64) -> Result<Answer, Refused>
-    ensures value { IfOk result (λ r. outcome_view r ≡ spec.character_at text.now index) }
+fn character_at(alloc: Global, text: &str, index: i64) -> Result<Answer, Refused>
+    ensures value { IfOk result (λ r. outcome_view r ≡ spec.character_at (chars text.now) index) }
     ensures memory { IfErr result (λ e. e ≡ Refused.Memory) }
 {
-    let length = text.len();
-    match place_within(0, length, index) {
-        Some(place) => text_answer(alloc, character_text(alloc, text.get(place))?),
+    match from_index(text, index) {
+        Some((_, rest)) => text_answer(alloc, first_character(alloc, rest)?),
         None => {
-            let message = past_length(alloc, "index", index, length)?;
+            let message = past_length(alloc, "index", index, character_count(text))?;
             function_fault(alloc, "charAt", message)
         }
     }
@@ -68,20 +80,33 @@ pub fn char_at(alloc: Global, value: &Value, index: &Value) -> Result<Answer, Re
     ensures memory { IfErr result (λ e. e ≡ Refused.Memory) }
 {
     match text_and_int(value, index) {
-        Some((text, index)) => {
-            let text = characters(alloc, text)?;
-            character_at(alloc, text.as_slice(), index)
-        }
+        Some((text, index)) => character_at(alloc, text, index),
         None => Ok(Err(no_such_overload(alloc, "charAt")?)),
     }
 }
 
-fn characters_up_to(alloc: Global, text: &[char], start: usize, end: i64) -> Result<Answer, Refused>
-    ensures value { IfOk result (λ r. outcome_view r ≡ spec.characters_up_to text.now start end) }
+// What stands at the front of the rest of a text, which begins at a place, up to the place that an int is.
+fn up_to(rest: &str, place: usize, end: i64) -> Option<&str>
+    ensures { (cs : List ℕ) → place ≤ length cs → chars rest.now ≡ drop place cs
+        → option_map (λ t. chars t.now) result
+        ≡ option_map (λ m. slice_range cs place m) (spec.place_within place (length cs) end) }
+{
+    match as_place(end) {
+        Some(end) if place <= end => match around_place(rest, end - place) {
+            Some((front, _)) => Some(front),
+            None => None,
+        },
+        _ => None,
+    }
+}
+
+fn characters_up_to(alloc: Global, rest: &str, place: usize, end: i64) -> Result<Answer, Refused>
+    ensures value { IfOk result (λ r. (cs : List ℕ) → place ≤ length cs → chars rest.now ≡ drop place cs
+        → outcome_view r ≡ spec.characters_up_to cs place end) }
     ensures memory { IfErr result (λ e. e ≡ Refused.Memory) }
 {
-    match place_within(start, text.len(), end) {
-        Some(end) => text_answer(alloc, spelled(alloc, &text[start..end])?),
+    match up_to(rest, place, end) {
+        Some(part) => text_answer(alloc, copied(alloc, part)?),
         None => {
             let message = format!(in alloc; "end index {end} out of range")?;
             function_fault(alloc, "substring", message)
@@ -91,18 +116,20 @@ fn characters_up_to(alloc: Global, text: &[char], start: usize, end: i64) -> Res
 
 fn characters_between(
     alloc: Global,
-    text: &[char],
+    text: &str,
     start: i64,
     end: Option<i64>,
 ) -> Result<Answer, Refused>
-    ensures value { IfOk result (λ r. outcome_view r ≡ spec.characters_between text.now start end) }
+    ensures value { IfOk result (λ r. outcome_view r ≡ spec.characters_between (chars text.now) start end) }
     ensures memory { IfErr result (λ e. e ≡ Refused.Memory) }
 {
-    let length = text.len();
-    match place_within(0, length, start) {
-        Some(place) => characters_up_to(alloc, text, place, end.unwrap_or(length as i64)),
+    match from_index(text, start) {
+        Some((place, rest)) => match end {
+            Some(end) => characters_up_to(alloc, rest, place, end),
+            None => text_answer(alloc, copied(alloc, rest)?),
+        },
         None => {
-            let message = past_length(alloc, "start index", start, length)?;
+            let message = past_length(alloc, "start index", start, character_count(text))?;
             function_fault(alloc, "substring", message)
         }
     }
@@ -124,60 +151,50 @@ pub fn substring(
 {
     match text_and_int(value, start) {
         Some((text, start)) => match optional_int(end) {
-            Some(end) => {
-                let text = characters(alloc, text)?;
-                characters_between(alloc, text.as_slice(), start, end)
-            }
+            Some(end) => characters_between(alloc, text, start, end),
             None => Ok(Err(no_such_overload(alloc, "substring")?)),
         },
         None => Ok(Err(no_such_overload(alloc, "substring")?)),
     }
 }
 
-pub(crate) fn stands_at(text: &[char], part: &[char], place: usize) -> bool
-    requires { place ≤ length text.now }
-    ensures value { result ≡ spec.stands_at text.now part.now place }
-    ensures within { IsTrue result → place + length part.now ≤ length text.now }
-{
-    text[place..].starts_with(part)
-}
-
 // The least place from `start` on at which the part stands.
-fn place_from(text: &[char], part: &[char], start: usize) -> Option<usize>
-    ensures value { result ≡ spec.place_from text.now part.now start }
+fn place_from(text: &str, part: &str, start: usize) -> Option<usize>
+    ensures value { result ≡ spec.place_from (chars text.now) (chars part.now) start }
     ensures within { IfSome result (λ k. k ≤ length text.now) }
 {
-    for place in start..text.len() + 1 {
-        if stands_at(text, part, place) {
-            return Some(place);
-        }
-    }
-    None
-}
-
-// The place if the part stands there, else the last one before it.
-fn later_place(text: &[char], part: &[char], place: usize, last: Option<usize>) -> Option<usize>
-    requires { place ≤ length text.now }
-    ensures { result ≡ (if spec.stands_at text.now part.now place then Some place else last) }
-{
-    if stands_at(text, part, place) {
-        Some(place)
-    } else {
-        last
+    match around_place(text, start) {
+        Some((_, rest)) => match around_first(rest, part) {
+            Some((before, _)) => Some(start + character_count(before)),
+            None => None,
+        },
+        None => None,
     }
 }
 
-// The greatest of the first `count` places at which the part stands.
-fn place_below(text: &[char], part: &[char], count: usize) -> Option<usize>
-    requires { count ≤ length text.now + 1 }
-    ensures value { result ≡ spec.greatest_below (spec.stands_at text.now part.now) count }
-    ensures within { IfSome result (λ k. k < count) }
+// The first so many characters of a text, or all of them.
+fn first_characters(text: &str, count: usize) -> &str
+    ensures { chars result.now ≡ take count (chars text.now) }
 {
-    let mut last = None;
-    for place in 0..count {
-        last = later_place(text, part, place, last);
+    match around_place(text, count) {
+        Some((front, _)) => front,
+        None => text,
     }
-    last
+}
+
+// The greatest place up to `most` at which the part stands, which is not empty.
+fn place_up_to(text: &str, part: &str, most: usize) -> Option<usize>
+    requires some { 0 < length part.now }
+    requires small { most < 2 ^ 63 }
+    ensures value { result ≡ spec.greatest_below (spec.stands_at (chars text.now) (chars part.now))
+        (suc (min most (length (chars text.now)))) }
+    ensures within { IfSome result (λ k. k ≤ length text.now) }
+{
+    let front = first_characters(text, most + character_count(part));
+    match around_last(front, part) {
+        Some((before, _)) => Some(character_count(before)),
+        None => None,
+    }
 }
 
 fn raised(index: i64) -> usize
@@ -185,17 +202,6 @@ fn raised(index: i64) -> usize
 {
     match usize::try_from(index) {
         Ok(place) => place,
-        Err(_) => 0,
-    }
-}
-
-fn places_up_to(length: usize, index: i64) -> usize
-    requires { length < 2 ^ 63 }
-    ensures value { result ≡ spec.places_up_to length index }
-    ensures within { result ≤ length + 1 }
-{
-    match usize::try_from(index) {
-        Ok(place) => place.min(length) + 1,
         Err(_) => 0,
     }
 }
@@ -210,22 +216,37 @@ fn or_no_place(place: Option<usize>) -> i64
     }
 }
 
-fn first_index(text: &[char], part: &[char], start: i64) -> i64
-    ensures { result ≡ spec.first_index text.now part.now start }
+fn first_index(text: &str, part: &str, start: i64) -> i64
+    ensures { result ≡ spec.first_index (chars text.now) (chars part.now) start }
 {
     let start = raised(start);
-    match part {
-        [] => start as i64,
-        _ => or_no_place(place_from(text, part, start)),
+    if part.is_empty() {
+        start as i64
+    } else {
+        or_no_place(place_from(text, part, start))
     }
 }
 
-fn last_index(text: &[char], part: &[char], start: i64) -> i64
-    ensures { result ≡ spec.last_index text.now part.now start }
+// The greatest place up to `start` at which the part stands, which is not empty.
+fn last_place(text: &str, part: &str, start: i64) -> Option<usize>
+    requires { 0 < length part.now }
+    ensures value { result ≡ spec.greatest_below (spec.stands_at (chars text.now) (chars part.now))
+        (spec.places_up_to (length (chars text.now)) start) }
+    ensures within { IfSome result (λ k. k ≤ length text.now) }
 {
-    match part {
-        [] => raised(start).min(text.len()) as i64,
-        _ => or_no_place(place_below(text, part, places_up_to(text.len(), start))),
+    match as_place(start) {
+        Some(most) => place_up_to(text, part, most),
+        None => None,
+    }
+}
+
+fn last_index(text: &str, part: &str, start: i64) -> i64
+    ensures { result ≡ spec.last_index (chars text.now) (chars part.now) start }
+{
+    if part.is_empty() {
+        raised(start).min(character_count(text)) as i64
+    } else {
+        or_no_place(last_place(text, part, start))
     }
 }
 
@@ -246,14 +267,22 @@ pub fn index_of(
     match both_texts(value, part) {
         Some((text, part)) => match optional_int(start) {
             Some(start) => {
-                let text = characters(alloc, text)?;
-                let part = characters(alloc, part)?;
-                let index = first_index(text.as_slice(), part.as_slice(), start.unwrap_or(0));
+                let index = first_index(text, part, start.unwrap_or(0));
                 Ok(Ok(Value::Int(index)))
             }
             None => Ok(Err(no_such_overload(alloc, "indexOf")?)),
         },
         None => Ok(Err(no_such_overload(alloc, "indexOf")?)),
+    }
+}
+
+// The int, or where the text ends.
+fn or_end(start: Option<i64>, text: &str) -> i64
+    ensures { result ≡ unwrap_or start (pos (length (chars text.now))) }
+{
+    match start {
+        Some(start) => start,
+        None => character_count(text) as i64,
     }
 }
 
@@ -274,10 +303,7 @@ pub fn last_index_of(
     match both_texts(value, part) {
         Some((text, part)) => match optional_int(start) {
             Some(start) => {
-                let text = characters(alloc, text)?;
-                let part = characters(alloc, part)?;
-                let start = start.unwrap_or(text.len() as i64);
-                let index = last_index(text.as_slice(), part.as_slice(), start);
+                let index = last_index(text, part, or_end(start, text));
                 Ok(Ok(Value::Int(index)))
             }
             None => Ok(Err(no_such_overload(alloc, "lastIndexOf")?)),

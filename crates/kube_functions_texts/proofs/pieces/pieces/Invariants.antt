@@ -1,11 +1,16 @@
-use Rattle.std.proofs.Common.{◌≡◌, ◌≤◌, suc, length, map, string_bytes}
-use Rattle.kube_functions_texts.specs.Cuts.{all_pieces}
+use Rattle.std.proofs.Common.{◌≡◌, ◌+◌, ◌-◌, ◌++◌, length, map}
+use Rattle.std.specs.Str.{chars}
+use Rattle.kube_functions_texts.specs.Cuts.{pieces_behind}
 use Rattle.kube_functions_texts.specs.Pieces as spec
+use denote.Text.{Utf8}
+use denote.Shadow.{shadow}
 use Rattle.kube_functions_texts.proofs.pieces.pieces.Given as goal
 
-abbrev pub invariant-loop-place : goal.invariant-loop-place
-invariant-loop-place l = record {
-  ends : l.place-end ≡ suc (length l.text);
-  within : l.cutting.end ≤ length l.text;
-  same : all_pieces l.text l.separator l.limit (map string_bytes l.cutting.pieces.items) l.cutting.end l.place ≡ spec.pieces l.text l.separator l.limit;
-}
+-- says that each `&str` the loop changes is text
+abbrev pub invariant-loop-piece : goal.invariant-loop-piece
+invariant-loop-piece l =
+    shadow (Utf8 l.rest)
+    × (map (λ s. s.now) l.pieces.items ++ pieces_behind (chars l.rest) (chars l.separator) l.limit (length l.pieces.items) ≡ spec.pieces (chars l.text) (chars l.separator) l.limit)
+
+abbrev pub decreases-loop-piece : goal.decreases-loop-piece
+decreases-loop-piece l = length (chars l.rest) + (1 - length l.pieces.items)

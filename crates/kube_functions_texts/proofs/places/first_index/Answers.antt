@@ -1,8 +1,14 @@
-use Rattle.std.proofs.Common.{◌<◌, arith, rules, length}
-use Rattle.kube_functions_texts.proofs.Standing.{small_place}
+use Rattle.std.proofs.Common.{rules, length}
+use Rattle.std.specs.Str.{chars}
+use Rattle.kube_functions_texts.proofs.Between.{no_characters, some_characters, no_bytes, some_bytes, first_of_none, first_of_some}
 use Rattle.kube_functions_texts.proofs.places.first_index.Goals as goal
 
-pub or_no_place-requires : goal.or_no_place-requires
-or_no_place-requires c =
-    let small : length c.args.text.now < 9223372036854775808 = first_of (search rules, omega arith) in
-    small_place c.place_from.result (length c.args.text.now) 9223372036854775808 small c.place_from.ensures.within
+pub returns-then-is_empty : goal.returns-then-is_empty
+returns-then-is_empty c =
+    let part = c.args.part.now in
+    first_of_none (chars c.args.text.now) (chars part) c.args.start _ (no_characters part c.utf8.part (no_bytes c.is_empty.result (length part) c.is_empty.ensures c.if-is_empty.true)) (search rules)
+
+pub returns-else-is_empty : goal.returns-else-is_empty
+returns-else-is_empty c =
+    let part = c.args.part.now in
+    first_of_some (chars c.args.text.now) (chars part) c.args.start _ (some_characters part c.utf8.part (some_bytes c.is_empty.result (length part) c.is_empty.ensures c.if-is_empty.false)) (search rules)

@@ -1,18 +1,22 @@
-use Rattle.std.proofs.Common.{arith, ◌∙◌, sym}
-use Rattle.kube_functions_texts.proofs.Standing.{stands_here, stands_later, stands_nowhere}
+use Rattle.std.proofs.Common.{◌<◌, arith, rules, length}
+use Rattle.std.specs.Str.{chars}
+use Rattle.kube_functions_texts.proofs.Between.{few_characters, place_found, place_missing}
 use Rattle.kube_functions_texts.proofs.places.place_from.Goals as goal
 
-pub returns-then-stands_at-clause-value : goal.returns-then-stands_at-clause-value
-returns-then-stands_at-clause-value c =
-    sym (c.loop-place.invariant.same ∙ stands_here c.args.text.now c.args.part.now c.loop-place.place (omega arith) (sym c.stands_at.ensures.value ∙ c.if-stands_at.true))
+pub overflow_add-result : goal.overflow_add-result
+overflow_add-result c =
+    let found = place_found (chars c.args.text.now) (chars c.args.part.now) _ _ _ _ c.args.start c.character_count.result c.in-Some.ensures.value c.in-Some-around_first.ensures.value c.character_count.ensures.value in
+    let small : length c.args.text.now < 9223372036854775808 = first_of (search rules, omega arith) in
+    omega (arith, found.1, few_characters c.args.text.now c.utf8.text)
 
-pub loop-place-preserved : goal.loop-place-preserved
-loop-place-preserved c = record {
-  ends = c.loop-place.invariant.ends;
-  same =
-      c.loop-place.invariant.same
-      ∙ stands_later c.args.text.now c.args.part.now c.loop-place.place (omega arith) (sym c.stands_at.ensures.value ∙ c.if-stands_at.false);
-}
+pub returns-in-Some-around_first-clause-value : goal.returns-in-Some-around_first-clause-value
+returns-in-Some-around_first-clause-value c =
+    (place_found (chars c.args.text.now) (chars c.args.part.now) _ _ _ _ c.args.start c.character_count.result c.in-Some.ensures.value c.in-Some-around_first.ensures.value c.character_count.ensures.value).0
 
-pub returns-clause-value : goal.returns-clause-value
-returns-clause-value c = sym (c.loop-place.invariant.same ∙ stands_nowhere c.args.text.now c.args.part.now c.loop-place.place (omega arith))
+pub returns-in-Some-around_first-clause-within : goal.returns-in-Some-around_first-clause-within
+returns-in-Some-around_first-clause-within c =
+    let found = place_found (chars c.args.text.now) (chars c.args.part.now) _ _ _ _ c.args.start c.character_count.result c.in-Some.ensures.value c.in-Some-around_first.ensures.value c.character_count.ensures.value in
+    omega (arith, found.1, few_characters c.args.text.now c.utf8.text)
+
+pub returns-in-None-around_first-clause-value : goal.returns-in-None-around_first-clause-value
+returns-in-None-around_first-clause-value c = place_missing (chars c.args.text.now) (chars c.args.part.now) _ _ c.args.start c.in-Some.ensures.value c.in-None-around_first.ensures.value
