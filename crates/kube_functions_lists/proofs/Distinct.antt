@@ -93,7 +93,7 @@ started ks xs h = subst (λ zs. distinct_items (map view xs) ≡ gathered (map v
 next_place : (i : ℕ) → suc i ≡ i + 1
 next_place i = omega arith
 
-rest_is : (xs : List Value) (i : ℕ) (x : Value) → i < length xs → x ≡ get_or xs i x → drop i xs ≡ x ∷ drop (i + 1) xs
+pub rest_is : (xs : List Value) (i : ℕ) (x : Value) → i < length xs → x ≡ get_or xs i x → drop i xs ≡ x ∷ drop (i + 1) xs
 rest_is xs i x lt is = drop-cons xs i x lt ∙ (λ k. sym is k ∷ drop (next_place i k) xs)
 
 pub continued : (all ls : List Data) (xs : List Value) (ks : List Data) (i : ℕ) (x : Value) → i < length xs → x ≡ get_or xs i x → ls ≡ with_new ks (view x)
@@ -102,7 +102,7 @@ continued all ls xs ks i x lt is e h =
     h ∙ ap (λ ys. gathered ks (map view ys)) (rest_is xs i x lt is) ∙ one_more ks (view x) (map view (drop (i + 1) xs))
     ∙ ap (λ zs. gathered zs (map view (drop (i + 1) xs))) (sym e)
 
-drop_past : (xs : List Value) (i : ℕ) → length xs ≤ i → drop i xs ≡ []
+pub drop_past : (xs : List Value) (i : ℕ) → length xs ≤ i → drop i xs ≡ []
 drop_past [] zero h = refl
 drop_past [] (suc i) h = refl
 drop_past (x ∷ xs) zero h = absurd (omega (arith, h))

@@ -3,3 +3,4 @@ pub mod Distinct
 pub mod Stable
 pub mod Classes
 pub mod Occurrences
+pub mod ByKey

@@ -5,3 +5,4 @@ pub mod Sets
 pub mod Orders
 pub mod Math
 pub mod Bits
+pub mod Keyed

@@ -1,13 +1,13 @@
 //! `flatten`: lists inside a list, replaced by their items.
 ghost use Rattle.std.specs.Prelude.{◌≡◌, ◌++◌, ◌∷◌, [], IfOk, IfErr, OnOk, Ok, map, option_map};
-ghost use Rattle.cel_value.specs.View.{view, items_view};
+ghost use Rattle.cel_value.specs.View.{view};
 ghost use Rattle.cel_meaning.specs.Outcome.{outcome_view};
 ghost use Rattle.kube_functions_lists.specs.Lists as spec;
 
 use crate::items::{as_int, list_of};
 use cel_meaning::operators::{Answer, no_such_overload};
 use cel_standard::faults::function_error;
-use cel_value::{Refused, Value};
+use cel_value::{List, Refused, Value};
 use std::alloc::Global;
 
 #[cycle(push)]
@@ -29,11 +29,11 @@ fn push_item(item: &Value, depth: u64, out: &mut Vec<Value>) -> Result<(), Refus
 }
 
 #[cycle(push)]
-fn push_items(items: &Vec<Value>, depth: u64, out: &mut Vec<Value>) -> Result<(), Refused>
-    ensures pushed { OnOk result (map view out.new.items ≡ map view out.old.items ++ spec.flat_items (items_view items.now.items) depth) }
+fn push_items(items: &List, depth: u64, out: &mut Vec<Value>) -> Result<(), Refused>
+    ensures pushed { OnOk result (map view out.new.items ≡ map view out.old.items ++ spec.flat_items items.now depth) }
     ensures memory { IfErr result (λ e. e ≡ Refused.Memory) }
 {
-    for item in items {
+    for item in items.as_slice() {
         push_item(item, depth, out)?;
     }
     Ok(())
@@ -47,8 +47,8 @@ fn push_copy(item: &Value, out: &mut Vec<Value>) -> Result<(), Refused>
     Ok(())
 }
 
-fn flat_items(alloc: Global, items: &Vec<Value>, depth: u64) -> Result<Vec<Value>, Refused>
-    ensures value { IfOk result (λ v. map view v.items ≡ spec.flat_items (items_view items.now.items) depth) }
+fn flat_items(alloc: Global, items: &List, depth: u64) -> Result<Vec<Value>, Refused>
+    ensures value { IfOk result (λ v. map view v.items ≡ spec.flat_items items.now depth) }
     ensures memory { IfErr result (λ e. e ≡ Refused.Memory) }
 {
     let mut flat = Vec::new(alloc);
@@ -56,8 +56,8 @@ fn flat_items(alloc: Global, items: &Vec<Value>, depth: u64) -> Result<Vec<Value
     Ok(flat)
 }
 
-fn flattened(alloc: Global, items: &Vec<Value>, depth: i64) -> Result<Answer, Refused>
-    ensures value { IfOk result (λ r. outcome_view r ≡ spec.flattened (items_view items.now.items) depth) }
+fn flattened(alloc: Global, items: &List, depth: i64) -> Result<Answer, Refused>
+    ensures value { IfOk result (λ r. outcome_view r ≡ spec.flattened items.now depth) }
     ensures memory { IfErr result (λ e. e ≡ Refused.Memory) }
 {
     if depth < 0 {

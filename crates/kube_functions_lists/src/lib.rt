@@ -3,10 +3,12 @@
 
 pub mod bits;
 mod items;
+mod keyed;
 pub mod laws;
 pub mod levels;
 pub mod lists;
 pub mod math;
+mod members;
 pub mod orders;
 pub mod places;
 pub mod ranges;

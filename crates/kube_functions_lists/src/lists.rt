@@ -3,14 +3,16 @@ ghost use Rattle.std.specs.Prelude.{◌≡◌, pos, length, IfOk, IfErr, OnOk, O
 ghost use Rattle.cel_value.specs.Faults.{fault_view};
 ghost use Rattle.cel_value.specs.View.{view};
 ghost use Rattle.cel_meaning.specs.Outcome.{outcome_view};
+ghost use Rattle.kube_functions_lists.specs.Keyed.{HasKeysOf};
 ghost use Rattle.kube_functions_lists.specs.Lists as spec;
 
 use crate::items::{as_ints, copies, items_of, list_of};
-use crate::sets::is_in;
+use crate::keyed::add_new;
 use cel_meaning::operators::{Answer, no_such_overload};
 use cel_standard::faults::function_error;
-use cel_value::{ExecutionError, OptionalValue, Refused, Value};
+use cel_value::{ExecutionError, Key, OptionalValue, Refused, Value};
 use std::alloc::{AllocError, Global};
+use std::collections::BTreeSet;
 
 fn slice_message(alloc: Global, start: i64, end: i64, length: usize) -> Result<String, AllocError>
     ensures { IfOk result (λ s. string_bytes s ≡ spec.slice_message start end length) }
@@ -157,14 +159,15 @@ pub fn reverse(alloc: Global, value: &Value) -> Result<Answer, Refused>
     }
 }
 
-fn push_new(kept: &mut Vec<Value>, item: &Value) -> Result<(), Refused>
+fn push_new(kept: &mut Vec<Value>, keys: &mut BTreeSet<Key>, item: &Value) -> Result<(), Refused>
+    requires { HasKeysOf keys.old (map view kept.old.items) }
     ensures pushed { OnOk result (map view kept.new.items ≡ spec.with_new (map view kept.old.items) (view item.now)) }
+    ensures keys { OnOk result (HasKeysOf keys.new (map view kept.new.items)) }
     ensures memory { IfErr result (λ e. e ≡ Refused.Memory) }
 {
-    if is_in(kept.as_slice(), item) {
-        return Ok(());
+    if add_new(keys, kept.as_slice(), item)? {
+        kept.push(item.try_clone()?)?;
     }
-    kept.push(item.try_clone()?)?;
     Ok(())
 }
 
@@ -173,8 +176,9 @@ fn distinct_items(alloc: Global, items: &[Value]) -> Result<Vec<Value>, Refused>
     ensures memory { IfErr result (λ e. e ≡ Refused.Memory) }
 {
     let mut kept = Vec::new(alloc);
+    let mut keys = BTreeSet::new(alloc);
     for item in items {
-        push_new(&mut kept, item)?;
+        push_new(&mut kept, &mut keys, item)?;
     }
     Ok(kept)
 }

@@ -5,6 +5,7 @@ ghost use Rattle.cel_meaning.specs.Outcome.{outcome_view};
 ghost use Rattle.kube_functions_lists.specs.Sets as spec;
 
 use crate::items::items_of;
+use crate::members::Members;
 use cel_meaning::operators::{Answer, no_such_overload};
 use cel_value::{Refused, Value};
 use std::alloc::Global;
@@ -21,32 +22,37 @@ pub(crate) fn is_in(items: &[Value], value: &Value) -> bool
     false
 }
 
-fn has_all(items: &[Value], others: &[Value]) -> bool
-    ensures { result ≡ spec.has_all (map view items.now) (map view others.now) }
+fn has_all(alloc: Global, items: &[Value], others: &[Value]) -> Result<bool, Refused>
+    ensures value { IfOk result (λ b. b ≡ spec.has_all (map view items.now) (map view others.now)) }
+    ensures memory { IfErr result (λ e. e ≡ Refused.Memory) }
 {
+    let members = Members::of(alloc, items, others.len())?;
     for other in others {
-        if !is_in(items, other) {
-            return false;
+        if !members.has(other)? {
+            return Ok(false);
         }
     }
-    true
+    Ok(true)
 }
 
-fn have_same(items: &[Value], others: &[Value]) -> bool
-    ensures { result ≡ spec.have_same (map view items.now) (map view others.now) }
+fn have_same(alloc: Global, items: &[Value], others: &[Value]) -> Result<bool, Refused>
+    ensures value { IfOk result (λ b. b ≡ spec.have_same (map view items.now) (map view others.now)) }
+    ensures memory { IfErr result (λ e. e ≡ Refused.Memory) }
 {
-    has_all(items, others) && has_all(others, items)
+    Ok(has_all(alloc, items, others)? && has_all(alloc, others, items)?)
 }
 
-fn have_common(items: &[Value], others: &[Value]) -> bool
-    ensures { result ≡ spec.have_common (map view items.now) (map view others.now) }
+fn have_common(alloc: Global, items: &[Value], others: &[Value]) -> Result<bool, Refused>
+    ensures value { IfOk result (λ b. b ≡ spec.have_common (map view items.now) (map view others.now)) }
+    ensures memory { IfErr result (λ e. e ≡ Refused.Memory) }
 {
+    let members = Members::of(alloc, items, others.len())?;
     for other in others {
-        if is_in(items, other) {
-            return true;
+        if members.has(other)? {
+            return Ok(true);
         }
     }
-    false
+    Ok(false)
 }
 
 /// Whether every item of the second list is in the first one.
@@ -59,7 +65,7 @@ pub fn contains(alloc: Global, value: &Value, other: &Value) -> Result<Answer, R
 {
     match items_of(value) {
         Some(items) => match items_of(other) {
-            Some(others) => Ok(Ok(Value::Bool(has_all(items, others)))),
+            Some(others) => Ok(Ok(Value::Bool(has_all(alloc, items, others)?))),
             None => Ok(Err(no_such_overload(alloc, "sets.contains")?)),
         },
         None => Ok(Err(no_such_overload(alloc, "sets.contains")?)),
@@ -76,7 +82,7 @@ pub fn equivalent(alloc: Global, value: &Value, other: &Value) -> Result<Answer,
 {
     match items_of(value) {
         Some(items) => match items_of(other) {
-            Some(others) => Ok(Ok(Value::Bool(have_same(items, others)))),
+            Some(others) => Ok(Ok(Value::Bool(have_same(alloc, items, others)?))),
             None => Ok(Err(no_such_overload(alloc, "sets.equivalent")?)),
         },
         None => Ok(Err(no_such_overload(alloc, "sets.equivalent")?)),
@@ -93,7 +99,7 @@ pub fn intersects(alloc: Global, value: &Value, other: &Value) -> Result<Answer,
 {
     match items_of(value) {
         Some(items) => match items_of(other) {
-            Some(others) => Ok(Ok(Value::Bool(have_common(items, others)))),
+            Some(others) => Ok(Ok(Value::Bool(have_common(alloc, items, others)?))),
             None => Ok(Err(no_such_overload(alloc, "sets.intersects")?)),
         },
         None => Ok(Err(no_such_overload(alloc, "sets.intersects")?)),

@@ -3,4 +3,4 @@ use Rattle.cel_standard.proofs.Leading.{listed}
 use Rattle.kube_functions_lists.proofs.items.items_of.Goals as goal
 
 pub returns-in-Some : goal.returns-in-Some
-returns-in-Some c = listed (view c.args.value.now) c.as_slice.result.now c.in-Some.items.now.items c.as_slice.ensures.value c.in-Some.ensures
+returns-in-Some c = listed (view c.args.value.now) c.as_slice.result.now c.in-Some.items.now c.as_slice.ensures c.in-Some.ensures

@@ -1,0 +1,30 @@
+-- Sets of keys beside lists of values. A bool, a number and a string are keys of maps, and two of them are equal where their keys are.
+use Rattle.std.specs.Prelude.{◌≡◌, ◌||◌, List, Bool}
+use Rattle.std.specs.BTreeSet.{BTreeSet, contains}
+use Rattle.std.specs.declared.cmp.Ordering.{Ordering}
+use Rattle.cel_value.specs.Data.{KeyData, bool_key, int_key, uint_key, text_key, Data, bool, int, uint, text}
+use Rattle.cel_value.specs.Keys.{key_view, key_order}
+use Rattle.cel_value.specs.Same.{same}
+use Rattle.cel_value.specs.declared.key.Key.{Key}
+use Rattle.kube_functions_lists.specs.Sets.{is_in}
+
+-- the value that is this key
+abbrev pub key_data : KeyData → Data
+key_data (bool_key b) = bool b
+key_data (int_key n) = int n
+key_data (uint_key n) = uint n
+key_data (text_key s) = text s
+
+abbrev pub key_cmp : Key → Key → Ordering
+key_cmp a b = key_order (key_view a) (key_view b)
+
+abbrev pub has_key : BTreeSet Key → Key → Bool
+has_key s k = contains key_cmp s k
+
+-- a key is in the set exactly where its value is in the list
+abbrev pub HasKeysOf : BTreeSet Key → List Data → Type 0
+HasKeysOf s ds = (k : Key) → has_key s k ≡ is_in ds (key_data (key_view k))
+
+-- the second set has the keys of the first, and that of the value, if it is one
+abbrev pub AddsKeyOf : BTreeSet Key → BTreeSet Key → Data → Type 0
+AddsKeyOf s n d = (k : Key) → has_key n k ≡ (has_key s k || same (key_data (key_view k)) d)

@@ -1,0 +1,94 @@
+//! The keys among items: bools, numbers and strings are found by them, with no look at all items.
+ghost use Rattle.std.specs.Prelude.{◌≡◌, IfOk, IfErr, OnOk, map, not, option_map};
+ghost use Rattle.cel_value.specs.Keys.{key_view};
+ghost use Rattle.cel_value.specs.View.{view};
+ghost use Rattle.cel_meaning.specs.Members.{key_of};
+ghost use Rattle.kube_functions_lists.specs.Keyed.{HasKeysOf, AddsKeyOf};
+ghost use Rattle.kube_functions_lists.specs.Lists.{with_new};
+ghost use Rattle.kube_functions_lists.specs.Sets as spec;
+
+use crate::sets::is_in;
+use cel_value::{Key, Refused, Value};
+use std::alloc::Global;
+use std::collections::BTreeSet;
+
+/// The key that a value is.
+fn key_from(value: &Value) -> Result<Option<Key>, Refused>
+    ensures value { IfOk result (λ k. option_map key_view k ≡ key_of (view value.now)) }
+    ensures memory { IfErr result (λ e. e ≡ Refused.Memory) }
+{
+    match value {
+        Value::Bool(b) => Ok(Some(Key::Bool(*b))),
+        Value::Int(n) => Ok(Some(Key::Int(*n))),
+        Value::UInt(n) => Ok(Some(Key::Uint(*n))),
+        Value::String(text) => Ok(Some(Key::String(text.clone()?))),
+        _ => Ok(None),
+    }
+}
+
+/// Whether a value equals none of the items. Where it equals none and is a key, the keys of the items get it.
+///
+/// # Errors
+/// `Memory` alone.
+pub(crate) fn add_new(
+    keys: &mut BTreeSet<Key>,
+    items: &[Value],
+    value: &Value,
+) -> Result<bool, Refused>
+    requires { HasKeysOf keys.old (map view items.now) }
+    ensures value { IfOk result (λ fresh. fresh ≡ not (spec.is_in (map view items.now) (view value.now))) }
+    ensures keys { OnOk result (HasKeysOf keys.new (with_new (map view items.now) (view value.now))) }
+    ensures memory { IfErr result (λ e. e ≡ Refused.Memory) }
+{
+    match key_from(value)? {
+        Some(key) => Ok(keys.insert(key)?),
+        None => Ok(!is_in(items, value)),
+    }
+}
+
+fn add_key(keys: &mut BTreeSet<Key>, value: &Value) -> Result<(), Refused>
+    ensures keys { OnOk result (AddsKeyOf keys.old keys.new (view value.now)) }
+    ensures memory { IfErr result (λ e. e ≡ Refused.Memory) }
+{
+    match key_from(value)? {
+        Some(key) => {
+            keys.insert(key)?;
+        }
+        None => {}
+    }
+    Ok(())
+}
+
+/// The keys of those items that are keys.
+///
+/// # Errors
+/// `Memory` alone.
+pub(crate) fn keys_of(alloc: Global, items: &[Value]) -> Result<BTreeSet<Key>, Refused>
+    ensures keys { IfOk result (λ s. HasKeysOf s (map view items.now)) }
+    ensures memory { IfErr result (λ e. e ≡ Refused.Memory) }
+{
+    let mut keys = BTreeSet::new(alloc);
+    for item in items {
+        add_key(&mut keys, item)?;
+    }
+    Ok(keys)
+}
+
+/// Whether a value is among the items whose keys are given.
+///
+/// # Errors
+/// `Memory` alone.
+pub(crate) fn is_among(
+    keys: &BTreeSet<Key>,
+    items: &[Value],
+    value: &Value,
+) -> Result<bool, Refused>
+    requires { HasKeysOf keys.now (map view items.now) }
+    ensures value { IfOk result (λ found. found ≡ spec.is_in (map view items.now) (view value.now)) }
+    ensures memory { IfErr result (λ e. e ≡ Refused.Memory) }
+{
+    match key_from(value)? {
+        Some(key) => Ok(keys.contains(&key)),
+        None => Ok(is_in(items, value)),
+    }
+}
