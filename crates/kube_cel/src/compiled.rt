@@ -54,8 +54,9 @@ fn named_nodes<'a>(
     ensures { IfOk result (λ v. map named_node v.items
         ≡ map {B = List ℕ × Option Tree} (λ k. (k, property_of k (shown node.now))) (in_order (names (named_of (shown node.now))))) }
 {
-    let mut nodes = Vec::new(alloc);
-    for index in 0..node.property_count() {
+    let count = node.property_count();
+    let mut nodes = Vec::with_capacity(alloc, count)?;
+    for index in 0..count {
         push_named(node.property(index), &mut nodes)?;
     }
     Ok(nodes)

@@ -39,7 +39,7 @@ fn named_nodes<'a>(
     ensures { IfOk result (λ v. map {B = List ℕ × Option Data} (λ p. (p.0.now, Some (view p.1.schema.now))) v.items
         ≡ map {B = List ℕ × Option Data} (λ k. (k, get_member k (members_view members.now.entries))) (in_order (keys_in (members_view members.now.entries)))) }
 {
-    let mut nodes = Vec::new(alloc);
+    let mut nodes = Vec::with_capacity(alloc, members.len())?;
     for (key, schema) in members.iter() {
         nodes.push((key.as_str(), RawNode { schema }))?;
     }

@@ -17,7 +17,7 @@ use crate::raw::RawNode;
 use cel::PatternBook;
 use kube_cel_errors::ValidationErrors;
 use kube_cel_verdicts::RootContext;
-use kube_schema::{CompiledSchema, apply_defaults, fill_node};
+use kube_schema::{CompiledSchema, filled_by_node, filled_value};
 use kube_types::Refused;
 use serde_json::Value;
 use std::alloc::Global;
@@ -91,13 +91,13 @@ impl Validator {
         ensures places { IfOk result (λ r. (b : Book) → Agrees b (entries_of book.new)
             → IsAnswer raw_form b (given_spot schema.now object.now old.entry root.entry) (found_in r)) }
     {
-        let object = apply_defaults(alloc, schema, object)?;
+        let object = filled_value(alloc, schema, object)?;
         let node = RawNode { schema };
         let Some(old) = old else {
             let answer = judged(alloc, node, &object, None, root, book)?;
             return Ok(answer);
         };
-        let old = apply_defaults(alloc, schema, old)?;
+        let old = filled_value(alloc, schema, old)?;
         let answer = judged(alloc, node, &object, Some(&old), root, book)?;
         Ok(answer)
     }
@@ -164,13 +164,13 @@ impl Validator {
             → IsAnswer raw_form b (source_spot s object.now old.entry root.entry) (found_in r)) }
     {
         let root_node = compiled.root();
-        let object = fill_node(alloc, &root_node, object)?;
+        let object = filled_by_node(alloc, &root_node, object)?;
         let node = CompiledNode { node: root_node };
         let Some(old) = old else {
             let answer = judged(alloc, node, &object, None, root, book)?;
             return Ok(answer);
         };
-        let old = fill_node(alloc, &root_node, old)?;
+        let old = filled_by_node(alloc, &root_node, old)?;
         let answer = judged(alloc, node, &object, Some(&old), root, book)?;
         Ok(answer)
     }

@@ -3,3 +3,5 @@ pub mod Fills
 pub mod Members
 pub mod Twice
 pub mod Keeping
+pub mod Whole
+pub mod Without

@@ -15,12 +15,12 @@ use Rattle.kube_schema_filled.proofs.Members.{is_key, if_key, get_member-with_de
 
 -- ---- members that stay as they are
 
-abbrev Fixed : (List ℕ → Data → Data) → Members → Type 0
+abbrev pub Fixed : (List ℕ → Data → Data) → Members → Type 0
 Fixed f no_members = ⊤
 Fixed f (member k d ms) = (f k d ≡ d) × Fixed f ms
 
 module _ (f : List ℕ → Data → Data) where
-  fixed_same : (ms : Members) → Fixed f ms → map_members f ms ≡ ms
+  pub fixed_same : (ms : Members) → Fixed f ms → map_members f ms ≡ ms
   fixed_same no_members h = refl
   fixed_same (member k d ms) h = ap (λ x. member k x (map_members f ms)) h.0 ∙ ap (member k d) (fixed_same ms h.1)
 
@@ -53,11 +53,11 @@ module _ (f : List ℕ → Data → Data) where
 -- ---- members that lack no default
 
 module _ (default : List ℕ → Option Data) where
-  abbrev Settled : List (List ℕ) → Members → Type 0
+  abbrev pub Settled : List (List ℕ) → Members → Type 0
   Settled [] ms = ⊤
   Settled (k ∷ ks) ms = (put_new k (default k) ms ≡ ms) × Settled ks ms
 
-  settled_same : (ks : List (List ℕ)) (ms : Members) → Settled ks ms → with_defaults default ks ms ≡ ms
+  pub settled_same : (ks : List (List ℕ)) (ms : Members) → Settled ks ms → with_defaults default ks ms ≡ ms
   unfolding with_defaults
   settled_same [] ms h = refl
   settled_same (k ∷ ks) ms h = ap (with_defaults default ks) h.0 ∙ settled_same ks ms h.1

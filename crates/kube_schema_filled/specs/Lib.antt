@@ -1,3 +1,4 @@
 pub mod Look
 pub mod Filled
 pub mod Kept
+pub mod Without

@@ -9,7 +9,7 @@ use serde_json::{Map, Value};
 use std::alloc::{AllocError, Global};
 
 /// How many levels of a schema have defaults: those of depth 0 to 64.
-const LEVELS: usize = 65;
+pub(crate) const LEVELS: usize = 65;
 
 /// The value with the defaults of the schema: an object gets each missing key of `properties` that has a `default`, and all members and list
 /// items that were there get the defaults of their own schemas. A default that is put in gets the defaults inside it.
@@ -32,7 +32,12 @@ pub fn apply_defaults(alloc: Global, schema: &Value, value: &Value) -> Result<Va
 
 // The value with the defaults of so many levels.
 #[cycle(fill)]
-fn fill(alloc: Global, schema: &Value, value: &Value, levels: usize) -> Result<Value, AllocError>
+pub(crate) fn fill(
+    alloc: Global,
+    schema: &Value,
+    value: &Value,
+    levels: usize,
+) -> Result<Value, AllocError>
     ensures { IfOk result (λ v. view v ≡ filled raw levels (view schema.now) (view value.now)) }
 {
     if levels == 0 {
@@ -149,7 +154,7 @@ fn add_default(
 }
 
 // The schema that a member goes by.
-fn schema_of_member<'s>(schema: &'s Value, key: &str) -> Option<&'s Value>
+pub(crate) fn schema_of_member<'s>(schema: &'s Value, key: &str) -> Option<&'s Value>
     ensures { option_map (λ n. view n.now) result
         ≡ member_look raw (view schema.now) key.now }
 {
@@ -163,7 +168,7 @@ fn schema_of_member<'s>(schema: &'s Value, key: &str) -> Option<&'s Value>
 }
 
 #[tactic(auto, unfolding(crate::specs::Look::declared))]
-fn declared(schema: &Value) -> Option<&Map<String, Value>>
+pub(crate) fn declared(schema: &Value) -> Option<&Map<String, Value>>
     ensures { option_map (λ m. members_view m.now.entries) result ≡ declared (view schema.now) }
 {
     schema.get("properties")?.as_object()
@@ -195,7 +200,7 @@ fn preserves(schema: &Value) -> bool
 }
 
 #[tactic(auto, unfolding(crate::specs::Look::default_in))]
-fn default_of(schema: &Value) -> Option<&Value>
+pub(crate) fn default_of(schema: &Value) -> Option<&Value>
     ensures { option_map (λ d. view d.now) result ≡ default_in (view schema.now) }
 {
     schema.get("default")

@@ -4,6 +4,7 @@ ghost use Rattle.serde_json.specs.Data.{Data};
 ghost use Rattle.kube_schema_filled.specs.Look.{raw};
 ghost use Rattle.kube_schema_filled.specs.Filled.{filled};
 ghost use Rattle.kube_schema_filled.specs.Kept.{Keeps};
+ghost use Rattle.kube_schema_filled.specs.Without.{HasNoDefaults};
 
 /// A value that has its defaults is not changed by them.
 pub fn filled_twice_is_filled_once()
@@ -14,4 +15,9 @@ pub fn filled_twice_is_filled_once()
 /// What is there stays: at each path that leads somewhere in a value stands the same afterwards, and only objects may have got more members.
 pub fn what_is_there_stays()
     ensures { (levels : ℕ) (schema value : Data) → Keeps value (filled raw levels schema value) }
+{}
+
+/// Where no default lies within a schema, each value stays as it is.
+pub fn without_defaults_all_stays()
+    ensures { (levels : ℕ) (schema value : Data) → HasNoDefaults raw levels schema → filled raw levels schema value ≡ value }
 {}

@@ -3,6 +3,8 @@
 
 pub mod defaults;
 pub mod laws;
+pub mod lent;
 
 pub use defaults::apply_defaults;
 pub use kube_types_refused::Refused;
+pub use lent::filled_value;

@@ -3,3 +3,4 @@ pub mod Build
 pub mod Same
 pub mod Names
 pub mod Search
+pub mod Without

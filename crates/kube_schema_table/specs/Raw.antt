@@ -1,7 +1,8 @@
 -- The tree that a number of a table stands for.
-use Rattle.std.specs.Prelude.{◌≡◌, ◌<◌, ◌≤◌, ◌+◌, ℕ, zero, suc, List, [], ◌∷◌, length, map, false, Option, Some, None, option_map, slice_get, string_bytes, ⊤}
+use Rattle.std.specs.Prelude.{◌≡◌, ◌<◌, ◌≤◌, ◌+◌, ℕ, zero, suc, List, [], ◌∷◌, length, map, Bool, false, is_some, Option, Some, None, option_map, slice_get, string_bytes, ⊤}
 use Rattle.std.specs.Cmp.Lexicographic.{slice_cmp}
 use Rattle.std.specs.Ordering.{nat_cmp}
+use Rattle.std.specs.List.{list_any}
 use Rattle.std.specs.List.Sorted.{IsStrictlySortedBy}
 use Rattle.std.specs.Coded.{Unit-prop, le_prop}
 use Rattle.serde_json.specs.View.{view}
@@ -76,6 +77,15 @@ tree_in (suc n) t i = assemble_some (tree_in n t) (slice_get t i)
 -- numbers only lead onwards, so no path is longer than the table
 unfoldable pub tree : List RawNode → ℕ → Node
 tree t i = tree_in (length t) t i
+
+-- ---- the defaults of a table
+
+abbrev pub has_default : RawNode → Bool
+has_default r = is_some r.keywords.default
+
+-- whether a node of the table has a default
+abbrev pub any_default : List RawNode → Bool
+any_default t = list_any has_default t
 
 -- ---- the numbers of a node
 

@@ -9,7 +9,7 @@ ghost use Rattle.kube_schema_table.specs.Shown.{whole};
 use crate::keywords::{additional, branches, declared, keywords_of, marker_of, no_keywords};
 use crate::node::CompiledSchema;
 use crate::raw::{Children, Link, Number, RawNode};
-use crate::table::{Table, new_table, place, push_leaf};
+use crate::table::{Table, has_defaults, new_table, place, push_leaf};
 use kube_types_refused::Refused;
 use serde_json::{Map, Value};
 use std::alloc::Global;
@@ -28,7 +28,8 @@ pub fn compile_schema(alloc: Global, schema: &Value) -> Result<CompiledSchema, R
 {
     let mut table = new_table(alloc);
     let _root = add_node(&mut table, alloc, schema, LEVELS)?;
-    Ok(CompiledSchema { table })
+    let defaults = has_defaults(&table);
+    Ok(CompiledSchema { table, defaults })
 }
 
 // Adds the node of a schema of so many levels, and those of the schemas within it behind it.

@@ -12,7 +12,7 @@ use serde_json::{Map, Value};
 use std::alloc::{AllocError, Global};
 
 /// How many levels of a schema have defaults: those of depth 0 to 64.
-const LEVELS: usize = 65;
+pub(crate) const LEVELS: usize = 65;
 
 /// The value with the defaults of a node, which is the root of a schema.
 ///
@@ -30,7 +30,7 @@ pub fn fill_node(alloc: Global, node: &SchemaNode<'_>, value: &Value) -> Result<
 
 // The value with the defaults of so many levels.
 #[cycle(fill)]
-fn fill(
+pub(crate) fn fill(
     alloc: Global,
     node: &SchemaNode<'_>,
     value: &Value,
@@ -152,7 +152,7 @@ fn add_default(
 }
 
 // The node that a member goes by.
-fn node_of_member<'a>(node: &SchemaNode<'a>, key: &str) -> Option<SchemaNode<'a>>
+pub(crate) fn node_of_member<'a>(node: &SchemaNode<'a>, key: &str) -> Option<SchemaNode<'a>>
     ensures { option_map shown result ≡ member_look compiled (shown node.now) key.now }
 {
     if let Some(property) = node.property_named(key) {

@@ -1,6 +1,6 @@
 //! A compiled schema and its nodes, as they are seen from outside.
 ghost use Rattle.std.specs.Prelude.{◌≡◌, ◌<◌, ℕ, length, option_map, slice_get, IfSome, Some};
-ghost use Rattle.kube_schema_table.specs.Raw.{tree, named_at, LinksOrdered};
+ghost use Rattle.kube_schema_table.specs.Raw.{tree, any_default, named_at, LinksOrdered};
 ghost use Rattle.kube_schema_table.specs.Tree.{Node, count, find};
 
 use crate::raw::{Link, Number, RawNode};
@@ -15,6 +15,9 @@ use std::alloc::Global;
 #[derive(Debug, Drop)]
 pub struct CompiledSchema {
     pub(crate) table: Table,
+    // Whether a node has a default.
+    pub(crate) defaults: bool,
+    ghost known: { defaults ≡ any_default table.nodes.items },
     ghost rooted: { 0 < length table.nodes.items },
     ghost counted: { length table.nodes.items ≡ count (tree table.nodes.items 0) },
 }
@@ -196,10 +199,12 @@ impl<'a> SchemaNode<'a> {
     ghost use Rattle.std.specs.Cmp.Lexicographic.{slice_cmp};
     ghost use Rattle.std.specs.List.Sorted.{IsStrictlySortedBy};
     ghost use Rattle.std.specs.Ordering.{nat_cmp};
-    ghost use Rattle.std.specs.Prelude.{◌≡◌, ◌<◌, suc, length, map, option_map, is_err, IfErr, IfOk, IfSome, Some};
+    ghost use Rattle.std.specs.Prelude.{◌≡◌, ◌<◌, ℕ, suc, length, map, false, option_map, is_err, IfErr, IfOk, IfSome, Some};
     ghost use Rattle.std.specs.List.{list_any};
     ghost use Rattle.serde_json.specs.View.{view};
     ghost use Rattle.kube_schema_rules.specs.Compilation.{compiled_seen, error_view};
+    ghost use Rattle.kube_schema_filled.specs.Without.{HasNoDefaults};
+    ghost use Rattle.kube_schema_table.specs.Compiled.{compiled};
     ghost use Rattle.kube_schema_table.specs.Shown.{shown};
     ghost use Rattle.kube_schema_table.specs.Raw.{tree, assemble, nodes_at, IsWithin, LinksOrdered, NumbersWithin};
     ghost use Rattle.kube_schema_table.specs.Tree.{items_of, additional_of, property_of, default_of, nth_named, nth_node, named_of, names, all_of, one_of, any_of, own, malformed_in, nodes_length};
@@ -423,6 +428,13 @@ impl<'a> SchemaNode<'a> {
         ensures { option_map (λ v. view v.now) result ≡ default_of (shown self.now) }
     {
         self.raw().keywords.default.as_ref()
+    }
+
+    // Whether a default lies in the schema that the node is part of.
+    pub(crate) fn may_have_defaults(&self) -> bool
+        ensures { result ≡ false → (levels : ℕ) → HasNoDefaults compiled levels (shown self.now) }
+    {
+        self.schema.defaults
     }
 }
 

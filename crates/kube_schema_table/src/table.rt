@@ -2,7 +2,7 @@
 ghost use Rattle.std.specs.Prelude.{◌≡◌, ◌<◌, [], suc, length, IfOk};
 ghost use Rattle.std.proofs.Math.ListN.{set};
 ghost use Rattle.std.proofs.Props.{props};
-ghost use Rattle.kube_schema_table.specs.Raw.{Closed, closed_prop, AllOrdered, IsWithin, LinksOrdered, Appends};
+ghost use Rattle.kube_schema_table.specs.Raw.{any_default, Closed, closed_prop, AllOrdered, IsWithin, LinksOrdered, Appends};
 
 use crate::raw::{Children, Keywords, Number, RawNode};
 use std::alloc::{AllocError, Global};
@@ -52,4 +52,16 @@ pub(crate) fn place(table: &mut Table, number: Number, node: RawNode)
     ensures { table.new.nodes.items ≡ set table.old.nodes.items number.0 node }
 {
     table.nodes[number.0] = node;
+}
+
+// Whether a node has a default.
+pub(crate) fn has_defaults(table: &Table) -> bool
+    ensures { result ≡ any_default table.now.nodes.items }
+{
+    for node in table.nodes.as_slice() {
+        if node.keywords.default.is_some() {
+            return true;
+        }
+    }
+    false
 }

@@ -14,5 +14,5 @@ loop-index-preserved c = record {
 
 pub returns : goal.returns
 returns c =
-    let past : length (names (named_of (shown c.args.node.now))) ≤ c.loop-index.index = let e = c.property_count-index-end.ensures.count in let h = c.loop-index-test.false in omega arith in
-    c.loop-index.invariant.nodes ∙ all_named (shown c.args.node.now) c.loop-index.index past c.property_count-index-end.ensures.ordered
+    let past : length (names (named_of (shown c.args.node.now))) ≤ c.loop-index.index = let e = c.property_count-count.ensures.count in let h = c.loop-index-test.false in omega arith in
+    c.loop-index.invariant.nodes ∙ all_named (shown c.args.node.now) c.loop-index.index past c.property_count-count.ensures.ordered

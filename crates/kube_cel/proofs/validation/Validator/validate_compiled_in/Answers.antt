@@ -18,7 +18,7 @@ returns-in_default-clause-answer c = λ b h s e.
     let c0 = c.args.compiled.now in
     let r = option_map (λ r. root_view r.now) c.args.root in
     let tree = c.root-root_node.ensures in
-    let here = trees_alike r tree (c.in_ok-object.ensures.filled ∙ ap (λ t. filled compiled 65 t (view c.args.object.now)) tree)
+    let here = trees_alike r tree (ap view c.deref.ensures ∙ c.in_ok-object.ensures.filled ∙ ap (λ t. filled compiled 65 t (view c.args.object.now)) tree)
     (ap (λ o. option_map (filled compiled 65 (whole c.args.compiled.now)) (option_map (λ v. view v.now) o)) (sym c.in_default.is)) in
     let found = c.in_ok-answer.ensures.answer b h ∙ ap (λ s. reported (answer compiled_form b 65 s)) here
     ∙ ap reported (compiled_found b s c0 c.args.object.now c.args.old c.args.root e) in
@@ -29,7 +29,7 @@ returns-in_default-clause-places c = λ b h s e.
     let c0 = c.args.compiled.now in
     let r = option_map (λ r. root_view r.now) c.args.root in
     let tree = c.root-root_node.ensures in
-    let here = trees_alike r tree (c.in_ok-object.ensures.filled ∙ ap (λ t. filled compiled 65 t (view c.args.object.now)) tree)
+    let here = trees_alike r tree (ap view c.deref.ensures ∙ c.in_ok-object.ensures.filled ∙ ap (λ t. filled compiled 65 t (view c.args.object.now)) tree)
     (ap (λ o. option_map (filled compiled 65 (whole c.args.compiled.now)) (option_map (λ v. view v.now) o)) (sym c.in_default.is)) in
     let found = c.in_ok-answer.ensures.answer b h ∙ ap (λ s. reported (answer compiled_form b 65 s)) here
     ∙ ap reported (compiled_found b s c0 c.args.object.now c.args.old c.args.root e) in
@@ -40,8 +40,8 @@ returns-clause-answer c = λ b h s e.
     let c0 = c.args.compiled.now in
     let r = option_map (λ r. root_view r.now) c.args.root in
     let tree = c.root-root_node.ensures in
-    let here = trees_alike r tree (c.in_ok-object.ensures.filled ∙ ap (λ t. filled compiled 65 t (view c.args.object.now)) tree)
-    (ap Some (c.in_ok-old.ensures.filled ∙ ap (λ t. filled compiled 65 t (view c.in-Some.old.now)) tree)
+    let here = trees_alike r tree (ap view c.deref-2.ensures ∙ c.in_ok-object.ensures.filled ∙ ap (λ t. filled compiled 65 t (view c.args.object.now)) tree)
+    (ap Some (ap view c.deref-3.ensures ∙ c.in_ok-old.ensures.filled ∙ ap (λ t. filled compiled 65 t (view c.in-Some.old.now)) tree)
     ∙ ap (λ o. option_map (filled compiled 65 (whole c.args.compiled.now)) (option_map (λ v. view v.now) o)) (sym c.in-Some.is)) in
     let found = c.in_ok-answer-2.ensures.answer b h ∙ ap (λ s. reported (answer compiled_form b 65 s)) here
     ∙ ap reported (compiled_found b s c0 c.args.object.now c.args.old c.args.root e) in
@@ -52,9 +52,26 @@ returns-clause-places c = λ b h s e.
     let c0 = c.args.compiled.now in
     let r = option_map (λ r. root_view r.now) c.args.root in
     let tree = c.root-root_node.ensures in
-    let here = trees_alike r tree (c.in_ok-object.ensures.filled ∙ ap (λ t. filled compiled 65 t (view c.args.object.now)) tree)
-    (ap Some (c.in_ok-old.ensures.filled ∙ ap (λ t. filled compiled 65 t (view c.in-Some.old.now)) tree)
+    let here = trees_alike r tree (ap view c.deref-2.ensures ∙ c.in_ok-object.ensures.filled ∙ ap (λ t. filled compiled 65 t (view c.args.object.now)) tree)
+    (ap Some (ap view c.deref-3.ensures ∙ c.in_ok-old.ensures.filled ∙ ap (λ t. filled compiled 65 t (view c.in-Some.old.now)) tree)
     ∙ ap (λ o. option_map (filled compiled 65 (whole c.args.compiled.now)) (option_map (λ v. view v.now) o)) (sym c.in-Some.is)) in
     let found = c.in_ok-answer-2.ensures.answer b h ∙ ap (λ s. reported (answer compiled_form b 65 s)) here
     ∙ ap reported (compiled_found b s c0 c.args.object.now c.args.old c.args.root e) in
     is_answer raw_form raw_form_names_all b _ (found_in c.in_ok-answer-2.answer) (reported_found c.in_ok-answer-2.answer _ found)
+
+pub returns-in_default-clause-tree : goal.returns-in_default-clause-tree
+returns-in_default-clause-tree c = λ b h.
+    let r = option_map (λ r. root_view r.now) c.args.root in
+    let tree = c.root-root_node.ensures in
+    let here = trees_alike r tree (ap view c.deref.ensures ∙ c.in_ok-object.ensures.filled ∙ ap (λ t. filled compiled 65 t (view c.args.object.now)) tree)
+    (ap (λ o. option_map (filled compiled 65 (whole c.args.compiled.now)) (option_map (λ v. view v.now) o)) (sym c.in_default.is)) in
+    c.in_ok-answer.ensures.answer b h ∙ ap (λ s. reported (answer compiled_form b 65 s)) here
+
+pub returns-clause-tree : goal.returns-clause-tree
+returns-clause-tree c = λ b h.
+    let r = option_map (λ r. root_view r.now) c.args.root in
+    let tree = c.root-root_node.ensures in
+    let here = trees_alike r tree (ap view c.deref-2.ensures ∙ c.in_ok-object.ensures.filled ∙ ap (λ t. filled compiled 65 t (view c.args.object.now)) tree)
+    (ap Some (ap view c.deref-3.ensures ∙ c.in_ok-old.ensures.filled ∙ ap (λ t. filled compiled 65 t (view c.in-Some.old.now)) tree)
+    ∙ ap (λ o. option_map (filled compiled 65 (whole c.args.compiled.now)) (option_map (λ v. view v.now) o)) (sym c.in-Some.is)) in
+    c.in_ok-answer-2.ensures.answer b h ∙ ap (λ s. reported (answer compiled_form b 65 s)) here
