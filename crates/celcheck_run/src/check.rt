@@ -1,6 +1,9 @@
 //! `check`: the errors of an object.
 ghost use Rattle.celcheck_run.specs.Runs.{IfErrors, IsAnswered};
 ghost use Rattle.celcheck_run.specs.Words.{named_view};
+ghost use Rattle.kube_cel.specs.Answers.{IsToldOf};
+ghost use Rattle.kube_cel.specs.Raw.{raw_form};
+ghost use Rattle.kube_cel.specs.Spots.{given_spot};
 ghost use Rattle.kube_cel_errors.specs.declared.error.ValidationErrors.{ValidationErrors};
 ghost use Rattle.kube_cel_errors.specs.ErrorLists.{errors_in};
 ghost use Rattle.kube_cel_errors.specs.Texts.{errors_text};
@@ -10,7 +13,8 @@ ghost use Rattle.std.specs.Prelude.{◌≡◌, ◌≤◌, ◌++◌, ◌∷◌, [
 use crate::files::{Sources, read_json, read_where_named};
 use crate::status::{FAILED, PASSED, Stop, status_told, tell_why};
 use crate::words::Named;
-use kube_cel::{ValidationErrors, validate};
+use kube_cel::{Refused, ValidationErrors, compile_schema, validate_compiled};
+use serde_json::Value;
 use std::alloc::Global;
 use std::io::Write;
 
@@ -44,7 +48,20 @@ fn errors_of<S: Sources>(
     let schema = read_json(alloc, named.schema, files)?;
     let object = read_json(alloc, named.object, files)?;
     let old = read_where_named(alloc, named.old, files)?;
-    Ok(validate(alloc, &schema, &object, old.as_ref())?)
+    Ok(judged(alloc, &schema, &object, old.as_ref())?)
+}
+
+/// The errors of an object by its schema, which is compiled first, so that each rule is compiled once and not at each place.
+fn judged(
+    alloc: Global,
+    schema: &Value,
+    object: &Value,
+    old: Option<&Value>,
+) -> Result<Result<(), ValidationErrors>, Refused>
+    ensures answer { IfOk result (IsToldOf raw_form (given_spot schema.now object.now old.entry None)) }
+{
+    let compiled = compile_schema(alloc, schema)?;
+    validate_compiled(alloc, &compiled, object, old)
 }
 
 /// Writes the errors that were found, or why nothing was judged.

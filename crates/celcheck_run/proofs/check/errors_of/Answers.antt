@@ -18,5 +18,5 @@ returns g c =
       schema_read = c.in_ok-schema.ensures;
       object_read = c.in_ok-object.ensures;
       old_read = c.in_ok-old.ensures;
-      told = subst (λ o. IsToldOf raw_form (judged_spot (view c.in_ok-schema.schema) (view c.in_ok-object.object) o None) c.in_ok-validate.field-0) lent c.in_ok-validate.ensures.answer;
+      told = subst (λ o. IsToldOf raw_form (judged_spot (view c.in_ok-schema.schema) (view c.in_ok-object.object) o None) c.in_ok-judged.field-0) lent c.in_ok-judged.ensures.answer;
     }
