@@ -32,8 +32,8 @@ fn run_text<S: Subject>(
     }
 }
 
-/// Runs the rows of a file, and tells how many hold.
-fn run_file<S: Subject>(
+/// Runs the rows of a file, and writes how many hold.
+pub fn run_file<S: Subject>(
     rt: &HostRuntime,
     file: &str,
     subject: &mut S,
@@ -76,17 +76,22 @@ fn summarize(what: &str, tally: Tally, out: &mut impl Write) {
     };
 }
 
-/// Runs the rows of the files that the program's arguments name, and writes how many hold. The status is 0 where each does and there is one.
+/// Writes how many rows of all files hold. The status is 0 where each does and there is one.
+pub fn finish(all: Tally, out: &mut impl Write) -> ExitCode {
+    summarize("all", all, out);
+    if all.failures == 0 && all.checks > 0 {
+        ExitCode::SUCCESS
+    } else {
+        ExitCode::FAILURE
+    }
+}
+
+/// Runs the rows of the files that the program's arguments name, and writes how many hold, as `finish` does.
 pub fn run_files<S: Subject>(rt: &HostRuntime, subject: &mut S) -> io::Result<ExitCode> {
     let mut out = rt.stdout();
     let mut all = Tally::default();
     for file in env::args(rt)?.skip(1) {
         all = all.with(run_file(rt, file.as_str(), subject, &mut out));
     }
-    summarize("all", all, &mut out);
-    Ok(if all.failures == 0 && all.checks > 0 {
-        ExitCode::SUCCESS
-    } else {
-        ExitCode::FAILURE
-    })
+    Ok(finish(all, &mut out))
 }

@@ -1,7 +1,6 @@
 //! Trees as outlines: each node in a line of its own, and its parts below it, two blanks further in.
 
-use cel_syntax::{BinaryOperator, Expr, MacroKind, UnaryOperator};
-use cel_value::Value;
+use cel::{BinaryOperator, Expr, MacroKind, UnaryOperator, Value};
 use std::alloc::{AllocError, Global};
 
 /// How an operator on two values is written.

@@ -1,9 +1,9 @@
 //! Tokens as lines of text.
 
+use cel::Refused;
 use cel_syntax_tokens::lexer::tokens;
 use cel_syntax_tokens::mark::Mark;
 use cel_syntax_tokens::token::Token;
-use cel_value::Refused;
 use std::alloc::{AllocError, Global};
 
 /// How a symbol is written.

@@ -11,7 +11,7 @@ pub(crate) enum Aspect {
     Value,
     /// The kind of a value.
     Kind,
-    /// What a quantity, an address, a timestamp or a duration prints.
+    /// What a quantity, an address, a CIDR, a timestamp, a duration or a format prints.
     Prints,
     /// The text of an error.
     Error,
@@ -19,7 +19,7 @@ pub(crate) enum Aspect {
     Refused,
 }
 
-/// What a value of a type that has no text of CEL prints.
+/// What a value of a type that prints itself prints.
 fn printed(alloc: Global, value: &Value) -> Result<Option<String>, Refused> {
     match value {
         Value::Quantity(quantity) => Ok(Some(quantity.as_ref().to_string(alloc)?)),
@@ -27,18 +27,26 @@ fn printed(alloc: Global, value: &Value) -> Result<Option<String>, Refused> {
         Value::Cidr(cidr) => Ok(Some(cidr.as_ref().to_string(alloc)?)),
         Value::Timestamp(timestamp) => Ok(Some(timestamp.text(alloc)?)),
         Value::Duration(duration) => Ok(Some(duration.text(alloc)?)),
+        Value::Format(format) => Ok(Some(format.kind().to_string(alloc)?)),
         _ => Ok(None),
     }
 }
 
+/// What a value prints, or else its text, if it has one.
+pub(crate) fn shown(alloc: Global, value: &Value) -> Result<Option<String>, Refused> {
+    match printed(alloc, value)? {
+        Some(text) => Ok(Some(text)),
+        None => Ok(value.text(alloc)?.ok()),
+    }
+}
+
 /// What a value shows of an aspect, if anything.
-fn shown(alloc: Global, aspect: Aspect, value: &Value) -> Result<Option<String>, Refused> {
+fn shown_of(alloc: Global, aspect: Aspect, value: &Value) -> Result<Option<String>, Refused> {
     match aspect {
         Aspect::Value => Ok(value.text(alloc)?.ok()),
         Aspect::Kind => Ok(Some(value.type_of().to_string(alloc)?)),
         Aspect::Prints => printed(alloc, value),
-        Aspect::Error => Ok(None),
-        Aspect::Refused => Ok(None),
+        Aspect::Error | Aspect::Refused => Ok(None),
     }
 }
 
@@ -58,7 +66,7 @@ pub(crate) fn holds(
     text: &str,
 ) -> Result<bool, Refused> {
     match answer {
-        Ok(Ok(value)) => match shown(alloc, aspect, value)? {
+        Ok(Ok(value)) => match shown_of(alloc, aspect, value)? {
             Some(found) => Ok(found.as_str() == text),
             None => Ok(false),
         },
@@ -73,11 +81,7 @@ pub(crate) fn holds(
 /// A value's kind, and its text if it has one.
 fn described_value(alloc: Global, value: &Value) -> Result<String, Refused> {
     let kind = value.type_of();
-    let shown = match value.text(alloc)? {
-        Ok(text) => Some(text),
-        Err(_) => printed(alloc, value)?,
-    };
-    match shown {
+    match shown(alloc, value)? {
         Some(text) => Ok(format!(in alloc; "a value of kind {kind}: {text}")?),
         None => Ok(format!(in alloc; "a value of kind {kind}")?),
     }

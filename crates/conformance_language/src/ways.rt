@@ -1,7 +1,8 @@
 //! The ways to run an expression.
 
 use cel::{
-    Answer, Context, Functions, PatternBook, Program, Refused, StandardFunctions, Value, run_code,
+    Answer, Context, ExecutionError, Functions, PatternBook, Program, Refused, StandardFunctions,
+    Value, run_code,
 };
 use kube_functions::{Context as KubeContext, KubeCelExt};
 use std::alloc::Global;
@@ -56,18 +57,24 @@ fn add_each<F: Functions>(
     Ok(())
 }
 
-/// The value that a text gives with these variables where all functions are known, if it gives one.
+/// What a text comes to with these variables where all functions are known. One that isn't read comes to an error.
 pub(crate) fn executed(
     alloc: Global,
     text: &str,
     variables: &[Variable],
-) -> Result<Option<Value>, Refused> {
-    let Ok(program) = Program::compile(alloc, text)? else {
-        return Ok(None);
+) -> Result<Answer, Refused> {
+    let program = match Program::compile(alloc, text)? {
+        Ok(program) => program,
+        Err(errors) => {
+            return Ok(Err(ExecutionError::FunctionError {
+                function: String::from_str(alloc, "compile")?,
+                message: errors.to_string(alloc)?,
+            }));
+        }
     };
     let mut context: KubeContext<'_> = Context::default(alloc).with_all();
     add_each(&mut context, variables)?;
-    Ok(program.execute(alloc, &context)?.ok())
+    program.execute(alloc, &context)
 }
 
 /// Executes a program, runs its code with a new book, and executes it with the book of that run.
