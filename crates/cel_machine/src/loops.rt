@@ -112,6 +112,7 @@ fn enter<'c>(
 }
 
 /// The start of a loop.
+#[inline(never)]
 pub(crate) fn begin<'c>(
     alloc: Global,
     kind: MacroKind,
@@ -156,6 +157,7 @@ fn outcome_after(
 }
 
 /// Out of the innermost loop, with this outcome.
+#[inline(never)]
 fn close(answer: Answer, stacks: &mut Stacks<'_>) -> Result<Entry, AllocError>
     ensures { IfOk result (λ e. (k : Option Fault) (ab : List (Option Fault)) (l : Loop) (ls : List Loop)
         → aside_of stacks.old ≡ k ∷ ab → loops_of stacks.old ≡ l ∷ ls
@@ -168,6 +170,7 @@ fn close(answer: Answer, stacks: &mut Stacks<'_>) -> Result<Entry, AllocError>
 }
 
 /// Past the last item of the innermost loop, with its outcome.
+#[inline(never)]
 fn end_loop(alloc: Global, way: Way, stacks: &mut Stacks<'_>) -> Result<Entry, Refused>
     ensures value { IfOk result (λ e. (k : Option Fault) (ab : List (Option Fault)) (l : Loop) (ls : List Loop)
         → aside_of stacks.old ≡ k ∷ ab → loops_of stacks.old ≡ l ∷ ls
@@ -218,6 +221,7 @@ fn passes(stop: bool, answer: &Answer) -> bool
 }
 
 /// After an item of a loop that the bool `stop` ends, whose outcome is an error or decides.
+#[inline(never)]
 fn take_outcome(
     alloc: Global,
     stop: bool,
@@ -269,6 +273,7 @@ fn weigh(
 }
 
 /// What an optional value holds, or an error.
+#[inline(never)]
 fn held(alloc: Global, answer: Answer) -> Result<Result<Option<Value>, ExecutionError>, Refused>
     ensures value { IfOk result (λ g. gift_view g ≡ held_gift (outcome_view answer)) }
     ensures memory { IfErr result (λ e. e ≡ Refused.Memory) }
@@ -325,6 +330,7 @@ fn gather(
 }
 
 /// After an item of a loop that gathers.
+#[inline(never)]
 fn collect(
     alloc: Global,
     end: End,

@@ -44,6 +44,7 @@ fn drop_top(values: &mut Vec<Answer>, count: usize)
 }
 
 /// A test for an error that finds one: drops what is under it.
+#[inline(never)]
 fn fail(
     under: usize,
     past: usize,
@@ -114,6 +115,7 @@ fn truth_of(
 }
 
 /// A test.
+#[inline(never)]
 pub(crate) fn branch(
     alloc: Global,
     test: Test,
@@ -147,6 +149,7 @@ pub(crate) fn branch(
 }
 
 /// The left operand of && and ||.
+#[inline(never)]
 pub(crate) fn take_left(
     alloc: Global,
     stop: bool,
@@ -176,6 +179,7 @@ pub(crate) fn take_left(
 }
 
 /// The right operand of && and ||.
+#[inline(never)]
 pub(crate) fn take_right(
     alloc: Global,
     stop: bool,

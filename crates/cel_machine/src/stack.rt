@@ -1,12 +1,13 @@
 //! Stacks of values, of absorbed errors and of loops, the topmost last.
-ghost use Rattle.std.specs.Prelude.{◌≡◌, ◌≢◌, ◌∷◌, [], List, OnOk, MatchBool, MatchOption, option_map};
+ghost use Rattle.std.specs.Prelude.{◌≡◌, ◌≢◌, ◌∷◌, [], List, Ok, OnOk, IfErr, MatchBool, MatchOption, option_map};
 ghost use Rattle.cel_value.specs.Faults.{fault_view};
+ghost use Rattle.cel_value.specs.View.{view};
 ghost use Rattle.cel_meaning.specs.Outcome.{Outcome, outcome_view};
 ghost use Rattle.cel_machine.specs.State.{outcomes, aside, loop_view, loops_view};
 
 use crate::state::LoopState;
 use cel_meaning::operators::Answer;
-use cel_value::ExecutionError;
+use cel_value::{ExecutionError, Refused, Value};
 use std::alloc::AllocError;
 
 pub fn push_answer(values: &mut Vec<Answer>, answer: Answer) -> Result<(), AllocError>
@@ -14,6 +15,28 @@ pub fn push_answer(values: &mut Vec<Answer>, answer: Answer) -> Result<(), Alloc
 {
     values.push(answer)?;
     Ok(())
+}
+
+/// A copy of a value, of any kind.
+#[inline(never)]
+fn push_any(values: &mut Vec<Answer>, value: &Value) -> Result<(), Refused>
+    ensures value { OnOk result (outcomes values.new.items ≡ Ok (view value.now) ∷ outcomes values.old.items) }
+    ensures memory { IfErr result (λ e. e ≡ Refused.Memory) }
+{
+    push_answer(values, Ok(value.try_clone()?))?;
+    Ok(())
+}
+
+/// A copy of a value, an int or a bool first.
+pub fn push_copy(values: &mut Vec<Answer>, value: &Value) -> Result<(), Refused>
+    ensures value { OnOk result (outcomes values.new.items ≡ Ok (view value.now) ∷ outcomes values.old.items) }
+    ensures memory { IfErr result (λ e. e ≡ Refused.Memory) }
+{
+    match value {
+        Value::Int(n) => Ok(push_answer(values, Ok(Value::Int(*n)))?),
+        Value::Bool(b) => Ok(push_answer(values, Ok(Value::Bool(*b)))?),
+        _ => push_any(values, value),
+    }
 }
 
 pub fn pop_answer(values: &mut Vec<Answer>) -> Option<Answer>
