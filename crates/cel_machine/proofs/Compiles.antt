@@ -3,7 +3,7 @@ use Rattle.std.proofs.Common.{◌≡◌, ℕ, suc, ◌+◌, List, [], ◌∷◌,
 use Rattle.std.proofs.lemmas.List.{map-append, reverse-append, reverse-reverse, length-reverse, length-map}
 use Rattle.std.specs.declared.alloc.Global.{Global}
 use Rattle.cel_syntax_tree.specs.Term.{Term, Terms, no_terms, term_and, count_of}
-use Rattle.cel_machine.specs.Code.{operand, operands, entry_code, entries_code, after_form, code_of, codes_of}
+use Rattle.cel_machine.specs.Code.{operand, operands, entry_code, entries_code, after_form, code_in, codes_in}
 use Rattle.cel_machine.specs.Op.{Op, op, as_list, guard, apply, invoke}
 use Rattle.cel_machine.specs.State.{from_end, codes_view, pairs_view}
 use Rattle.cel_machine.specs.declared.instr.Instr.{Instr}
@@ -62,37 +62,37 @@ entries_step old new k v before after h a =
 
 -- ---- trees with several operands
 
-length_codes : (ts : Terms) → length (codes_of ts) ≡ count_of ts
-length_codes no_terms = refl
-length_codes (term_and t ts) = ap suc (length_codes ts)
+length_codes : (xs : List (List ℕ)) (ts : Terms) → length (codes_in xs ts) ≡ count_of ts
+length_codes xs no_terms = refl
+length_codes xs (term_and t ts) = ap suc (length_codes xs ts)
 
-counted : (ts : Terms) (cs : List (Vec Instr Global)) → codes_view cs ≡ codes_of ts → length cs ≡ count_of ts
-counted ts cs h = sym (length-map cs (λ v. map op v.items)) ∙ ap length h ∙ length_codes ts
+counted : (xs : List (List ℕ)) (ts : Terms) (cs : List (Vec Instr Global)) → codes_view cs ≡ codes_in xs ts → length cs ≡ count_of ts
+counted xs ts cs h = sym (length-map cs (λ v. map op v.items)) ∙ ap length h ∙ length_codes xs ts
 
 pub list_weaken : {E : Type 0} (r : Result (Vec Instr Global) E) (cs : List (Vec Instr Global)) (n : ℕ) (last : List Op) → n ≡ length cs → last ≡ apply as_list n ∷ []
     → IfOk r (λ all. map op all.items ≡ operands (codes_view cs) 0 last)
-    → IfOk r (λ all. (ts : Terms) → codes_view cs ≡ codes_of ts → map op all.items ≡ operands (codes_of ts) 0 (apply as_list (count_of ts) ∷ []))
-list_weaken (Ok all) cs n last e l a = λ ts h.
-    a ∙ ap (λ z. operands (codes_view cs) 0 z) (l ∙ ap (λ m. apply as_list m ∷ []) (e ∙ counted ts cs h)) ∙ ap (λ z. operands z 0 (apply as_list (count_of ts) ∷ [])) h
+    → IfOk r (λ all. (xs : List (List ℕ)) (ts : Terms) → codes_view cs ≡ codes_in xs ts → map op all.items ≡ operands (codes_in xs ts) 0 (apply as_list (count_of ts) ∷ []))
+list_weaken (Ok all) cs n last e l a = λ xs ts h.
+    a ∙ ap (λ z. operands (codes_view cs) 0 z) (l ∙ ap (λ m. apply as_list m ∷ []) (e ∙ counted xs ts cs h)) ∙ ap (λ z. operands z 0 (apply as_list (count_of ts) ∷ [])) h
 list_weaken (Err x) cs n last e l a = tt
 
 pub function_weaken : {E : Type 0} (r : Result (Vec Instr Global) E) (x : List ℕ) (cs : List (Vec Instr Global)) (n : ℕ) (i : Op) (last rest : List Op) → n ≡ length cs → i ≡ invoke x 0 n → last ≡ i ∷ [] → rest ≡ operands (codes_view cs) 0 last
     → IfOk r (λ all. map op all.items ≡ after_form x false n rest)
-    → IfOk r (λ all. (ts : Terms) → codes_view cs ≡ codes_of ts → map op all.items ≡ after_form x false (count_of ts) (operands (codes_of ts) 0 (invoke x 0 (count_of ts) ∷ [])))
-function_weaken (Ok all) x cs n i last rest e f l o a = λ ts h.
+    → IfOk r (λ all. (xs : List (List ℕ)) (ts : Terms) → codes_view cs ≡ codes_in xs ts → map op all.items ≡ after_form x false (count_of ts) (operands (codes_in xs ts) 0 (invoke x 0 (count_of ts) ∷ [])))
+function_weaken (Ok all) x cs n i last rest e f l o a = λ xs ts h.
     a ∙ ap (after_form x false n) (o ∙ ap (operands (codes_view cs) 0) (l ∙ ap (λ z. z ∷ []) f))
-    ∙ ap (λ m. after_form x false m (operands (codes_view cs) 0 (invoke x 0 m ∷ []))) (e ∙ counted ts cs h)
+    ∙ ap (λ m. after_form x false m (operands (codes_view cs) 0 (invoke x 0 m ∷ []))) (e ∙ counted xs ts cs h)
     ∙ ap (λ z. after_form x false (count_of ts) (operands z 0 (invoke x 0 (count_of ts) ∷ []))) h
 function_weaken (Err y) x cs n i last rest e f l o a = tt
 
 pub method_weaken : {E : Type 0} (r : Result (Vec Instr Global) E) (x : List ℕ) (c : List Op) (cs : List (Vec Instr Global)) (n : ℕ) (i : Op) (last front rest : List Op) → n ≡ length cs → i ≡ invoke x 1 n → last ≡ i ∷ [] → front ≡ operands (codes_view cs) 1 last → rest ≡ operand c 0 front
     → IfOk r (λ all. map op all.items ≡ after_form x true n rest)
-    → IfOk r (λ all. (t : Term) (ts : Terms) → c ≡ code_of t → codes_view cs ≡ codes_of ts → map op all.items ≡ after_form x true (count_of ts) (operand (code_of t) 0 (operands (codes_of ts) 1 (invoke x 1 (count_of ts) ∷ []))))
-method_weaken (Ok all) x c cs n i last front rest e f l o g a = λ t ts k h.
+    → IfOk r (λ all. (xs : List (List ℕ)) (t : Term) (ts : Terms) → c ≡ code_in xs t → codes_view cs ≡ codes_in xs ts → map op all.items ≡ after_form x true (count_of ts) (operand (code_in xs t) 0 (operands (codes_in xs ts) 1 (invoke x 1 (count_of ts) ∷ []))))
+method_weaken (Ok all) x c cs n i last front rest e f l o g a = λ xs t ts k h.
     a ∙ ap (after_form x true n) (g ∙ ap (operand c 0) (o ∙ ap (operands (codes_view cs) 1) (l ∙ ap (λ z. z ∷ []) f)))
-    ∙ ap (λ m. after_form x true m (operand c 0 (operands (codes_view cs) 1 (invoke x 1 m ∷ [])))) (e ∙ counted ts cs h)
+    ∙ ap (λ m. after_form x true m (operand c 0 (operands (codes_view cs) 1 (invoke x 1 m ∷ [])))) (e ∙ counted xs ts cs h)
     ∙ ap (λ z. after_form x true (count_of ts) (operand c 0 (operands z 1 (invoke x 1 (count_of ts) ∷ [])))) h
-    ∙ ap (λ z. after_form x true (count_of ts) (operand z 0 (operands (codes_of ts) 1 (invoke x 1 (count_of ts) ∷ [])))) k
+    ∙ ap (λ z. after_form x true (count_of ts) (operand z 0 (operands (codes_in xs ts) 1 (invoke x 1 (count_of ts) ∷ [])))) k
 method_weaken (Err y) x c cs n i last front rest e f l o g a = tt
 
 -- ---- nothing left

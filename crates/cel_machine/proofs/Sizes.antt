@@ -7,7 +7,7 @@ use Rattle.cel_syntax_tree.specs.declared.expr.BinaryOperator.TheVariants.{Or, A
 use Rattle.cel_syntax_tree.specs.declared.expr.MacroKind.{MacroKind}
 use Rattle.cel_syntax_tree.specs.declared.expr.MacroKind.TheVariants.{All, Exists, ExistsOne, Map, Filter}
 use Rattle.cel_value.specs.Data.{text_key, optional, no_items}
-use Rattle.cel_machine.specs.Code.{operand, one_with, both_with, logic, choice_code, loop, entry_code, filter_code, binary_code, code_of, operands, codes_of, entries_code, pair_codes}
+use Rattle.cel_machine.specs.Code.{operand, one_with, both_with, logic, choice_code, loop, entry_code, filter_code, binary_code, code_in, code_of, operands, codes_in, entries_code, pairs_in}
 use Rattle.cel_machine.specs.Op.{Op, Work, one_value, two_values, selected_at, has_at, indexed_by, as_list, put_entry, as_present, push, guard, apply, invoke, branch, skip, absorb, join, begin, next}
 use Rattle.cel_machine.specs.Size.{nodes, all_nodes, pair_nodes}
 
@@ -34,37 +34,40 @@ choice_length name a b c = omega (arith, length-append a (branch name (length b 
 filter_length : (a b : List Op) → length (filter_code a b) ≡ length a + length b + 5
 filter_length a b = omega (arith, choice_length (codes "map") a (one_with as_present b) (push (optional no_items) ∷ []), one_length as_present b)
 
-loop_length : (k : MacroKind) (f : Bool) (a : List Op) (x : List ℕ) (b : List Op) → length (loop k f a x b) ≡ length a + length b + 2
-loop_length k f a x b = omega (arith, length-append a (begin k x (length b + 1) ∷ (b ++ next k f ∷ [])), length-append b (next k f ∷ []))
+loop_length : (k : MacroKind) (f : Bool) (a b : List Op) → length (loop k f a b) ≡ length a + length b + 2
+loop_length k f a b = omega (arith, length-append a (begin k (length b + 1) ∷ (b ++ next k f ∷ [])), length-append b (next k f ∷ []))
 
 entry_length : (a b rest : List Op) → length (entry_code a b rest) ≡ length a + length b + length rest + 4
 entry_length a b rest = omega (arith, operand_length b 2 (apply put_entry 3 ∷ guard 0 (length rest) ∷ rest), operand_length a 1 (operand b 2 (apply put_entry 3 ∷ guard 0 (length rest) ∷ rest)))
 
 mutual
-  pub code_is_short : (t : Term) → length (code_of t) + 2 ≤ 5 * nodes t
-  code_is_short (literal v) = omega arith
-  code_is_short (ident x) = omega arith
-  code_is_short (select a x) = omega (arith, code_is_short a, one_length (selected_at (text_key x)) (code_of a))
-  code_is_short (has a x) = omega (arith, code_is_short a, one_length (has_at (text_key x)) (code_of a))
-  code_is_short (index a b) = omega (arith, code_is_short a, code_is_short b, both_length indexed_by (code_of a) (code_of b))
-  code_is_short (unary o a) = omega (arith, code_is_short a, one_length (one_value o) (code_of a))
-  code_is_short (binary o a b) = omega (arith, code_is_short a, code_is_short b, binary_length o (code_of a) (code_of b))
-  code_is_short (choice a b c) = omega (arith, code_is_short a, code_is_short b, code_is_short c, choice_length (codes "?:") (code_of a) (code_of b) (code_of c))
-  code_is_short (list_of ts) = omega (arith, operands_are_short ts 0 (apply as_list (count_of ts) ∷ []))
-  code_is_short (map_with ps) = omega (arith, entries_are_short ps)
-  code_is_short (call target x args) = omega (arith, operands_are_short target 0 (operands (codes_of args) (count_of target) (invoke x (count_of target) (count_of args) ∷ [])), operands_are_short args (count_of target) (invoke x (count_of target) (count_of args) ∷ []))
-  code_is_short (qualified x args) = omega (arith, operands_are_short args 0 (invoke x 0 (count_of args) ∷ []))
-  code_is_short (macro All range x filter body) = omega (arith, code_is_short range, code_is_short body, loop_length All false (code_of range) x (code_of body))
-  code_is_short (macro Exists range x filter body) = omega (arith, code_is_short range, code_is_short body, loop_length Exists false (code_of range) x (code_of body))
-  code_is_short (macro ExistsOne range x filter body) = omega (arith, code_is_short range, code_is_short body, loop_length ExistsOne false (code_of range) x (code_of body))
-  code_is_short (macro Filter range x filter body) = omega (arith, code_is_short range, code_is_short body, loop_length Filter false (code_of range) x (code_of body))
-  code_is_short (macro Map range x no_terms body) = omega (arith, code_is_short range, code_is_short body, loop_length Map false (code_of range) x (code_of body))
-  code_is_short (macro Map range x (term_and t ts) body) = omega (arith, code_is_short range, code_is_short t, code_is_short body, loop_length Map true (code_of range) x (filter_code (code_of t) (code_of body)), filter_length (code_of t) (code_of body))
+  short_in : (xs : List (List ℕ)) (t : Term) → length (code_in xs t) + 2 ≤ 5 * nodes t
+  short_in xs (literal v) = omega arith
+  short_in xs (ident x) = omega arith
+  short_in xs (select a x) = omega (arith, short_in xs a, one_length (selected_at (text_key x)) (code_in xs a))
+  short_in xs (has a x) = omega (arith, short_in xs a, one_length (has_at (text_key x)) (code_in xs a))
+  short_in xs (index a b) = omega (arith, short_in xs a, short_in xs b, both_length indexed_by (code_in xs a) (code_in xs b))
+  short_in xs (unary o a) = omega (arith, short_in xs a, one_length (one_value o) (code_in xs a))
+  short_in xs (binary o a b) = omega (arith, short_in xs a, short_in xs b, binary_length o (code_in xs a) (code_in xs b))
+  short_in xs (choice a b c) = omega (arith, short_in xs a, short_in xs b, short_in xs c, choice_length (codes "?:") (code_in xs a) (code_in xs b) (code_in xs c))
+  short_in xs (list_of ts) = omega (arith, operands_are_short xs ts 0 (apply as_list (count_of ts) ∷ []))
+  short_in xs (map_with ps) = omega (arith, entries_are_short xs ps)
+  short_in xs (call target x args) = omega (arith, operands_are_short xs target 0 (operands (codes_in xs args) (count_of target) (invoke x (count_of target) (count_of args) ∷ [])), operands_are_short xs args (count_of target) (invoke x (count_of target) (count_of args) ∷ []))
+  short_in xs (qualified x args) = omega (arith, operands_are_short xs args 0 (invoke x 0 (count_of args) ∷ []))
+  short_in xs (macro All range x filter body) = omega (arith, short_in xs range, short_in (x ∷ xs) body, loop_length All false (code_in xs range) (code_in (x ∷ xs) body))
+  short_in xs (macro Exists range x filter body) = omega (arith, short_in xs range, short_in (x ∷ xs) body, loop_length Exists false (code_in xs range) (code_in (x ∷ xs) body))
+  short_in xs (macro ExistsOne range x filter body) = omega (arith, short_in xs range, short_in (x ∷ xs) body, loop_length ExistsOne false (code_in xs range) (code_in (x ∷ xs) body))
+  short_in xs (macro Filter range x filter body) = omega (arith, short_in xs range, short_in (x ∷ xs) body, loop_length Filter false (code_in xs range) (code_in (x ∷ xs) body))
+  short_in xs (macro Map range x no_terms body) = omega (arith, short_in xs range, short_in (x ∷ xs) body, loop_length Map false (code_in xs range) (code_in (x ∷ xs) body))
+  short_in xs (macro Map range x (term_and t ts) body) = omega (arith, short_in xs range, short_in (x ∷ xs) t, short_in (x ∷ xs) body, loop_length Map true (code_in xs range) (filter_code (code_in (x ∷ xs) t) (code_in (x ∷ xs) body)), filter_length (code_in (x ∷ xs) t) (code_in (x ∷ xs) body))
 
-  operands_are_short : (ts : Terms) (k : ℕ) (rest : List Op) → length (operands (codes_of ts) k rest) ≤ 5 * all_nodes ts + length rest
-  operands_are_short no_terms k rest = omega arith
-  operands_are_short (term_and t ts) k rest = omega (arith, code_is_short t, operands_are_short ts (suc k) rest, operand_length (code_of t) k (operands (codes_of ts) (suc k) rest))
+  operands_are_short : (xs : List (List ℕ)) (ts : Terms) (k : ℕ) (rest : List Op) → length (operands (codes_in xs ts) k rest) ≤ 5 * all_nodes ts + length rest
+  operands_are_short xs no_terms k rest = omega arith
+  operands_are_short xs (term_and t ts) k rest = omega (arith, short_in xs t, operands_are_short xs ts (suc k) rest, operand_length (code_in xs t) k (operands (codes_in xs ts) (suc k) rest))
 
-  entries_are_short : (ps : Pairs) → length (entries_code (pair_codes ps) []) ≤ 5 * pair_nodes ps
-  entries_are_short no_pairs = omega arith
-  entries_are_short (pair_and k v ps) = omega (arith, code_is_short k, code_is_short v, entries_are_short ps, entry_length (code_of k) (code_of v) (entries_code (pair_codes ps) []))
+  entries_are_short : (xs : List (List ℕ)) (ps : Pairs) → length (entries_code (pairs_in xs ps) []) ≤ 5 * pair_nodes ps
+  entries_are_short xs no_pairs = omega arith
+  entries_are_short xs (pair_and k v ps) = omega (arith, short_in xs k, short_in xs v, entries_are_short xs ps, entry_length (code_in xs k) (code_in xs v) (entries_code (pairs_in xs ps) []))
+
+pub code_is_short : (t : Term) → length (code_of t) + 2 ≤ 5 * nodes t
+code_is_short t = short_in [] t

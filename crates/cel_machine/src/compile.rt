@@ -1,10 +1,10 @@
 //! From trees to code.
-ghost use Rattle.std.specs.Prelude.{◌≡◌, ◌≤◌, ◌++◌, [], ◌∷◌, ℕ, List, IfOk, IfErr, OnOk, map, length, string_bytes, codes};
+ghost use Rattle.std.specs.Prelude.{◌≡◌, ◌≤◌, ◌<◌, ◌++◌, [], ◌∷◌, ℕ, List, IfOk, IfErr, IfSome, OnOk, map, length, string_bytes, codes};
 ghost use Rattle.cel_value.specs.Data.{map_of, no_entries};
 ghost use Rattle.cel_syntax_tree.specs.Term.{Term, Terms, list_of, call, qualified, no_terms, term_and, term, terms_of, pairs_of};
-ghost use Rattle.cel_machine.specs.Code.{code_of, codes_of, pair_codes, logic, operand, operands, one_with, both_with, binary_code, choice_code, filter_code, loop, macro_code, after_form, entry_code, entries_code};
+ghost use Rattle.cel_machine.specs.Code.{place_of, load_of, code_of, code_in, codes_in, pairs_in, logic, operand, operands, one_with, both_with, binary_code, choice_code, filter_code, loop, macro_code, after_form, entry_code, entries_code};
 ghost use Rattle.cel_machine.specs.Op.{op, work_of, operands_of, receivers, invoke, push, test_name};
-ghost use Rattle.cel_machine.specs.State.{codes_view, pairs_view, filter_codes, from_end};
+ghost use Rattle.cel_machine.specs.State.{variables, codes_view, pairs_view, filter_codes, from_end};
 
 use crate::instr::{Instr, Operation, Test};
 use cel_syntax_tree::{BinaryOperator, Expr, MacroKind};
@@ -13,68 +13,121 @@ use std::alloc::{AllocError, Global};
 use std::rc::Rc;
 
 /// The code of a tree.
-#[cycle(compile)]
 pub fn compile_tree(alloc: Global, expr: &Expr) -> Result<Vec<Instr>, Refused>
     ensures value { IfOk result (λ code. map op code.items ≡ code_of (term expr.now)) }
     ensures memory { IfErr result (λ e. e ≡ Refused.Memory) }
 {
+    let names = Vec::new(alloc);
+    compile_in(alloc, names.as_slice(), expr)
+}
+
+/// How many loops outward a name is bound, of loops over these variables, the innermost of which stands last.
+fn place_of(names: &[&str], name: &str) -> Option<usize>
+    ensures place { result ≡ place_of name.now (variables names.now) }
+    ensures few { IfSome result (λ k. k < length names.now) }
+{
+    match names.split_last() {
+        None => None,
+        Some((variable, outer)) => {
+            if name == *variable {
+                Some(0)
+            } else {
+                match place_of(outer, name) {
+                    Some(outward) => Some(outward + 1),
+                    None => None,
+                }
+            }
+        }
+    }
+}
+
+/// What loads a name inside loops over these variables.
+fn load(names: &[&str], name: &Rc<String>) -> Result<Instr, AllocError>
+    ensures { IfOk result (λ i. op i ≡ load_of (string_bytes name.now.value) (place_of (string_bytes name.now.value) (variables names.now))) }
+{
+    match place_of(names, name.as_str()) {
+        Some(outward) => Ok(Instr::LoadItem(outward)),
+        None => Ok(Instr::Load(name.clone()?)),
+    }
+}
+
+/// The variables inside one more loop.
+fn with_variable<'n>(
+    alloc: Global,
+    names: &[&'n str],
+    variable: &'n str,
+) -> Result<Vec<&'n str>, AllocError>
+    ensures { IfOk result (λ all. variables all.items ≡ variable.now ∷ variables names.now) }
+{
+    let mut all = Vec::new(alloc);
+    all.extend_from_slice(names)?;
+    all.push(variable)?;
+    Ok(all)
+}
+
+/// The code of a tree inside loops over these variables.
+#[cycle(compile)]
+fn compile_in<'e>(alloc: Global, names: &[&'e str], expr: &'e Expr) -> Result<Vec<Instr>, Refused>
+    ensures value { IfOk result (λ code. map op code.items ≡ code_in (variables names.now) (term expr.now)) }
+    ensures memory { IfErr result (λ e. e ≡ Refused.Memory) }
+{
     match expr {
         Expr::Literal(value) => Ok(one(alloc, Instr::Push(value.try_clone()?))?),
-        Expr::Ident(name) => Ok(one(alloc, Instr::Load(name.clone()?))?),
+        Expr::Ident(name) => Ok(one(alloc, load(names, name)?)?),
         Expr::Select(operand, name) => {
-            let code = compile_tree(alloc, operand)?;
+            let code = compile_in(alloc, names, operand)?;
             let key = Key::String(name.clone()?);
             Ok(join_one(alloc, Operation::Select(key), code)?)
         }
         Expr::Has(operand, name) => {
-            let code = compile_tree(alloc, operand)?;
+            let code = compile_in(alloc, names, operand)?;
             let key = Key::String(name.clone()?);
             Ok(join_one(alloc, Operation::Has(key), code)?)
         }
         Expr::Index(operand, index) => {
-            let first = compile_tree(alloc, operand)?;
-            let second = compile_tree(alloc, index)?;
+            let first = compile_in(alloc, names, operand)?;
+            let second = compile_in(alloc, names, index)?;
             Ok(join_both(alloc, Operation::Index, first, second)?)
         }
         Expr::Unary(operator, operand) => {
-            let code = compile_tree(alloc, operand)?;
+            let code = compile_in(alloc, names, operand)?;
             Ok(join_one(alloc, Operation::Unary(*operator), code)?)
         }
         Expr::Binary(operator, left, right) => {
-            let first = compile_tree(alloc, left)?;
-            let second = compile_tree(alloc, right)?;
+            let first = compile_in(alloc, names, left)?;
+            let second = compile_in(alloc, names, right)?;
             Ok(join_binary(alloc, *operator, first, second)?)
         }
         Expr::Cond(test, yes, no) => {
-            let first = compile_tree(alloc, test)?;
-            let second = compile_tree(alloc, yes)?;
-            let third = compile_tree(alloc, no)?;
+            let first = compile_in(alloc, names, test)?;
+            let second = compile_in(alloc, names, yes)?;
+            let third = compile_in(alloc, names, no)?;
             Ok(join_branches(Test::Condition, first, second, third)?)
         }
         Expr::List(items) => {
-            let codes = compile_all(alloc, items)?;
+            let codes = compile_all(alloc, names, items)?;
             let all = join_list(alloc, codes)?;
             Ok(all)
         }
         Expr::Map(pairs) => {
-            let codes = compile_pairs(alloc, pairs)?;
+            let codes = compile_pairs(alloc, names, pairs)?;
             join_map(alloc, codes)
         }
         Expr::Call { target, name, args } => match target {
             None => {
-                let codes = compile_all(alloc, args)?;
+                let codes = compile_all(alloc, names, args)?;
                 let all = join_function(alloc, name, codes)?;
                 Ok(all)
             }
             Some(target) => {
-                let receiver = compile_tree(alloc, target)?;
-                let codes = compile_all(alloc, args)?;
+                let receiver = compile_in(alloc, names, target)?;
+                let codes = compile_all(alloc, names, args)?;
                 let all = join_method(alloc, name, receiver, codes)?;
                 Ok(all)
             }
         },
         Expr::Qualified { name, args } => {
-            let codes = compile_all(alloc, args)?;
+            let codes = compile_all(alloc, names, args)?;
             let all = join_function(alloc, name, codes)?;
             Ok(all)
         }
@@ -85,23 +138,17 @@ pub fn compile_tree(alloc: Global, expr: &Expr) -> Result<Vec<Instr>, Refused>
             filter,
             body,
         } => {
-            let first = compile_tree(alloc, range)?;
-            let second = compile_tree(alloc, body)?;
+            let first = compile_in(alloc, names, range)?;
+            let inner = with_variable(alloc, names, variable.as_str())?;
+            let second = compile_in(alloc, inner.as_slice(), body)?;
             match filter {
                 None => {
-                    let all = join_macro(alloc, *kind, first, variable.clone()?, None, second)?;
+                    let all = join_macro(alloc, *kind, first, None, second)?;
                     Ok(all)
                 }
                 Some(filter) => {
-                    let test = compile_tree(alloc, filter)?;
-                    let all = join_macro(
-                        alloc,
-                        *kind,
-                        first,
-                        variable.clone()?,
-                        Some(test),
-                        second,
-                    )?;
+                    let test = compile_in(alloc, inner.as_slice(), filter)?;
+                    let all = join_macro(alloc, *kind, first, Some(test), second)?;
                     Ok(all)
                 }
             }
@@ -111,30 +158,35 @@ pub fn compile_tree(alloc: Global, expr: &Expr) -> Result<Vec<Instr>, Refused>
 
 /// The code of each tree.
 #[cycle(compile)]
-fn compile_all(alloc: Global, items: &Vec<Expr>) -> Result<Vec<Vec<Instr>>, Refused>
-    ensures value { IfOk result (λ codes. codes_view codes.items ≡ codes_of (terms_of (map term items.now.items))) }
+fn compile_all<'e>(
+    alloc: Global,
+    names: &[&'e str],
+    items: &'e Vec<Expr>,
+) -> Result<Vec<Vec<Instr>>, Refused>
+    ensures value { IfOk result (λ codes. codes_view codes.items ≡ codes_in (variables names.now) (terms_of (map term items.now.items))) }
     ensures memory { IfErr result (λ e. e ≡ Refused.Memory) }
 {
     let mut codes = Vec::new(alloc);
     for item in items {
-        codes.push(compile_tree(alloc, item)?)?;
+        codes.push(compile_in(alloc, names, item)?)?;
     }
     Ok(codes)
 }
 
 /// The code of each key with that of its value.
 #[cycle(compile)]
-fn compile_pairs(
+fn compile_pairs<'e>(
     alloc: Global,
-    pairs: &Vec<(Expr, Expr)>,
+    names: &[&'e str],
+    pairs: &'e Vec<(Expr, Expr)>,
 ) -> Result<Vec<(Vec<Instr>, Vec<Instr>)>, Refused>
-    ensures value { IfOk result (λ codes. pairs_view codes.items ≡ pair_codes (pairs_of (map (λ p. (term p.0, term p.1)) pairs.now.items))) }
+    ensures value { IfOk result (λ codes. pairs_view codes.items ≡ pairs_in (variables names.now) (pairs_of (map (λ p. (term p.0, term p.1)) pairs.now.items))) }
     ensures memory { IfErr result (λ e. e ≡ Refused.Memory) }
 {
     let mut codes = Vec::new(alloc);
     for pair in pairs {
-        let key = compile_tree(alloc, &pair.0)?;
-        let value = compile_tree(alloc, &pair.1)?;
+        let key = compile_in(alloc, names, &pair.0)?;
+        let value = compile_in(alloc, names, &pair.1)?;
         codes.push((key, value))?;
     }
     Ok(codes)
@@ -206,7 +258,7 @@ fn join_operands(
 
 /// The code of a list.
 fn join_list(alloc: Global, codes: Vec<Vec<Instr>>) -> Result<Vec<Instr>, AllocError>
-    ensures { IfOk result (λ all. (ts : Terms) → codes_view codes.items ≡ codes_of ts → map op all.items ≡ code_of (list_of ts)) }
+    ensures { IfOk result (λ all. (xs : List (List ℕ)) (ts : Terms) → codes_view codes.items ≡ codes_in xs ts → map op all.items ≡ code_in xs (list_of ts)) }
 {
     let last = one(alloc, Instr::Apply(Operation::List(codes.len())))?;
     join_operands(codes, 0, last)
@@ -315,7 +367,8 @@ fn join_function(
     name: &Rc<String>,
     codes: Vec<Vec<Instr>>,
 ) -> Result<Vec<Instr>, AllocError>
-    ensures { IfOk result (λ all. (ts : Terms) → codes_view codes.items ≡ codes_of ts → map op all.items ≡ code_of (qualified (string_bytes name.now.value) ts)) }
+    ensures { IfOk result (λ all. (xs : List (List ℕ)) (ts : Terms) → codes_view codes.items ≡ codes_in xs ts
+        → map op all.items ≡ code_in xs (qualified (string_bytes name.now.value) ts)) }
 {
     let count = codes.len();
     let instr = call_instr(name, false, count)?;
@@ -331,7 +384,8 @@ fn join_method(
     receiver: Vec<Instr>,
     codes: Vec<Vec<Instr>>,
 ) -> Result<Vec<Instr>, AllocError>
-    ensures { IfOk result (λ all. (t : Term) (ts : Terms) → map op receiver.items ≡ code_of t → codes_view codes.items ≡ codes_of ts → map op all.items ≡ code_of (call (term_and t no_terms) (string_bytes name.now.value) ts)) }
+    ensures { IfOk result (λ all. (xs : List (List ℕ)) (t : Term) (ts : Terms) → map op receiver.items ≡ code_in xs t
+        → codes_view codes.items ≡ codes_in xs ts → map op all.items ≡ code_in xs (call (term_and t no_terms) (string_bytes name.now.value) ts)) }
 {
     let count = codes.len();
     let instr = call_instr(name, true, count)?;
@@ -406,18 +460,13 @@ fn join_loop(
     kind: MacroKind,
     filtered: bool,
     range: Vec<Instr>,
-    variable: Rc<String>,
     mut body: Vec<Instr>,
 ) -> Result<Vec<Instr>, AllocError>
-    ensures { IfOk result (λ all. map op all.items ≡ loop kind filtered (map op range.items) (string_bytes variable.value) (map op body.items)) }
+    ensures { IfOk result (λ all. map op all.items ≡ loop kind filtered (map op range.items) (map op body.items)) }
 {
     let past = body.len() + 1;
     let mut all = range;
-    all.push(Instr::Begin {
-        kind,
-        variable,
-        past,
-    })?;
+    all.push(Instr::Begin { kind, past })?;
     all.append(&mut body)?;
     all.push(Instr::Next { kind, filtered })?;
     Ok(all)
@@ -428,22 +477,21 @@ fn join_macro(
     alloc: Global,
     kind: MacroKind,
     range: Vec<Instr>,
-    variable: Rc<String>,
     filter: Option<Vec<Instr>>,
     body: Vec<Instr>,
 ) -> Result<Vec<Instr>, AllocError>
-    ensures { IfOk result (λ all. map op all.items ≡ macro_code kind (map op range.items) (string_bytes variable.value) (filter_codes filter) (map op body.items)) }
+    ensures { IfOk result (λ all. map op all.items ≡ macro_code kind (map op range.items) (filter_codes filter) (map op body.items)) }
 {
     match kind {
-        MacroKind::All => join_loop(MacroKind::All, false, range, variable, body),
-        MacroKind::Exists => join_loop(MacroKind::Exists, false, range, variable, body),
-        MacroKind::ExistsOne => join_loop(MacroKind::ExistsOne, false, range, variable, body),
-        MacroKind::Filter => join_loop(MacroKind::Filter, false, range, variable, body),
+        MacroKind::All => join_loop(MacroKind::All, false, range, body),
+        MacroKind::Exists => join_loop(MacroKind::Exists, false, range, body),
+        MacroKind::ExistsOne => join_loop(MacroKind::ExistsOne, false, range, body),
+        MacroKind::Filter => join_loop(MacroKind::Filter, false, range, body),
         MacroKind::Map => match filter {
-            None => join_loop(MacroKind::Map, false, range, variable, body),
+            None => join_loop(MacroKind::Map, false, range, body),
             Some(test) => {
                 let filtered = join_filter(alloc, test, body)?;
-                join_loop(MacroKind::Map, true, range, variable, filtered)
+                join_loop(MacroKind::Map, true, range, filtered)
             }
         },
     }

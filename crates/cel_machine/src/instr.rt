@@ -38,8 +38,10 @@ pub enum Operation {
 pub enum Instr {
     /// Pushes a value.
     Push(Value),
-    /// Pushes what a name is bound to.
+    /// Pushes what the context binds a name to.
     Load(Rc<String>),
+    /// Pushes the item of the loop so many loops outward; the innermost is none outward.
+    LoadItem(usize),
     /// Where the top is an error, drops so many values under it and passes so many instructions.
     Guard {
         under: usize,
@@ -78,7 +80,6 @@ pub enum Instr {
     /// Takes a macro's range: goes on with its first item, or past the loop where there is none.
     Begin {
         kind: MacroKind,
-        variable: Rc<String>,
         past: usize,
     },
     /// Takes the outcome at an item, an optional value where it went through a filter: ends the loop, or goes back with the next item.

@@ -1,5 +1,5 @@
 //! The items of loops, which change in place.
-ghost use Rattle.std.specs.Prelude.{◌≡◌, ◌∷◌, [], List, OnOk, MatchOption, Some};
+ghost use Rattle.std.specs.Prelude.{◌≡◌, ◌∷◌, [], List, OnOk, MatchOption, Some, None, slice_get};
 ghost use Rattle.cel_value.specs.View.{view};
 ghost use Rattle.cel_machine.specs.Machine.{Loop, with_more};
 ghost use Rattle.cel_machine.specs.State.{loop_view, loops_view, GoesOn};
@@ -9,7 +9,7 @@ use cel_value::Value;
 use std::alloc::AllocError;
 
 /// The item of a loop.
-pub fn item_of<'l>(state: &'l LoopState<'_>) -> &'l Value
+pub fn item_of(state: &LoopState) -> &Value
     ensures { view result.now ≡ (loop_view state.now).item }
 {
     match state.range.as_slice().get(state.index) {
@@ -19,7 +19,7 @@ pub fn item_of<'l>(state: &'l LoopState<'_>) -> &'l Value
 }
 
 /// The item of the innermost loop.
-pub fn top_item<'l>(loops: &'l Vec<LoopState<'_>>) -> Option<&'l Value>
+pub fn top_item(loops: &Vec<LoopState>) -> Option<&Value>
     ensures { MatchOption result (loops_view loops.now.items ≡ [])
         (λ v. (l : Loop) × (ls : List Loop) × (loops_view loops.now.items ≡ l ∷ ls) × (view v.now ≡ l.item)) }
 {
@@ -29,8 +29,21 @@ pub fn top_item<'l>(loops: &'l Vec<LoopState<'_>>) -> Option<&'l Value>
     }
 }
 
+/// The item of the loop so many loops outward, if there are so many.
+pub fn outer_item(loops: &Vec<LoopState>, outward: usize) -> Option<&Value>
+    ensures { MatchOption result (slice_get (loops_view loops.now.items) outward ≡ None)
+        (λ v. (l : Loop) × (slice_get (loops_view loops.now.items) outward ≡ Some l) × (view v.now ≡ l.item)) }
+{
+    let count = loops.len();
+    if outward < count {
+        Some(item_of(&loops[count - 1 - outward]))
+    } else {
+        None
+    }
+}
+
 /// The innermost loop goes on with its next item, if there is one.
-pub fn go_on(loops: &mut Vec<LoopState<'_>>) -> bool
+pub fn go_on(loops: &mut Vec<LoopState>) -> bool
     ensures { GoesOn result (loops_view loops.old.items) (loops_view loops.new.items) }
 {
     let count = loops.len();
@@ -48,7 +61,7 @@ pub fn go_on(loops: &mut Vec<LoopState<'_>>) -> bool
 }
 
 /// One more value that the items of the innermost loop gave.
-pub fn give(loops: &mut Vec<LoopState<'_>>, value: Value) -> Result<(), AllocError>
+pub fn give(loops: &mut Vec<LoopState>, value: Value) -> Result<(), AllocError>
     ensures { OnOk result ((l : Loop) (ls : List Loop) → loops_view loops.old.items ≡ l ∷ ls
         → loops_view loops.new.items ≡ with_more (Some (view value)) l ∷ ls) }
 {

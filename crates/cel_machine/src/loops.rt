@@ -67,19 +67,18 @@ fn answer_over_none(alloc: Global, kind: MacroKind) -> Result<Answer, Refused>
 }
 
 /// Into a loop over these items, with the first of them, or past it where there is none.
-fn enter<'c>(
+fn enter(
     alloc: Global,
     kind: MacroKind,
-    variable: &'c str,
     past: usize,
     place: usize,
     end: usize,
     range: Range,
-    stacks: &mut Stacks<'c>,
+    stacks: &mut Stacks,
 ) -> Result<Entry, Refused>
     requires { place < end }
     ensures value { IfOk result (λ e. (size : ℕ) → limit size (loops_of stacks.old) ≡ end →
-        Enters size end (entered size kind variable.now past place (Ok (range_list range)) (values_of stacks.old) (aside_of stacks.old) (loops_of stacks.old))
+        Enters size end (entered size kind past place (Ok (range_list range)) (values_of stacks.old) (aside_of stacks.old) (loops_of stacks.old))
         place past e (values_of stacks.new) (aside_of stacks.new) (loops_of stacks.old) (loops_of stacks.new)) }
     ensures memory { IfErr result (λ e. e ≡ Refused.Memory) }
 {
@@ -96,7 +95,6 @@ fn enter<'c>(
         push_loop(
             &mut stacks.loops,
             LoopState {
-                variable,
                 range,
                 index: 0,
                 given,
@@ -113,18 +111,17 @@ fn enter<'c>(
 
 /// The start of a loop.
 #[inline(never)]
-pub(crate) fn begin<'c>(
+pub(crate) fn begin(
     alloc: Global,
     kind: MacroKind,
-    variable: &'c str,
     past: usize,
     place: usize,
     end: usize,
-    stacks: &mut Stacks<'c>,
+    stacks: &mut Stacks,
 ) -> Result<Entry, Refused>
     requires { place < end }
     ensures value { IfOk result (λ e. (size : ℕ) → limit size (loops_of stacks.old) ≡ end →
-        Enters size end (begun size kind variable.now past place (values_of stacks.old) (aside_of stacks.old) (loops_of stacks.old))
+        Enters size end (begun size kind past place (values_of stacks.old) (aside_of stacks.old) (loops_of stacks.old))
         place past e (values_of stacks.new) (aside_of stacks.new) (loops_of stacks.old) (loops_of stacks.new)) }
     ensures memory { IfErr result (λ e. e ≡ Refused.Memory) }
 {
@@ -134,7 +131,7 @@ pub(crate) fn begin<'c>(
             Err(e) => Ok(leave(Err(e), past, place, end, &mut stacks.values)?),
             Ok(value) => match range_in(alloc, name_of(kind), value)? {
                 Err(e) => Ok(leave(Err(e), past, place, end, &mut stacks.values)?),
-                Ok(range) => enter(alloc, kind, variable, past, place, end, range, stacks),
+                Ok(range) => enter(alloc, kind, past, place, end, range, stacks),
             },
         },
     }
@@ -158,7 +155,7 @@ fn outcome_after(
 
 /// Out of the innermost loop, with this outcome.
 #[inline(never)]
-fn close(answer: Answer, stacks: &mut Stacks<'_>) -> Result<Entry, AllocError>
+fn close(answer: Answer, stacks: &mut Stacks) -> Result<Entry, AllocError>
     ensures { IfOk result (λ e. (k : Option Fault) (ab : List (Option Fault)) (l : Loop) (ls : List Loop)
         → aside_of stacks.old ≡ k ∷ ab → loops_of stacks.old ≡ l ∷ ls
         → (e ≡ Past) × (values_of stacks.new ≡ outcome_view answer ∷ values_of stacks.old) × (aside_of stacks.new ≡ ab) × (loops_of stacks.new ≡ ls)) }
@@ -171,7 +168,7 @@ fn close(answer: Answer, stacks: &mut Stacks<'_>) -> Result<Entry, AllocError>
 
 /// Past the last item of the innermost loop, with its outcome.
 #[inline(never)]
-fn end_loop(alloc: Global, way: Way, stacks: &mut Stacks<'_>) -> Result<Entry, Refused>
+fn end_loop(alloc: Global, way: Way, stacks: &mut Stacks) -> Result<Entry, Refused>
     ensures value { IfOk result (λ e. (k : Option Fault) (ab : List (Option Fault)) (l : Loop) (ls : List Loop)
         → aside_of stacks.old ≡ k ∷ ab → loops_of stacks.old ≡ l ∷ ls
         → (e ≡ Past) × (values_of stacks.new ≡ at_end way k l.given ∷ values_of stacks.old) × (aside_of stacks.new ≡ ab) × (loops_of stacks.new ≡ ls)) }
@@ -191,12 +188,7 @@ fn end_loop(alloc: Global, way: Way, stacks: &mut Stacks<'_>) -> Result<Entry, R
 }
 
 /// The next item of the innermost loop, or its end.
-fn next_item(
-    alloc: Global,
-    way: Way,
-    place: usize,
-    stacks: &mut Stacks<'_>,
-) -> Result<Entry, Refused>
+fn next_item(alloc: Global, way: Way, place: usize, stacks: &mut Stacks) -> Result<Entry, Refused>
     ensures value { IfOk result (λ e. (body : ℕ) (k : Option Fault) (ab : List (Option Fault)) (l : Loop) (ls : List Loop)
         → aside_of stacks.old ≡ k ∷ ab → loops_of stacks.old ≡ l ∷ ls → l.start ≡ body → l.finish ≡ place →
         Advances (again (at_end way k l.given) place k l l.rest (values_of stacks.old) ab ls)
@@ -227,7 +219,7 @@ fn take_outcome(
     stop: bool,
     place: usize,
     answer: Answer,
-    stacks: &mut Stacks<'_>,
+    stacks: &mut Stacks,
 ) -> Result<Entry, Refused>
     ensures value { IfOk result (λ e. (body : ℕ) (k : Option Fault) (ab : List (Option Fault)) (l : Loop) (ls : List Loop)
         → aside_of stacks.old ≡ k ∷ ab → loops_of stacks.old ≡ l ∷ ls → l.start ≡ body → l.finish ≡ place →
@@ -257,7 +249,7 @@ fn weigh(
     stop: bool,
     place: usize,
     answer: Answer,
-    stacks: &mut Stacks<'_>,
+    stacks: &mut Stacks,
 ) -> Result<Entry, Refused>
     ensures value { IfOk result (λ e. (body : ℕ) (k : Option Fault) (ab : List (Option Fault)) (l : Loop) (ls : List Loop)
         → aside_of stacks.old ≡ k ∷ ab → loops_of stacks.old ≡ l ∷ ls → l.start ≡ body → l.finish ≡ place →
@@ -311,7 +303,7 @@ fn gather(
     kind: MacroKind,
     place: usize,
     gift: Result<Option<Value>, ExecutionError>,
-    stacks: &mut Stacks<'_>,
+    stacks: &mut Stacks,
 ) -> Result<Entry, Refused>
     ensures value { IfOk result (λ e. (body : ℕ) (k : Option Fault) (ab : List (Option Fault)) (l : Loop) (ls : List Loop)
         → aside_of stacks.old ≡ k ∷ ab → loops_of stacks.old ≡ l ∷ ls → l.start ≡ body → l.finish ≡ place →
@@ -336,7 +328,7 @@ fn collect(
     end: End,
     place: usize,
     answer: Answer,
-    stacks: &mut Stacks<'_>,
+    stacks: &mut Stacks,
 ) -> Result<Entry, Refused>
     ensures value { IfOk result (λ e. (body : ℕ) (k : Option Fault) (ab : List (Option Fault)) (l : Loop) (ls : List Loop)
         → aside_of stacks.old ≡ k ∷ ab → loops_of stacks.old ≡ l ∷ ls → l.start ≡ body → l.finish ≡ place →
@@ -359,7 +351,7 @@ fn turn_back(
     end: End,
     place: usize,
     answer: Answer,
-    stacks: &mut Stacks<'_>,
+    stacks: &mut Stacks,
 ) -> Result<Entry, Refused>
     ensures value { IfOk result (λ e. (body : ℕ) (k : Option Fault) (ab : List (Option Fault)) (l : Loop) (ls : List Loop)
         → aside_of stacks.old ≡ k ∷ ab → loops_of stacks.old ≡ l ∷ ls → l.start ≡ body → l.finish ≡ place →
@@ -381,7 +373,7 @@ pub(crate) fn advance(
     alloc: Global,
     end: End,
     place: usize,
-    stacks: &mut Stacks<'_>,
+    stacks: &mut Stacks,
 ) -> Result<Entry, Refused>
     ensures value { IfOk result (λ e. (body : ℕ) → Top body place (loops_of stacks.old) →
         Advances (looped end.kind end.filtered place (values_of stacks.old) (aside_of stacks.old) (loops_of stacks.old))

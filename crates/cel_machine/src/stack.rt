@@ -88,14 +88,14 @@ pub fn keeps_none(absorbed: &Vec<Option<ExecutionError>>) -> bool
     absorbed.is_empty()
 }
 
-pub fn push_loop<'c>(loops: &mut Vec<LoopState<'c>>, state: LoopState<'c>) -> Result<(), AllocError>
-    ensures { OnOk result (loops_view loops.new.items ≡ loop_view state.entry ∷ loops_view loops.old.items) }
+pub fn push_loop(loops: &mut Vec<LoopState>, state: LoopState) -> Result<(), AllocError>
+    ensures { OnOk result (loops_view loops.new.items ≡ loop_view state ∷ loops_view loops.old.items) }
 {
     loops.push(state)?;
     Ok(())
 }
 
-pub fn pop_loop<'c>(loops: &mut Vec<LoopState<'c>>) -> Option<LoopState<'c>>
+pub fn pop_loop(loops: &mut Vec<LoopState>) -> Option<LoopState>
     ensures { MatchOption result (loops_view loops.old.items ≡ []) (λ l. loops_view loops.old.items ≡ loop_view l ∷ loops_view loops.new.items) }
 {
     loops.pop()

@@ -10,8 +10,7 @@ use cel_value::{ExecutionError, Value};
 /// A loop: what it goes over, the index of the item that its variable is bound to, what the items so far gave to its result, and the
 /// places where its body starts and ends.
 #[derive(Drop)]
-pub struct LoopState<'c> {
-    pub variable: &'c str,
+pub struct LoopState {
     pub range: Range,
     pub index: usize,
     pub given: Vec<Value>,
@@ -22,10 +21,10 @@ pub struct LoopState<'c> {
 
 /// The values, the absorbed errors and the loops, and room for the arguments of a call.
 #[derive(Drop)]
-pub struct Stacks<'c> {
+pub struct Stacks {
     pub values: Vec<Answer>,
     pub absorbed: Vec<Option<ExecutionError>>,
-    pub loops: Vec<LoopState<'c>>,
+    pub loops: Vec<LoopState>,
     pub args: Vec<Value>,
 }
 

@@ -1,4 +1,4 @@
-use Rattle.std.proofs.Common.{sym, ap, ◌∙◌, arith, map, length, refl}
+use Rattle.std.proofs.Common.{ap, ◌∙◌, arith, map, length, refl}
 use Rattle.std.specs.Prelude.{string_bytes}
 use Rattle.cel_book.specs.Entries.{entries_of}
 use Rattle.cel_meaning.specs.Bindings.{bindings_of, functions_of}
@@ -56,34 +56,30 @@ run_loop-unreachable-requires-in-None g t c =
 pub run_to-run_loop-requires : goal.run_to-run_loop-requires
 run_to-run_loop-requires g t c κs within =
     let b = placed c.args.end c.loop-place.invariant.0 c.requires.ends c.loop-place.invariant.1 c.requires.end c.loop-place-test.true in
-    let name = ap (λ x. begin c.in-Begin.kind x c.in-Begin.past) (ap string_bytes (sym c.deref.ensures) ∙ sym c.as_str.ensures.value) in
-    let at = stands c.args.code.now c.loop-place.place c.index-code-place.result (begin c.in-Begin.kind c.as_str.result.now c.in-Begin.past) (omega (arith, c.loop-place-test.true, c.requires.within)) c.index-code-place.is (ap op c.in-Begin.is ∙ name) in
-    let r = begin_inside c.in-Begin.kind c.as_str.result.now c.in-Begin.past _ b at c.in-Inside.is c.in_ok-begin-in-Begin.ensures.value in
+    let at = stands c.args.code.now c.loop-place.place c.index-code-place.result (begin c.in-Begin.kind c.in-Begin.past) (omega (arith, c.loop-place-test.true, c.requires.within)) c.index-code-place.is (ap op c.in-Begin.is) in
+    let r = begin_inside c.in-Begin.kind c.in-Begin.past _ b at c.in-Inside.is c.in_ok-begin-in-Begin.ensures.value in
     let k = ap (limit (length (map op c.args.code.now))) r.4 in
     (omega (arith, c.decreases, r.1, r.2, c.loop-place.invariant.2), ((λ a h. within a h), (omega (arith, r.2), (omega (arith, r.1, c.requires.within), (omega (arith, r.1, k, c.requires.end), (r.3, ends_after r.0 c.requires.ends))))))
 
 pub run_to-loop-place-preserved-in-Inside : goal.run_to-loop-place-preserved-in-Inside
 run_to-loop-place-preserved-in-Inside g t c =
     let b = placed c.args.end c.loop-place.invariant.0 c.requires.ends c.loop-place.invariant.1 c.requires.end c.loop-place-test.true in
-    let name = ap (λ x. begin c.in-Begin.kind x c.in-Begin.past) (ap string_bytes (sym c.deref.ensures) ∙ sym c.as_str.ensures.value) in
-    let at = stands c.args.code.now c.loop-place.place c.index-code-place.result (begin c.in-Begin.kind c.as_str.result.now c.in-Begin.past) (omega (arith, c.loop-place-test.true, c.requires.within)) c.index-code-place.is (ap op c.in-Begin.is ∙ name) in
-    let r = begin_inside c.in-Begin.kind c.as_str.result.now c.in-Begin.past _ b at c.in-Inside.is c.in_ok-begin-in-Begin.ensures.value in
+    let at = stands c.args.code.now c.loop-place.place c.index-code-place.result (begin c.in-Begin.kind c.in-Begin.past) (omega (arith, c.loop-place-test.true, c.requires.within)) c.index-code-place.is (ap op c.in-Begin.is) in
+    let r = begin_inside c.in-Begin.kind c.in-Begin.past _ b at c.in-Inside.is c.in_ok-begin-in-Begin.ensures.value in
     (walk_more r.0 c.in_ok-run_loop-in-Inside.ensures.runs, c.in_ok-run_loop-in-Inside.ensures.loops ∙ r.4, omega (arith, c.loop-place.invariant.2), omega (arith, r.1))
 
 pub run_to-loop-place-preserved-in-Past : goal.run_to-loop-place-preserved-in-Past
 run_to-loop-place-preserved-in-Past g t c =
     let b = placed c.args.end c.loop-place.invariant.0 c.requires.ends c.loop-place.invariant.1 c.requires.end c.loop-place-test.true in
-    let name = ap (λ x. begin c.in-Begin.kind x c.in-Begin.past) (ap string_bytes (sym c.deref.ensures) ∙ sym c.as_str.ensures.value) in
-    let at = stands c.args.code.now c.loop-place.place c.index-code-place.result (begin c.in-Begin.kind c.as_str.result.now c.in-Begin.past) (omega (arith, c.loop-place-test.true, c.requires.within)) c.index-code-place.is (ap op c.in-Begin.is ∙ name) in
-    let r = begin_past c.in-Begin.kind c.as_str.result.now c.in-Begin.past _ b at c.in-Past.is c.in_ok-begin-in-Begin.ensures.value in
+    let at = stands c.args.code.now c.loop-place.place c.index-code-place.result (begin c.in-Begin.kind c.in-Begin.past) (omega (arith, c.loop-place-test.true, c.requires.within)) c.index-code-place.is (ap op c.in-Begin.is) in
+    let r = begin_past c.in-Begin.kind c.in-Begin.past _ b at c.in-Past.is c.in_ok-begin-in-Begin.ensures.value in
     (r.0, r.2, omega (arith, c.loop-place.invariant.2), r.1)
 
 pub run_to-unreachable-requires : goal.run_to-unreachable-requires
 run_to-unreachable-requires g t c =
     let b = placed c.args.end c.loop-place.invariant.0 c.requires.ends c.loop-place.invariant.1 c.requires.end c.loop-place-test.true in
-    let name = ap (λ x. begin c.in-Begin.kind x c.in-Begin.past) (ap string_bytes (sym c.deref.ensures) ∙ sym c.as_str.ensures.value) in
-    let at = stands c.args.code.now c.loop-place.place c.index-code-place.result (begin c.in-Begin.kind c.as_str.result.now c.in-Begin.past) (omega (arith, c.loop-place-test.true, c.requires.within)) c.index-code-place.is (ap op c.in-Begin.is ∙ name) in
-    begin_out _ _ _ c.in-Begin.kind c.as_str.result.now c.in-Begin.past _ b at c.in-Out.is c.in_ok-begin-in-Begin.ensures.value
+    let at = stands c.args.code.now c.loop-place.place c.index-code-place.result (begin c.in-Begin.kind c.in-Begin.past) (omega (arith, c.loop-place-test.true, c.requires.within)) c.index-code-place.is (ap op c.in-Begin.is) in
+    begin_out _ _ _ c.in-Begin.kind c.in-Begin.past _ b at c.in-Out.is c.in_ok-begin-in-Begin.ensures.value
 
 pub run_to-unreachable-requires-in-Next : goal.run_to-unreachable-requires-in-Next
 run_to-unreachable-requires-in-Next g t c =
