@@ -1,5 +1,5 @@
 -- What comes first in the tokens that are left.
-use Rattle.std.specs.Prelude.{ℕ, ◌+◌, nat_eq, Bool, true, false, ◌&&◌, not, if◌then◌else◌, List, [], ◌∷◌, drop, map, Option, Some, None}
+use Rattle.std.specs.Prelude.{ℕ, ◌+◌, nat_eq, Bool, true, false, ◌&&◌, not, if◌then◌else◌, List, [], ◌∷◌, drop, map, Option, Some, None, is_some}
 use denote.Enum.Bare.{sameb}
 use Rattle.cel_syntax_tokens.specs.contracts.mark.Mark.{the_type}
 use Rattle.cel_syntax_tokens.specs.declared.mark.Mark.{Mark}
@@ -29,6 +29,11 @@ if_level k (Some o) = if nat_eq o.0 k then Some o.1 else None
 unfoldable pub operator_at : ℕ → List Token → Option BinaryOperator
 operator_at k [] = None
 operator_at k (t ∷ ts) = if_level k (operator t)
+
+-- whether any operator on two values comes first
+abbrev pub sees_operator : List Token → Bool
+sees_operator [] = false
+sees_operator (t ∷ ts) = is_some (operator t)
 
 -- A comma or a closing bracket ends the items, or comes before the first of them.
 abbrev pub is_end : Mark → Bool

@@ -80,6 +80,16 @@ impl<'a> Tokens<'a> {
         }
     }
 
+    /// Whether any operator on two values comes next.
+    pub fn sees_operator(&self) -> bool
+        ensures { result ≡ spec.sees_operator (left self.now) }
+    {
+        match self.rest.first() {
+            Some(token) => token_operator(*token).is_some(),
+            None => false,
+        }
+    }
+
     /// Whether a comma or a closing bracket comes next.
     pub fn sees_end(&self) -> bool
         ensures { result ≡ spec.sees_end (left self.now) }

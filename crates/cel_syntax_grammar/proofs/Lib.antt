@@ -1,4 +1,5 @@
 pub mod Turns
+pub mod Climbs
 pub mod Steps
 pub mod Rows
 pub mod Levels

@@ -1,4 +1,5 @@
 pub mod Grammar
 pub mod Parser
+pub mod Climb
 pub mod Reads
 pub mod Nests

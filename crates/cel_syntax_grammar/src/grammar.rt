@@ -10,6 +10,7 @@ ghost use Rattle.cel_syntax_grammar.specs.Parser as spec;
 ghost use Rattle.cel_syntax_cursor.specs.Ahead.{left, left as spec_left};
 ghost use Rattle.cel_syntax_grammar.specs.Reads.{Reads, ReadsItems, ReadsEntries, ReadsPair};
 ghost use Rattle.cel_syntax_grammar.specs.Nests.{Nests};
+ghost use Rattle.cel_syntax_grammar.specs.Climb.{climb};
 ghost use Rattle.cel_syntax_grammar.specs.declared.error.SyntaxError.TheVariants.{Memory};
 
 use crate::error::SyntaxError;
@@ -526,17 +527,35 @@ impl<F: Fn(Global, &mut Tokens<'_>, u8) -> Result<(Expr, usize), SyntaxError>> G
         }
     }
 
+    /// The operators that follow an operand and bind as loosely as the level says, or tighter.
+    #[cycle(operators)]
+    fn climb(
+        &self,
+        tokens: &mut Tokens<'_>,
+        level: u8,
+        found: (Expr, usize),
+    ) -> Result<(Expr, usize), SyntaxError>
+        requires { Nests self.now.limit (F.pre self.now.expr) (F.post self.now.expr) }
+        ensures { Reads (climb self.now.limit (spec.below self.now.limit) level (term found.0, found.1) (left tokens.old)) result (left tokens.new) }
+    {
+        if level == 0 {
+            return Ok(found);
+        }
+        let found = self.climb(tokens, level - 1, found)?;
+        self.turns(tokens, level - 1, found)
+    }
+
     /// Operators that bind as loosely as the level says, or tighter.
     #[cycle(operators)]
     fn chain(&self, tokens: &mut Tokens<'_>, level: u8) -> Result<(Expr, usize), SyntaxError>
         requires { Nests self.now.limit (F.pre self.now.expr) (F.post self.now.expr) }
         ensures { Reads (spec.chain self.now.limit (spec.below self.now.limit) level (left tokens.old)) result (left tokens.new) }
     {
-        if level == 0 {
-            return self.prefixed(tokens);
+        let found = self.prefixed(tokens)?;
+        if !tokens.sees_operator() {
+            return Ok(found);
         }
-        let found = self.chain(tokens, level - 1)?;
-        self.turns(tokens, level - 1, found)
+        self.climb(tokens, level, found)
     }
 
     /// A condition with its branches.

@@ -1,25 +1,42 @@
-use Rattle.std.proofs.Common.{◌≡◌, ◌+◌, rules, arith, add-one}
+use Rattle.std.proofs.Common.{◌≡◌, ◌+◌, false, refl, rules, arith, add-one}
 use Rattle.std.proofs.lemmas.Grind.{common_steps}
 use Rattle.cel_syntax_tree.specs.Term.{term}
 use Rattle.cel_syntax_grammar.specs.Parser as spec
-use Rattle.cel_syntax_cursor.specs.Ahead.{left}
+use Rattle.cel_syntax_cursor.specs.Ahead.{left, sees_operator}
+use Rattle.cel_syntax_grammar.specs.Climb.{climb}
+use Rattle.cel_syntax_grammar.proofs.Climbs.{chain_climbs, nothing_climbs}
 use Rattle.cel_syntax_grammar.proofs.Turns.{one_more, no_more, deeper}
 use Rattle.cel_syntax_grammar.proofs.grammar.Grammar.+operators.Goals as goal
 
-pub chain-returns-then-level-eq0 : goal.chain-returns-then-level-eq0
-unfolding spec.chain
-chain-returns-then-level-eq0 g t c = let none : c.args.level ≡ 0 = omega arith in rw none c.prefixed.ensures
-
 pub chain-returns-in_err-found : goal.chain-returns-in_err-found
-unfolding spec.chain
 chain-returns-in_err-found g t c =
-    rw (deeper (λ n. spec.chain c.args.self.now.limit (spec.below c.args.self.now.limit) n (left c.args.tokens.now)) c.args.level (omega arith)) (first_of (search rules, grind (arith, common_steps)))
+    rw (chain_climbs c.args.self.now.limit (spec.below c.args.self.now.limit) c.args.level (left c.args.tokens.now)) (first_of (search rules, grind (arith, common_steps)))
+
+pub chain-returns-then-not-sees_operator : goal.chain-returns-then-not-sees_operator
+chain-returns-then-not-sees_operator g t c =
+    let sub = spec.below c.args.self.now.limit in
+    let none : sees_operator (left c.prefixed.new.tokens) ≡ false = first_of (search rules, grind (arith, common_steps)) in
+    rw (chain_climbs c.args.self.now.limit sub c.args.level (left c.args.tokens.now), c.in_ok-found.ensures)
+    (nothing_climbs c.args.self.now.limit sub c.args.level (term c.in_ok-found.found.0, c.in_ok-found.found.1) (left c.prefixed.new.tokens) none)
 
 pub chain-returns : goal.chain-returns
-unfolding spec.chain
 chain-returns g t c =
+    rw (chain_climbs c.args.self.now.limit (spec.below c.args.self.now.limit) c.args.level (left c.args.tokens.now), c.in_ok-found.ensures) c.climb.ensures
+
+pub climb-returns-then-level-eq0 : goal.climb-returns-then-level-eq0
+unfolding climb
+climb-returns-then-level-eq0 g t c = let none : c.args.level ≡ 0 = omega arith in rw none refl
+
+pub climb-returns-in_err-found : goal.climb-returns-in_err-found
+unfolding climb
+climb-returns-in_err-found g t c =
+    rw (deeper (λ n. climb c.args.self.now.limit (spec.below c.args.self.now.limit) n (term c.args.found.0, c.args.found.1) (left c.args.tokens.now)) c.args.level (omega arith)) (first_of (search rules, grind (arith, common_steps)))
+
+pub climb-returns : goal.climb-returns
+unfolding climb
+climb-returns g t c =
     let rest = rw add-one at c.turns.ensures in
-    rw (deeper (λ n. spec.chain c.args.self.now.limit (spec.below c.args.self.now.limit) n (left c.args.tokens.now)) c.args.level (omega arith), c.in_ok-found.ensures) rest
+    rw (deeper (λ n. climb c.args.self.now.limit (spec.below c.args.self.now.limit) n (term c.args.found.0, c.args.found.1) (left c.args.tokens.now)) c.args.level (omega arith), c.in_ok-found.ensures) rest
 
 pub turns-returns-in_default : goal.turns-returns-in_default
 unfolding spec.turns

@@ -5,13 +5,16 @@ use Rattle.cel_syntax_cursor.specs.Ahead.{left}
 use Rattle.cel_syntax_grammar.proofs.grammar.Grammar.+operators.Given as goal
 
 abbrev pub decreases-chain : goal.decreases-chain
-decreases-chain g l = 3 * l.level
+decreases-chain g l = 4 * l.level + 1
+
+abbrev pub decreases-climb : goal.decreases-climb
+decreases-climb g l = 4 * l.level
 
 abbrev pub decreases-turns : goal.decreases-turns
-decreases-turns g l = 3 * l.below + 2
+decreases-turns g l = 4 * l.below + 3
 
 abbrev pub decreases-operated : goal.decreases-operated
-decreases-operated g l = 3 * l.below + 1
+decreases-operated g l = 4 * l.below + 2
 
 abbrev pub invariant-turns-loop-turn : goal.invariant-turns-loop-turn
 invariant-turns-loop-turn g l =
