@@ -1,9 +1,9 @@
 -- Code that is written from its end on, and the codes of several trees.
-use Rattle.std.proofs.Common.{◌≡◌, ℕ, suc, ◌+◌, List, [], ◌∷◌, ◌++◌, length, map, reverse, false, true, Option, Some, None, MatchOption, Result, Ok, Err, IfOk, Vec, refl, sym, ap, ◌∙◌, arith}
+use Rattle.std.proofs.Common.{◌≡◌, ℕ, suc, ◌+◌, List, [], ◌∷◌, ◌++◌, length, map, reverse, Bool, false, true, Option, Some, None, MatchOption, Result, Ok, Err, IfOk, Vec, refl, sym, ap, ◌∙◌, arith}
 use Rattle.std.proofs.lemmas.List.{map-append, reverse-append, reverse-reverse, length-reverse, length-map}
 use Rattle.std.specs.declared.alloc.Global.{Global}
 use Rattle.cel_syntax_tree.specs.Term.{Term, Terms, no_terms, term_and, count_of}
-use Rattle.cel_machine.specs.Code.{operand, operands, entry_code, entries_code, after_form, code_in, codes_in}
+use Rattle.cel_machine.specs.Code.{is_sure, checked, operand, operands, entry_code, entries_code, after_form, code_in, codes_in}
 use Rattle.cel_machine.specs.Op.{Op, op, as_list, guard, apply, invoke}
 use Rattle.cel_machine.specs.State.{from_end, codes_view, pairs_view}
 use Rattle.cel_machine.specs.declared.instr.Instr.{Instr}
@@ -28,11 +28,16 @@ from_end_front xs c =
     ap reverse (map-append op xs (reverse c)) ∙ reverse-append (map op xs) (map op (reverse c)) ∙ ap (λ l. l ++ from_end xs) (from_end_reversed c (reverse c) refl)
 
 -- an operand in front
-pub operand_front : (old mid new c : List Instr) (front : List Instr) (under past : ℕ) → past ≡ length old → from_end mid ≡ guard under past ∷ from_end old → front ≡ reverse c → new ≡ mid ++ front
+pub operand_front : (old mid new c : List Instr) (front : List Instr) (under : ℕ) (s : Bool) → s ≡ is_sure (map op c) → from_end mid ≡ checked s under (from_end old) → front ≡ reverse c → new ≡ mid ++ front
     → from_end new ≡ operand (map op c) under (from_end old)
-operand_front old mid new c front under past n g r e =
+operand_front old mid new c front under s sure m r e =
+    ap from_end (e ∙ ap (λ f. mid ++ f) r) ∙ from_end_front mid c ∙ ap (λ t. map op c ++ t) (m ∙ ap (λ b. checked b under (from_end old)) sure)
+
+-- a test for an error in front
+pub check_front : (old mid : List Instr) (under past : ℕ) → past ≡ length old → from_end mid ≡ guard under past ∷ from_end old → from_end mid ≡ checked false under (from_end old)
+check_front old mid under past n g =
     let l : past ≡ length (from_end old) = n ∙ sym (length_from_end old) in
-    ap from_end (e ∙ ap (λ f. mid ++ f) r) ∙ from_end_front mid c ∙ ap (λ t. map op c ++ t) (g ∙ ap (λ m. guard under m ∷ from_end old) l)
+    g ∙ ap (λ m. guard under m ∷ from_end old) l
 
 -- ---- several codes
 

@@ -1,8 +1,9 @@
 //! From trees to code.
-ghost use Rattle.std.specs.Prelude.{◌≡◌, ◌≤◌, ◌<◌, ◌++◌, [], ◌∷◌, ℕ, List, IfOk, IfErr, IfSome, OnOk, map, length, string_bytes, codes};
+ghost use Rattle.std.specs.Prelude.{◌≡◌, ◌≤◌, ◌<◌, ◌++◌, [], ◌∷◌, ℕ, List, IfOk, IfErr, IfSome, OnOk, map, length, option_map, string_bytes, codes};
 ghost use Rattle.cel_value.specs.Data.{map_of, no_entries};
+ghost use Rattle.cel_value.specs.View.{view};
 ghost use Rattle.cel_syntax_tree.specs.Term.{Term, Terms, list_of, call, qualified, no_terms, term_and, term, terms_of, pairs_of};
-ghost use Rattle.cel_machine.specs.Code.{place_of, load_of, code_of, code_in, codes_in, pairs_in, logic, operand, operands, one_with, both_with, binary_code, choice_code, filter_code, loop, macro_code, after_form, entry_code, entries_code};
+ghost use Rattle.cel_machine.specs.Code.{place_of, load_of, code_of, code_in, codes_in, pairs_in, leaves_value, is_sure, literal_of, logic, checked, operand, operands, one_with, both_with, strict_code, binary_code, choice_code, filter_code, loop, macro_code, after_form, entry_code, entries_code};
 ghost use Rattle.cel_machine.specs.Op.{op, work_of, operands_of, receivers, invoke, push, test_name};
 ghost use Rattle.cel_machine.specs.State.{variables, codes_view, pairs_view, filter_codes, from_end};
 
@@ -96,7 +97,7 @@ fn compile_in<'e>(alloc: Global, names: &[&'e str], expr: &'e Expr) -> Result<Ve
         Expr::Binary(operator, left, right) => {
             let first = compile_in(alloc, names, left)?;
             let second = compile_in(alloc, names, right)?;
-            Ok(join_binary(alloc, *operator, first, second)?)
+            join_binary(alloc, *operator, first, second, literal(right))
         }
         Expr::Cond(test, yes, no) => {
             let first = compile_in(alloc, names, test)?;
@@ -200,6 +201,24 @@ fn one(alloc: Global, instr: Instr) -> Result<Vec<Instr>, AllocError>
     Ok(code)
 }
 
+/// Whether an instruction leaves no error.
+fn leaves_value(instr: &Instr) -> bool
+    ensures { result ≡ leaves_value (op instr.now) }
+{
+    match instr {
+        Instr::Push(_) => true,
+        Instr::LoadItem(_) => true,
+        _ => false,
+    }
+}
+
+/// Whether code is such an instruction alone.
+fn is_sure(code: &[Instr]) -> bool
+    ensures { result ≡ is_sure (map op code.now) }
+{
+    code.len() == 1 && leaves_value(&code[0])
+}
+
 /// An operand of a strict form, over so many values of operands before it, and what follows it there.
 fn join_operand(
     code: Vec<Instr>,
@@ -208,11 +227,14 @@ fn join_operand(
 ) -> Result<Vec<Instr>, AllocError>
     ensures { IfOk result (λ all. map op all.items ≡ operand (map op code.items) under (map op rest.items)) }
 {
+    let sure = is_sure(code.as_slice());
     let mut all = code;
-    all.push(Instr::Guard {
-        under,
-        past: rest.len(),
-    })?;
+    if !sure {
+        all.push(Instr::Guard {
+            under,
+            past: rest.len(),
+        })?;
+    }
     all.append(&mut rest)?;
     Ok(all)
 }
@@ -225,12 +247,23 @@ fn prepend_one(rest: &mut Vec<Instr>, instr: Instr) -> Result<(), AllocError>
     Ok(())
 }
 
+/// A test for an error over so many values, unless it is sure that there is none, in front of code that is written from its end on.
+fn prepend_check(sure: bool, under: usize, rest: &mut Vec<Instr>) -> Result<(), AllocError>
+    ensures { OnOk result (from_end rest.new.items ≡ checked sure under (from_end rest.old.items)) }
+{
+    if sure {
+        return Ok(());
+    }
+    let past = rest.len();
+    prepend_one(rest, Instr::Guard { under, past })
+}
+
 /// An operand, over so many values, in front of code that is written from its end on.
 fn prepend_operand(code: Vec<Instr>, under: usize, rest: &mut Vec<Instr>) -> Result<(), AllocError>
     ensures { OnOk result (from_end rest.new.items ≡ operand (map op code.items) under (from_end rest.old.items)) }
 {
-    let past = rest.len();
-    prepend_one(rest, Instr::Guard { under, past })?;
+    let sure = is_sure(code.as_slice());
+    prepend_check(sure, under, rest)?;
     let mut front = code;
     front.reverse();
     rest.append(&mut front)?;
@@ -407,19 +440,51 @@ fn join_logic(stop: bool, left: Vec<Instr>, mut right: Vec<Instr>) -> Result<Vec
     Ok(all)
 }
 
-/// The code of an operator on two values.
+/// The value of a literal.
+fn literal(expr: &Expr) -> Option<&Value>
+    ensures { option_map (λ v. view v.now) result ≡ literal_of (term expr.now) }
+{
+    match expr {
+        Expr::Literal(value) => Some(value),
+        _ => None,
+    }
+}
+
+/// The code of a strict operator on two values, of which the right one may be a literal.
+fn join_strict(
+    alloc: Global,
+    operator: BinaryOperator,
+    left: Vec<Instr>,
+    right: Vec<Instr>,
+    literal: Option<&Value>,
+) -> Result<Vec<Instr>, Refused>
+    ensures value { IfOk result (λ all. map op all.items ≡ strict_code operator (map op left.items) (map op right.items) (option_map (λ v. view v.now) literal.entry)) }
+    ensures memory { IfErr result (λ e. e ≡ Refused.Memory) }
+{
+    match literal {
+        None => Ok(join_both(alloc, Operation::Binary(operator), left, right)?),
+        Some(value) => {
+            let operation = Operation::WithLiteral(operator, value.try_clone()?);
+            Ok(join_one(alloc, operation, left)?)
+        }
+    }
+}
+
+/// The code of an operator on two values, of which the right one may be a literal.
 fn join_binary(
     alloc: Global,
     operator: BinaryOperator,
     left: Vec<Instr>,
     right: Vec<Instr>,
-) -> Result<Vec<Instr>, AllocError>
-    ensures { IfOk result (λ all. map op all.items ≡ binary_code operator (map op left.items) (map op right.items)) }
+    literal: Option<&Value>,
+) -> Result<Vec<Instr>, Refused>
+    ensures value { IfOk result (λ all. map op all.items ≡ binary_code operator (map op left.items) (map op right.items) (option_map (λ v. view v.now) literal.entry)) }
+    ensures memory { IfErr result (λ e. e ≡ Refused.Memory) }
 {
     match operator {
-        BinaryOperator::Or => join_logic(true, left, right),
-        BinaryOperator::And => join_logic(false, left, right),
-        _ => join_both(alloc, Operation::Binary(operator), left, right),
+        BinaryOperator::Or => Ok(join_logic(true, left, right)?),
+        BinaryOperator::And => Ok(join_logic(false, left, right)?),
+        _ => join_strict(alloc, operator, left, right, literal),
     }
 }
 

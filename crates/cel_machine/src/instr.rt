@@ -18,6 +18,8 @@ pub enum Operation {
     Unary(UnaryOperator),
     /// An operator on two values.
     Binary(BinaryOperator),
+    /// An operator on a value and the literal on its right.
+    WithLiteral(BinaryOperator, Value),
     /// The member of a map at a key.
     Select(Key),
     /// Whether a map has a member at a key.
