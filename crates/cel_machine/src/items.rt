@@ -4,6 +4,7 @@ ghost use Rattle.cel_value.specs.View.{view};
 ghost use Rattle.cel_machine.specs.Machine.{Loop, with_more};
 ghost use Rattle.cel_machine.specs.State.{loop_view, loops_view, GoesOn};
 
+use crate::stack::push_last;
 use crate::state::LoopState;
 use cel_value::Value;
 use std::alloc::AllocError;
@@ -43,6 +44,7 @@ pub fn outer_item(loops: &Vec<LoopState>, outward: usize) -> Option<&Value>
 }
 
 /// The innermost loop goes on with its next item, if there is one.
+#[inline(always)]
 pub fn go_on(loops: &mut Vec<LoopState>) -> bool
     ensures { GoesOn result (loops_view loops.old.items) (loops_view loops.new.items) }
 {
@@ -61,6 +63,7 @@ pub fn go_on(loops: &mut Vec<LoopState>) -> bool
 }
 
 /// One more value that the items of the innermost loop gave.
+#[inline(always)]
 pub fn give(loops: &mut Vec<LoopState>, value: Value) -> Result<(), AllocError>
     ensures { OnOk result ((l : Loop) (ls : List Loop) → loops_view loops.old.items ≡ l ∷ ls
         → loops_view loops.new.items ≡ with_more (Some (view value)) l ∷ ls) }
@@ -68,7 +71,7 @@ pub fn give(loops: &mut Vec<LoopState>, value: Value) -> Result<(), AllocError>
     let count = loops.len();
     if 0 < count {
         let state = &mut loops[count - 1];
-        state.given.push(value)?;
+        push_last(&mut state.given, value)?;
     }
     Ok(())
 }

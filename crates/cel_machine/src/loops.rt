@@ -1,21 +1,23 @@
 //! What the start and the end of a loop do.
-ghost use Rattle.std.specs.Prelude.{◌≡◌, ◌∷◌, ◌<◌, ◌+◌, ℕ, IfOk, IfErr, IsTrue, List, Option, Ok, not, option_map, map, nat_lt, MatchOption};
+ghost use Rattle.std.specs.Prelude.{◌≡◌, ◌≢◌, ◌∷◌, [], ◌<◌, ◌+◌, ℕ, IfOk, IfErr, IfSome, List, Option, Ok, false, option_map, map, nat_lt, MatchOption};
 ghost use Rattle.cel_value.specs.Data.{bool};
 ghost use Rattle.cel_value.specs.Faults.{Fault, fault_view};
 ghost use Rattle.cel_value.specs.View.{view};
 ghost use Rattle.cel_meaning.specs.Macros.{gift_view};
-ghost use Rattle.cel_meaning.specs.Outcome.{outcome_view};
+ghost use Rattle.cel_meaning.specs.Outcome.{Outcome, outcome_view};
 ghost use Rattle.cel_meaning.specs.Ranges.{range_list};
 ghost use Rattle.cel_machine.specs.Machine.{Loop, go, begun, looped, allowed, limit, loop_name, again, entered, over_none, held_gift, gift_at, weighed, collected, turned};
 ghost use Rattle.cel_machine.specs.Op.{op, next};
 ghost use Rattle.cel_machine.specs.State.{at_end, outcomes, values_of, aside_of, loops_of};
 ghost use Rattle.cel_machine.specs.Correct.{Enters, Advances, Top};
 ghost use Rattle.cel_machine.specs.declared.state.Entry.TheVariants.{Past};
+ghost use Rattle.cel_machine.specs.declared.state.Way.TheVariants.{Made};
 
 use crate::instr::Instr;
 use crate::items::{give, go_on, top_item};
 use crate::stack::{
-    keeps_none, pop_answer, pop_aside, pop_loop, push_answer, push_aside, push_loop,
+    drop_answer, keeps_none, pop_answer, pop_aside, pop_loop, push_answer, push_aside, push_loop,
+    top,
 };
 use crate::state::{End, Entry, LoopState, Stacks, Way};
 use cel_meaning::macros::{finish, gift, name_of};
@@ -188,6 +190,7 @@ fn end_loop(alloc: Global, way: Way, stacks: &mut Stacks) -> Result<Entry, Refus
 }
 
 /// The next item of the innermost loop, or its end.
+#[inline(always)]
 fn next_item(alloc: Global, way: Way, place: usize, stacks: &mut Stacks) -> Result<Entry, Refused>
     ensures value { IfOk result (λ e. (body : ℕ) (k : Option Fault) (ab : List (Option Fault)) (l : Loop) (ls : List Loop)
         → aside_of stacks.old ≡ k ∷ ab → loops_of stacks.old ≡ l ∷ ls → l.start ≡ body → l.finish ≡ place →
@@ -202,18 +205,7 @@ fn next_item(alloc: Global, way: Way, place: usize, stacks: &mut Stacks) -> Resu
     }
 }
 
-/// Whether an outcome is the bool that decides nothing.
-fn passes(stop: bool, answer: &Answer) -> bool
-    ensures { IsTrue result → outcome_view answer.now ≡ Ok (bool (not stop)) }
-{
-    match answer {
-        Ok(Value::Bool(b)) => *b != stop,
-        _ => false,
-    }
-}
-
-/// After an item of a loop that the bool `stop` ends, whose outcome is an error or decides.
-#[inline(never)]
+/// After an item of a loop that the bool `stop` ends.
 fn take_outcome(
     alloc: Global,
     stop: bool,
@@ -240,27 +232,6 @@ fn take_outcome(
                 next_item(alloc, Way::Decided(stop), place, stacks)
             }
         },
-    }
-}
-
-/// After an item of a loop that the bool `stop` ends.
-fn weigh(
-    alloc: Global,
-    stop: bool,
-    place: usize,
-    answer: Answer,
-    stacks: &mut Stacks,
-) -> Result<Entry, Refused>
-    ensures value { IfOk result (λ e. (body : ℕ) (k : Option Fault) (ab : List (Option Fault)) (l : Loop) (ls : List Loop)
-        → aside_of stacks.old ≡ k ∷ ab → loops_of stacks.old ≡ l ∷ ls → l.start ≡ body → l.finish ≡ place →
-        Advances (weighed stop place (outcome_view answer) (values_of stacks.old) k ab l ls)
-        body place e (values_of stacks.new) (aside_of stacks.new) (l ∷ ls) (loops_of stacks.new)) }
-    ensures memory { IfErr result (λ e. e ≡ Refused.Memory) }
-{
-    if passes(stop, &answer) {
-        next_item(alloc, Way::Decided(stop), place, stacks)
-    } else {
-        take_outcome(alloc, stop, place, answer, stacks)
     }
 }
 
@@ -360,21 +331,97 @@ fn turn_back(
     ensures memory { IfErr result (λ e. e ≡ Refused.Memory) }
 {
     match end.kind {
-        MacroKind::All => weigh(alloc, false, place, answer, stacks),
-        MacroKind::Exists => weigh(alloc, true, place, answer, stacks),
+        MacroKind::All => take_outcome(alloc, false, place, answer, stacks),
+        MacroKind::Exists => take_outcome(alloc, true, place, answer, stacks),
         MacroKind::ExistsOne => collect(alloc, end, place, answer, stacks),
         MacroKind::Map => collect(alloc, end, place, answer, stacks),
         MacroKind::Filter => collect(alloc, end, place, answer, stacks),
     }
 }
 
+/// How a macro that keeps items comes to its outcome, where this bool gives none to it.
+#[inline(always)]
+fn passing_by(kind: MacroKind, filtered: bool, outcome: bool) -> Option<Way>
+    ensures { IfSome result (λ way. (way ≡ Made kind) × (filtered ≡ false) × (outcome ≡ false)) }
+{
+    if filtered || outcome {
+        None
+    } else {
+        Some(Way::Made(kind))
+    }
+}
+
+/// How a loop comes to its outcome, where this bool at an item neither decides it nor gives anything to it.
+#[inline(always)]
+fn passing(end: End, outcome: bool) -> Option<Way>
+    ensures { IfSome result (λ way. (p : ℕ) (vs : List Outcome) (k : Option Fault) (ab : List (Option Fault)) (l : Loop) (ls : List Loop)
+        → turned end.kind end.filtered p (Ok (bool outcome)) vs k ab l ls ≡ again (at_end way k l.given) p k l l.rest vs ab ls) }
+{
+    match end.kind {
+        MacroKind::All => {
+            if outcome {
+                Some(Way::Decided(false))
+            } else {
+                None
+            }
+        }
+        MacroKind::Exists => {
+            if outcome {
+                None
+            } else {
+                Some(Way::Decided(true))
+            }
+        }
+        MacroKind::ExistsOne => passing_by(MacroKind::ExistsOne, end.filtered, outcome),
+        MacroKind::Filter => passing_by(MacroKind::Filter, end.filtered, outcome),
+        MacroKind::Map => None,
+    }
+}
+
+/// How the loop comes to its outcome, where its end finds a bool that neither decides it nor gives anything to it.
+#[inline(always)]
+fn passing_on_top(end: End, stacks: &Stacks) -> Option<Way>
+    ensures { IfSome result (λ way. (aside_of stacks.now ≢ []) × (r : Outcome) × (vs : List Outcome) × (values_of stacks.now ≡ r ∷ vs)
+        × ((p : ℕ) (k : Option Fault) (ab : List (Option Fault)) (l : Loop) (ls : List Loop)
+        → turned end.kind end.filtered p r vs k ab l ls ≡ again (at_end way k l.given) p k l l.rest vs ab ls)) }
+{
+    match top(&stacks.values) {
+        Some(Ok(Value::Bool(outcome))) => {
+            if keeps_none(&stacks.absorbed) {
+                None
+            } else {
+                passing(end, *outcome)
+            }
+        }
+        _ => None,
+    }
+}
+
 /// The end of a loop's body.
+#[inline(always)]
 pub(crate) fn advance(
     alloc: Global,
     end: End,
     place: usize,
     stacks: &mut Stacks,
 ) -> Result<Entry, Refused>
+    ensures value { IfOk result (λ e. (body : ℕ) → Top body place (loops_of stacks.old) →
+        Advances (looped end.kind end.filtered place (values_of stacks.old) (aside_of stacks.old) (loops_of stacks.old))
+        body place e (values_of stacks.new) (aside_of stacks.new) (loops_of stacks.old) (loops_of stacks.new)) }
+    ensures memory { IfErr result (λ e. e ≡ Refused.Memory) }
+{
+    match passing_on_top(end, stacks) {
+        Some(way) => {
+            drop_answer(&mut stacks.values);
+            next_item(alloc, way, place, stacks)
+        }
+        None => take_item(alloc, end, place, stacks),
+    }
+}
+
+/// The end of a loop's body, whatever it finds.
+#[inline(never)]
+fn take_item(alloc: Global, end: End, place: usize, stacks: &mut Stacks) -> Result<Entry, Refused>
     ensures value { IfOk result (λ e. (body : ℕ) → Top body place (loops_of stacks.old) →
         Advances (looped end.kind end.filtered place (values_of stacks.old) (aside_of stacks.old) (loops_of stacks.old))
         body place e (values_of stacks.new) (aside_of stacks.new) (loops_of stacks.old) (loops_of stacks.new)) }

@@ -11,7 +11,10 @@ ghost use Rattle.cel_machine.specs.State.{outcomes, aside};
 ghost use Rattle.cel_machine.specs.Correct.{Turns, TurnsValues, Lacks};
 
 use crate::instr::Test;
-use crate::stack::{pop_answer, pop_aside, push_answer, push_aside, put_top, top};
+use crate::stack::{
+    drop_answer, drop_aside, is_clear, is_on_top, pop_answer, pop_aside, push_answer, push_aside,
+    put_top, top,
+};
 use cel_meaning::operators::{Answer, Progress, absorb, no_such_overload, settle};
 use cel_value::{ExecutionError, Refused, Value};
 use std::alloc::{AllocError, Global};
@@ -114,9 +117,9 @@ fn truth_of(
     }
 }
 
-/// A test.
+/// A test of whatever is on top.
 #[inline(never)]
-pub(crate) fn branch(
+fn branch_on_any(
     alloc: Global,
     test: Test,
     other: usize,
@@ -148,9 +151,37 @@ pub(crate) fn branch(
     }
 }
 
-/// The left operand of && and ||.
+/// A test, whose bool is looked at where it lies.
+#[inline(always)]
+pub(crate) fn branch(
+    alloc: Global,
+    test: Test,
+    other: usize,
+    past: usize,
+    place: usize,
+    end: usize,
+    values: &mut Vec<Answer>,
+) -> Result<Option<usize>, Refused>
+    requires { place < end }
+    ensures value { IfOk result (λ q. TurnsValues place end (branched (test_name test) other past place (outcomes values.old.items)) q (outcomes values.new.items)) }
+    ensures memory { IfErr result (λ e. e ≡ Refused.Memory) }
+{
+    match top(values) {
+        Some(Ok(Value::Bool(true))) => {
+            drop_answer(values);
+            Ok(Some(place + 1))
+        }
+        Some(Ok(Value::Bool(false))) => {
+            drop_answer(values);
+            Ok(jump(place, other, end))
+        }
+        _ => branch_on_any(alloc, test, other, past, place, end, values),
+    }
+}
+
+/// The left operand of && and ||, whatever it is.
 #[inline(never)]
-pub(crate) fn take_left(
+fn absorb_left(
     alloc: Global,
     stop: bool,
     past: usize,
@@ -178,9 +209,32 @@ pub(crate) fn take_left(
     }
 }
 
-/// The right operand of && and ||.
+/// The left operand of && and ||. The bool that decides nothing is looked at where it lies.
+#[inline(always)]
+pub(crate) fn take_left(
+    alloc: Global,
+    stop: bool,
+    past: usize,
+    place: usize,
+    end: usize,
+    values: &mut Vec<Answer>,
+    kept: &mut Vec<Option<ExecutionError>>,
+) -> Result<Option<usize>, Refused>
+    requires { place < end }
+    ensures value { IfOk result (λ q. Turns place end (absorbed stop past place (outcomes values.old.items) (aside kept.old.items)) q (outcomes values.new.items) (aside kept.new.items)) }
+    ensures memory { IfErr result (λ e. e ≡ Refused.Memory) }
+{
+    if is_on_top(values, !stop) {
+        drop_answer(values);
+        push_aside(kept, None)?;
+        return Ok(Some(place + 1));
+    }
+    absorb_left(alloc, stop, past, place, end, values, kept)
+}
+
+/// The right operand of && and ||, whatever it is.
 #[inline(never)]
-pub(crate) fn take_right(
+fn absorb_right(
     alloc: Global,
     stop: bool,
     place: usize,
@@ -208,6 +262,27 @@ pub(crate) fn take_right(
             },
         },
     }
+}
+
+/// The right operand of && and ||. The bool that decides nothing stays where it is, unless an error was kept aside.
+#[inline(always)]
+pub(crate) fn take_right(
+    alloc: Global,
+    stop: bool,
+    place: usize,
+    end: usize,
+    values: &mut Vec<Answer>,
+    kept: &mut Vec<Option<ExecutionError>>,
+) -> Result<Option<usize>, Refused>
+    requires { place < end }
+    ensures value { IfOk result (λ q. Turns place end (joined stop place (outcomes values.old.items) (aside kept.old.items)) q (outcomes values.new.items) (aside kept.new.items)) }
+    ensures memory { IfErr result (λ e. e ≡ Refused.Memory) }
+{
+    if is_on_top(values, !stop) && is_clear(kept) {
+        drop_aside(kept);
+        return Ok(Some(place + 1));
+    }
+    absorb_right(alloc, stop, place, end, values, kept)
 }
 
 /// The topmost value, unless it is an error.

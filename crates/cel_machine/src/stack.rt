@@ -1,6 +1,7 @@
 //! Stacks of values, of absorbed errors and of loops, the topmost last.
-ghost use Rattle.std.specs.Prelude.{◌≡◌, ◌≢◌, ◌∷◌, [], List, Ok, OnOk, IfErr, MatchBool, MatchOption, option_map};
-ghost use Rattle.cel_value.specs.Faults.{fault_view};
+ghost use Rattle.std.specs.Prelude.{◌≡◌, ◌≢◌, ◌∷◌, ◌++◌, [], List, Ok, OnOk, IfErr, IsTrue, MatchBool, MatchOption, None, Option, option_map};
+ghost use Rattle.cel_value.specs.Data.{bool};
+ghost use Rattle.cel_value.specs.Faults.{Fault, fault_view};
 ghost use Rattle.cel_value.specs.View.{view};
 ghost use Rattle.cel_meaning.specs.Outcome.{Outcome, outcome_view};
 ghost use Rattle.cel_machine.specs.State.{outcomes, aside, loop_view, loops_view};
@@ -10,11 +11,24 @@ use cel_meaning::operators::Answer;
 use cel_value::{ExecutionError, Refused, Value};
 use std::alloc::AllocError;
 
+/// One more at the end.
+// Where there is room, this is no more than some stores, so it is inlined, as all is that each item of a loop needs.
+#[inline(always)]
+pub fn push_last<T: Drop>(list: &mut Vec<T>, last: T) -> Result<(), AllocError>
+    ensures { OnOk result (list.new.items ≡ list.old.items ++ last ∷ []) }
+{
+    if list.capacity() <= list.len() {
+        list.reserve(1)?;
+    }
+    list.push_reserved(last);
+    Ok(())
+}
+
+#[inline(always)]
 pub fn push_answer(values: &mut Vec<Answer>, answer: Answer) -> Result<(), AllocError>
     ensures { OnOk result (outcomes values.new.items ≡ outcome_view answer ∷ outcomes values.old.items) }
 {
-    values.push(answer)?;
-    Ok(())
+    push_last(values, answer)
 }
 
 /// A copy of a value, of any kind.
@@ -28,6 +42,7 @@ fn push_any(values: &mut Vec<Answer>, value: &Value) -> Result<(), Refused>
 }
 
 /// A copy of a value, an int or a bool first.
+#[inline(always)]
 pub fn push_copy(values: &mut Vec<Answer>, value: &Value) -> Result<(), Refused>
     ensures value { OnOk result (outcomes values.new.items ≡ Ok (view value.now) ∷ outcomes values.old.items) }
     ensures memory { IfErr result (λ e. e ≡ Refused.Memory) }
@@ -46,6 +61,7 @@ pub fn pop_answer(values: &mut Vec<Answer>) -> Option<Answer>
 }
 
 /// The topmost answer.
+#[inline(always)]
 pub fn top(values: &Vec<Answer>) -> Option<&Answer>
     ensures { MatchOption result (outcomes values.now.items ≡ []) (λ r. (vs : List Outcome) × (outcomes values.now.items ≡ outcome_view r.now ∷ vs)) }
 {
@@ -55,7 +71,30 @@ pub fn top(values: &Vec<Answer>) -> Option<&Answer>
     }
 }
 
+/// Whether the topmost answer is this bool.
+#[inline(always)]
+pub fn is_on_top(values: &Vec<Answer>, sought: bool) -> bool
+    ensures { IsTrue result → (vs : List Outcome) × (outcomes values.now.items ≡ Ok (bool sought) ∷ vs) }
+{
+    match top(values) {
+        Some(Ok(Value::Bool(b))) => *b == sought,
+        _ => false,
+    }
+}
+
+/// Drops the topmost answer.
+#[inline(always)]
+pub fn drop_answer(values: &mut Vec<Answer>)
+    ensures { (r : Outcome) (vs : List Outcome) → outcomes values.old.items ≡ r ∷ vs → outcomes values.new.items ≡ vs }
+{
+    let count = values.len();
+    if 0 < count {
+        let _ = values.take_last();
+    }
+}
+
 /// This answer in place of the topmost one.
+#[inline(always)]
 pub fn put_top(values: &mut Vec<Answer>, answer: Answer)
     ensures { (r : Outcome) (vs : List Outcome) → outcomes values.old.items ≡ r ∷ vs → outcomes values.new.items ≡ outcome_view answer ∷ vs }
 {
@@ -65,20 +104,42 @@ pub fn put_top(values: &mut Vec<Answer>, answer: Answer)
     }
 }
 
+#[inline(always)]
 pub fn push_aside(
     absorbed: &mut Vec<Option<ExecutionError>>,
     fault: Option<ExecutionError>,
 ) -> Result<(), AllocError>
     ensures { OnOk result (aside absorbed.new.items ≡ option_map fault_view fault ∷ aside absorbed.old.items) }
 {
-    absorbed.push(fault)?;
-    Ok(())
+    push_last(absorbed, fault)
 }
 
 pub fn pop_aside(absorbed: &mut Vec<Option<ExecutionError>>) -> Option<Option<ExecutionError>>
     ensures { MatchOption result (aside absorbed.old.items ≡ []) (λ k. aside absorbed.old.items ≡ option_map fault_view k ∷ aside absorbed.new.items) }
 {
     absorbed.pop()
+}
+
+/// Whether the topmost place for an error keeps none.
+#[inline(always)]
+pub fn is_clear(absorbed: &Vec<Option<ExecutionError>>) -> bool
+    ensures { IsTrue result → (ks : List (Option Fault)) × (aside absorbed.now.items ≡ None ∷ ks) }
+{
+    match absorbed.as_slice().split_last() {
+        Some((None, _)) => true,
+        _ => false,
+    }
+}
+
+/// Drops the topmost place for an error.
+#[inline(always)]
+pub fn drop_aside(absorbed: &mut Vec<Option<ExecutionError>>)
+    ensures { (k : Option Fault) (ks : List (Option Fault)) → aside absorbed.old.items ≡ k ∷ ks → aside absorbed.new.items ≡ ks }
+{
+    let count = absorbed.len();
+    if 0 < count {
+        let _ = absorbed.take_last();
+    }
 }
 
 /// Whether there is no error kept aside, nor a place for one.

@@ -7,12 +7,12 @@ use Rattle.cel_machine.specs.State.{loop_view}
 use Rattle.cel_machine.proofs.Rounds.{gives, given_more}
 use Rattle.cel_machine.proofs.items.give.Goals as goal
 
-pub returns-in_ok-push : goal.returns-in_ok-push
-returns-in_ok-push c = λ l ms is.
+pub returns-in_ok-push_last : goal.returns-in_ok-push_last
+returns-in_ok-push_last c = λ l ms is.
     let ls = c.args.loops.now.items in
     let s = c.index_mut-state.result.now in
     let k = c.len-count.result - 1 in
     let one : k + 1 ≡ length ls = search (rules, arith) in
     let here : slice_get ls k ≡ Some s = slice_get_read ls _ k s refl (omega (arith, one)) c.index_mut-state.ensures.value in
-    let more : map view c.push.new.self.items ≡ map view s.given.items ++ view c.args.value ∷ [] = ap (map view) c.in_ok-push.ensures.items ∙ map-append view s.given.items (c.args.value ∷ []) in
+    let more : map view c.push_last.new.list.items ≡ map view s.given.items ++ view c.args.value ∷ [] = ap (map view) c.in_ok-push_last.ensures ∙ map-append view s.given.items (c.args.value ∷ []) in
     gives ls s _ k (view c.args.value) l ms here one (given_more (loop_view s) _ _ more) is

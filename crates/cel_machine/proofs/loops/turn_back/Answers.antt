@@ -8,9 +8,9 @@ use Rattle.cel_machine.proofs.loops.turn_back.Goals as goal
 pub returns-in-All-clause-value : goal.returns-in-All-clause-value
 returns-in-All-clause-value c =
     let t = c.args.stacks.now in
-    turn_weighs c.weigh.result c.args.end.kind All false c.args.end.filtered c.args.place (outcome_view c.args.answer) (values_of t) _ (aside_of t) _ (loops_of t) _ c.in-All.is (λ k ab l ls. refl) c.weigh.ensures.value
+    turn_weighs c.take_outcome.result c.args.end.kind All false c.args.end.filtered c.args.place (outcome_view c.args.answer) (values_of t) _ (aside_of t) _ (loops_of t) _ c.in-All.is (λ k ab l ls. refl) c.take_outcome.ensures.value
 
 pub returns-in-Exists-clause-value : goal.returns-in-Exists-clause-value
 returns-in-Exists-clause-value c =
     let t = c.args.stacks.now in
-    turn_weighs c.weigh-in-Exists.result c.args.end.kind Exists true c.args.end.filtered c.args.place (outcome_view c.args.answer) (values_of t) _ (aside_of t) _ (loops_of t) _ c.in-Exists.is (λ k ab l ls. refl) c.weigh-in-Exists.ensures.value
+    turn_weighs c.take_outcome-in-Exists.result c.args.end.kind Exists true c.args.end.filtered c.args.place (outcome_view c.args.answer) (values_of t) _ (aside_of t) _ (loops_of t) _ c.in-Exists.is (λ k ab l ls. refl) c.take_outcome-in-Exists.ensures.value
