@@ -1,10 +1,10 @@
 //! What the start and the end of a loop do.
-ghost use Rattle.std.specs.Prelude.{◌≡◌, ◌≢◌, ◌∷◌, [], ◌<◌, ◌+◌, ℕ, IfOk, IfErr, IfSome, List, Option, Ok, false, option_map, map, nat_lt, MatchOption};
+ghost use Rattle.std.specs.Prelude.{◌≡◌, ◌≢◌, ◌∷◌, [], ◌<◌, ◌+◌, ℕ, IfOk, IfErr, IfSome, List, Option, Ok, Some, false, option_map, map, nat_lt, MatchOption};
 ghost use Rattle.cel_value.specs.Data.{bool};
 ghost use Rattle.cel_value.specs.Faults.{Fault, fault_view};
 ghost use Rattle.cel_value.specs.View.{view};
 ghost use Rattle.cel_meaning.specs.Macros.{gift_view};
-ghost use Rattle.cel_meaning.specs.Outcome.{Outcome, outcome_view};
+ghost use Rattle.cel_meaning.specs.Outcome.{Outcome, and_then, outcome_view};
 ghost use Rattle.cel_meaning.specs.Ranges.{range_list};
 ghost use Rattle.cel_machine.specs.Machine.{Loop, go, begun, looped, allowed, limit, loop_name, again, entered, over_none, held_gift, gift_at, weighed, collected, turned};
 ghost use Rattle.cel_machine.specs.Op.{op, next};
@@ -206,6 +206,7 @@ fn next_item(alloc: Global, way: Way, place: usize, stacks: &mut Stacks) -> Resu
 }
 
 /// After an item of a loop that the bool `stop` ends.
+#[inline(never)]
 fn take_outcome(
     alloc: Global,
     stop: bool,
@@ -316,7 +317,31 @@ fn collect(
     }
 }
 
+/// After an item of a `map` without a filter.
+#[inline(always)]
+fn take_image(
+    alloc: Global,
+    place: usize,
+    answer: Answer,
+    stacks: &mut Stacks,
+) -> Result<Entry, Refused>
+    ensures value { IfOk result (λ e. (body : ℕ) (k : Option Fault) (ab : List (Option Fault)) (l : Loop) (ls : List Loop)
+        → aside_of stacks.old ≡ k ∷ ab → loops_of stacks.old ≡ l ∷ ls → l.start ≡ body → l.finish ≡ place →
+        Advances (collected MacroKind.Map place (and_then (outcome_view answer) (λ v. Ok (Some v))) (values_of stacks.old) k ab l ls)
+        body place e (values_of stacks.new) (aside_of stacks.new) (l ∷ ls) (loops_of stacks.new)) }
+    ensures memory { IfErr result (λ e. e ≡ Refused.Memory) }
+{
+    match answer {
+        Err(e) => Ok(close(Err(e), stacks)?),
+        Ok(image) => {
+            give(&mut stacks.loops, image)?;
+            next_item(alloc, Way::Made(MacroKind::Map), place, stacks)
+        }
+    }
+}
+
 /// After an item.
+#[inline(always)]
 fn turn_back(
     alloc: Global,
     end: End,
@@ -334,7 +359,13 @@ fn turn_back(
         MacroKind::All => take_outcome(alloc, false, place, answer, stacks),
         MacroKind::Exists => take_outcome(alloc, true, place, answer, stacks),
         MacroKind::ExistsOne => collect(alloc, end, place, answer, stacks),
-        MacroKind::Map => collect(alloc, end, place, answer, stacks),
+        MacroKind::Map => {
+            if end.filtered {
+                collect(alloc, end, place, answer, stacks)
+            } else {
+                take_image(alloc, place, answer, stacks)
+            }
+        }
         MacroKind::Filter => collect(alloc, end, place, answer, stacks),
     }
 }
@@ -420,7 +451,7 @@ pub(crate) fn advance(
 }
 
 /// The end of a loop's body, whatever it finds.
-#[inline(never)]
+#[inline(always)]
 fn take_item(alloc: Global, end: End, place: usize, stacks: &mut Stacks) -> Result<Entry, Refused>
     ensures value { IfOk result (λ e. (body : ℕ) → Top body place (loops_of stacks.old) →
         Advances (looped end.kind end.filtered place (values_of stacks.old) (aside_of stacks.old) (loops_of stacks.old))
