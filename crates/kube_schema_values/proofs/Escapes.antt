@@ -21,11 +21,11 @@ unfolding escaped_text
 escaped_text-double t = refl
 
 -- a byte that stays as it is
-record IsPlain (b : ℕ) : Type 0 where
-  stays : escaped_byte b ≡ b ∷ []
-  alone : (b == 95) ≡ false
+pub record IsPlain (b : ℕ) : Type 0 where
+  pub stays : escaped_byte b ≡ b ∷ []
+  pub alone : (b == 95) ≡ false
 
-is_plain : (b : ℕ) → (b ≡ 46 → ⊥) → (b ≡ 45 → ⊥) → (b ≡ 47 → ⊥) → (b ≡ 95 → ⊥) → IsPlain b
+pub is_plain : (b : ℕ) → (b ≡ 46 → ⊥) → (b ≡ 45 → ⊥) → (b ≡ 47 → ⊥) → (b ≡ 95 → ⊥) → IsPlain b
 is_plain b dot dash slash underscore =
     record { stays = rw (ne_eqb b 46 dot, ne_eqb b 45 dash, ne_eqb b 47 slash) refl; alone = ne_eqb b 95 underscore }
 
@@ -35,6 +35,11 @@ plain_before [] t plain = refl
 plain_before (b ∷ bs) t plain =
     let here = plain 0 (omega arith) in
     escaped_text-cons b (bs ++ t) here.alone ∙ rw here.stays (ap (λ s. b ∷ s) (plain_before bs t (λ k l. plain (suc k) (omega arith))))
+
+-- a text of plain bytes
+pub plain_text : (bs : List ℕ) → ((k : ℕ) → k < length bs → IsPlain (get_or bs k 0)) → escaped_text bs ≡ bs
+unfolding escaped_text
+plain_text bs plain = ap escaped_text (sym (append-nil bs)) ∙ plain_before bs [] plain ∙ append-nil bs
 
 -- an ASCII byte in a character is the character
 pub other_byte : (c k b : ℕ) → k < length (encode_utf8 c) → b < 128 → (c ≡ b → ⊥) → get_or (encode_utf8 c) k 0 ≡ b → ⊥

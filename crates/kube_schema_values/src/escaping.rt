@@ -1,6 +1,6 @@
 //! Field names written so that CEL can select them, in the manner of the Kubernetes API server
 //! (Kubernetes documentation, "Use CEL validation rules", escaping of property names).
-ghost use Rattle.std.specs.Prelude.{◌≡◌, ◌++◌, List, ℕ, IfErr, IfOk, OnOk, string_bytes};
+ghost use Rattle.std.specs.Prelude.{◌≡◌, ◌++◌, true, List, ℕ, IfErr, IfOk, OnOk, string_bytes};
 ghost use Rattle.std.specs.Char.{encode_utf8};
 ghost use Rattle.kube_schema_values.specs.Escape.{is_reserved, escape, escaped_text, escaped_character, held_text};
 
@@ -12,30 +12,17 @@ use std::alloc::{AllocError, Global};
 pub(crate) fn is_reserved(name: &str) -> bool
     ensures { result ≡ is_reserved name.now }
 {
-    matches!(
-        name,
-        "true"
-            | "false"
-            | "null"
-            | "in"
-            | "as"
-            | "break"
-            | "const"
-            | "continue"
-            | "else"
-            | "for"
-            | "function"
-            | "if"
-            | "import"
-            | "let"
-            | "loop"
-            | "package"
-            | "namespace"
-            | "return"
-            | "var"
-            | "void"
-            | "while"
-    )
+    match name.len() {
+        2 => matches!(name, "in" | "as" | "if"),
+        3 => matches!(name, "for" | "let" | "var"),
+        4 => matches!(name, "true" | "null" | "else" | "loop" | "void"),
+        5 => matches!(name, "false" | "break" | "const" | "while"),
+        6 => matches!(name, "import" | "return"),
+        7 => name == "package",
+        8 => matches!(name, "continue" | "function"),
+        9 => name == "namespace",
+        _ => false,
+    }
 }
 
 /// The name as CEL selects it: a reserved word between double underscores; in any other name each two underscores from the
@@ -51,15 +38,27 @@ pub fn escape_field_name(alloc: Global, name: &str) -> Result<String, Refused>
     ensures escaped { IfOk result (λ s. string_bytes s ≡ escape name.now) }
     ensures memory { IfErr result (λ e. e ≡ Refused.Memory) }
 {
-    let mut escaped = String::with_capacity(alloc, name.len())?;
     if is_reserved(name) {
-        escaped.push_str("__")?;
-        escaped.push_str(name)?;
-        escaped.push_str("__")?;
-    } else {
-        push_escaped(name, &mut escaped)?;
+        return Ok(format!(in alloc; "__{name}__")?);
     }
+    if stays(name) {
+        return Ok(String::from_str(alloc, name)?);
+    }
+    let mut escaped = String::with_capacity(alloc, name.len())?;
+    push_escaped(name, &mut escaped)?;
     Ok(escaped)
+}
+
+// Whether a name that is no reserved word has no byte that another text may stand for.
+fn stays(name: &str) -> bool
+    ensures { result ≡ true → escaped_text name.now ≡ name.now }
+{
+    for byte in name.as_bytes() {
+        if matches!(byte, b'-' | b'.' | b'/' | b'_') {
+            return false;
+        }
+    }
+    true
 }
 
 // Adds a name that is no reserved word.
