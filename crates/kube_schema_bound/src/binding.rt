@@ -9,9 +9,10 @@ use crate::format::bind_formatted;
 use crate::node::{Node, RawNode};
 use crate::resource::put_resource_fields;
 use cel_value::{Entries, Refused, Value};
-use kube_schema_values::{bind_number, bind_plain, escape_field_name, put_entry};
+use kube_schema_values::{MemberKeys, bind_number, bind_plain_with, put_shared};
 use serde_json::{Map as Members, Value as Json};
 use std::alloc::Global;
+use std::rc::Rc;
 
 /// The greatest depth at which a schema is looked at.
 const MAX_DEPTH: usize = 64;
@@ -36,7 +37,6 @@ pub fn bind(alloc: Global, schema: &Json, value: &Json, depth: usize) -> Result<
 /// # Errors
 ///
 /// [`Refused`] where memory is refused.
-#[cycle(bind)]
 pub fn bind_at<N: Node>(
     alloc: Global,
     node: N,
@@ -46,18 +46,41 @@ pub fn bind_at<N: Node>(
     ensures value { IfOk result (λ v. view v ≡ bound N.look (levels depth) (N.seen node) (json_view value.now)) }
     ensures memory { IfErr result (λ e. e ≡ Refused.Memory) }
 {
+    let mut keys = MemberKeys::new(alloc);
+    let bound = bind_with(alloc, node, value, depth, &mut keys)?;
+    Ok(bound)
+}
+
+// The same, sharing the keys that were made before.
+#[cycle(bind)]
+fn bind_with<N: Node>(
+    alloc: Global,
+    node: N,
+    value: &Json,
+    depth: usize,
+    keys: &mut MemberKeys,
+) -> Result<Value, Refused>
+    ensures value { IfOk result (λ v. view v ≡ bound N.look (levels depth) (N.seen node) (json_view value.now)) }
+    ensures memory { IfErr result (λ e. e ≡ Refused.Memory) }
+{
     if depth > MAX_DEPTH {
-        let plain = bind_plain(alloc, value)?;
+        let plain = bind_plain_with(alloc, value, keys)?;
         return Ok(plain);
     }
-    let bound = bind_by(alloc, node, value, depth)?;
+    let bound = bind_by(alloc, node, value, depth, keys)?;
     Ok(bound)
 }
 
 // The value at a node that is looked at.
 #[cycle(bind)]
 #[tactic(auto, unfolding(crate::specs::Bound::bound_by))]
-fn bind_by<N: Node>(alloc: Global, node: N, value: &Json, depth: usize) -> Result<Value, Refused>
+fn bind_by<N: Node>(
+    alloc: Global,
+    node: N,
+    value: &Json,
+    depth: usize,
+    keys: &mut MemberKeys,
+) -> Result<Value, Refused>
     requires { depth ≤ 64 }
     ensures value { IfOk result (λ v. view v
         ≡ bound_by N.look (bound N.look (64 - depth)) (N.seen node) (json_view value.now)) }
@@ -69,11 +92,14 @@ fn bind_by<N: Node>(alloc: Global, node: N, value: &Json, depth: usize) -> Resul
         Json::Number(number) => Ok(bind_number(number)),
         Json::String(chars) => bind_formatted(alloc, node.format(), chars.as_str()),
         Json::Array(items) => match node.items() {
-            Some(inner) => Value::from_items(alloc, bind_items(alloc, inner, items, depth + 1)?),
-            None => bind_plain(alloc, value),
+            Some(inner) => Value::from_items(
+                alloc,
+                bind_items(alloc, inner, items, depth + 1, keys)?,
+            ),
+            None => bind_plain_with(alloc, value, keys),
         },
         Json::Object(members) => {
-            Value::from_entries(alloc, bind_object(alloc, node, members, depth)?)
+            Value::from_entries(alloc, bind_object(alloc, node, members, depth, keys)?)
         }
     }
 }
@@ -85,15 +111,19 @@ fn bind_items<N: Node>(
     node: N,
     items: &Vec<Json>,
     depth: usize,
+    keys: &mut MemberKeys,
 ) -> Result<Vec<Value>, Refused>
     requires { depth ≤ 65 }
     ensures items { IfOk result (λ v. items_view v.items
         ≡ items_by (bound N.look (65 - depth) (N.seen node)) (json_items_view items.now.items)) }
     ensures memory { IfErr result (λ e. e ≡ Refused.Memory) }
 {
+    if items.len() > 1 {
+        keys.keep_names();
+    }
     let mut bound = Vec::with_capacity(alloc, items.len())?;
     for item in items {
-        bound.push(bind_at(alloc, node, item, depth)?)?;
+        bound.push(bind_with(alloc, node, item, depth, keys)?)?;
     }
     Ok(bound)
 }
@@ -106,13 +136,14 @@ fn bind_object<N: Node>(
     node: N,
     members: &Members<String, Json>,
     depth: usize,
+    keys: &mut MemberKeys,
 ) -> Result<Entries, Refused>
     requires { depth ≤ 64 }
     ensures entries { IfOk result (λ m. entries_view m.entries
         ≡ object_by N.look (bound N.look (64 - depth)) (N.seen node) (members_view members.now.entries)) }
     ensures memory { IfErr result (λ e. e ≡ Refused.Memory) }
 {
-    let mut entries = bind_members(alloc, node, members, depth)?;
+    let mut entries = bind_members(alloc, node, members, depth, keys)?;
     if !node.is_embedded() {
         return Ok(entries);
     }
@@ -126,6 +157,7 @@ fn bind_members<N: Node>(
     node: N,
     members: &Members<String, Json>,
     depth: usize,
+    keys: &mut MemberKeys,
 ) -> Result<Entries, Refused>
     requires { depth ≤ 64 }
     ensures entries { IfOk result (λ m. entries_view m.entries
@@ -135,23 +167,23 @@ fn bind_members<N: Node>(
     let keeps_keys = node.is_map();
     let mut bound = Entries::new(alloc);
     for (key, member) in members.iter().rev() {
-        let name = bind_key(alloc, keeps_keys, key.as_str())?;
-        let value = bind_member(alloc, node, key.as_str(), member, depth)?;
-        put_entry(alloc, &mut bound, name, value)?;
+        let name = bind_key(keeps_keys, key.as_str(), keys)?;
+        let value = bind_member(alloc, node, key.as_str(), member, depth, keys)?;
+        put_shared(&mut bound, name, value)?;
     }
     Ok(bound)
 }
 
 // The key of a member: its name where the object is a map, else its name escaped.
-fn bind_key(alloc: Global, keeps_keys: bool, name: &str) -> Result<String, Refused>
-    ensures key { IfOk result (λ s. string_bytes s ≡ key_in keeps_keys name.now) }
+fn bind_key(keeps_keys: bool, name: &str, keys: &mut MemberKeys) -> Result<Rc<String>, Refused>
+    ensures key { IfOk result (λ s. string_bytes s.value ≡ key_in keeps_keys name.now) }
     ensures memory { IfErr result (λ e. e ≡ Refused.Memory) }
 {
     if keeps_keys {
-        let key = String::from_str(alloc, name)?;
+        let key = keys.unescaped(name)?;
         return Ok(key);
     }
-    let key = escape_field_name(alloc, name)?;
+    let key = keys.escaped(name)?;
     Ok(key)
 }
 
@@ -164,6 +196,7 @@ fn bind_member<N: Node>(
     name: &str,
     member: &Json,
     depth: usize,
+    keys: &mut MemberKeys,
 ) -> Result<Value, Refused>
     requires { depth ≤ 64 }
     ensures value { IfOk result (λ v. view v
@@ -171,9 +204,9 @@ fn bind_member<N: Node>(
     ensures memory { IfErr result (λ e. e ≡ Refused.Memory) }
 {
     let Some(inner) = node.member(name) else {
-        let plain = bind_plain(alloc, member)?;
+        let plain = bind_plain_with(alloc, member, keys)?;
         return Ok(plain);
     };
-    let bound = bind_at(alloc, inner, member, depth + 1)?;
+    let bound = bind_with(alloc, inner, member, depth + 1, keys)?;
     Ok(bound)
 }

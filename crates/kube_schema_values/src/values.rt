@@ -7,21 +7,35 @@ ghost use Rattle.cel_value.specs.Keys.{put};
 ghost use Rattle.cel_value.specs.View.{view, items_view, entries_view};
 ghost use Rattle.kube_schema_values.specs.Plain.{plain, plain_number, plain_items, plain_entries};
 
-use crate::escaping::escape_field_name;
+use crate::names::MemberKeys;
 use cel_value::{Entries, Key, Refused, Value};
 use serde_json::{Map as Members, Number, Value as Json};
 use std::alloc::Global;
 use std::rc::Rc;
 
 /// A JSON value as a CEL value: a number becomes an int where `i64` holds it, else a uint where `u64` does, else a double;
-/// an object becomes a map whose keys are escaped as [`escape_field_name`] does.
+/// an object becomes a map whose keys are escaped as [`escape_field_name`](crate::escape_field_name) does.
+///
+/// # Errors
+///
+/// [`Refused`] where memory is refused.
+pub fn bind_plain(alloc: Global, value: &Json) -> Result<Value, Refused>
+    ensures value { IfOk result (λ v. view v ≡ plain (json_view value.now)) }
+    ensures memory { IfErr result (λ e. e ≡ Refused.Memory) }
+{
+    let mut keys = MemberKeys::new(alloc);
+    let bound = bind_plain_with(alloc, value, &mut keys)?;
+    Ok(bound)
+}
+
+/// The same, sharing the keys that were made before.
 ///
 /// # Errors
 ///
 /// [`Refused`] where memory is refused.
 #[cycle(plain)]
 #[tactic(auto, unfolding(crate::specs::Plain::plain))]
-pub fn bind_plain(alloc: Global, value: &Json) -> Result<Value, Refused>
+pub fn bind_plain_with(alloc: Global, value: &Json, keys: &mut MemberKeys) -> Result<Value, Refused>
     ensures value { IfOk result (λ v. view v ≡ plain (json_view value.now)) }
     ensures memory { IfErr result (λ e. e ≡ Refused.Memory) }
 {
@@ -30,8 +44,8 @@ pub fn bind_plain(alloc: Global, value: &Json) -> Result<Value, Refused>
         Json::Bool(truth) => Ok(Value::Bool(*truth)),
         Json::Number(number) => Ok(bind_number(number)),
         Json::String(chars) => bind_text(alloc, chars.as_str()),
-        Json::Array(items) => Value::from_items(alloc, bind_items(alloc, items)?),
-        Json::Object(members) => Value::from_entries(alloc, bind_members(alloc, members)?),
+        Json::Array(items) => Value::from_items(alloc, bind_items(alloc, items, keys)?),
+        Json::Object(members) => Value::from_entries(alloc, bind_members(alloc, members, keys)?),
     }
 }
 
@@ -61,27 +75,38 @@ pub fn bind_text(alloc: Global, chars: &str) -> Result<Value, Refused>
 }
 
 #[cycle(plain)]
-fn bind_items(alloc: Global, items: &Vec<Json>) -> Result<Vec<Value>, Refused>
+fn bind_items(
+    alloc: Global,
+    items: &Vec<Json>,
+    keys: &mut MemberKeys,
+) -> Result<Vec<Value>, Refused>
     ensures items { IfOk result (λ v. items_view v.items ≡ plain_items (json_items_view items.now.items)) }
     ensures memory { IfErr result (λ e. e ≡ Refused.Memory) }
 {
+    if items.len() > 1 {
+        keys.keep_names();
+    }
     let mut bound = Vec::with_capacity(alloc, items.len())?;
     for item in items {
-        bound.push(bind_plain(alloc, item)?)?;
+        bound.push(bind_plain_with(alloc, item, keys)?)?;
     }
     Ok(bound)
 }
 
 #[cycle(plain)]
-fn bind_members(alloc: Global, members: &Members<String, Json>) -> Result<Entries, Refused>
+fn bind_members(
+    alloc: Global,
+    members: &Members<String, Json>,
+    keys: &mut MemberKeys,
+) -> Result<Entries, Refused>
     ensures entries { IfOk result (λ m. entries_view m.entries ≡ plain_entries (members_view members.now.entries)) }
     ensures memory { IfErr result (λ e. e ≡ Refused.Memory) }
 {
     let mut bound = Entries::new(alloc);
     for (key, member) in members.iter().rev() {
-        let name = escape_field_name(alloc, key.as_str())?;
-        let value = bind_plain(alloc, member)?;
-        put_entry(alloc, &mut bound, name, value)?;
+        let name = keys.escaped(key.as_str())?;
+        let value = bind_plain_with(alloc, member, keys)?;
+        put_shared(&mut bound, name, value)?;
     }
     Ok(bound)
 }
@@ -102,7 +127,22 @@ pub fn put_entry(
     ensures unchanged { OnErr result (entries_view entries.new.entries ≡ entries_view entries.old.entries) }
     ensures memory { IfErr result (λ e. e ≡ Refused.Memory) }
 {
-    let key = Key::String(Rc::new(alloc, key)?);
-    drop(entries.insert(key, value)?);
+    let key = Rc::new(alloc, key)?;
+    put_shared(entries, key, value)?;
+    Ok(())
+}
+
+/// The same, at a text that is shared.
+///
+/// # Errors
+///
+/// [`Refused`] where memory is refused; the value is dropped, and the map is as it was.
+pub fn put_shared(entries: &mut Entries, key: Rc<String>, value: Value) -> Result<(), Refused>
+    ensures entered { OnOk result (entries_view entries.new.entries
+        ≡ put (text_key (string_bytes key.value)) (view value) (entries_view entries.old.entries)) }
+    ensures unchanged { OnErr result (entries_view entries.new.entries ≡ entries_view entries.old.entries) }
+    ensures memory { IfErr result (λ e. e ≡ Refused.Memory) }
+{
+    drop(entries.insert(Key::String(key), value)?);
     Ok(())
 }

@@ -9,13 +9,13 @@ use Rattle.kube_schema_bound.specs.Bound.{bound, entries_by, key_in, member_by, 
 use Rattle.kube_schema_bound.proofs.Bounds.{bound_past, bound_within, items_by_is}
 use Rattle.kube_schema_bound.proofs.binding.+bind.Goals as goal
 
-pub bind_at-returns-then-depth-gt-MAX_DEPTH-clause-value : goal.bind_at-returns-then-depth-gt-MAX_DEPTH-clause-value
-bind_at-returns-then-depth-gt-MAX_DEPTH-clause-value g t c =
+pub bind_with-returns-then-depth-gt-MAX_DEPTH-clause-value : goal.bind_with-returns-then-depth-gt-MAX_DEPTH-clause-value
+bind_with-returns-then-depth-gt-MAX_DEPTH-clause-value g t c =
     let none : 65 - c.args.depth ≡ 0 = omega arith in
     c.in_ok-plain.ensures.value ∙ sym (bound_past g.N.Node.look (65 - c.args.depth) (g.N.Node.seen c.args.node) (json_view c.args.value.now) none)
 
-pub bind_at-returns-clause-value : goal.bind_at-returns-clause-value
-bind_at-returns-clause-value g t c =
+pub bind_with-returns-clause-value : goal.bind_with-returns-clause-value
+bind_with-returns-clause-value g t c =
     let some : 65 - c.args.depth ≡ suc (64 - c.args.depth) = omega arith in
     c.in_ok-bound.ensures.value ∙ sym (bound_within g.N.Node.look (65 - c.args.depth) (64 - c.args.depth) (g.N.Node.seen c.args.node) (json_view c.args.value.now) some)
 
@@ -44,7 +44,7 @@ bind_members-loop-key-preserved g t c =
     let valued = c.in_ok-value.ensures.value ∙ ap (λ k. member_by g.N.Node.look f s k (json_view c.in-Some.member.now)) c.as_str-in-loop-key.ensures.value in record {
       done = e ∷ done;
       all = l.invariant.all ∙ ap (λ es. es ++ done) c.in-Some.ensures.steps ∙ append_assoc left (e ∷ []) done;
-      same = c.in_ok-put_entry.ensures.entered ∙ (λ i. put (text_key (named i)) (valued i) (l.invariant.same i));
+      same = c.in_ok-put_shared.ensures.entered ∙ (λ i. put (text_key (named i)) (valued i) (l.invariant.same i));
     }
 
 pub bind_members-returns-clause-entries : goal.bind_members-returns-clause-entries

@@ -30,10 +30,10 @@ bind_members-loop-key-preserved t c =
     let done = l.invariant.done in
     let e : Entry = (c.in-Some.key.now, c.in-Some.member.now) in
     let left = c.next.new.self.iter in
-    let named = c.in_ok-name.ensures.escaped ∙ ap escape c.as_str.ensures.value in record {
+    let named = c.in_ok-name.ensures.key ∙ ap escape c.as_str.ensures.value in record {
       done = e ∷ done;
       all = l.invariant.all ∙ ap (λ es. es ++ done) c.in-Some.ensures.steps ∙ append_assoc left (e ∷ []) done;
-      same = c.in_ok-put_entry.ensures.entered ∙ (λ i. put (text_key (named i)) (c.in_ok-value.ensures.value i) (l.invariant.same i));
+      same = c.in_ok-put_shared.ensures.entered ∙ (λ i. put (text_key (named i)) (c.in_ok-value.ensures.value i) (l.invariant.same i));
     }
 
 pub bind_members-returns-clause-entries : goal.bind_members-returns-clause-entries

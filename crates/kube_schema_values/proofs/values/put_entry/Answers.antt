@@ -2,11 +2,9 @@ use Rattle.std.proofs.Common.{ap, ◌∙◌, string_bytes}
 use Rattle.cel_value.specs.Data.{text_key}
 use Rattle.cel_value.specs.Keys.{put}
 use Rattle.cel_value.specs.View.{view, entries_view}
-use Rattle.cel_value.specs.declared.key.Key.TheVariants as key
-use Rattle.cel_value.proofs.Entries.{entries_view-insert_entry}
 use Rattle.kube_schema_values.proofs.values.put_entry.Goals as goal
 
 pub returns-clause-entered : goal.returns-clause-entered
 returns-clause-entered c =
-    let before = c.args.entries.now.entries in
-    ap entries_view c.in_ok-insert.ensures.entries ∙ entries_view-insert_entry before (key.String c.in_ok-new.field-0) c.args.value ∙ ap (λ s. put (text_key (string_bytes s)) (view c.args.value) (entries_view before)) c.in_ok-new.ensures.ok
+    let before = entries_view c.args.entries.now.entries in
+    c.in_ok-put_shared.ensures.entered ∙ ap (λ s. put (text_key (string_bytes s)) (view c.args.value) before) c.in_ok-key.ensures.ok

@@ -1,0 +1,137 @@
+//! Names of members as the keys of maps, each of them made once.
+ghost use Rattle.std.specs.Prelude.{◌≡◌, IfErr, IfOk, IfSome, string_bytes};
+ghost use Rattle.kube_schema_values.specs.Escape.{escape};
+
+use crate::escaping::{escape_field_name, is_its_own_escape};
+use cel_value::Refused;
+use std::alloc::{AllocError, Global};
+use std::rc::Rc;
+
+/// The most names that are kept. A name that isn't among them is made anew.
+const MAX_NAMES: usize = 32;
+
+/// After so many names in a row that weren't found, only one place is looked at, so that names that all differ cost little.
+const MAX_MISSES: usize = 64;
+
+/// A name with its escaped text.
+#[derive(Drop)]
+struct EscapedName {
+    name: String,
+    escaped: Rc<String>,
+    ghost right: { string_bytes escaped.value ≡ escape (string_bytes name) },
+}
+
+/// The keys that names of members were bound as, so that a name that comes again shares its text.
+#[derive(Drop)]
+pub struct MemberKeys {
+    alloc: Global,
+    names: Vec<EscapedName>,
+    next: usize,
+    misses: usize,
+    keeps: bool,
+}
+
+impl MemberKeys {
+    /// With no name, and keeping none yet. It takes no memory.
+    pub fn new(alloc: Global) -> MemberKeys {
+        MemberKeys {
+            alloc,
+            names: Vec::new(alloc),
+            next: 0,
+            misses: 0,
+            keeps: false,
+        }
+    }
+
+    /// Keeps names from now on. It pays where several objects follow.
+    pub fn keep_names(&mut self) {
+        self.keeps = true;
+    }
+
+    /// A name, escaped as [`escape_field_name`] does.
+    ///
+    /// # Errors
+    ///
+    /// [`Refused`] where memory is refused.
+    pub fn escaped(&mut self, name: &str) -> Result<Rc<String>, Refused>
+        ensures key { IfOk result (λ s. string_bytes s.value ≡ escape name.now) }
+        ensures memory { IfErr result (λ e. e ≡ Refused.Memory) }
+    {
+        if let Some(found) = self.find(name)? {
+            return Ok(found);
+        }
+        let escaped = Rc::new(self.alloc, escape_field_name(self.alloc, name)?)?;
+        self.keep(name, &escaped)?;
+        Ok(escaped)
+    }
+
+    /// A name as it is.
+    ///
+    /// # Errors
+    ///
+    /// [`Refused`] where memory is refused.
+    pub fn unescaped(&mut self, name: &str) -> Result<Rc<String>, Refused>
+        ensures key { IfOk result (λ s. string_bytes s.value ≡ name.now) }
+        ensures memory { IfErr result (λ e. e ≡ Refused.Memory) }
+    {
+        if self.keeps && is_its_own_escape(name) {
+            let escaped = self.escaped(name)?;
+            return Ok(escaped);
+        }
+        Ok(Rc::new(self.alloc, String::from_str(self.alloc, name)?)?)
+    }
+
+    // The escaped text of a name that is kept. Objects of one kind have their members in one order, so the name behind the one
+    // that was found last is looked at first.
+    fn find(&mut self, name: &str) -> Result<Option<Rc<String>>, AllocError>
+        ensures { IfOk result (λ found. IfSome found (λ s. string_bytes s.value ≡ escape name.now)) }
+    {
+        if let Some(found) = self.at(self.next, name)? {
+            self.next = self.next.saturating_add(1);
+            self.misses = 0;
+            return Ok(Some(found));
+        }
+        if self.misses < MAX_MISSES {
+            self.misses += 1;
+            for index in 0..self.names.len() {
+                if let Some(found) = self.at(index, name)? {
+                    self.next = index + 1;
+                    self.misses = 0;
+                    return Ok(Some(found));
+                }
+            }
+        }
+        Ok(None)
+    }
+
+    // The escaped text of the name at an index, if it is this one.
+    fn at(&self, index: usize, name: &str) -> Result<Option<Rc<String>>, AllocError>
+        ensures { IfOk result (λ found. IfSome found (λ s. string_bytes s.value ≡ escape name.now)) }
+    {
+        match self.names.get(index) {
+            Some(entry) => {
+                if entry.name.as_str() == name {
+                    Ok(Some(entry.escaped.clone()?))
+                } else {
+                    Ok(None)
+                }
+            }
+            None => Ok(None),
+        }
+    }
+
+    // Keeps a name, if names are kept and there is room.
+    fn keep(&mut self, name: &str, escaped: &Rc<String>) -> Result<(), AllocError>
+        requires { string_bytes escaped.now.value ≡ escape name.now }
+    {
+        if !self.keeps || self.names.len() == MAX_NAMES {
+            return Ok(());
+        }
+        self.names.push(EscapedName {
+            name: String::from_str(self.alloc, name)?,
+            escaped: escaped.clone()?,
+        })?;
+        self.next = self.names.len();
+        Ok(())
+    }
+}
