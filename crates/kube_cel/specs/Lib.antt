@@ -4,4 +4,5 @@ pub mod Answers
 pub mod Compiled
 pub mod Named
 pub mod Raw
+pub mod RuleSets
 pub mod Spots

@@ -1,6 +1,7 @@
 //! Validation of Kubernetes objects by the CEL rules of their schema.
 #![tactic(auto)]
 
+mod cache;
 mod compiled;
 mod judged;
 pub mod laws;

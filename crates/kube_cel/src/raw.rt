@@ -14,34 +14,37 @@ ghost use Rattle.serde_json.specs.View.{items_view, members_view, view};
 ghost use Rattle.std.specs.List.{flat_map};
 ghost use Rattle.std.specs.Prelude.{◌≡◌, ℕ, codes, IfErr, IfOk, List, map, OnOk, Option, option_and_then, option_map, Some};
 
+use crate::cache::RuleCache;
 use cel::PatternBook;
 use cel_value::Value as CelValue;
 use kube_cel_errors::ValidationError;
 use kube_cel_places::BranchKind;
 use kube_cel_verdicts::verdict::{Context, add_verdict};
 use kube_cel_walk::Node;
-use kube_schema::{bind, compile_rule, rule_values};
+use kube_schema::{bind, rule_values};
 use kube_types::Refused;
 use serde_json::{Map, Value};
 use std::alloc::{AllocError, Global};
 
-/// A node of a schema as JSON.
+/// A node of a schema as JSON, with the rules that were compiled so far.
 #[derive(Clone, Copy)]
 pub(crate) struct RawNode<'a> {
     pub(crate) schema: &'a Value,
+    pub(crate) cache: &'a RuleCache,
 }
 
 /// The members of an object, each as a node with its name.
 fn named_nodes<'a>(
     alloc: Global,
     members: &'a Map<String, Value>,
+    cache: &'a RuleCache,
 ) -> Result<Vec<(&'a str, RawNode<'a>)>, AllocError>
     ensures { IfOk result (λ v. map {B = List ℕ × Option Data} (λ p. (p.0.now, Some (view p.1.schema.now))) v.items
         ≡ map {B = List ℕ × Option Data} (λ k. (k, get_member k (members_view members.now.entries))) (in_order (keys_in (members_view members.now.entries)))) }
 {
     let mut nodes = Vec::with_capacity(alloc, members.len())?;
     for (key, schema) in members.iter() {
-        nodes.push((key.as_str(), RawNode { schema }))?;
+        nodes.push((key.as_str(), RawNode { schema, cache }))?;
     }
     Ok(nodes)
 }
@@ -93,6 +96,7 @@ fn branches_of(node: &Value, kind: BranchKind) -> Option<&Vec<Value>>
 /// Adds the verdict of a rule as JSON gives it, if it has one.
 fn add_raw_verdict(
     rule: &Value,
+    cache: &RuleCache,
     context: &Context<'_>,
     old: Option<&Value>,
     path: &str,
@@ -104,13 +108,14 @@ fn add_raw_verdict(
         (λ b. listed (verdict b (bindings_of context.now) (option_map (λ v. view v.now) old.entry) path.now (compiled_rule (view rule.now))))) }
     ensures memory { IfErr result (λ e. e ≡ Refused.Memory) }
 {
-    let compiled = compile_rule(*errors.allocator(), rule)?;
+    let compiled = cache.compiled(rule)?;
     add_verdict(&compiled, context, old, path, book, errors)
 }
 
 /// Adds the verdicts of rules as JSON gives them, in their order.
 fn add_verdicts(
     rules: &[Value],
+    cache: &RuleCache,
     context: &Context<'_>,
     old: Option<&Value>,
     path: &str,
@@ -123,7 +128,7 @@ fn add_verdicts(
     ensures memory { IfErr result (λ e. e ≡ Refused.Memory) }
 {
     for rule in rules {
-        add_raw_verdict(rule, context, old, path, book, errors)?;
+        add_raw_verdict(rule, cache, context, old, path, book, errors)?;
     }
     Ok(())
 }
@@ -143,7 +148,7 @@ impl Node for RawNode<'_> {
     fn properties(&self, alloc: Global) -> Result<Vec<(&str, Self)>, AllocError> {
         match properties_of(self.schema) {
             Some(members) => {
-                let nodes = named_nodes(alloc, members)?;
+                let nodes = named_nodes(alloc, members, self.cache)?;
                 Ok(nodes)
             }
             None => Ok(Vec::new(alloc)),
@@ -153,19 +158,28 @@ impl Node for RawNode<'_> {
     #[tactic(auto, unfolding(crate::specs::Raw::raw_form, kube_cel_places::specs::Raw::raw_shape))]
     fn property(&self, name: &str) -> Option<Self> {
         let schema = declared(self.schema, name)?;
-        Some(RawNode { schema })
+        Some(RawNode {
+            schema,
+            cache: self.cache,
+        })
     }
 
     #[tactic(auto, unfolding(crate::specs::Raw::raw_form, kube_cel_places::specs::Raw::raw_shape))]
     fn items(&self) -> Option<Self> {
         let schema = self.schema.get("items")?;
-        Some(RawNode { schema })
+        Some(RawNode {
+            schema,
+            cache: self.cache,
+        })
     }
 
     #[tactic(auto, unfolding(crate::specs::Raw::raw_form, kube_cel_places::specs::Raw::raw_shape))]
     fn extra(&self) -> Option<Self> {
         let schema = undeclared(self.schema)?;
-        Some(RawNode { schema })
+        Some(RawNode {
+            schema,
+            cache: self.cache,
+        })
     }
 
     #[tactic(auto, unfolding(crate::specs::Raw::raw_form, kube_cel_places::specs::Raw::raw_shape))]
@@ -179,7 +193,10 @@ impl Node for RawNode<'_> {
     #[tactic(auto, unfolding(crate::specs::Raw::raw_form, kube_cel_places::specs::Raw::raw_shape))]
     fn branch(&self, kind: BranchKind, index: usize) -> Option<Self> {
         let schema = self.schema.get(kind.keyword())?.get(index)?;
-        Some(RawNode { schema })
+        Some(RawNode {
+            schema,
+            cache: self.cache,
+        })
     }
 
     #[tactic(auto, unfolding(crate::specs::Raw::raw_form, kube_cel_places::specs::Raw::raw_shape))]
@@ -202,7 +219,8 @@ impl Node for RawNode<'_> {
         book: &mut PatternBook,
         errors: &mut Vec<ValidationError>,
     ) -> Result<(), Refused> {
-        add_verdicts(rule_values(self.schema), context, old, path, book, errors)?;
+        let rules = rule_values(self.schema);
+        add_verdicts(rules, self.cache, context, old, path, book, errors)?;
         Ok(())
     }
 }

@@ -11,6 +11,7 @@ ghost use Rattle.kube_schema_table.specs.View.{view_of};
 ghost use Rattle.serde_json.specs.Data.{Data};
 ghost use Rattle.std.specs.Prelude.{◌≡◌, IfErr, IfOk, None};
 
+use crate::cache::RuleCache;
 use crate::compiled::CompiledNode;
 use crate::judged::judged;
 use crate::raw::RawNode;
@@ -92,7 +93,11 @@ impl Validator {
             → IsAnswer raw_form b (given_spot schema.now object.now old.entry root.entry) (found_in r)) }
     {
         let object = filled_value(alloc, schema, object)?;
-        let node = RawNode { schema };
+        let cache = RuleCache::new(alloc);
+        let node = RawNode {
+            schema,
+            cache: &cache,
+        };
         let Some(old) = old else {
             let answer = judged(alloc, node, &object, None, root, book)?;
             return Ok(answer);
