@@ -33,6 +33,10 @@ pub(crate) struct RuleCache {
 
 /// The order of a cache: the rule with the shorter text first.
 fn order(rule: &Rule, other: &Rule) -> Ordering {
+    // Asked first, since a test for equal texts is cheaper than their order.
+    if is_same_rule(rule, other) {
+        return Ordering::Equal;
+    }
     (rule.rule.len().cmp(&other.rule.len()))
         .then_with(|| rule.rule.cmp(&other.rule))
         .then_with(|| rule.message.cmp(&other.message))
