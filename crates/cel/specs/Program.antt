@@ -1,3 +1,4 @@
+-- Trusted by the headline.
 -- The tree of a program.
 use Rattle.std.specs.Prelude.{Option, Some, None, Result, Ok, Err}
 use Rattle.cel_syntax.specs.declared.error.ParseErrors.{ParseErrors}

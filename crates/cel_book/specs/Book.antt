@@ -1,3 +1,4 @@
+-- Trusted by the headline.
 -- Which pattern texts are refused, and what the others find.
 -- A pattern is what the text is in the syntax of Rust's crate `regex` (docs.rs/regex, "Syntax"), and it finds the leftmost-first matches
 -- that do not overlap ("Regex::find_iter"). The functions `matches`, `find` and `findAll` of CEL and Kubernetes rest on it.

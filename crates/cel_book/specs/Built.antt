@@ -1,3 +1,4 @@
+-- Trusted by the headline.
 -- What is known of a pattern that was built, and of the answers.
 use Rattle.std.specs.Prelude.{◌≡◌, ℕ, ◌<◌, List, map, length, Option, Some, is_some, option_map, get_or, IsSome, IsAscii, Bool}
 use Rattle.std.specs.BTreeMap.{BTreeMap, get_by_text}

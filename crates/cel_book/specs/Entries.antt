@@ -1,3 +1,4 @@
+-- Trusted by the headline.
 -- The book that a `PatternBook` shows.
 use Rattle.cel_book.specs.Book.{Book}
 use Rattle.cel_book.specs.Built.{book_of}

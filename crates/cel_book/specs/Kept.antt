@@ -1,3 +1,4 @@
+-- Scaffolding: only proofs and private clauses cite it.
 -- The patterns that a `PatternBook` keeps.
 use Rattle.std.specs.Prelude.{◌≡◌, ℕ, ◌<◌, List, length, slice_index_or, string_bytes}
 use Rattle.cel_book.specs.declared.pattern.Pattern.{Pattern}

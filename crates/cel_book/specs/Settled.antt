@@ -1,3 +1,4 @@
+-- Trusted by the clauses of other library calls.
 -- Answers that rest on a book: what is known of it settles them.
 use Rattle.std.specs.Prelude.{◌≡◌}
 use Rattle.cel_book.specs.Book.{Book, Agrees}

@@ -1,3 +1,4 @@
+-- Trusted by laws alone.
 -- How many nodes a tree has.
 use Rattle.std.specs.Prelude.{ℕ, ◌+◌}
 use Rattle.cel_syntax_tree.specs.Term.{Term, Terms, Pairs, literal, ident, select, has, index, unary, binary, choice, list_of, map_with, call, qualified, macro, no_terms, term_and, no_pairs, pair_and}

@@ -1,3 +1,4 @@
+-- Trusted by the headline.
 -- Sums, differences, products, quotients and remainders of values without doubles (CEL language definition, "Arithmetic", "Overflow" and
 -- "List of Standard Definitions"). A result that is out of its kind's range is an overflow. A quotient is cut towards zero, and a
 -- remainder has the dividend's sign.

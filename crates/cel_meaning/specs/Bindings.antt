@@ -1,3 +1,4 @@
+-- Trusted by the headline.
 -- Names and what they are bound to (CEL language definition, "Name Resolution" and "Environment").
 use Rattle.std.specs.Prelude.{◌≡◌, ℕ, zero, suc, true, false, List, [], ◌∷◌, ◌++◌, map, Option, Some, None, String, string_bytes, if◌then◌else◌}
 use Rattle.std.specs.declared.alloc.Global.{Global}

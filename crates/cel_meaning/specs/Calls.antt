@@ -1,3 +1,4 @@
+-- Trusted by the headline.
 -- What a call means (CEL language definition, "Functions"): first how its name may be called, then its receiver and its arguments, then
 -- that none of them holds a double.
 use Rattle.std.specs.Prelude.{ℕ, List, [], ◌∷◌, Bool, true, false, ◌||◌, Option, Some, None, Err, if◌then◌else◌}

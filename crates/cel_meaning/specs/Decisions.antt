@@ -1,3 +1,4 @@
+-- Trusted by the headline.
 -- What becomes of outcomes that should be bools (CEL language definition, "Logical Operators", "Macros").
 use Rattle.std.specs.Prelude.{ℕ, List, [], ◌∷◌, Bool, true, false, not, Option, Some, None, Result, Ok, Err, if◌then◌else◌}
 use Rattle.std.specs.List.{list_any}

@@ -1,3 +1,4 @@
+-- Trusted by the headline.
 -- What functions mean: how a name may be called, and what a call gives.
 use Rattle.std.specs.Prelude.{ℕ, List, Bool, Option}
 use Rattle.cel_book.specs.Book.{Book}

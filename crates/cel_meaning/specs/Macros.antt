@@ -1,3 +1,4 @@
+-- Trusted by the headline.
 -- What macros make of their items (CEL language definition, "Macros").
 use Rattle.std.specs.Prelude.{ℕ, List, [], ◌∷◌, length, nat_eq, codes, Bool, true, false, Option, Some, None, option_map, Result, Ok, Err, if◌then◌else◌}
 use Rattle.cel_syntax_tree.specs.declared.expr.MacroKind.{MacroKind}

@@ -1,3 +1,4 @@
+-- Trusted by the headline.
 -- What an expression means: each tree, bindings, functions and book have exactly one outcome (CEL language definition, "Evaluation",
 -- "Logical Operators", "Macros").
 use Rattle.std.specs.Prelude.{List, [], ◌∷◌, map, codes, true, false, None, Ok, Err}

@@ -1,3 +1,4 @@
+-- Trusted by the headline.
 -- Members of maps and items of lists (CEL language definition, "Field Selection", "Index", "Membership", "Map literals").
 use Rattle.std.specs.Prelude.{ℕ, zero, suc, ℤ, pos, negsuc, codes, Bool, false, ◌||◌, Option, Some, None, is_some, Ok, Err}
 use Rattle.std.specs.Option.{option_map_or}

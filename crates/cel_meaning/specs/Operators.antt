@@ -1,3 +1,4 @@
+-- Trusted by the headline.
 -- What operators do with values (CEL language definition, "Equality", "Ordering", "Logical Operators", "Arithmetic").
 -- Doubles are carried, but no operator takes one: it answers as if the name `double` were not declared.
 use Rattle.std.specs.Prelude.{ℕ, List, codes, Bool, false, not, ◌||◌, Ok, Err, if◌then◌else◌}

@@ -1,3 +1,4 @@
+-- Scaffolding: only proofs and private clauses cite it.
 -- How far the operands so far decide.
 use Rattle.std.specs.Prelude.{◌≡◌, ℕ, List, Bool, true, false, Option, option_map}
 use Rattle.std.specs.Option.{option_or}

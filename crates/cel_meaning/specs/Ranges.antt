@@ -1,3 +1,4 @@
+-- Trusted by the headline.
 -- What a macro goes over: a list's items, or a map's keys in key order (CEL language definition, "Macros").
 use Rattle.std.specs.Prelude.{ℕ, List, [], ◌∷◌, map, Result, Ok, Err}
 use Rattle.cel_value.specs.Data.{KeyData, bool_key, int_key, uint_key, text_key, Data, bool, int, uint, text, list, map_of, Items, no_items, item, Entries, no_entries, entry}

@@ -1,3 +1,4 @@
+-- Trusted by the headline.
 -- Values of one kind as values of another (CEL language definition, "List of Standard Definitions", `int`, `uint`, `string`, `bytes`,
 -- `timestamp`, `duration`). A number that is out of its kind's range is an overflow, and a text that means no such number or time a fault
 -- of the function. Bytes that are no UTF-8 become U+FFFD, one for each maximal piece.

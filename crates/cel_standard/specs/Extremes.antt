@@ -1,3 +1,4 @@
+-- Trusted by the headline.
 -- The least and the greatest of values (Kubernetes documentation, "CEL in Kubernetes", list library, `min` and `max`; documentation of
 -- CEL-Go, "Lists"). Values are compared as `<` compares them, and of equal ones the first counts. A single value is compared with nothing.
 use Rattle.std.specs.Prelude.{List, [], ◌∷◌, codes, Bool, not, is_some, Option, Some, None, option_map, Ok, Err, if◌then◌else◌}

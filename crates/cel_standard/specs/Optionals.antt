@@ -1,3 +1,4 @@
+-- Trusted by the headline.
 -- Whether an optional value holds one, and which (documentation of CEL-Go, "Optional types", `hasValue`, `value`).
 use Rattle.std.specs.Prelude.{codes, is_some, Ok, Err}
 use Rattle.std.specs.Option.{option_map_or}

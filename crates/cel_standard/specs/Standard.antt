@@ -1,3 +1,4 @@
+-- Trusted by the headline.
 -- The set of the standard functions: how each is called, and what it answers.
 use Rattle.std.specs.Prelude.{ℕ, List, Bool, Option, Some, None, Err, if◌then◌else◌}
 use Rattle.std.specs.Option.{option_map_or}

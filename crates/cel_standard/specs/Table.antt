@@ -1,3 +1,4 @@
+-- Trusted by the headline.
 -- The standard functions: their names, and with which receiver and how many arguments each is called (CEL language definition, "List of
 -- Standard Definitions"; documentation of CEL-Go, "Optional types" for `hasValue` and `value`, "Math" and "Lists" for `min` and `max`).
 use Rattle.std.specs.Prelude.{ℕ, ◌==◌, nat_eq, nat_lt, ◌&&◌, ◌||◌, not, List, [], ◌∷◌, length, codes, Bool, Option, Some, None, if◌then◌else◌}

@@ -1,3 +1,4 @@
+-- Trusted by the headline.
 -- What strings have in them (CEL language definition, "List of Standard Definitions", `contains`, `startsWith`, `endsWith`, `matches`).
 -- A string is its bytes in UTF-8: in a text the bytes of another one stand only where its characters do.
 use Rattle.std.specs.Prelude.{ℕ, nat_eq, ◌||◌, List, [], ◌∷◌, codes, Bool, Option, Some, None, Ok, Err}

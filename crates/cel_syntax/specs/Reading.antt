@@ -1,3 +1,4 @@
+-- Trusted by the headline.
 -- Which text derives which tree. Source: section "Syntax" of the CEL language definition.
 use Rattle.std.specs.Prelude.{ℕ, List, Option, Some, None, Result, Ok, Err}
 use Rattle.cel_syntax_tokens.specs.Token.{Token}

@@ -1,3 +1,4 @@
+-- Trusted by the headline.
 -- What comes first in the tokens that are left.
 use Rattle.std.specs.Prelude.{ℕ, ◌+◌, nat_eq, Bool, true, false, ◌&&◌, not, if◌then◌else◌, List, [], ◌∷◌, drop, map, Option, Some, None, is_some}
 use denote.Enum.Bare.{sameb}

@@ -1,3 +1,4 @@
+-- Trusted by the headline.
 -- The operators. Source: section "Syntax" of the CEL language definition (table of precedence and associativity).
 use Rattle.std.specs.Prelude.{ℕ, Bool, true, false, not, if◌then◌else◌, List, [], ◌∷◌, Option, Some, None, codes}
 use Rattle.std.specs.Str.{bytes_eq}

@@ -1,3 +1,4 @@
+-- Scaffolding: only proofs and private clauses cite it.
 -- The operators that follow an operand, level by level: what `chain` reads after its first operand.
 use Rattle.std.specs.Prelude.{ℕ, zero, suc, Some}
 use Rattle.cel_syntax_grammar.specs.Parser.{Parser, Found, ◌>>=◌, pure, chain, turns}

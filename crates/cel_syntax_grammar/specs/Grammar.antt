@@ -1,3 +1,4 @@
+-- Trusted by the clauses of other library calls.
 -- Which tokens derive which tree, with a case for each production. Source: section "Syntax" of the CEL language definition.
 -- `X before after tree level` says that the tokens `before` are an X and then the tokens `after`, that X is this tree, and that its
 -- parts nest to this level: an identifier and a literal have level 0, everything else one more than the greatest of its parts, and 1

@@ -1,3 +1,4 @@
+-- Trusted by the headline.
 -- The steps of the parser, as functions of the tokens that are left.
 use Rattle.std.specs.Prelude.{ℕ, zero, suc, ◌+◌, max, nat_lt, nat_le, nat_eq, Bool, true, false, if◌then◌else◌, List, [], ◌∷◌, ◌++◌, length, drop, Option, Some, None}
 use Rattle.cel_value.specs.Data.{Data}

@@ -1,3 +1,4 @@
+-- Scaffolding: only proofs and private clauses cite it.
 -- What the code's answers stand for.
 use Rattle.std.specs.Prelude.{◌≡◌, ℕ, List, Vec, map, Some, None, Result, Ok, Err}
 use Rattle.std.specs.declared.alloc.Global.{Global}

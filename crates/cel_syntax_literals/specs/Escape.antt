@@ -1,3 +1,4 @@
+-- Trusted by the headline.
 -- What an escape writes. Source: the sections "Syntax" (ESCAPE, BYTES_LIT) and "String and Bytes Values" of the CEL language definition.
 use Rattle.std.specs.Prelude.{ℕ, zero, suc, nat_lt, nat_le, nat_eq, ◌&&◌, ◌||◌, if◌then◌else◌, List, [], ◌∷◌, ◌++◌, length, take, Option, Some, None, option_map}
 use Rattle.std.specs.Option.{option_and_then}

@@ -1,3 +1,4 @@
+-- Trusted by the headline.
 -- The values of numbers. Source: the sections "Syntax" (INT_LIT, UINT_LIT, FLOAT_LIT, EXPONENT) and "Values" of the CEL language definition.
 use Rattle.std.specs.Prelude.{ℕ, ◌-◌, ◌^◌, ℤ, pos, neg_ℤ, nat_lt, nat_le, nat_eq, Bool, true, false, ◌&&◌, ◌||◌, if◌then◌else◌, List, [], ◌∷◌, length, take, drop, slice_index, Option, Some, None, option_map}
 use Rattle.std.specs.List.{list_all, prefix_len}

@@ -1,3 +1,4 @@
+-- Trusted by laws alone.
 -- A word of the laws.
 use Rattle.std.specs.Prelude.{ℕ, nat_eq, Bool, not, List}
 use Rattle.std.specs.List.{list_all}

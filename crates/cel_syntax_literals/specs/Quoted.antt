@@ -1,3 +1,4 @@
+-- Trusted by the headline.
 -- The values of strings and bytes. Source: the sections "Syntax" (STRING_LIT, BYTES_LIT) and "String and Bytes Values" of the CEL language definition.
 use Rattle.std.specs.Prelude.{ℕ, ◌-◌, nat_eq, Bool, ◌||◌, if◌then◌else◌, List, length, take, drop, slice_index, Option, Some, None, codes}
 use Rattle.std.specs.List.{starts_with, ends_with}

@@ -1,3 +1,4 @@
+-- Scaffolding: only proofs and private clauses cite it.
 -- The names that the macros around an expression bind, the innermost first.
 use Rattle.std.specs.Prelude.{ℕ, List, [], ◌∷◌}
 use Rattle.cel_syntax_names.specs.declared.bound.Bound.{Bound, fold-Bound}

@@ -1,3 +1,4 @@
+-- Trusted by the clauses of analysis and linter.
 -- The names of the calls in an expression, qualified ones whole. A macro is no call.
 use Rattle.std.specs.Prelude.{ℕ, List, Bool, false, ◌||◌}
 use Rattle.std.specs.Str.{bytes_eq}

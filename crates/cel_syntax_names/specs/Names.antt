@@ -1,3 +1,4 @@
+-- Trusted by the clauses of analysis and linter.
 -- A list of names: each once, in the order of their bytes.
 use Rattle.std.specs.Prelude.{◌≡◌, ℕ, List, Bool, map, string_bytes, String}
 use Rattle.std.specs.List.{list_any}

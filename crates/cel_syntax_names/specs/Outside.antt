@@ -1,3 +1,4 @@
+-- Scaffolding: only proofs and private clauses cite it.
 -- The free names of an expression, but for some that macros around it bind.
 use Rattle.std.specs.Prelude.{ℕ, List, ◌∷◌, Bool, false, not, ◌&&◌, ◌||◌}
 use Rattle.std.specs.List.{list_any}

@@ -1,3 +1,4 @@
+-- Trusted by the clauses of other library calls.
 -- The names that references show.
 use Rattle.std.specs.Prelude.{ℕ, List}
 use Rattle.cel_syntax_names.specs.Names.{names_of}

@@ -1,3 +1,4 @@
+-- Trusted by the headline.
 -- What a call stands for: a macro, a function whose name has a dot in it, or an ordinary call. Source: section "Macros" of the CEL
 -- language definition, and the names of the Kubernetes CEL libraries and of the CEL extension libraries.
 use Rattle.std.specs.Prelude.{ℕ, ◌-◌, nat_eq, length, Bool, ◌&&◌, if◌then◌else◌, List, [], ◌∷◌, ◌++◌, Option, Some, None, codes}

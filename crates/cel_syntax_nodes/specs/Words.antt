@@ -1,3 +1,4 @@
+-- Trusted by the headline.
 -- Which words are names. Source: section "Syntax" of the CEL language definition (IDENT, SELECTOR, RESERVED).
 use Rattle.std.specs.Prelude.{ℕ, List, [], ◌∷◌, Bool, not, ◌&&◌, codes}
 use Rattle.std.specs.List.{list_any}

@@ -1,3 +1,4 @@
+-- Trusted by the headline.
 -- The tokens that a text cuts into, as a function of the text: what `Cuts` says, computed.
 -- Source: the section "Syntax" of the CEL language definition.
 use Rattle.std.specs.Prelude.{ℕ, zero, suc, Bool, true, false, List, [], ◌∷◌, length, take, drop, Option, Some, None, option_map}

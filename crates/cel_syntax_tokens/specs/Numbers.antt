@@ -1,3 +1,4 @@
+-- Trusted by the headline.
 -- How a number is spelled. A minus before it is a mark.
 -- Source: INT_LIT, UINT_LIT, FLOAT_LIT, DIGIT, HEXDIGIT and EXPONENT in the section "Syntax" of the CEL language definition.
 use Rattle.std.specs.Prelude.{ℕ, Bool, ◌||◌, List}

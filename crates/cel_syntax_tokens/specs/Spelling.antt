@@ -1,3 +1,4 @@
+-- Trusted by the headline.
 -- Words that tell a spelling part by part, and the longest spelling at the front of a text.
 use Rattle.std.specs.Prelude.{◌≡◌, ℕ, ◌+◌, ◌<◌, ◌≤◌, Bool, true, false, ◌&&◌, ◌||◌, if◌then◌else◌, nat_eq, List, [], ◌∷◌, length, take}
 

@@ -1,3 +1,4 @@
+-- Trusted by the headline.
 -- How a string or bytes literal is spelled. Which escapes are right is no matter here: a wrong one is a token without a value.
 -- Source: STRING_LIT, BYTES_LIT and ESCAPE in the section "Syntax" of the CEL language definition, and its section "String and Bytes Values".
 use Rattle.std.specs.Prelude.{ℕ, ◌+◌, Bool, true, false, not, ◌&&◌, ◌||◌, if◌then◌else◌, nat_eq, List, [], ◌∷◌, length, Option, Some, None, option_map}

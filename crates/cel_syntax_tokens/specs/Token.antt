@@ -1,3 +1,4 @@
+-- Trusted by the headline.
 -- A token, and what the code's tokens stand for.
 use Rattle.std.specs.Prelude.{ℕ, List}
 use Rattle.cel_syntax_tokens.specs.declared.mark.Mark.{Mark}

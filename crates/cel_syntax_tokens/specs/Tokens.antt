@@ -1,3 +1,4 @@
+-- Trusted by the headline.
 -- Which tokens a text cuts into, after the sections "Syntax" and "Values" of the CEL language definition.
 use Rattle.std.specs.Prelude.{◌≡◌, ℕ, ◌<◌, ◌≤◌, Bool, false, true, not, ◌&&◌, ◌||◌, if◌then◌else◌, nat_eq, List, [], ◌∷◌, length, take, drop, Option, Some, None, option_map}
 use Rattle.std.specs.List.{list_all, prefix_len}

@@ -1,3 +1,4 @@
+-- Trusted by the headline.
 -- The free names of an expression: those that no macro around them binds. A macro binds its variable in its filter and
 -- its body, and not in its range (CEL language definition, "Macros"). The name of a function is no free name.
 use Rattle.std.specs.Prelude.{ℕ, List, Bool, false, not, ◌&&◌, ◌||◌}

@@ -1,3 +1,4 @@
+-- Scaffolding: only proofs and private clauses cite it.
 -- The parts of lists and maps as a flat list of marks that gives them back.
 use Rattle.std.specs.Prelude.{ℕ, ℤ, List, [], ◌∷◌, ◌≡◌, Bool, refl}
 use Rattle.kube_types_address.specs.Addresses.{Address}

@@ -1,3 +1,4 @@
+-- Trusted by the headline.
 -- What a value and a key are, without their memory.
 use Rattle.std.specs.Prelude.{ℕ, ℤ, List, Bool}
 use Rattle.kube_types_address.specs.Addresses.{Address}

@@ -1,3 +1,4 @@
+-- Scaffolding: only proofs and private clauses cite it.
 -- Each part of a value is lighter than the whole.
 use Rattle.std.specs.Prelude.{◌≤◌, List, [], ◌∷◌, Option, Some, None, map}
 use Rattle.std.proofs.Common.{arith}

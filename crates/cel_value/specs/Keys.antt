@@ -1,3 +1,4 @@
+-- Trusted by the headline.
 -- The data that a key stands for, and the order of keys.
 use Rattle.std.specs.Prelude.{ℕ, ℤ, pos, List, [], true, false, string_bytes}
 use Rattle.std.specs.declared.cmp.Ordering.{Ordering}

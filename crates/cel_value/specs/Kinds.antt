@@ -1,3 +1,4 @@
+-- Trusted by the headline.
 -- The names of the kinds.
 use Rattle.std.specs.Prelude.{ℕ, List, codes}
 use Rattle.cel_value.specs.declared.kind.Kind.{Kind}

@@ -1,3 +1,4 @@
+-- Trusted by the clauses of other library calls.
 -- How many lists, maps and optionals stand inside one another in a value.
 use Rattle.std.specs.Prelude.{ℕ, suc, max}
 use Rattle.cel_value.specs.Data.{Data, list, map_of, optional, Items, no_items, item, Entries, no_entries, entry}

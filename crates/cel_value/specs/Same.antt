@@ -1,3 +1,4 @@
+-- Trusted by the headline.
 -- When two values are equal, and how they compare (CEL language definition, "Equality", "Ordering"; Kubernetes documentation, CEL
 -- libraries). Each value has a shape, in which an int and a uint are their number, a timestamp is its instant and a quantity its number;
 -- two values are equal where their shapes are.

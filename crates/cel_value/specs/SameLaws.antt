@@ -1,3 +1,4 @@
+-- Scaffolding: only proofs and private clauses cite it.
 -- Equality of values is an equivalence.
 use Rattle.std.specs.Prelude.{◌≡◌, ◌&&◌, ◌==◌, Bool, true, nat_eq, refl}
 use Rattle.std.specs.Ordering.{eq_by_cmp, int_eq}

@@ -1,3 +1,4 @@
+-- Trusted by the headline.
 -- The text of a value, as `%s` prints it, and of an error.
 use Rattle.std.specs.Prelude.{ℕ, List, [], ◌∷◌, ◌++◌, Bool, true, false, if◌then◌else◌, Option, None, Some, Result, Ok, Err, codes, decimal, String, string_bytes}
 use Rattle.std.specs.declared.alloc.Global.{Global}

@@ -1,3 +1,4 @@
+-- Trusted by the headline.
 -- The data that a value stands for.
 use Rattle.std.specs.Prelude.{List, [], ◌∷◌, Option, Some, None, map, string_bytes}
 use Rattle.std.specs.declared.alloc.Global.{Global}

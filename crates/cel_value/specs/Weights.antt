@@ -1,3 +1,4 @@
+-- Scaffolding: only proofs and private clauses cite it.
 -- How many parts a value has, each of them counted: what recursion over a value ends by.
 use Rattle.std.specs.Prelude.{ℕ, suc, ◌+◌}
 use Rattle.cel_value.specs.Data.{Data, list, map_of, optional, Items, no_items, item, Entries, no_entries, entry}

@@ -1,3 +1,4 @@
+-- Trusted by the headline.
 -- Decimal digits, and the numbers that they write.
 use Rattle.std.specs.Prelude.{ℕ, zero, suc, ◌+◌, ◌-◌, ◌*◌, ◌/◌, ◌%◌, ◌^◌, ◌==◌, List, [], ◌∷◌, length, Option, Some, None, if◌then◌else◌}
 

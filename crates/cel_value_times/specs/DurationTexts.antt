@@ -1,3 +1,4 @@
+-- Trusted by the headline.
 -- The texts of durations. They are read by the grammar of Go's `time.ParseDuration`, which CEL's
 -- durations follow: an optional sign and decimal numbers, each with an optional fraction and a unit,
 -- such as `-1.5h` and `2h45m`. Each amount is cut to whole nanoseconds. They are printed as Go's

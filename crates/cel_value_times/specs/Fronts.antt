@@ -1,3 +1,4 @@
+-- Trusted by the headline.
 -- What stands at the front of a text, and what follows it: how the readers go.
 use Rattle.std.specs.Prelude.{ℕ, ◌+◌, ◌*◌, ◌==◌, List, [], ◌∷◌, length, take, drop, Option, Some, None, option_map, option_and_then, if◌then◌else◌}
 use Rattle.std.specs.List.{prefix_len}

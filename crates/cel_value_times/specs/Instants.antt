@@ -1,3 +1,4 @@
+-- Trusted by the headline.
 -- What contracts see of a timestamp: its instant, and what the local clock shows there.
 use Rattle.std.specs.Prelude.{ℤ, pos, ◌+ℤ◌, ◌*ℤ◌}
 use Rattle.cel_value_times.specs.declared.timestamp.Timestamp.{Timestamp}

@@ -1,3 +1,4 @@
+-- Trusted by the headline.
 -- Which durations, instants and offsets there are. CEL's timestamps run from 0001-01-01T00:00:00Z to
 -- 9999-12-31T23:59:59.999999999Z, and its durations are the nanoseconds of 64 bits with a sign (the
 -- CEL language definition, "Values").

@@ -1,3 +1,4 @@
+-- Trusted by the headline.
 -- What a text of a time means, as a function of the text, and what a timestamp is printed as, as a function of its
 -- instant and offset: what the relations of `DurationTexts` and `TimestampTexts` say, computed.
 -- Sources: Go, `time.ParseDuration`; RFC 3339, section 5.6.

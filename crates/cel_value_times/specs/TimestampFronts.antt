@@ -1,3 +1,4 @@
+-- Trusted by the headline.
 -- What stands at the front of a timestamp's text, part by part: how the reader goes.
 use Rattle.std.specs.Prelude.{ℕ, ◌+◌, ◌-◌, ◌*◌, ◌==◌, Bool, ◌&&◌, ◌||◌, nat_lt, nat_le, int_lt, List, [], ◌∷◌, length, Option, Some, None, option_map, ℤ, pos, neg_ℤ, ◌+ℤ◌, ◌-ℤ◌, ◌*ℤ◌, if◌then◌else◌}
 use Rattle.std.specs.Char.{is_ascii_digit}

@@ -1,3 +1,4 @@
+-- Trusted by the headline.
 -- The texts of timestamps: `date-time` of RFC 3339, section 5.6. A second is at most 59, a year at
 -- least 1, and a fraction is cut after its ninth digit. Dates and their day numbers are those of the
 -- proleptic Gregorian calendar of `jiff_core`.

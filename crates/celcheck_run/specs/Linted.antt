@@ -1,3 +1,4 @@
+-- Trusted by the clauses of celcheck.
 -- What `lint` tells, and with which status.
 use Rattle.celcheck_run.specs.Runs.{IsRead}
 use Rattle.kube_cel_lint.specs.declared.finding.LintFinding.{LintFinding}

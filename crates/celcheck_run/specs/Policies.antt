@@ -1,3 +1,4 @@
+-- Trusted by the clauses of celcheck.
 -- The validations of a policy, as JSON gives them (Kubernetes API reference, ValidatingAdmissionPolicySpec and Validation).
 use Rattle.celcheck_run.specs.declared.policy.Parts.{Parts}
 use Rattle.kube_cel_admission.specs.Validations.{ExpressionData}

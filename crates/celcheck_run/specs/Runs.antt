@@ -1,3 +1,4 @@
+-- Trusted by the clauses of celcheck.
 -- What a run of `celcheck check` rests on: the files that it names, read one after another, and the answer to what they hold.
 use Rattle.celcheck_run.specs.declared.status.Stop.{Stop}
 use Rattle.celcheck_run.specs.Words.{Paths}

@@ -1,3 +1,4 @@
+-- Trusted by the clauses of celcheck.
 -- What `eval` and `vap` tell, and with which status.
 use Rattle.cel.specs.Program.{program_term}
 use Rattle.cel_book.specs.Book.{Book, IsBook}

@@ -1,3 +1,4 @@
+-- Trusted by the clauses of celcheck.
 -- What the words of a command line ask for.
 use Rattle.celcheck_run.specs.declared.words.Command.{Command}
 use Rattle.celcheck_run.specs.declared.words.Command.TheVariants as command

@@ -1,3 +1,4 @@
+-- Trusted by laws alone.
 -- A schema with rules added to those of one of its nodes.
 use Rattle.kube_cel_places.specs.declared.branches.BranchKind.{BranchKind}
 use Rattle.kube_cel_places.specs.Step as place

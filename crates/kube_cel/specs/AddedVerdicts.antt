@@ -1,3 +1,4 @@
+-- Trusted by laws alone.
 -- What is answered where rules were added to those of one node of a schema.
 use Rattle.cel_book.specs.Book.{Book}
 use Rattle.kube_cel.specs.Added.{NodeStep, left_behind}

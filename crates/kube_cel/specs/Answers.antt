@@ -1,3 +1,4 @@
+-- Trusted by the headline.
 -- What a validation answers.
 use Rattle.cel_book.specs.Book.{Book, IsBook}
 use Rattle.kube_cel_errors.specs.declared.error.ValidationErrors.{ValidationErrors}

@@ -1,3 +1,4 @@
+-- Trusted by the clauses of other library calls.
 -- A schema that was compiled, as its tree of nodes.
 use Rattle.kube_cel_places_table.specs.Compiled.{compiled_shape}
 use Rattle.kube_cel_walk.specs.Form.{Form}

@@ -1,3 +1,4 @@
+-- Scaffolding: only proofs and private clauses cite it.
 -- A name with its node, as a compiled schema hands both out and as a walk takes them.
 use Rattle.kube_cel.specs.declared.compiled.CompiledNode.{CompiledNode}
 use Rattle.kube_schema_table.specs.declared.node.SchemaNode.{SchemaNode}

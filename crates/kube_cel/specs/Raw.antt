@@ -1,3 +1,4 @@
+-- Trusted by the headline.
 -- A schema as JSON.
 use Rattle.kube_cel_places.specs.Raw.{raw_shape}
 use Rattle.kube_cel_walk.specs.Form.{Form}

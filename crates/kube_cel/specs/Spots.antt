@@ -1,3 +1,4 @@
+-- Trusted by the headline.
 -- The spots where calls begin.
 use Rattle.kube_cel_places.specs.Spot.{Spot, Root, root_spot}
 use Rattle.kube_cel_verdicts.specs.declared.root.RootContext.{RootContext}

@@ -1,3 +1,4 @@
+-- Trusted by the clauses of policies.
 -- What an admission request tells (Kubernetes API reference, AdmissionRequest of admission.k8s.io/v1), and the CEL value that it is to the
 -- expressions of a policy (Kubernetes documentation, "Validating Admission Policy").
 use Rattle.cel_value.specs.Data.{Data, Entries, bool, list, map_of, no_entries, text, text_key}

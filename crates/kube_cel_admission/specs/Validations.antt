@@ -1,3 +1,4 @@
+-- Trusted by the clauses of policies.
 -- One validation of a policy, and what is told of it (Kubernetes API reference, Validation of ValidatingAdmissionPolicySpec).
 use Rattle.kube_cel_admission.specs.declared.expression.VapExpression.{VapExpression}
 use Rattle.kube_cel_admission.specs.declared.expression.VapResult.{VapResult}

@@ -1,3 +1,4 @@
+-- Trusted by the clauses of analysis and linter.
 -- What an expression is estimated to cost, over the greatest sizes that a schema allows (Kubernetes documentation, "Resource use by validation
 -- functions": cost grows with the lists and texts that a rule goes over). Each sum and product is cut at the greatest number of 64 bits.
 use Rattle.std.specs.Prelude.{ℕ, ◌+◌, ◌*◌, ◌-◌, ◌^◌, ◌/◌, min, max, List, [], ◌∷◌, codes, Bool, true, false, if◌then◌else◌}

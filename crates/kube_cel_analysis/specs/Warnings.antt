@@ -1,3 +1,4 @@
+-- Trusted by the clauses of analysis and linter.
 -- What a warning says.
 use Rattle.std.specs.Prelude.{ℕ, List, string_bytes}
 use Rattle.kube_cel_analysis.specs.declared.warning.AnalysisWarning.{AnalysisWarning}

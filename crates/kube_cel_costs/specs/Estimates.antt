@@ -1,3 +1,4 @@
+-- Trusted by the clauses of analysis and linter.
 -- What is said of a rule's cost at a node of a schema (Kubernetes documentation, "Resource use by validation functions"), and all that is said
 -- of it.
 use Rattle.std.specs.Prelude.{◌≡◌, ℕ, List, [], ◌∷◌, ◌++◌, Bool, true, false, ◌&&◌, Option, Some, None, if◌then◌else◌, codes, decimal, nat_lt}

@@ -1,3 +1,4 @@
+-- Trusted by the headline.
 -- The list that the errors of a validation were made of.
 use Rattle.kube_cel_errors.specs.declared.error.ValidationError.{ValidationError}
 use Rattle.kube_cel_errors.specs.declared.error.ValidationErrors.{ValidationErrors}

@@ -1,3 +1,4 @@
+-- Trusted by the headline.
 -- What an error of a validation tells, as plain data.
 use Rattle.cel_value.specs.Faults.{Fault, fault_view}
 use Rattle.kube_cel_errors.specs.declared.error.ErrorKind.{ErrorKind}

@@ -1,3 +1,4 @@
+-- Trusted by the headline.
 -- The errors that a rule may give, and what stands past the greatest depth (Kubernetes documentation, "Validation rules").
 use Rattle.cel_value.specs.Faults.{Fault, undeclared}
 use Rattle.cel_value.specs.Texts.{fault_text}

@@ -1,3 +1,4 @@
+-- Trusted by the clauses of other library calls.
 -- What errors print.
 use Rattle.kube_cel_errors.specs.declared.error.ValidationError.{ValidationError}
 use Rattle.kube_cel_errors.specs.Errors.{ErrorData, error_view}

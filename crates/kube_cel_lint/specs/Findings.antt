@@ -1,3 +1,4 @@
+-- Trusted by the clauses of analysis and linter.
 -- What is said of the rules of one node: why a rule isn't compiled, which functions it calls that there aren't, what an analysis warns of.
 use Rattle.std.specs.Prelude.{ℕ, List, [], ◌∷◌, ◌++◌, map, Bool, true, false, Result, Ok, Err, if◌then◌else◌, codes, string_bytes}
 use Rattle.std.specs.List.{flat_map}

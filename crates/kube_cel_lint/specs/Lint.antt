@@ -1,3 +1,4 @@
+-- Trusted by the clauses of analysis and linter.
 -- What is said of all rules of a schema: those of a node before those of the nodes within it, and these in the order in which Kubernetes' walk over
 -- an object takes them (properties by name, list items, other keys, the branches of allOf, oneOf and anyOf).
 use Rattle.std.specs.Prelude.{ℕ, suc, List, [], ◌++◌, Option, Some, None}

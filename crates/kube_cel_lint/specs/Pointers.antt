@@ -1,3 +1,4 @@
+-- Trusted by the clauses of analysis and linter.
 -- The JSON Pointers of a schema's nodes (RFC 6901, section 3).
 use Rattle.std.specs.Prelude.{ℕ, List, ◌++◌, ◌==◌, if◌then◌else◌, codes, decimal, encode_utf8}
 use Rattle.std.specs.List.{flat_map}

@@ -1,3 +1,4 @@
+-- Trusted by the headline.
 -- A schema as JSON (Kubernetes documentation, "Specifying a structural schema").
 use Rattle.kube_cel_places.specs.Inside.{keys_at, count_at}
 use Rattle.kube_cel_places.specs.Shape.{Shape}

@@ -1,3 +1,4 @@
+-- Trusted by the headline.
 -- How a walk looks at a schema's node, in whatever form the schema is held.
 use Rattle.kube_cel_places.specs.declared.branches.BranchKind.{BranchKind}
 use Rattle.std.specs.Prelude.{ℕ, List, Option}

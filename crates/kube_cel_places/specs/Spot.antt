@@ -1,3 +1,4 @@
+-- Trusted by the headline.
 -- What lies at a place of a schema and a JSON value (Kubernetes documentation, "Validation rules": a rule is scoped to the part
 -- of the object where its `x-kubernetes-validations` stands), and where steps lead from there.
 use Rattle.kube_cel_places.specs.declared.branches.BranchKind.{BranchKind}

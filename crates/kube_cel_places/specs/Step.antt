@@ -1,3 +1,4 @@
+-- Trusted by the headline.
 -- The steps of a place, and their order.
 use Rattle.kube_cel_places.specs.declared.branches.BranchKind.{BranchKind}
 use Rattle.kube_cel_places.specs.declared.branches.BranchKind.TheVariants.{AllOf, OneOf, AnyOf}

@@ -1,3 +1,4 @@
+-- Trusted by the headline.
 -- The places of anything that steps lead through, in their order, and what is found at them.
 use Rattle.kube_cel_places.specs.Step.{Step, place_cmp}
 use Rattle.std.specs.List.{flat_map}

@@ -1,3 +1,4 @@
+-- Trusted by the clauses of other library calls.
 -- How a walk looks at the tree of a schema: as at the schema itself.
 use Rattle.std.specs.Prelude.{if◌then◌else◌, None}
 use Rattle.kube_cel_places.specs.declared.branches.BranchKind.{BranchKind}

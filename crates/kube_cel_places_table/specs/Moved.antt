@@ -1,3 +1,4 @@
+-- Trusted by laws alone.
 -- The same place of two forms of a schema.
 use Rattle.kube_cel_places.specs.Spot.{Spot, spot}
 

@@ -1,3 +1,4 @@
+-- Trusted by the clauses of policies.
 -- The results of a policy's expressions (Kubernetes documentation, "Validating Admission Policy"; Kubernetes API reference, Validation of
 -- ValidatingAdmissionPolicySpec).
 use Rattle.cel_book.specs.Book.{Book}

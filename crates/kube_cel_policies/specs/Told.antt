@@ -1,3 +1,4 @@
+-- Trusted by the clauses of policies.
 -- What calls tell, each with a book of its own.
 use Rattle.cel_book.specs.Book.{Agrees, Book, IsBook}
 use Rattle.cel_meaning.specs.Bindings.{Bindings}

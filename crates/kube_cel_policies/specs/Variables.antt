@@ -1,3 +1,4 @@
+-- Trusted by the clauses of policies.
 -- What the expressions of a policy may ask of (Kubernetes documentation, "Validating Admission Policy", variables of expressions).
 use Rattle.cel_meaning.specs.Bindings.{Bindings}
 use Rattle.cel_value.specs.Data.{Data, null}

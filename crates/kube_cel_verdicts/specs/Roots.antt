@@ -1,3 +1,4 @@
+-- Trusted by the headline.
 -- What a root context tells of a whole object.
 use Rattle.kube_cel_verdicts.specs.declared.root.RootContext.{RootContext}
 use Rattle.kube_cel_places.specs.Spot.{Root}

@@ -1,3 +1,4 @@
+-- Scaffolding: only proofs and private clauses cite it.
 -- What a part of a walk tells, under every book that agrees with the one that it hands back.
 use Rattle.cel_book.specs.Book.{Agrees, Book}
 use Rattle.kube_cel_errors.specs.declared.error.ValidationError.{ValidationError}

@@ -1,3 +1,4 @@
+-- Trusted by the headline.
 -- The verdict of a rule whose names are bound (Kubernetes documentation, "Validation rules").
 use Rattle.cel_book.specs.Book.{Book}
 use Rattle.cel_meaning.specs.Bindings.{Bindings}

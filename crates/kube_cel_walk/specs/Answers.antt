@@ -1,3 +1,4 @@
+-- Trusted by the headline.
 -- What is found at all places that a schema and a value share (Kubernetes documentation, "Validation rules": a rule is scoped to the
 -- part of the object where its `x-kubernetes-validations` stands).
 use Rattle.cel_book.specs.Book.{Book}

@@ -1,3 +1,4 @@
+-- Trusted by the headline.
 -- The form in which a schema is held: what places, bindings and verdicts ask of its nodes.
 use Rattle.kube_cel_places.specs.Shape.{Shape}
 use Rattle.kube_schema_rules.specs.Compilation.{Compiled, Malformed}

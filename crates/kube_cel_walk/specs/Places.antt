@@ -1,3 +1,4 @@
+-- Scaffolding: only proofs and private clauses cite it.
 -- The spot that a walk is at.
 use Rattle.kube_cel_places.specs.Spot.{Spot, spot}
 use Rattle.kube_cel_verdicts.specs.Roots.{root_view}

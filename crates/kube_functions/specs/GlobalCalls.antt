@@ -1,3 +1,4 @@
+-- Trusted by the headline.
 -- What the functions without receivers answer: each by the definition of its call.
 use Rattle.std.specs.Prelude.{ℕ, List, Option, Ok}
 use Rattle.std.specs.Option.{option_zip}

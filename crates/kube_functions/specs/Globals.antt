@@ -1,3 +1,4 @@
+-- Trusted by the headline.
 -- The functions without receivers that Kubernetes adds to the standard ones: their names, and with how many arguments each is called
 -- (Kubernetes documentation, "CEL in Kubernetes"; documentation of CEL-Go, "Encoders", "Lists", "Math", "Sets", "Strings";
 -- `k8s.io/apiserver/pkg/cel/library`).

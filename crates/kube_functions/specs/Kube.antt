@@ -1,3 +1,4 @@
+-- Trusted by the headline.
 -- The sets of functions: the standard one, and the one that has the functions of Kubernetes besides (Kubernetes documentation, "CEL in
 -- Kubernetes"). A call that is a standard one is answered as it is there, but for the strings of addresses.
 use Rattle.std.specs.Prelude.{ℕ, ◌||◌, List, length, Bool, true, false, Option, Some, None, is_some, Err, if◌then◌else◌}

@@ -1,3 +1,4 @@
+-- Trusted by the headline.
 -- What the functions on receivers answer: each by the definition of its call. Operands are the receiver and the arguments.
 use Rattle.std.specs.Prelude.{ℕ, List, codes, Option}
 use Rattle.std.specs.Option.{option_zip}

@@ -1,3 +1,4 @@
+-- Trusted by the headline.
 -- Functions of one name on operands of different kinds (Kubernetes documentation, "CEL in Kubernetes", extended string library, list library,
 -- IP address library; documentation of CEL-Go, "Strings", "Lists"): on lists, and on strings; the strings of addresses, and of other values.
 use Rattle.std.specs.Prelude.{ℕ, List, codes, Bool, true, false, Option, Some, None, is_some, Err, if◌then◌else◌}

@@ -1,3 +1,4 @@
+-- Trusted by the headline.
 -- `format`: a text whose verbs show the items of a list (documentation of CEL-Go, "Strings": `format`; Kubernetes documentation, "CEL in
 -- Kubernetes", extended string library). Each verb takes the next item, also where its letter is unknown; the first fault from the left
 -- counts, of the text or of an item. Items that no verb takes change nothing.

@@ -1,3 +1,4 @@
+-- Trusted by laws alone.
 -- What follows from the definitions.
 use Rattle.std.specs.Prelude.{◌≡◌, ◌≢◌, ℕ, ◌<◌, ◌≤◌, ◌^◌, List, [], ◌∷◌, ◌++◌, codes, Contains, Ok}
 use Rattle.std.specs.Char.{digit_value}

@@ -1,3 +1,4 @@
+-- Trusted by the headline.
 -- A format text as pieces (documentation of CEL-Go, "Strings": `format`; Kubernetes documentation, "CEL in Kubernetes", extended string
 -- library). A percent sign begins a verb, whose letter follows at once, or behind a dot and digits, a precision that changes nothing.
 -- Two percent signs are one. All else stands for itself.

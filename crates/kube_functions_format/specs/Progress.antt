@@ -1,3 +1,4 @@
+-- Scaffolding: only proofs and private clauses cite it.
 -- A format text that has been read up to a character.
 use Rattle.std.specs.Prelude.{ℕ, List, [], ◌∷◌, String, string_bytes, Option, Some, None, Result, Ok, Err}
 use Rattle.std.specs.declared.alloc.Global.{Global}

@@ -1,3 +1,4 @@
+-- Trusted by the headline.
 -- What a verb shows of its item (documentation of CEL-Go, "Strings": `format`; Kubernetes documentation, "CEL in Kubernetes", extended
 -- string library). `%s` shows the text of a value, `%d` a decimal number, `%o`, `%b`, `%x` and `%X` the digits of 64 bits in base 8, 2
 -- and 16, in which an int stands in two's complement; `%b` shows a bool too, `%x` and `%X` also the bytes of bytes and of a string in

@@ -1,3 +1,4 @@
+-- Trusted by the headline.
 -- Functions on the bits of ints (documentation of CEL-Go, "Math": `math.bitAnd`, `math.bitOr`, `math.bitXor`, `math.bitNot`,
 -- `math.bitShiftLeft`, `math.bitShiftRight`). An int is its 64 bits in two's complement. Bits that are shifted out are lost, and a shift to
 -- the right fills with the sign.

@@ -1,3 +1,4 @@
+-- Trusted by the headline.
 -- Lists made of a list's items (Kubernetes documentation, "CEL in Kubernetes", list library; documentation of CEL-Go, "Lists": `slice`,
 -- `flatten`, `reverse`, `distinct`, `first`, `last`, `lists.range`). Items are equal as `==` has it.
 use Rattle.std.specs.Prelude.{ℕ, suc, ◌++◌, ℤ, pos, negsuc, List, [], ◌∷◌, map, reverse as backwards, length, codes, decimal, not, ◌&&◌, nat_le, Option, None, Some, option_map, Ok, Err, take, drop, if◌then◌else◌}

@@ -1,3 +1,4 @@
+-- Trusted by the headline.
 -- Functions on numbers (documentation of CEL-Go, "Math": `math.abs`, `math.sign`, `math.greatest`, `math.least`). Ints and uints are
 -- compared as numbers, and of equal ones the first counts.
 use Rattle.std.specs.Prelude.{ℕ, zero, suc, ℤ, pos, negsuc, List, [], ◌∷◌, codes, is_some, Ok, Err, if◌then◌else◌}

@@ -1,3 +1,4 @@
+-- Trusted by the headline.
 -- Lists in ascending order (Kubernetes documentation, "CEL in Kubernetes", list library, `isSorted`, `min`, `max`; documentation of CEL-Go,
 -- "Lists", `sort`). Values are compared as `<` compares them.
 use Rattle.std.specs.Prelude.{ℕ, List, [], ◌∷◌, codes, Bool, true, false, not, is_some, Ok, Err, if◌then◌else◌}

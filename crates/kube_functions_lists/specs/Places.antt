@@ -1,3 +1,4 @@
+-- Trusted by the headline.
 -- Where a value stands in a list (documentation of CEL-Go, "Lists"; Kubernetes documentation, "CEL in Kubernetes", list library, `indexOf`,
 -- `lastIndexOf`). Places count from 0, and -1 says that it is not there. A place that no int is would be an overflow.
 use Rattle.std.specs.Prelude.{ℕ, ◌+◌, pos, negsuc, List, [], ◌∷◌, codes, Bool, Option, None, Some, Ok, if◌then◌else◌}

@@ -1,3 +1,4 @@
+-- Trusted by the headline.
 -- Lists as sets of their items (documentation of CEL-Go, "Sets": `sets.contains`, `sets.equivalent`, `sets.intersects`). A value is in the
 -- set where it equals an item.
 use Rattle.std.specs.Prelude.{ℕ, List, codes, Bool, ◌&&◌, Ok, Err}

@@ -1,3 +1,4 @@
+-- Trusted by the headline.
 -- Bytes as texts in Base64 (RFC 4648, section 4; documentation of CEL-Go, "Encoders"). In a text whose padding is missing, it is added
 -- before the text is decoded.
 use Rattle.std.specs.Prelude.{◌≡◌, ◌↔◌, ℕ, ◌%◌, ◌==◌, List, [], ◌++◌, length, codes, Option, Some, Ok, Err, if◌then◌else◌}

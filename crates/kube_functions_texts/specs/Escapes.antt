@@ -1,3 +1,4 @@
+-- Trusted by the headline.
 -- Strings in which some characters are escaped: `jsonpatch.escapeKey` (RFC 6901, section 3) and `strings.quote` (documentation of CEL-Go,
 -- "Strings").
 use Rattle.std.specs.Prelude.{◌≡◌, ℕ, List, [], ◌∷◌, ◌++◌, ◌==◌, codes, Option, encode_utf8}

@@ -1,3 +1,4 @@
+-- Trusted by the headline.
 -- What a pattern finds in a string (Kubernetes documentation, "CEL in Kubernetes", regex library, `find`, `findAll`). Which patterns are
 -- refused, and what the others find, a book says.
 use Rattle.std.specs.Prelude.{ℕ, ℤ, pos, negsuc, List, [], ◌∷◌, codes, map, Option, Some, None, Ok, Err, slice_range}

@@ -1,3 +1,4 @@
+-- Trusted by the headline.
 -- The strings of a list as one string (documentation of CEL-Go, "Strings": `join`). A list with an item that is no string has none.
 use Rattle.std.specs.Prelude.{ℕ, List, [], ◌∷◌, ◌++◌, codes, map, option_map, Option, Some, None, Result, Ok, Err, Vec}
 use Rattle.std.specs.Option.{option_map_or, option_zip}

@@ -1,3 +1,4 @@
+-- Trusted by the headline.
 -- Strings with other letters, in another order, or without white space at their ends (Kubernetes documentation, "CEL in Kubernetes",
 -- extended string library; documentation of CEL-Go, "Strings": `lowerAscii`, `upperAscii`, `reverse`, `trim`). White space is what
 -- `char::is_whitespace` of Rust says.

@@ -1,3 +1,4 @@
+-- Trusted by the headline.
 -- What a function takes of its operands, and the fault of operands that it does not take.
 use Rattle.std.specs.Prelude.{ℕ, ℤ, List, Option, Some, None, Err, option_map}
 use Rattle.std.specs.Option.{option_map_or, option_zip}

@@ -1,3 +1,4 @@
+-- Trusted by the headline.
 -- Strings cut at a separator, with another text in its place, and joined (Kubernetes documentation, "CEL in Kubernetes", extended string
 -- library; documentation of CEL-Go, "Strings": `split`, `replace`, `join`). A separator that is not empty stands at its matches from the
 -- left, each the first that begins at or after the end of the one before it; an empty one stands once at each character boundary.

@@ -1,3 +1,4 @@
+-- Trusted by the headline.
 -- Characters of a string by their places, and the places of one string in another (Kubernetes documentation, "CEL in Kubernetes", extended
 -- string library; documentation of CEL-Go, "Strings": `charAt`, `indexOf`, `lastIndexOf`, `substring`). Places count code points from 0 on.
 use Rattle.std.specs.Prelude.{ℕ, zero, suc, ◌-◌, min, ℤ, pos, negsuc, nat_le, nat_eq, ◌&&◌, List, [], ◌∷◌, ◌++◌, length, drop, codes, Bool, Option, Some, None, Ok, Err, encode_utf8, slice_get, slice_range, decimal, if◌then◌else◌}

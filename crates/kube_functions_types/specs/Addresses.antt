@@ -1,3 +1,4 @@
+-- Trusted by the headline.
 -- Calls on IP addresses (Kubernetes documentation, "CEL in Kubernetes", IP address library; `IP` in `k8s.io/apiserver/pkg/cel/library`).
 use Rattle.std.specs.Prelude.{ℕ, pos, ◌==◌, List, codes, Bool, false, Result, Ok, Err, is_ok}
 use Rattle.kube_types_address.specs.Addresses.{Address, family}

@@ -1,3 +1,4 @@
+-- Trusted by the headline.
 -- What the functions answer, in the forms that many of them share.
 use Rattle.std.specs.Prelude.{ℕ, List, Bool, Option, Result, Ok, Err}
 use Rattle.std.specs.Option.{option_map_or}

@@ -1,3 +1,4 @@
+-- Trusted by the headline.
 -- Calls on CIDRs (Kubernetes documentation, "CEL in Kubernetes", CIDR library; `CIDR` in `k8s.io/apiserver/pkg/cel/library`).
 -- A CIDR stands for the set of its addresses: an address is in it, or another CIDR's addresses all are.
 use Rattle.std.specs.Prelude.{ℕ, pos, ◌==◌, List, codes, Bool, false, Result, Ok, Err, is_ok}

@@ -1,3 +1,4 @@
+-- Trusted by the headline.
 -- Calls on named formats (Kubernetes documentation, "CEL in Kubernetes", format library; `Format` in `k8s.io/apiserver/pkg/cel/library`).
 use Rattle.std.specs.Prelude.{ℕ, List, [], ◌∷◌, codes, Option, find, Ok}
 use Rattle.std.specs.Option.{option_map_or}

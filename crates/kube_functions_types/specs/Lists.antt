@@ -1,3 +1,4 @@
+-- Trusted by the headline.
 -- Lists of strings as values.
 use Rattle.std.specs.Prelude.{ℕ, List, map}
 use Rattle.cel_value.specs.Data.{Data, text, list, Items}

@@ -1,3 +1,4 @@
+-- Trusted by the headline.
 -- Calls on quantities (Kubernetes documentation, "CEL in Kubernetes", quantity library; `Quantity` in
 -- `k8s.io/apiserver/pkg/cel/library`). A sum or a difference is exact, and a fault where it would not fit.
 use Rattle.std.specs.Prelude.{ℕ, ℤ, pos, List, codes, Option, None, Some, option_map, Result, Ok, Err, is_ok, is_some}

@@ -1,3 +1,4 @@
+-- Trusted by the headline.
 -- The strings of IP addresses and CIDRs (Kubernetes documentation, "CEL in Kubernetes", IP address library, CIDR library, `string`).
 use Rattle.std.specs.Prelude.{codes, Ok}
 use Rattle.kube_types_address.specs.CidrTexts.{cidr_text}

@@ -1,3 +1,4 @@
+-- Trusted by the headline.
 -- Calls on URLs (Kubernetes documentation, "CEL in Kubernetes", URL library; `URLs` in `k8s.io/apiserver/pkg/cel/library`).
 use Rattle.std.specs.Prelude.{ℕ, List, [], ◌∷◌, codes, unwrap_or, Ok, is_some}
 use Rattle.kube_types_url.specs.Query.{pairs_of, values_of, values_or_none}

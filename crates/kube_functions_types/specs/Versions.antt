@@ -1,3 +1,4 @@
+-- Trusted by the headline.
 -- Calls on versions (Kubernetes documentation, "CEL in Kubernetes", semver library; `Semver` in `k8s.io/apiserver/pkg/cel/library`).
 use Rattle.std.specs.Prelude.{ℕ, List, ◌++◌, codes, Bool, false, Option, None, Some, is_some}
 use Rattle.std.specs.Option.{option_map_or}

@@ -1,3 +1,4 @@
+-- Trusted by the clauses of other library calls.
 -- What the tree of a schema answers where binding asks: as the schema itself does.
 use Rattle.kube_schema_bound.specs.Bound.{Look}
 use Rattle.kube_schema_table.specs.Tree.{Node, own, items_of, additional_of, property_of}

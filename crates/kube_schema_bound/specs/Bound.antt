@@ -1,3 +1,4 @@
+-- Trusted by the headline.
 -- What a JSON value is in CEL by a schema, in whatever form the schema is: Kubernetes documentation, "Use CEL validation rules",
 -- the CEL types of schema types and the escaping of property names.
 use Rattle.std.specs.Prelude.{ℕ, zero, suc, ◌-◌, List, [], Bool, Option, Some, None, is_some, if◌then◌else◌, codes}

@@ -1,3 +1,4 @@
+-- Trusted by laws alone.
 -- The fields that a Kubernetes object within another has besides its own: Kubernetes documentation, "Extend the Kubernetes API
 -- with CustomResourceDefinitions", `x-kubernetes-embedded-resource`.
 use Rattle.std.specs.Prelude.{ℕ, List, [], Bool, Option, Some, None, if◌then◌else◌, codes}

@@ -1,3 +1,4 @@
+-- Trusted by the headline.
 -- What binding asks of a node of a schema, as JSON gives it: Kubernetes API reference, JSONSchemaProps.
 use Rattle.std.specs.Prelude.{ℕ, List, Bool, true, false, Option, Some, None, option_and_then, is_some, unwrap_or, if◌then◌else◌, codes}
 use Rattle.std.specs.Option.{option_map_or}

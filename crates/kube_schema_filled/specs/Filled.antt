@@ -1,3 +1,4 @@
+-- Trusted by the headline.
 -- What a value becomes under the defaults of a schema: Kubernetes documentation, "Extend the Kubernetes API with
 -- CustomResourceDefinitions", "Defaulting". A default that is put in has the defaults put into it too.
 use Rattle.std.specs.Prelude.{◌≡◌, ℕ, zero, suc, List, [], ◌∷◌, Option, Some, None, option_map, option_and_then, unwrap_or}

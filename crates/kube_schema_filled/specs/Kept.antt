@@ -1,3 +1,4 @@
+-- Trusted by laws alone.
 -- When one value holds all that another holds, where that one holds it.
 use Rattle.std.specs.Prelude.{◌≡◌, ℕ, List, [], ◌∷◌, Option, Some, option_map, option_and_then}
 use Rattle.serde_json.specs.Data.{Data, null, boolean, number, string, array, object}

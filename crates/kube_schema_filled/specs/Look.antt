@@ -1,3 +1,4 @@
+-- Trusted by the headline.
 -- What defaults ask of a schema, in whatever form it is, and what a schema that is JSON answers: Kubernetes documentation, "Extend
 -- the Kubernetes API with CustomResourceDefinitions", "Defaulting" and "Specifying a structural schema".
 use Rattle.std.specs.Prelude.{ℕ, List, [], ◌∷◌, Bool, false, if◌then◌else◌, Option, Some, None, is_some, option_and_then, unwrap_or, codes}

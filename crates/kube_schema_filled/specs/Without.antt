@@ -1,3 +1,4 @@
+-- Trusted by laws alone.
 -- Schemas without a default.
 use Rattle.std.specs.Prelude.{◌≡◌, ℕ, zero, suc, List, Some, None, ⊤}
 use Rattle.kube_schema_filled.specs.Look.{Look}

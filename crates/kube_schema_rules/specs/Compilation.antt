@@ -1,3 +1,4 @@
+-- Trusted by the headline.
 -- Which rules are compiled (Kubernetes API reference, ValidationRule of CustomResourceDefinition): a rule is malformed where its fields have
 -- a fault, where its text is no expression of the CEL grammar, or where it has a messageExpression that is none.
 use Rattle.std.specs.Prelude.{ℕ, List, [], ◌∷◌, ◌++◌, Bool, Option, Some, None, option_map, Result, Ok, Err, codes, decimal, string_bytes}

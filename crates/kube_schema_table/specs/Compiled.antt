@@ -1,3 +1,4 @@
+-- Trusted by the clauses of other library calls.
 -- What the tree of a schema answers where defaults ask: as the schema itself does.
 use Rattle.std.specs.Prelude.{if◌then◌else◌, None}
 use Rattle.kube_schema_filled.specs.Look.{Look}

@@ -1,3 +1,4 @@
+-- Trusted by the headline.
 -- The tree that a number of a table stands for.
 use Rattle.std.specs.Prelude.{◌≡◌, ◌<◌, ◌≤◌, ◌+◌, ℕ, zero, suc, List, [], ◌∷◌, length, map, Bool, false, is_some, Option, Some, None, option_map, slice_get, string_bytes, ⊤}
 use Rattle.std.specs.Cmp.Lexicographic.{slice_cmp}

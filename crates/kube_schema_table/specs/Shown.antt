@@ -1,3 +1,4 @@
+-- Trusted by the headline.
 -- What a node of a compiled schema shows.
 use Rattle.kube_schema_table.specs.declared.node.CompiledSchema.{CompiledSchema}
 use Rattle.kube_schema_table.specs.declared.node.SchemaNode.{SchemaNode}

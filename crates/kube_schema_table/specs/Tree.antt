@@ -1,3 +1,4 @@
+-- Trusted by the headline.
 -- A schema as a tree of nodes: Kubernetes documentation, "Extend the Kubernetes API with CustomResourceDefinitions", "Specifying a
 -- structural schema".
 use Rattle.std.specs.Prelude.{ℕ, zero, suc, ◌+◌, List, [], ◌∷◌, Bool, Option, Some, None, Result, Ok, Err}

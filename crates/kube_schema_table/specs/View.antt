@@ -1,3 +1,4 @@
+-- Trusted by the headline.
 -- The tree that a schema stands for, keyword by keyword: Kubernetes documentation, "Extend the Kubernetes API with
 -- CustomResourceDefinitions", "Specifying a structural schema".
 use Rattle.std.specs.Prelude.{ℕ, zero, suc, false, List, [], ◌∷◌, Option, Some, None, Err, codes, option_and_then}

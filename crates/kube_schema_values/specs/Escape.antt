@@ -1,3 +1,4 @@
+-- Trusted by the headline.
 -- How a field name is written so that CEL can select it: Kubernetes documentation, "Use CEL validation rules", escaping of
 -- property names, but that a single underscore stays.
 use Rattle.std.specs.Prelude.{ℕ, List, [], ◌∷◌, ◌++◌, Bool, ◌==◌, ◌&&◌, if◌then◌else◌, codes}

@@ -1,3 +1,4 @@
+-- Trusted by the headline.
 -- What a JSON value is in CEL where no schema says more: Kubernetes documentation, "Use CEL validation rules", the CEL types of
 -- schema types.
 use Rattle.std.specs.Option.{option_map_or}

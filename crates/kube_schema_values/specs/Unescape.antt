@@ -1,3 +1,4 @@
+-- Trusted by the clauses of other library calls.
 -- The name that an escaped text was made of.
 use Rattle.std.specs.Prelude.{ℕ, zero, suc, ◌-◌, List, [], ◌∷◌, length, take, drop, Bool, ◌&&◌, nat_eq, if◌then◌else◌, codes, Option, Some, None}
 use Rattle.std.specs.List.{starts_with}

@@ -1,3 +1,4 @@
+-- Trusted by the headline.
 -- IP addresses and their numbers.
 -- Source: RFC 791 for the four octets of an IPv4 address, RFC 4291 for the eight groups of an IPv6 address and for the
 -- IPv4-mapped ones (section 2.5.5.2).

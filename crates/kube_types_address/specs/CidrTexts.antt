@@ -1,3 +1,4 @@
+-- Trusted by the headline.
 -- The texts of CIDRs.
 -- Source: RFC 4632, section 3.1, and RFC 4291, section 2.3: an address, a slash, and the length of the prefix in decimal.
 use Rattle.std.specs.Prelude.{◌≡◌, ℕ, ◌+◌, ◌≤◌, Bool, true, false, not, ◌&&◌, ◌||◌, ◌==◌, nat_lt, nat_le, ◌⊎◌, List, ◌∷◌, ◌++◌, length, take, drop, slice_index, Option, Some, None, Result, Ok, Err, option_map, codes, decimal, if◌then◌else◌}

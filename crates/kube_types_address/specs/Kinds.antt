@@ -1,3 +1,4 @@
+-- Trusted by the headline.
 -- The kinds of addresses.
 -- Source: the address blocks of RFC 1122, section 3.2.1.3, RFC 3927, RFC 5771, section 4, and RFC 4291, sections 2.5.2,
 -- 2.5.3, 2.5.6 and 2.7; `IsGlobalUnicast` and `IsLinkLocalMulticast` as Go's package `net` defines them.

@@ -1,3 +1,4 @@
+-- Trusted by the clauses of other library calls.
 -- Texts that begin with a given text.
 use Rattle.std.specs.Prelude.{ℕ, Bool, false, List, ◌++◌, length, take, drop, flat_map, codes, bytes_eq, ◌==◌, Option, Some, None, Result, Ok, Err, if◌then◌else◌}
 use Rattle.std.specs.Borrow.{Bor}

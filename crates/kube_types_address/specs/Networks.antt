@@ -1,3 +1,4 @@
+-- Trusted by the headline.
 -- What clauses see of a CIDR.
 use Rattle.std.specs.Prelude.{List, ℕ, Result, Ok, Err}
 use Rattle.std.specs.Borrow.{Bor}

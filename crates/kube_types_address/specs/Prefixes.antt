@@ -1,3 +1,4 @@
+-- Trusted by the headline.
 -- CIDRs as sets of addresses.
 -- Source: RFC 4632, section 3.1, for IPv4 prefixes, and RFC 4291, section 2.3, for IPv6 prefixes.
 use Rattle.std.specs.Prelude.{ℕ, ◌-◌, ◌*◌, ◌/◌, ◌^◌, ◌≤◌, Bool, ◌&&◌, ◌==◌, nat_le}

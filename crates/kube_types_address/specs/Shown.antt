@@ -1,3 +1,4 @@
+-- Trusted by the headline.
 -- What clauses see of an address.
 use Rattle.std.specs.Prelude.{List, ℕ, Option, Result, Ok, Err, option_map}
 use Rattle.std.specs.Borrow.{Bor}

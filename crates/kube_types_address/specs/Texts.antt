@@ -1,3 +1,4 @@
+-- Trusted by the headline.
 -- The texts of addresses.
 -- Source: RFC 4291, section 2.2, for what an IPv6 text means; RFC 3986, section 3.2.2, for the octets of an IPv4 text,
 -- which have no leading zeros; RFC 5952, section 4, for the one text that is printed.

@@ -1,3 +1,4 @@
+-- Trusted by the headline.
 -- Texts in base64. Source: RFC 4648, sections 4 and 5, with the letters of both alphabets, and with or without
 -- the padding of section 3.2.
 use Rattle.std.specs.Prelude.{ℕ, ◌%◌, ◌==◌, Bool, not, ◌&&◌, ◌||◌, nat_le, List, length, drop}

@@ -1,3 +1,4 @@
+-- Trusted by the headline.
 -- Dates and date-times. Source: RFC 3339, section 5.6: `full-date` and `date-time`, whose letters may be of
 -- either case; an hour is at most 23, a minute 59 and a second 60. The calendar is the proleptic Gregorian one of
 -- `jiff_core`, in which 0000 is a leap year.

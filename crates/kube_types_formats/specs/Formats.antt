@@ -1,3 +1,4 @@
+-- Trusted by the headline.
 -- The named formats of Kubernetes' CEL library `format`: their names, and the faults that a text has as each.
 use Rattle.std.specs.Prelude.{ℕ, List, [], codes, Option, Some, None, if◌then◌else◌}
 use Rattle.kube_types_formats.specs.declared.dns.Label.TheVariants.{Rfc1123, Rfc1123Prefix, Rfc1035, Rfc1035Prefix}

@@ -1,3 +1,4 @@
+-- Trusted by the headline.
 -- The faults that a text has, out of a table of tests, and what is said of them.
 use Rattle.std.specs.Prelude.{ℕ, List, [], ◌∷◌, ◌++◌, Bool, map, Option, Some, None, string_bytes, if◌then◌else◌}
 use Rattle.kube_types_formats.specs.declared.fault.Fault.{Fault}

@@ -1,3 +1,4 @@
+-- Trusted by the headline.
 -- DNS labels and subdomains, as Kubernetes names objects by them.
 -- Sources: RFC 1123, section 2.1, which lets a label of RFC 1035, section 2.3.1, begin with a digit; the
 -- Kubernetes page "Object Names and IDs". Letters are of lower case, a label has at most 63 bytes and a

@@ -1,3 +1,4 @@
+-- Trusted by the headline.
 -- Qualified names and label values. Source: the Kubernetes page "Labels and Selectors", section "Syntax and
 -- character set": an optional DNS subdomain and a slash, then a name of at most 63 bytes.
 use Rattle.std.specs.Prelude.{ℕ, ◌+◌, ◌==◌, Bool, not, ◌||◌, nat_lt, List, [], ◌∷◌, ◌++◌, length, take, drop, codes, Option, Some, None, if◌then◌else◌}

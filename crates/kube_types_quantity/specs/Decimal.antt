@@ -1,3 +1,4 @@
+-- Trusted by the headline.
 -- Numbers written as an integer and a power of ten, and their order.
 -- Source: the documentation of `Quantity` in `k8s.io/apimachinery/pkg/api/resource` of Kubernetes, where a quantity is a
 -- fixed-point number, and its canonical form keeps no needless zeros.

@@ -1,3 +1,4 @@
+-- Trusted by the headline.
 -- The integer that a quantity is, if it is one.
 use Rattle.std.specs.Prelude.{ℕ, List, codes, ℤ, Result, Ok, Err, if◌then◌else◌}
 use Rattle.std.specs.Int.{is_negative}

@@ -1,3 +1,4 @@
+-- Trusted by the headline.
 -- The normal form of a number: the mantissa ends in no zero, and zero has the scale 0.
 -- Source: the canonical form in the documentation of `Quantity`, `k8s.io/apimachinery/pkg/api/resource` of Kubernetes.
 use Rattle.std.specs.Prelude.{◌≡◌, ℕ, zero, suc, Bool, true, ◌&&◌, ◌/◌, ◌%◌, ◌^◌, ◌==◌, ℤ, pos, negsuc, ◌+ℤ◌, unsigned_abs, nat_lt, Option, Some, None, if◌then◌else◌}

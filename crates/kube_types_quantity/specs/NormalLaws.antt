@@ -1,3 +1,4 @@
+-- Scaffolding: only proofs and private clauses cite it.
 -- A number has one normal form.
 use Rattle.std.specs.Prelude.{◌≡◌, ℕ, zero, suc, ◌+◌, ◌-◌, ◌*◌, ◌%◌, ◌^◌, ◌≤◌, ◌&&◌, ◌==◌, ◌⊎◌, true, cond, ℤ, pos, negsuc, ◌+ℤ◌, unsigned_abs}
 use Rattle.std.proofs.Common.{sym, ◌∙◌, ap, inl, inr, arith}

@@ -1,3 +1,4 @@
+-- Scaffolding: only proofs and private clauses cite it.
 -- The order of quantities is a total one, and ties those alone that are equal.
 use Rattle.std.specs.Prelude.{◌≡◌, ◌&&◌, true, ℤ, refl}
 use Rattle.std.proofs.Common.{sym, ◌∙◌, ap}

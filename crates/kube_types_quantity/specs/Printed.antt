@@ -1,3 +1,4 @@
+-- Trusted by the clauses of other library calls.
 -- The text of a quantity: its decimal number in full, `0.` before a pure fraction.
 use Rattle.std.specs.Prelude.{◌-◌, ◌/◌, ◌%◌, ◌^◌, ℕ, suc, ℤ, pos, negsuc, unsigned_abs, List, ◌∷◌, ◌++◌, length, replicate}
 use Rattle.std.specs.Fmt.{decimal, signed_decimal, sign_text}

@@ -1,3 +1,4 @@
+-- Trusted by the headline.
 -- The text of a quantity: a sign, digits with at most one point, and a suffix.
 -- Source: the grammar in the documentation of `Quantity`, `k8s.io/apimachinery/pkg/api/resource` of Kubernetes:
 -- <quantity> ::= <signedNumber><suffix>, <number> ::= <digits> | <digits>.<digits> | <digits>. | .<digits>,

@@ -1,3 +1,4 @@
+-- Scaffolding: only proofs and private clauses cite it.
 -- Integers times powers of ten, and the order of numbers at a common scale.
 use Rattle.std.proofs.Common.{◌≡◌, ℕ, zero, suc, ◌+◌, ◌-◌, ◌*◌, ◌^◌, ◌<◌, ◌≤◌, min, ℤ, pos, negsuc, neg_ℤ, ◌+ℤ◌, ◌-ℤ◌, ◌*ℤ◌, ◌<ℤ◌, refl, sym, ◌∙◌, ap, arith}
 use Rattle.std.proofs.Math.Nat.{mul-lt-mul_of_pos_right, mul_assoc, min_comm, one-le-pow}

@@ -1,3 +1,4 @@
+-- Trusted by the headline.
 -- What clauses see of a quantity: its number.
 use Rattle.kube_types_quantity.specs.Decimal.{Decimal}
 use Rattle.kube_types_quantity.specs.declared.quantity.KubeQuantity.{KubeQuantity}

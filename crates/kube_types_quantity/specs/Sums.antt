@@ -1,3 +1,4 @@
+-- Trusted by the headline.
 -- Sums and differences of quantities.
 use Rattle.std.specs.Prelude.{◌&&◌, ℤ, ◌+ℤ◌, ◌-ℤ◌, Option, None, if◌then◌else◌}
 use Rattle.std.specs.Int.{int_min}

@@ -1,3 +1,4 @@
+-- Trusted by the headline.
 -- Equality and order of versions.
 -- Source: SemVer 2.0, semver.org, section 11: precedence goes by the three numbers and then by the pre-release. Build metadata
 -- has no precedence there; it decides last, in the order that Cargo's crate `semver` gives it.

@@ -1,3 +1,4 @@
+-- Scaffolding: only proofs and private clauses cite it.
 -- The order of versions is a total one, and ties those alone that are equal in every part.
 use Rattle.semver.specs.OrderLaws.{pre_total, build_total, pre-anti, build-anti, same_text}
 use Rattle.semver.specs.Parse.{Parts}

@@ -1,3 +1,4 @@
+-- Trusted by the headline.
 -- The text of a version, read strictly or leniently.
 -- Source: SemVer 2.0, semver.org, whose grammar `version_parts` reads; and the `normalize` option of `semver` in the CEL library
 -- `Semver`, `k8s.io/apiserver/pkg/cel/library` of Kubernetes: it drops a leading `v`, adds missing minor and patch numbers and

@@ -1,3 +1,4 @@
+-- Trusted by the headline.
 -- What clauses see of a version: its three numbers, its pre-release and its build metadata.
 use Rattle.semver.specs.Identifiers.{parts_of}
 use Rattle.semver.specs.Parse.{Parts}

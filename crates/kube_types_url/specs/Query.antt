@@ -1,3 +1,4 @@
+-- Trusted by the headline.
 -- The query of a URL as a map from names to values.
 -- Source: the parser of application/x-www-form-urlencoded, section 5.1 of the URL Standard, url.spec.whatwg.org; and `getQuery` of
 -- the CEL library `URLs`, `k8s.io/apiserver/pkg/cel/library` of Kubernetes, which gives a map from names to lists.

@@ -1,3 +1,4 @@
+-- Trusted by the headline.
 -- The text of a URL or of a path.
 -- Source: the CEL library `URLs`, `k8s.io/apiserver/pkg/cel/library` of Kubernetes: a URL or an absolute path; and the URL
 -- Standard, url.spec.whatwg.org, whose parser is `parse_url`.

@@ -1,3 +1,4 @@
+-- Trusted by the headline.
 -- What clauses see of a URL, and the texts of its parts.
 -- Source: the CEL library `URLs`, `k8s.io/apiserver/pkg/cel/library` of Kubernetes: `getScheme`, `getHost`, `getHostname`, `getPort`.
 -- A path has no scheme, and its host is `localhost`.
