@@ -1,4 +1,4 @@
-//! Flat code of CEL expressions, and its machine.
+//! Flat code of CEL expressions, made of their trees, and the machine with explicit stacks that runs it.
 #![tactic(auto)]
 
 mod calls;

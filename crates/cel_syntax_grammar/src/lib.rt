@@ -1,4 +1,4 @@
-//! Reads the tree of a CEL text from its tokens.
+//! The parser: reads the tree of a CEL text from its tokens, nested up to level 250.
 #![tactic(auto)]
 
 mod error;

@@ -1,4 +1,4 @@
-//! Cuts a CEL text into tokens.
+//! The lexer: cuts a CEL text into tokens.
 #![tactic(auto)]
 
 mod bytes;

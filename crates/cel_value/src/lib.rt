@@ -1,4 +1,23 @@
-//! The values of CEL, their equality and order, the keys of maps, and the errors of an execution.
+//! The values of CEL: of 18 kinds, with their equality and order, their texts, the keys of maps, and the errors of an execution.
+//!
+//! A [`Value`] takes 24 bytes and shares what is large, so that a copy takes no memory. What makes one takes an allocator first, and
+//! answers [`Refused`] where there is no memory, or where the value would have more than 4,096 levels of lists, maps and optionals.
+//!
+//! ```rust
+//! use cel_value::{Refused, Value};
+//! use std::alloc::Global;
+//!
+//! /// The list `[1, 'two']`.
+//! fn pair(alloc: Global) -> Result<Value, Refused> {
+//!     let mut items = Vec::new(alloc);
+//!     items.push(Value::Int(1))?;
+//!     items.push(Value::from_text(alloc, String::from_str(alloc, "two")?)?)?;
+//!     Value::from_items(alloc, items)
+//! }
+//! ```
+//!
+//! Proved: `==` is an equivalence and, with `compare`, goes by its definition (`specs/Same.antt`); copies, parts, look-ups and texts
+//! answer theirs. A contract sees a value as `Data` (`specs/Data.antt`). A double is carried, without its number.
 #![tactic(auto)]
 
 pub mod build;

@@ -1,4 +1,4 @@
-//! Admission requests, the expressions of a policy, and what is told of them.
+//! Admission requests, the expressions of a policy, and their results.
 #![tactic(auto)]
 
 mod expression;

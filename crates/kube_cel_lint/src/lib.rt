@@ -1,4 +1,4 @@
-//! What is wrong with the rules of a schema, found without an object.
+//! The linter: what is wrong with the rules of a compiled schema, found without an object.
 #![tactic(auto)]
 
 pub mod finding;

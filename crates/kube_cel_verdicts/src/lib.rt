@@ -1,4 +1,4 @@
-//! The verdicts of rules whose names are bound.
+//! The verdict of one rule whose names are bound: an error where it is malformed, or where it applies and isn't true.
 #![tactic(auto)]
 
 pub mod root;

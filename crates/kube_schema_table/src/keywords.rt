@@ -1,4 +1,4 @@
-// The keywords of one schema.
+//! The keywords of one schema.
 ghost use Rattle.std.specs.Prelude.{◌≡◌, IfErr, IfOk, option_map};
 ghost use Rattle.serde_json.specs.View.{view, items_view, members_view};
 ghost use Rattle.kube_schema_filled.specs.Look.{declared, additional, preserves, default_in};

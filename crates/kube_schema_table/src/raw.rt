@@ -1,4 +1,4 @@
-// Nodes as they lie in the table of a compiled schema.
+//! Nodes as they lie in the table of a compiled schema.
 use kube_schema_bound::SchemaFormat;
 use kube_schema_rules::{CompilationError, CompilationResult};
 use serde_json::Value;

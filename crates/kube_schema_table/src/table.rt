@@ -1,4 +1,4 @@
-// A table of nodes: each number in a node stands for a later node of the table.
+//! A table of nodes: each number in a node stands for a later node of the table.
 ghost use Rattle.std.specs.Prelude.{◌≡◌, ◌<◌, [], suc, length, IfOk};
 ghost use Rattle.std.proofs.Math.ListN.{set};
 ghost use Rattle.std.proofs.Props.{props};

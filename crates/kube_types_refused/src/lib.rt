@@ -1,4 +1,4 @@
-//! The one outer error of every call of this workspace.
+//! `Refused`, the one outer error: why a call gave no answer at all.
 #![tactic(auto)]
 
 ghost use Rattle.kube_types_refused.specs.declared.Refused.TheVariants.{Memory};
