@@ -1,0 +1,58 @@
+-- What the code's own version tells is what the version of the documents tells.
+use Rattle.std.proofs.Common.{◌≡◌, ℕ, List, [], map, Option, Some, Result, Ok, Err, refl, sym, ap, ◌∙◌, subst, string_bytes}
+use Rattle.kube_cel.specs.Answers.{IsToldOf}
+use Rattle.kube_cel.specs.Raw.{raw_form}
+use Rattle.kube_cel.specs.Spots.{judged_spot}
+use Rattle.kube_cel_errors.specs.declared.error.ValidationErrors.{ValidationErrors}
+use Rattle.kube_cel_verdicts.specs.Roots.{root_view}
+use Rattle.kube_manifests.proofs.Choices.{chosen_alike}
+use Rattle.kube_manifests.proofs.Formed.{formed, mapped, versions_alike, versions_are}
+use Rattle.kube_manifests.specs.declared.judgement.NotJudged.{NotJudged}
+use Rattle.kube_manifests.specs.declared.judgement.Judgement.TheVariants as judgement
+use Rattle.kube_manifests.specs.declared.version.CrdVersion.{CrdVersion}
+use Rattle.kube_manifests.specs.Documents.{Fault, add_document, each}
+use Rattle.kube_manifests.specs.Sets.{IsJudgement, all_compiled, compiled, version_view, versions_of}
+use Rattle.kube_manifests.specs.Versions.{Version, chosen, root_of}
+use Rattle.kube_schema_table.specs.Shown.{whole}
+use Rattle.kube_schema_table.specs.Tree.{Node}
+use Rattle.kube_schema_table.specs.View.{view_of}
+use Rattle.serde_json.specs.Data.{Data, Items}
+
+-- a choice among versions with trees is one among versions with schemas
+ok_before : {A B E : Type 0} (f : A → B) (r : Result A E) (w : B) → mapped f r ≡ Ok w → (v : A) × (r ≡ Ok v) × (f v ≡ w)
+ok_before f (Ok v) w e = let same : f v ≡ w = cc in (v, refl, same)
+ok_before f (Err x) w e = cc
+
+err_before : {A B E : Type 0} (f : A → B) (r : Result A E) (x : E) → mapped f r ≡ Err x → r ≡ Err x
+err_before f (Ok v) x e = cc
+err_before f (Err y) x e = let same : y ≡ x = cc in ap Err same
+
+-- the root context of the code's version
+root_is : (v : CrdVersion) → root_view v.root ≡ root_of (version_view v)
+root_is v = ap (λ (t : List ℕ). record { api_version = t; api_group = string_bytes v.root.api_group; kind = string_bytes v.root.kind }) v.named
+
+module _ (set : List (Version Node)) (versions : List (Version Data)) (same : set ≡ map compiled versions) (value : Data) (old : Option Data) where
+  chosen_is : mapped compiled (chosen versions value) ≡ chosen set value
+  chosen_is = sym (ap (λ vs. chosen vs value) same ∙ chosen_alike (view_of 65) versions value)
+
+  pub not_judged : (x : NotJudged) → Err x ≡ chosen set value → IsJudgement versions value old (judgement.NotJudged x)
+  not_judged x e = err_before compiled (chosen versions value) x (chosen_is ∙ sym e)
+
+  pub judged : (v : CrdVersion) (answer : Result (Unit {0}) ValidationErrors) → Ok (version_view v) ≡ chosen set value
+      → ((s : Data) → whole v.schema ≡ view_of 65 s → IsToldOf raw_form (judged_spot s value old (Some (root_view v.root))) answer)
+      → IsJudgement versions value old (judgement.Judged answer)
+  judged v answer e told =
+      let before = ok_before compiled (chosen versions value) (version_view v) (chosen_is ∙ sym e) in
+      let w = before.0 in
+      let root : root_view v.root ≡ root_of w = root_is v ∙ ap root_of (sym before.2) in
+      let tree : whole v.schema ≡ view_of 65 w.schema = ap (λ (x : Version Node). x.schema) (sym before.2) in
+      (w, before.1, subst (λ r. IsToldOf raw_form (judged_spot w.schema value old (Some r)) answer) root (told w.schema tree))
+
+-- ---- documents
+
+mapped_compiled : (r : Result (List (Version Data)) Fault) → mapped (map (formed (view_of 65))) r ≡ all_compiled r
+mapped_compiled (Ok vs) = refl
+mapped_compiled (Err f) = refl
+
+pub all_read : (ds : Items) → each (add_document (view_of 65)) 0 ds [] ≡ all_compiled (versions_of ds)
+all_read ds = sym (versions_are (view_of 65) ds) ∙ versions_alike (view_of 65) ds ∙ mapped_compiled (versions_of ds)

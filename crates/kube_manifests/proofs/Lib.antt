@@ -1,0 +1,9 @@
+pub mod Entries
+pub mod Each
+pub mod Formed
+pub mod Choices
+pub mod Counted
+pub mod Found
+pub mod Judged
+pub mod Apart
+pub mod Listed

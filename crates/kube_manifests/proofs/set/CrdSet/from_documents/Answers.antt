@@ -1,0 +1,33 @@
+use Rattle.std.proofs.Common.{◌≡◌, ◌<◌, ◌≤◌, length, map, Ok, Err, sym, ap, ◌∙◌, arith}
+use Rattle.kube_manifests.proofs.Each.{each_ends, each_on, each_stops}
+use Rattle.kube_manifests.proofs.Judged.{all_read}
+use Rattle.kube_manifests.proofs.set.CrdSet.from_documents.Goals as goal
+use Rattle.kube_manifests.specs.Documents.{add_document}
+use Rattle.kube_manifests.specs.Sets.{added_view, error_view, version_view}
+use Rattle.kube_schema_table.specs.View.{view_of}
+use Rattle.serde_json.specs.View.{items_view, view}
+
+pub returns-in-Err-clause-versions : goal.returns-in-Err-clause-versions
+returns-in-Err-clause-versions c =
+    let step = add_document (view_of 65) in
+    let had = map version_view c.loop-index.versions.items in
+    let below : c.loop-index.index < length c.args.documents.now = omega arith in
+    let stops : Err (error_view c.in-Err.error) ≡ step c.loop-index.index (view c.index-documents-index.result) had =
+    ap (added_view (map version_view c.add_document.new.versions.items)) (sym c.in-Err.is) ∙ c.in_ok-error.ensures.added in
+    each_stops step c.args.documents.now c.loop-index.index c.index-documents-index.result had (error_view c.in-Err.error) below c.index-documents-index.is stops ∙ c.loop-index.invariant ∙ all_read (items_view c.args.documents.now)
+
+pub loop-index-preserved : goal.loop-index-preserved
+loop-index-preserved c =
+    let step = add_document (view_of 65) in
+    let had = map version_view c.loop-index.versions.items in
+    let new = map version_view c.add_document.new.versions.items in
+    let below : c.loop-index.index < length c.args.documents.now = omega arith in
+    let goes : Ok new ≡ step c.loop-index.index (view c.index-documents-index.result) had =
+    ap (added_view new) (sym c.in_default.is) ∙ c.in_ok-error.ensures.added in
+    each_on step c.args.documents.now c.loop-index.index c.index-documents-index.result had new below c.index-documents-index.is goes ∙ c.loop-index.invariant
+
+pub returns-clause-versions : goal.returns-clause-versions
+returns-clause-versions c =
+    let step = add_document (view_of 65) in
+    let past : length c.args.documents.now ≤ c.loop-index.index = omega arith in
+    each_ends step c.args.documents.now c.loop-index.index (map version_view c.loop-index.versions.items) past ∙ c.loop-index.invariant ∙ all_read (items_view c.args.documents.now)

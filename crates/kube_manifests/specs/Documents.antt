@@ -1,0 +1,184 @@
+-- Trusted by the clauses of other library calls.
+-- The versions that documents define, or their first fault: Kubernetes API reference, CustomResourceDefinition v1
+-- (CustomResourceDefinitionSpec, CustomResourceDefinitionVersion, CustomResourceValidation); Kubernetes documentation, "Extend the
+-- Kubernetes API with CustomResourceDefinitions"; API conventions, "Types (Kinds)" (lists). Pointers: RFC 6901.
+use Rattle.std.specs.Prelude.{ℕ, suc, List, [], ◌∷◌, ◌++◌, ◌&&◌, Bool, false, Option, Some, None, option_and_then, Result, Ok, Err, codes, decimal, nat_eq, if◌then◌else◌}
+use Rattle.std.specs.List.{ends_with, list_any}
+use Rattle.std.specs.Option.{option_map_or}
+use Rattle.std.specs.Str.{bytes_eq}
+use Rattle.serde_json.specs.Data.{Data, Items, no_items, item}
+use Rattle.serde_json.specs.Find.{get, as_bool, as_array, as_object}
+use Rattle.kube_schema_rules.specs.Rules.{◌>>=◌}
+use Rattle.kube_manifests.specs.declared.fault.CrdFault.{CrdFault}
+use Rattle.kube_manifests.specs.declared.fault.CrdFault.TheVariants as fault
+use Rattle.kube_manifests.specs.Versions.{Version, api_version, is_of_version, needed, text_at}
+
+-- ---- where faults are
+
+-- a definition stands in a document, or is an item of the list that a document is
+pub record Place : Type 0 where
+  pub document : ℕ
+  pub item : Option ℕ
+
+-- a fault, the document that has it, counted from 0, and a JSON Pointer to it there
+pub record Fault : Type 0 where
+  pub document : ℕ
+  pub pointer : List ℕ
+  pub fault : CrdFault
+
+-- where a field stands in a definition, or in one of its versions
+abbrev pub field_pointer : CrdFault → List ℕ
+field_pointer fault.NotACrd = codes ""
+field_pointer fault.NoName = codes "/metadata/name"
+field_pointer fault.NoGroup = codes "/spec/group"
+field_pointer fault.NoKind = codes "/spec/names/kind"
+field_pointer fault.NoVersions = codes "/spec/versions"
+field_pointer fault.RepeatedKind = codes "/spec/names/kind"
+field_pointer fault.NoVersionName = codes "/name"
+field_pointer fault.NoServed = codes "/served"
+field_pointer fault.NoSchema = codes "/schema/openAPIV3Schema"
+field_pointer fault.SchemaNotAnObject = codes "/schema/openAPIV3Schema"
+field_pointer fault.RepeatedVersion = codes "/name"
+
+abbrev pub item_pointer : Option ℕ → List ℕ
+item_pointer None = []
+item_pointer (Some i) = codes "/items/" ++ decimal i
+
+abbrev pub version_pointer : Option ℕ → List ℕ
+version_pointer None = []
+version_pointer (Some i) = codes "/spec/versions/" ++ decimal i
+
+-- a fault of the definition at a place, or of one of its versions
+abbrev pub fault_at : Place → Option ℕ → CrdFault → Fault
+fault_at place version f = record {
+  document = place.document;
+  pointer = item_pointer place.item ++ (version_pointer version ++ field_pointer f);
+  fault = f;
+}
+
+-- ---- one definition, and one of its versions
+
+-- a string that isn't empty
+abbrev pub unless_empty : List ℕ → Option (List ℕ)
+unless_empty [] = None
+unless_empty (c ∷ cs) = Some (c ∷ cs)
+
+abbrev pub full_text_at : List ℕ → Data → Option (List ℕ)
+full_text_at key d = option_and_then unless_empty (text_at key d)
+
+abbrev pub has_text : List ℕ → List ℕ → Data → Bool
+has_text key text d = option_map_or (λ t. bytes_eq t text) (text_at key d) false
+
+-- whether a value says that it is a definition
+unfoldable pub is_crd : Data → Bool
+is_crd d = has_text (codes "apiVersion") (codes "apiextensions.k8s.io/v1") d && has_text (codes "kind") (codes "CustomResourceDefinition") d
+
+-- the items of a list, which has a kind that ends in `List`
+unfoldable pub list_of : Data → Option Items
+list_of d = if option_map_or (λ t. ends_with nat_eq t (codes "List")) (text_at (codes "kind") d) false then option_and_then as_array (get (codes "items") d) else None
+
+abbrev pub unless_none : Items → Option Items
+unless_none no_items = None
+unless_none (item d ds) = Some (item d ds)
+
+-- the fields of a definition
+unfoldable pub name_of : Data → Option (List ℕ)
+name_of d = option_and_then (full_text_at (codes "name")) (get (codes "metadata") d)
+
+unfoldable pub group_of : Data → Option (List ℕ)
+group_of d = option_and_then (full_text_at (codes "group")) (get (codes "spec") d)
+
+unfoldable pub kind_of : Data → Option (List ℕ)
+kind_of d = option_and_then (full_text_at (codes "kind")) (option_and_then (get (codes "names")) (get (codes "spec") d))
+
+unfoldable pub entries_of : Data → Option Items
+entries_of d = option_and_then unless_none (option_and_then as_array (option_and_then (get (codes "versions")) (get (codes "spec") d)))
+
+-- what a definition says of all its versions, and these
+pub record Crd : Type 0 where
+  pub group : List ℕ
+  pub kind : List ℕ
+  pub versions : Items
+
+-- what a value says that says that it is a definition, or its first fault
+abbrev pub crd_fields : Data → Result Crd CrdFault
+crd_fields d = do
+  name ← needed fault.NoName (name_of d)
+  group ← needed fault.NoGroup (group_of d)
+  kind ← needed fault.NoKind (kind_of d)
+  versions ← needed fault.NoVersions (entries_of d)
+  Ok (record { group = group; kind = kind; versions = versions })
+
+-- the definition that a value is, or its first fault
+unfoldable pub crd_of : Data → Result Crd CrdFault
+crd_of d = if is_crd d then crd_fields d else Err fault.NotACrd
+
+-- the schema of a version
+unfoldable pub schema_of : Data → Option Data
+schema_of d = option_and_then (get (codes "openAPIV3Schema")) (get (codes "schema") d)
+
+-- what one version says; its schema is an object
+pub record Entry : Type 0 where
+  pub name : List ℕ
+  pub served : Bool
+  pub schema : Data
+
+unfoldable pub entry_of : Data → Result Entry CrdFault
+entry_of d = do
+  name ← needed fault.NoVersionName (full_text_at (codes "name") d)
+  served ← needed fault.NoServed (option_and_then as_bool (get (codes "served") d))
+  schema ← needed fault.NoSchema (schema_of d)
+  members ← needed fault.SchemaNotAnObject (as_object schema)
+  Ok (record { name = name; served = served; schema = schema })
+
+-- ---- documents one after another
+
+-- the items in turn, each with its index, up to the first fault: each goes on from what those before it left
+unfoldable pub each : {V E : Type 0} → (ℕ → Data → V → Result V E) → ℕ → Items → V → Result V E
+each step i no_items had = Ok had
+each step i (item d ds) had = step i d had >>= each step (suc i) ds
+
+-- whether a version is of this group and kind
+abbrev pub is_defined : {S : Type 0} → List ℕ → List ℕ → Version S → Bool
+is_defined group kind v = bytes_eq v.group group && bytes_eq v.kind kind
+
+module _ {S : Type 0} (form : Data → S) where
+  -- the version that an entry of a definition is, with its schema in a form
+  abbrev pub version_of : Crd → Entry → Version S
+  version_of crd e = record { group = crd.group; kind = crd.kind; name = e.name; served = e.served; schema = form e.schema }
+
+  -- with one version more, unless another one has its apiVersion and kind: two of one definition must not have one name
+  abbrev pub with_version : Place → ℕ → List (Version S) → Version S → Result (List (Version S)) Fault
+  with_version place i had v =
+      if list_any (is_of_version (api_version v) v.kind) had then Err (fault_at place (Some i) fault.RepeatedVersion) else Ok (had ++ v ∷ [])
+
+  abbrev pub with_entry : Place → Crd → ℕ → List (Version S) → Result Entry CrdFault → Result (List (Version S)) Fault
+  with_entry place crd i had (Err f) = Err (fault_at place (Some i) f)
+  with_entry place crd i had (Ok e) = with_version place i had (version_of crd e)
+
+  unfoldable pub add_version : Place → Crd → ℕ → Data → List (Version S) → Result (List (Version S)) Fault
+  add_version place crd i d had = with_entry place crd i had (entry_of d)
+
+  -- with the versions of one definition more, unless another one has its group and kind
+  abbrev pub with_crd : Place → List (Version S) → Result Crd CrdFault → Result (List (Version S)) Fault
+  with_crd place had (Err f) = Err (fault_at place None f)
+  with_crd place had (Ok crd) =
+      if list_any (is_defined crd.group crd.kind) had then Err (fault_at place None fault.RepeatedKind) else each (add_version place crd) 0 crd.versions had
+
+  unfoldable pub add_crd : Place → Data → List (Version S) → Result (List (Version S)) Fault
+  add_crd place d had = with_crd place had (crd_of d)
+
+  abbrev pub add_item : ℕ → ℕ → Data → List (Version S) → Result (List (Version S)) Fault
+  add_item document i d had = add_crd (record { document = document; item = Some i }) d had
+
+  -- with those of a document: a definition, or a list of definitions
+  abbrev pub with_list : ℕ → Data → List (Version S) → Option Items → Result (List (Version S)) Fault
+  with_list document d had None = add_crd (record { document = document; item = None }) d had
+  with_list document d had (Some ds) = each (add_item document) 0 ds had
+
+  unfoldable pub add_document : ℕ → Data → List (Version S) → Result (List (Version S)) Fault
+  add_document document d had = with_list document d had (list_of d)
+
+  -- all versions of all documents, or the first fault
+  unfoldable pub versions_in : Items → Result (List (Version S)) Fault
+  versions_in documents = each add_document 0 documents []

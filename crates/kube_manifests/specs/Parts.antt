@@ -1,0 +1,34 @@
+-- Scaffolding: only proofs and private clauses cite it.
+-- What the parts of definitions stand for that the code reads.
+use Rattle.std.specs.Prelude.{Result, Ok, Err}
+use Rattle.serde_json.specs.View.{view, items_view}
+use Rattle.kube_manifests.specs.declared.definition.CrdParts.{CrdParts}
+use Rattle.kube_manifests.specs.declared.definition.EntryParts.{EntryParts}
+use Rattle.kube_manifests.specs.declared.fault.CrdFault.{CrdFault}
+use Rattle.kube_manifests.specs.declared.fault.Place as code
+use Rattle.kube_manifests.specs.declared.judgement.NotJudged.{NotJudged}
+use Rattle.kube_manifests.specs.declared.version.CrdVersion.{CrdVersion}
+use Rattle.kube_manifests.specs.Documents.{Crd, Entry, Place}
+use Rattle.kube_manifests.specs.Sets.{version_view}
+use Rattle.kube_manifests.specs.Versions.{Version}
+use Rattle.kube_schema_table.specs.Tree.{Node}
+use Rattle.std.specs.Borrow.{Bor}
+
+abbrev pub crd_view : CrdParts → Crd
+crd_view p = record { group = p.group.now; kind = p.kind.now; versions = items_view p.versions.now }
+
+abbrev pub entry_view : EntryParts → Entry
+entry_view p = record { name = p.name.now; served = p.served; schema = view p.schema.now }
+
+abbrev pub place_view : code.Place → Place
+place_view p = record { document = p.document; item = p.item }
+
+-- what was read, or the fault
+abbrev pub read : {A B : Type 0} → (A → B) → Result A CrdFault → Result B CrdFault
+read f (Ok a) = Ok (f a)
+read f (Err e) = Err e
+
+-- the version that was chosen, or the reason
+abbrev pub found : Result (Bor CrdVersion) NotJudged → Result (Version Node) NotJudged
+found (Ok v) = Ok (version_view v.now)
+found (Err r) = Err r

@@ -1,0 +1,86 @@
+-- Trusted by the clauses of other library calls.
+-- What a set of versions holds, and what it tells of an object: Kubernetes documentation, "Versions in CustomResourceDefinitions",
+-- "Validation rules".
+use Rattle.std.specs.Prelude.{◌≡◌, ℕ, List, map, Option, Some, None, Result, Ok, Err, string_bytes}
+use Rattle.serde_json.specs.Data.{Data, Items}
+use Rattle.kube_cel.specs.Answers.{IsToldOf}
+use Rattle.kube_cel.specs.Raw.{raw_form}
+use Rattle.kube_cel.specs.Spots.{judged_spot}
+use Rattle.kube_schema_table.specs.Shown.{whole}
+use Rattle.kube_schema_table.specs.Tree.{Node}
+use Rattle.kube_schema_table.specs.View.{view_of}
+use Rattle.kube_manifests.specs.declared.fault.CrdError.{CrdError}
+use Rattle.kube_manifests.specs.declared.judgement.Judgement.{Judgement}
+use Rattle.kube_manifests.specs.declared.judgement.Judgement.TheVariants.{Judged, NotJudged}
+use Rattle.kube_manifests.specs.declared.judgement.NotJudged as reason
+use Rattle.kube_manifests.specs.declared.set.CrdSet.{CrdSet}
+use Rattle.kube_manifests.specs.declared.version.CrdVersion.{CrdVersion}
+use Rattle.kube_manifests.specs.Documents.{Fault, versions_in}
+use Rattle.kube_manifests.specs.Rules.{counted, rules_in}
+use Rattle.kube_manifests.specs.Versions.{Version, chosen, root_of}
+
+-- ---- what the code's values stand for
+
+-- a version with the tree of its schema
+abbrev pub version_view : CrdVersion → Version Node
+version_view v = record {
+  group = string_bytes v.root.api_group;
+  kind = string_bytes v.root.kind;
+  name = string_bytes v.name;
+  served = v.served;
+  schema = whole v.schema;
+}
+
+abbrev pub set_view : CrdSet → List (Version Node)
+set_view s = map version_view s.versions.items
+
+abbrev pub error_view : CrdError → Fault
+error_view e = record { document = e.document; pointer = string_bytes e.pointer; fault = e.fault }
+
+-- a set, or why there is none
+abbrev pub outcome_view : Result CrdSet CrdError → Result (List (Version Node)) Fault
+outcome_view (Ok s) = Ok (set_view s)
+outcome_view (Err e) = Err (error_view e)
+
+-- the versions that there are then, unless there was a fault
+abbrev pub added_view : List (Version Node) → Result (Unit {0}) CrdError → Result (List (Version Node)) Fault
+added_view vs (Ok u) = Ok vs
+added_view vs (Err e) = Err (error_view e)
+
+-- ---- sets of documents
+
+-- the schemas of documents, as JSON
+abbrev pub versions_of : Items → Result (List (Version Data)) Fault
+versions_of = versions_in (λ schema. schema)
+
+-- the version with the tree of its schema
+abbrev pub compiled : Version Data → Version Node
+compiled v = record { group = v.group; kind = v.kind; name = v.name; served = v.served; schema = view_of 65 v.schema }
+
+abbrev pub all_compiled : Result (List (Version Data)) Fault → Result (List (Version Node)) Fault
+all_compiled (Ok vs) = Ok (map compiled vs)
+all_compiled (Err f) = Err f
+
+-- ---- what is told of an object
+
+-- an object is judged exactly where a version is chosen for it. Then the answer is that of the version's schema, with the object's own
+-- apiVersion, group and kind; else the reason is told
+abbrev pub IsJudgement : List (Version Data) → Data → Option Data → Judgement → Type 0
+IsJudgement versions value old (Judged answer) =
+    (v : Version Data) × (chosen versions value ≡ Ok v) × IsToldOf raw_form (judged_spot v.schema value old (Some (root_of v))) answer
+IsJudgement versions value old (NotJudged r) = chosen versions value ≡ Err r
+
+-- why it isn't judged, if it isn't
+abbrev pub reason_of : Judgement → Option reason.NotJudged
+reason_of (Judged answer) = None
+reason_of (NotJudged r) = Some r
+
+-- why no version is chosen, if none is
+abbrev pub why_not : {S : Type 0} → Result (Version S) reason.NotJudged → Option reason.NotJudged
+why_not (Ok v) = None
+why_not (Err r) = Some r
+
+-- how many rules the chosen version's schema has, or why none is chosen
+abbrev pub rules_of : Result (Version Node) reason.NotJudged → Result ℕ reason.NotJudged
+rules_of (Ok v) = Ok (counted (rules_in v.schema))
+rules_of (Err r) = Err r

@@ -1,0 +1,64 @@
+-- Trusted by the clauses of other library calls.
+-- The versions of custom resources, and which of them judges an object: Kubernetes documentation, "Versions in CustomResourceDefinitions";
+-- Kubernetes API reference, CustomResourceDefinitionVersion v1; API conventions, "Types (Kinds)" (apiVersion and kind of an object).
+use Rattle.std.specs.Prelude.{ℕ, List, ◌++◌, ◌&&◌, Bool, Option, Some, None, option_and_then, Result, Ok, Err, codes, nat_eq, if◌then◌else◌}
+use Rattle.std.specs.List.{find, list_any, starts_with}
+use Rattle.std.specs.Str.{bytes_eq}
+use Rattle.serde_json.specs.Data.{Data}
+use Rattle.serde_json.specs.Find.{get, as_str, as_object}
+use Rattle.kube_cel_places.specs.Spot.{Root}
+use Rattle.kube_schema_rules.specs.Rules.{◌>>=◌}
+use Rattle.kube_manifests.specs.declared.judgement.NotJudged.{NotJudged}
+use Rattle.kube_manifests.specs.declared.judgement.NotJudged.TheVariants as reason
+
+-- one version of a custom resource. Its schema may have any form
+pub record Version (S : Type 0) : Type 0 where
+  pub group : List ℕ
+  pub kind : List ℕ
+  pub name : List ℕ
+  pub served : Bool
+  pub schema : S
+
+-- what stands before the version's name in an apiVersion of the group
+abbrev pub group_prefix : List ℕ → List ℕ
+group_prefix group = group ++ codes "/"
+
+-- the apiVersion of the objects of a version
+abbrev pub api_version : {S : Type 0} → Version S → List ℕ
+api_version v = group_prefix v.group ++ v.name
+
+-- what the rules at the root of an object of a version may ask: its own apiVersion, group and kind
+abbrev pub root_of : {S : Type 0} → Version S → Root
+root_of v = record { api_version = api_version v; api_group = v.group; kind = v.kind }
+
+-- whether objects of this apiVersion and kind are of the version's group and kind
+abbrev pub is_of_kind : {S : Type 0} → List ℕ → List ℕ → Version S → Bool
+is_of_kind text kind v = starts_with nat_eq text (group_prefix v.group) && bytes_eq v.kind kind
+
+-- whether they are of the version itself
+abbrev pub is_of_version : {S : Type 0} → List ℕ → List ℕ → Version S → Bool
+is_of_version text kind v = bytes_eq (api_version v) text && bytes_eq v.kind kind
+
+-- the version, if it is there and served; else whether others of its kind are known tells the reason
+abbrev pub if_served : {S : Type 0} → Bool → Option (Version S) → Result (Version S) NotJudged
+if_served known None = Err (if known then reason.NoSuchVersion else reason.NoSuchKind)
+if_served known (Some v) = if v.served then Ok v else Err reason.NotServed
+
+abbrev pub chosen_by : {S : Type 0} → List (Version S) → List ℕ → List ℕ → Result (Version S) NotJudged
+chosen_by versions text kind = if_served (list_any (is_of_kind text kind) versions) (find (is_of_version text kind) versions)
+
+-- what must be there, or the reason
+abbrev pub needed : {A E : Type 0} → E → Option A → Result A E
+needed e None = Err e
+needed e (Some a) = Ok a
+
+abbrev pub text_at : List ℕ → Data → Option (List ℕ)
+text_at key d = option_and_then as_str (get key d)
+
+-- the version whose schema judges an object, or why none does
+unfoldable pub chosen : {S : Type 0} → List (Version S) → Data → Result (Version S) NotJudged
+chosen versions value = do
+  members ← needed reason.NotAnObject (as_object value)
+  text ← needed reason.NoApiVersion (text_at (codes "apiVersion") value)
+  kind ← needed reason.NoKind (text_at (codes "kind") value)
+  chosen_by versions text kind

@@ -1,0 +1,181 @@
+//! CustomResourceDefinitions and their versions, where they stand in JSON.
+ghost use Rattle.kube_manifests.specs.Documents.{crd_of, entries_of, entry_of, full_text_at, group_of, has_text, is_crd, kind_of, list_of, name_of, schema_of, unless_none};
+ghost use Rattle.kube_manifests.specs.Parts.{crd_view, entry_view, read};
+ghost use Rattle.kube_manifests.specs.Versions.{text_at};
+ghost use Rattle.serde_json.specs.View.{items_view, view};
+ghost use Rattle.std.specs.List.{ends_with};
+ghost use Rattle.std.specs.Prelude.{◌≡◌, nat_eq, option_map, Result};
+
+use crate::fault::CrdFault;
+use serde_json::Value;
+
+/// What a definition says of all its versions, and these.
+#[derive(Clone, Copy)]
+pub struct CrdParts<'v> {
+    pub(crate) group: &'v str,
+    pub(crate) kind: &'v str,
+    pub(crate) versions: &'v [Value],
+}
+
+/// What one version of a definition says.
+#[derive(Clone, Copy)]
+pub struct EntryParts<'v> {
+    pub(crate) name: &'v str,
+    pub(crate) served: bool,
+    pub(crate) schema: &'v Value,
+}
+
+/// Whether a document says that it is a CustomResourceDefinition of `apiextensions.k8s.io/v1`.
+#[tactic(auto, unfolding(crate::specs::Documents::is_crd))]
+pub fn is_crd(document: &Value) -> bool
+    ensures { result ≡ is_crd (view document.now) }
+{
+    has_text(document, "apiVersion", "apiextensions.k8s.io/v1")
+        && has_text(document, "kind", "CustomResourceDefinition")
+}
+
+/// The items of a list: a value whose kind ends in `List`, with an array in `items`.
+#[tactic(auto, unfolding(crate::specs::Documents::list_of))]
+pub(crate) fn list_of(document: &Value) -> Option<&[Value]>
+    ensures { option_map (λ v. items_view v.now) result ≡ list_of (view document.now) }
+{
+    if !has_end(text_at(document, "kind")?, "List") {
+        return None;
+    }
+    Some(document.get("items")?.as_array()?.as_slice())
+}
+
+/// What stands in a definition, or its first fault.
+#[tactic(auto, unfolding(crate::specs::Documents::crd_of))]
+pub(crate) fn crd_parts(document: &Value) -> Result<CrdParts<'_>, CrdFault>
+    ensures { read crd_view result ≡ crd_of (view document.now) }
+{
+    if !is_crd(document) {
+        return Err(CrdFault::NotACrd);
+    }
+    let Some(_) = name_of(document) else {
+        return Err(CrdFault::NoName);
+    };
+    let Some(group) = group_of(document) else {
+        return Err(CrdFault::NoGroup);
+    };
+    let Some(kind) = kind_of(document) else {
+        return Err(CrdFault::NoKind);
+    };
+    let Some(versions) = entries_of(document) else {
+        return Err(CrdFault::NoVersions);
+    };
+    Ok(CrdParts {
+        group,
+        kind,
+        versions,
+    })
+}
+
+/// What stands in a version of a definition, or its first fault.
+#[tactic(auto, unfolding(crate::specs::Documents::entry_of))]
+pub(crate) fn entry_parts(version: &Value) -> Result<EntryParts<'_>, CrdFault>
+    ensures { read entry_view result ≡ entry_of (view version.now) }
+{
+    let Some(name) = full_text_at(version, "name") else {
+        return Err(CrdFault::NoVersionName);
+    };
+    let Some(served) = version.get("served").and_then(Value::as_bool) else {
+        return Err(CrdFault::NoServed);
+    };
+    let Some(schema) = schema_of(version) else {
+        return Err(CrdFault::NoSchema);
+    };
+    if !schema.is_object() {
+        return Err(CrdFault::SchemaNotAnObject);
+    }
+    Ok(EntryParts {
+        name,
+        served,
+        schema,
+    })
+}
+
+/// The string in a member.
+pub(crate) fn text_at<'v>(value: &'v Value, key: &str) -> Option<&'v str>
+    ensures { option_map (λ s. s.now) result ≡ text_at key.now (view value.now) }
+{
+    value.get(key)?.as_str()
+}
+
+/// Whether a member is this string.
+fn has_text(value: &Value, key: &str, text: &str) -> bool
+    ensures { result ≡ has_text key.now text.now (view value.now) }
+{
+    match text_at(value, key) {
+        Some(found) => found == text,
+        None => false,
+    }
+}
+
+/// The string in a member, if it isn't empty.
+fn full_text_at<'v>(value: &'v Value, key: &str) -> Option<&'v str>
+    ensures { option_map (λ s. s.now) result ≡ full_text_at key.now (view value.now) }
+{
+    let text = text_at(value, key)?;
+    if text.is_empty() { None } else { Some(text) }
+}
+
+#[tactic(auto, unfolding(crate::specs::Documents::name_of))]
+fn name_of(document: &Value) -> Option<&str>
+    ensures { option_map (λ s. s.now) result ≡ name_of (view document.now) }
+{
+    full_text_at(document.get("metadata")?, "name")
+}
+
+#[tactic(auto, unfolding(crate::specs::Documents::group_of))]
+fn group_of(document: &Value) -> Option<&str>
+    ensures { option_map (λ s. s.now) result ≡ group_of (view document.now) }
+{
+    full_text_at(document.get("spec")?, "group")
+}
+
+#[tactic(auto, unfolding(crate::specs::Documents::kind_of))]
+fn kind_of(document: &Value) -> Option<&str>
+    ensures { option_map (λ s. s.now) result ≡ kind_of (view document.now) }
+{
+    full_text_at(document.get("spec")?.get("names")?, "kind")
+}
+
+/// The versions of a definition, if there are any.
+#[tactic(auto, unfolding(crate::specs::Documents::entries_of))]
+fn entries_of(document: &Value) -> Option<&[Value]>
+    ensures { option_map (λ v. items_view v.now) result ≡ entries_of (view document.now) }
+{
+    unless_none(
+        document
+            .get("spec")?
+            .get("versions")?
+            .as_array()?
+            .as_slice(),
+    )
+}
+
+/// Values, if there are any.
+fn unless_none(entries: &[Value]) -> Option<&[Value]>
+    ensures { option_map (λ v. items_view v.now) result ≡ unless_none (items_view entries.now) }
+{
+    if entries.is_empty() {
+        None
+    } else {
+        Some(entries)
+    }
+}
+
+#[tactic(auto, unfolding(crate::specs::Documents::schema_of))]
+fn schema_of(version: &Value) -> Option<&Value>
+    ensures { option_map (λ v. view v.now) result ≡ schema_of (view version.now) }
+{
+    version.get("schema")?.get("openAPIV3Schema")
+}
+
+fn has_end(text: &str, end: &str) -> bool
+    ensures { result ≡ ends_with nat_eq text.now end.now }
+{
+    text.ends_with(end)
+}

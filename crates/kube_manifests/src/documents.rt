@@ -1,0 +1,189 @@
+//! Documents read one after another.
+ghost use Rattle.kube_manifests.specs.Documents.{add_crd, add_document, add_item, add_version, each, is_defined, version_of};
+ghost use Rattle.kube_manifests.specs.Parts.{crd_view, entry_view, place_view};
+ghost use Rattle.kube_manifests.specs.Sets.{added_view, version_view};
+ghost use Rattle.kube_manifests.specs.Versions.{api_version, is_of_version};
+ghost use Rattle.kube_schema_table.specs.View.{view_of};
+ghost use Rattle.serde_json.specs.View.{items_view, view};
+ghost use Rattle.std.specs.List.{list_any};
+ghost use Rattle.std.specs.Prelude.{◌≡◌, IfErr, IfOk, map};
+
+use crate::definition::{CrdParts, EntryParts, crd_parts, entry_parts, list_of};
+use crate::fault::{CrdError, CrdFault, Place, error_at};
+use crate::rules::rule_count;
+use crate::version::CrdVersion;
+use kube_cel::{Refused, RootContext, compile_schema};
+use serde_json::Value;
+use std::alloc::Global;
+
+/// Adds the versions of a document: of the definition that it is, or of all items of the list that it is.
+#[tactic(auto, unfolding(crate::specs::Documents::add_document))]
+pub(crate) fn add_document(
+    alloc: Global,
+    document: usize,
+    value: &Value,
+    versions: &mut Vec<CrdVersion>,
+) -> Result<Result<(), CrdError>, Refused>
+    ensures added { IfOk result (λ r. added_view (map version_view versions.new.items) r
+        ≡ add_document (view_of 65) document (view value.now) (map version_view versions.old.items)) }
+    ensures memory { IfErr result (λ e. e ≡ Refused.Memory) }
+{
+    match list_of(value) {
+        Some(items) => add_items(alloc, document, items, versions),
+        None => add_crd(
+            alloc,
+            Place {
+                document,
+                item: None,
+            },
+            value,
+            versions,
+        ),
+    }
+}
+
+/// Adds the versions of the items of a list.
+fn add_items(
+    alloc: Global,
+    document: usize,
+    items: &[Value],
+    versions: &mut Vec<CrdVersion>,
+) -> Result<Result<(), CrdError>, Refused>
+    ensures added { IfOk result (λ r. added_view (map version_view versions.new.items) r
+        ≡ each (add_item (view_of 65) document) 0 (items_view items.now) (map version_view versions.old.items)) }
+    ensures memory { IfErr result (λ e. e ≡ Refused.Memory) }
+{
+    for (index, item) in items.iter().enumerate() {
+        let place = Place {
+            document,
+            item: Some(index),
+        };
+        if let Err(error) = add_crd(alloc, place, item, versions)? {
+            return Ok(Err(error));
+        }
+    }
+    Ok(Ok(()))
+}
+
+/// Adds the versions of a definition, unless another one has its group and kind.
+#[tactic(auto, unfolding(crate::specs::Documents::add_crd))]
+fn add_crd(
+    alloc: Global,
+    place: Place,
+    value: &Value,
+    versions: &mut Vec<CrdVersion>,
+) -> Result<Result<(), CrdError>, Refused>
+    ensures added { IfOk result (λ r. added_view (map version_view versions.new.items) r
+        ≡ add_crd (view_of 65) (place_view place) (view value.now) (map version_view versions.old.items)) }
+    ensures memory { IfErr result (λ e. e ≡ Refused.Memory) }
+{
+    let crd = match crd_parts(value) {
+        Ok(crd) => crd,
+        Err(fault) => return Ok(Err(error_at(alloc, place, None, fault)?)),
+    };
+    if has_kind(versions, crd.group, crd.kind) {
+        return Ok(Err(error_at(alloc, place, None, CrdFault::RepeatedKind)?));
+    }
+    add_versions(alloc, place, crd, crd.versions, versions)
+}
+
+/// Adds versions of a definition.
+fn add_versions(
+    alloc: Global,
+    place: Place,
+    crd: CrdParts<'_>,
+    entries: &[Value],
+    versions: &mut Vec<CrdVersion>,
+) -> Result<Result<(), CrdError>, Refused>
+    ensures added { IfOk result (λ r. added_view (map version_view versions.new.items) r
+        ≡ each (add_version (view_of 65) (place_view place) (crd_view crd.entry)) 0 (items_view entries.now) (map version_view versions.old.items)) }
+    ensures memory { IfErr result (λ e. e ≡ Refused.Memory) }
+{
+    for (index, entry) in entries.iter().enumerate() {
+        if let Err(error) = add_version(alloc, place, crd, index, entry, versions)? {
+            return Ok(Err(error));
+        }
+    }
+    Ok(Ok(()))
+}
+
+/// Adds a version, unless another one has its apiVersion and kind.
+#[tactic(auto, unfolding(crate::specs::Documents::add_version))]
+fn add_version(
+    alloc: Global,
+    place: Place,
+    crd: CrdParts<'_>,
+    index: usize,
+    version: &Value,
+    versions: &mut Vec<CrdVersion>,
+) -> Result<Result<(), CrdError>, Refused>
+    ensures added { IfOk result (λ r. added_view (map version_view versions.new.items) r
+        ≡ add_version (view_of 65) (place_view place) (crd_view crd.entry) index (view version.now) (map version_view versions.old.items)) }
+    ensures memory { IfErr result (λ e. e ≡ Refused.Memory) }
+{
+    let entry = match entry_parts(version) {
+        Ok(entry) => entry,
+        Err(fault) => return Ok(Err(error_at(alloc, place, Some(index), fault)?)),
+    };
+    let version = compiled_version(alloc, crd, entry)?;
+    if has_version(versions, &version) {
+        return Ok(Err(error_at(alloc, place, Some(index), CrdFault::RepeatedVersion)?));
+    }
+    versions.push(version)?;
+    Ok(Ok(()))
+}
+
+/// The version with its schema compiled.
+fn compiled_version(
+    alloc: Global,
+    crd: CrdParts<'_>,
+    entry: EntryParts<'_>,
+) -> Result<CrdVersion, Refused>
+    ensures version { IfOk result (λ v. version_view v ≡ version_of (view_of 65) (crd_view crd.entry) (entry_view entry.entry)) }
+    ensures memory { IfErr result (λ e. e ≡ Refused.Memory) }
+{
+    let schema = compile_schema(alloc, entry.schema)?;
+    let rules = rule_count(&schema);
+    let group = crd.group;
+    let name = entry.name;
+    let root = RootContext {
+        api_version: format!(in alloc; "{group}/{name}")?,
+        api_group: String::from_str(alloc, group)?,
+        kind: String::from_str(alloc, crd.kind)?,
+    };
+    Ok(CrdVersion {
+        root,
+        prefix: format!(in alloc; "{group}/")?,
+        name: String::from_str(alloc, name)?,
+        served: entry.served,
+        schema,
+        rules,
+    })
+}
+
+/// Whether a version is of this group and kind.
+fn has_kind(versions: &[CrdVersion], group: &str, kind: &str) -> bool
+    ensures { result ≡ list_any (is_defined group.now kind.now) (map version_view versions.now) }
+{
+    for version in versions {
+        if version.is_defined(group, kind) {
+            return true;
+        }
+    }
+    false
+}
+
+/// Whether another version has the apiVersion and kind of this one.
+fn has_version(versions: &[CrdVersion], version: &CrdVersion) -> bool
+    ensures { result ≡ list_any (is_of_version (api_version (version_view version.now)) (version_view version.now).kind) (map version_view versions.now) }
+{
+    for other in versions {
+        if other.is_of_version(
+            version.root.api_version.as_str(),
+            version.root.kind.as_str(),
+        ) {
+            return true;
+        }
+    }
+    false
+}

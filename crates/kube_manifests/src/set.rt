@@ -1,0 +1,94 @@
+//! Sets of definitions, and what they tell of objects.
+ghost use Rattle.kube_manifests.specs.Sets.{all_compiled, compiled, outcome_view, reason_of, rules_of, set_view, versions_of, why_not, IsJudgement};
+ghost use Rattle.kube_manifests.specs.Versions.{Version, chosen};
+ghost use Rattle.kube_schema_table.specs.Tree.{Node};
+ghost use Rattle.serde_json.specs.Data.{Data};
+ghost use Rattle.serde_json.specs.View.{items_view, view};
+ghost use Rattle.std.specs.Prelude.{◌≡◌, IfErr, IfOk, List, map, option_map};
+
+use crate::chosen::chosen;
+use crate::documents::add_document;
+use crate::fault::CrdError;
+use crate::judgement::{Judgement, NotJudged};
+use crate::version::CrdVersion;
+use kube_cel::{Refused, Validator};
+use serde_json::Value;
+use std::alloc::Global;
+
+/// The versions of CustomResourceDefinitions, each with its schema compiled once.
+#[derive(Drop)]
+pub struct CrdSet {
+    pub(crate) versions: Vec<CrdVersion>,
+}
+
+impl CrdSet {
+    /// All versions of all definitions of the documents, served or not. A document is a CustomResourceDefinition of
+    /// `apiextensions.k8s.io/v1`, or a list of them: a value whose kind ends in `List`, with an array in `items`. The inner error is the
+    /// first fault of the first definition that has one.
+    ///
+    /// # Errors
+    ///
+    /// [`Refused`] where memory is refused.
+    pub fn from_documents(
+        alloc: Global,
+        documents: &[Value],
+    ) -> Result<Result<CrdSet, CrdError>, Refused>
+        ensures versions { IfOk result (λ r. outcome_view r ≡ all_compiled (versions_of (items_view documents.now))) }
+        ensures memory { IfErr result (λ e. e ≡ Refused.Memory) }
+    {
+        let mut versions = Vec::new(alloc);
+        for (index, document) in documents.iter().enumerate() {
+            if let Err(error) = add_document(alloc, index, document, &mut versions)? {
+                return Ok(Err(error));
+            }
+        }
+        Ok(Ok(CrdSet { versions }))
+    }
+
+    /// Judges an object, and its old state where there is one, by the schema of its apiVersion and kind. Rules at the root may ask its
+    /// apiVersion, group and kind. Where no version is there that is served, the answer says why.
+    ///
+    /// # Errors
+    ///
+    /// [`Refused`] where memory is refused.
+    pub fn validate(
+        &self,
+        alloc: Global,
+        object: &Value,
+        old: Option<&Value>,
+    ) -> Result<Judgement, Refused>
+        ensures reason { IfOk result (λ j. reason_of j ≡ why_not (chosen (set_view self.now) (view object.now))) }
+        ensures judgement { IfOk result (λ j. (versions : List (Version Data)) → set_view self.now ≡ map compiled versions
+            → IsJudgement versions (view object.now) (option_map (λ v. view v.now) old.entry) j) }
+        ensures memory { IfErr result (λ e. e ≡ Refused.Memory) }
+    {
+        let version = match chosen(&self.versions, object) {
+            Ok(version) => version,
+            Err(reason) => return Ok(Judgement::NotJudged(reason)),
+        };
+        let root = Some(&version.root);
+        let answer = Validator::new().validate_compiled_with_context(
+            alloc,
+            &version.schema,
+            object,
+            old,
+            root,
+        )?;
+        Ok(Judgement::Judged(answer))
+    }
+
+    /// How many rules the schema has by which an object is judged, or why none judges it: the reason is that of `validate`. It takes no
+    /// memory.
+    ///
+    /// # Errors
+    ///
+    /// [`NotJudged`] where `validate` answers it.
+    pub fn rule_count(&self, object: &Value) -> Result<u64, NotJudged>
+        ensures { result ≡ rules_of (chosen (set_view self.now) (view object.now)) }
+    {
+        match chosen(&self.versions, object) {
+            Ok(version) => Ok(version.rules),
+            Err(reason) => Err(reason),
+        }
+    }
+}

@@ -1,0 +1,59 @@
+//! A version of a definition, with its compiled schema.
+ghost use Rattle.kube_manifests.specs.Rules.{counted, rules_in};
+ghost use Rattle.kube_manifests.specs.Versions.{group_prefix};
+ghost use Rattle.kube_schema_table.specs.Shown.{whole};
+ghost use Rattle.std.proofs.Props.{props};
+ghost use Rattle.std.specs.List.{starts_with};
+ghost use Rattle.std.specs.Prelude.{◌≡◌, ◌++◌, nat_eq, string_bytes};
+
+use kube_cel::{CompiledSchema, RootContext};
+
+/// A version of a definition, with its compiled schema.
+#[derive(Drop)]
+pub struct CrdVersion {
+    /// The apiVersion, group and kind of the version's objects.
+    pub(crate) root: RootContext,
+    /// The group and a slash: what the apiVersions of all versions of the group begin with.
+    pub(crate) prefix: String,
+    pub(crate) name: String,
+    pub(crate) served: bool,
+    pub(crate) schema: CompiledSchema,
+    /// How many rules the schema has.
+    pub(crate) rules: u64,
+    ghost prefixed: { string_bytes prefix ≡ group_prefix (string_bytes root.api_group) } by { Prim.hlevel props },
+    ghost named: { string_bytes root.api_version ≡ group_prefix (string_bytes root.api_group) ++ string_bytes name } by { Prim.hlevel props },
+    ghost right: { rules ≡ counted (rules_in (whole schema)) },
+}
+
+impl CrdVersion {
+    ghost use Rattle.kube_manifests.specs.Sets.{version_view};
+    ghost use Rattle.kube_manifests.specs.Documents.{is_defined};
+    ghost use Rattle.kube_manifests.specs.Versions.{is_of_kind, is_of_version};
+
+    /// Whether it is of this group and kind.
+    pub(crate) fn is_defined(&self, group: &str, kind: &str) -> bool
+        ensures { result ≡ is_defined group.now kind.now (version_view self.now) }
+    {
+        self.root.api_group.as_str() == group && self.root.kind.as_str() == kind
+    }
+
+    /// Whether objects of this apiVersion and kind are of its group and kind.
+    pub(crate) fn is_of_kind(&self, api_version: &str, kind: &str) -> bool
+        ensures { result ≡ is_of_kind api_version.now kind.now (version_view self.now) }
+    {
+        has_start(api_version, self.prefix.as_str()) && self.root.kind.as_str() == kind
+    }
+
+    /// Whether they are of this version.
+    pub(crate) fn is_of_version(&self, api_version: &str, kind: &str) -> bool
+        ensures { result ≡ is_of_version api_version.now kind.now (version_view self.now) }
+    {
+        self.root.api_version.as_str() == api_version && self.root.kind.as_str() == kind
+    }
+}
+
+fn has_start(text: &str, start: &str) -> bool
+    ensures { result ≡ starts_with nat_eq text.now start.now }
+{
+    text.starts_with(start)
+}
