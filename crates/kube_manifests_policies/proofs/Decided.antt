@@ -1,0 +1,67 @@
+-- What decides about a policy.
+use Rattle.cel_book.specs.Book.{Book, IsBook}
+use Rattle.kube_cel_policies.specs.Expressions.{◌>>=◌}
+use Rattle.kube_cel_policies.specs.Variables.{Variables}
+use Rattle.kube_manifests_policies.proofs.Alike.{reach_same}
+use Rattle.kube_manifests_policies.specs.Faults.{FaultData}
+use Rattle.kube_manifests_policies.specs.Inputs.{without_namespace}
+use Rattle.kube_manifests_policies.specs.Judged.{policy_verdict, verdict_of, results_as, verdict_after, verdict_in, verdict_of_conditions}
+use Rattle.kube_manifests_policies.specs.Policies.{PolicyData, policy_of}
+use Rattle.kube_manifests_policies.specs.Scopes.{Alike, Reach, ScopeData, first_scope, reached, scope_for, variables_after}
+use Rattle.kube_manifests_policies.specs.Verdicts.{Labelled, VerdictData, after_conditions, decided}
+use Rattle.kube_manifests_policies.specs.declared.judged.Subject.TheVariants.{Annotation, Condition, Validation}
+use Rattle.kube_manifests_policies.specs.declared.verdict.PolicyDecision.{PolicyDecision}
+use Rattle.serde_json.specs.Data.{Data as Json}
+use Rattle.std.proofs.Common.{◌≡◌, List, true, Option, Some, None, Ok, Err, sym, ap, ◌∙◌}
+use Rattle.std.proofs.lemmas.Option.{none-some}
+
+verdict_with : (b : Book) (v : Variables) (p : PolicyData) (rs : List Labelled) (o : Option PolicyDecision)
+    → rs ≡ results_as Condition (reached b (first_scope (without_namespace v))) p.conditions → after_conditions p.ignores rs ≡ o → verdict_after b v p rs o ≡ policy_verdict b v p
+unfolding policy_verdict
+verdict_with b v p rs o e q = sym (ap (verdict_after b v p rs) q) ∙ ap (λ c. verdict_after b v p c (after_conditions p.ignores c)) e
+
+-- the match conditions alone
+pub by_conditions : (b : Book) (v : Variables) (p : PolicyData) (rs : List Labelled) (d : PolicyDecision)
+    → rs ≡ results_as Condition (reached b (first_scope (without_namespace v))) p.conditions → after_conditions p.ignores rs ≡ Some d → verdict_of_conditions rs d ≡ policy_verdict b v p
+by_conditions b v p rs d e q = verdict_with b v p rs (Some d) e q
+
+-- all of it
+pub by_all : (b : Book) (v : Variables) (p : PolicyData) (rs : List Labelled) (s : ScopeData)
+    → rs ≡ results_as Condition (reached b (first_scope (without_namespace v))) p.conditions → after_conditions p.ignores rs ≡ None
+    → Alike s (variables_after b (scope_for v p.variables) p.variables) → verdict_in (reached b s) s.missing p rs ≡ policy_verdict b v p
+by_all b v p rs s e q h =
+    let t = variables_after b (scope_for v p.variables) p.variables in
+    (λ i. verdict_in (reach_same b s t h i) (h.missing i) p rs) ∙ verdict_with b v p rs None e q
+
+-- validations and audit annotations
+pub by_both : (r : Reach) (missing : List Labelled) (p : PolicyData) (rs vs ws : List Labelled) (d : PolicyDecision)
+    → vs ≡ results_as Validation r p.validations → ws ≡ results_as Annotation r p.annotations → d ≡ decided p.ignores vs ws
+    → ◌≡◌ {A = VerdictData} (record { decision = d; conditions = rs; variables = missing; validations = vs; annotations = ws }) (verdict_in r missing p rs)
+unfolding verdict_in
+by_both r missing p rs vs ws d v w q = λ i. record {
+  decision = (q ∙ (λ j. decided p.ignores (v j) (w j))) i;
+  conditions = rs;
+  variables = missing;
+  validations = v i;
+  annotations = w i;
+}
+
+-- ---- documents
+
+-- of a document that is no policy
+pub of_fault : (b : Book) (v : Variables) (d : Json) (f : FaultData) → Err f ≡ policy_of d → Err f ≡ verdict_of b v d
+unfolding verdict_of
+of_fault b v d f e = ap (λ k. k >>= (λ p. Ok (policy_verdict b v p))) e
+
+-- of one that is
+pub of_policy : (b : Book) (v : Variables) (d : Json) (p : PolicyData) → Ok p ≡ policy_of d → Ok (policy_verdict b v p) ≡ verdict_of b v d
+unfolding verdict_of
+of_policy b v d p e = ap (λ k. k >>= (λ p. Ok (policy_verdict b v p))) e
+
+-- a book with no entry
+pub no_entries : Book
+no_entries text = None
+
+pub no_entries-IsBook : IsBook no_entries
+unfolding no_entries
+no_entries-IsBook text h = absurd (none-some true h)

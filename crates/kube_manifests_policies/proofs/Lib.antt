@@ -1,0 +1,8 @@
+pub mod Alike
+pub mod Decided
+pub mod Entries
+pub mod Messages
+pub mod Near
+pub mod Passed
+pub mod Turned
+pub mod Vap

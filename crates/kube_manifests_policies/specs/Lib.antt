@@ -1,0 +1,9 @@
+pub mod Faults
+pub mod Inputs
+pub mod Judged
+pub mod Laws
+pub mod Policies
+pub mod Reviews
+pub mod Scopes
+pub mod Uses
+pub mod Verdicts

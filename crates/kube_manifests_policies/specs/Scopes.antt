@@ -1,0 +1,143 @@
+-- Trusted by the clauses of policies.
+-- What the expressions of a policy see (Kubernetes documentation, "Validating Admission Policy", variables of expressions and variable
+-- composition), and what an expression comes to there.
+use Rattle.cel.specs.Program.{program_term}
+use Rattle.cel.specs.declared.program.Program.{Program}
+use Rattle.cel_book.specs.Book.{Book}
+use Rattle.cel_meaning.specs.Bindings.{Bindings, binding, bindings_of}
+use Rattle.cel_meaning.specs.Members.{put_in}
+use Rattle.cel_meaning.specs.Outcome.{Outcome, and_then, outcome_view}
+use Rattle.cel_syntax.specs.Reading.{tree_of}
+use Rattle.cel_syntax_tree.specs.Term.{Term}
+use Rattle.cel_value.specs.Data.{Data, map_of, no_entries, text}
+use Rattle.cel_value.specs.Texts.{fault_text}
+use Rattle.cel_value.specs.View.{view}
+use Rattle.cel_value.specs.declared.error.ExecutionError.{ExecutionError}
+use Rattle.cel_value.specs.declared.value.Value.{Value}
+use Rattle.kube_cel_policies.specs.Expressions.{unread_text, ◌>>=◌}
+use Rattle.kube_cel_policies.specs.Results.{outcome_in}
+use Rattle.kube_cel_policies.specs.Variables.{Variables, policy_bindings}
+use Rattle.kube_manifests_policies.specs.Inputs.{absent_in, first_missing}
+use Rattle.kube_manifests_policies.specs.Policies.{ItemData}
+use Rattle.kube_manifests_policies.specs.Uses.{asks}
+use Rattle.kube_manifests_policies.specs.Verdicts.{Labelled, ToldData, erred, not_given, result_view, told_view, with_told}
+use Rattle.kube_manifests_policies.specs.declared.inputs.Input.{Input}
+use Rattle.kube_manifests_policies.specs.declared.scope.Scope.{Scope}
+use Rattle.kube_manifests_policies.specs.declared.verdict.Told.{Told}
+use Rattle.std.specs.Prelude.{◌≡◌, ℕ, List, [], ◌∷◌, ◌++◌, map, Bool, true, false, if◌then◌else◌, Option, Some, None, Result, Ok, Err, codes}
+
+pub record ScopeData : Type 0 where
+  pub bindings : Bindings
+  -- what isn't given
+  pub absent : List Input
+  -- the variables that came to a value, with it
+  pub values : Data
+  -- those that didn't, in order
+  pub missing : List Labelled
+
+-- where no variable was evaluated
+abbrev pub first_scope : Variables → ScopeData
+first_scope v = record { bindings = policy_bindings v; absent = absent_in v; values = map_of no_entries; missing = [] }
+
+-- `variables` are those evaluated so far that came to a value
+abbrev pub with_values : ScopeData → Data → ScopeData
+with_values s m = record s { bindings = (codes "variables", m) ∷ s.bindings; values = m }
+
+-- a policy without variables has no name `variables`
+abbrev pub with_no_values : List ItemData → Bindings → Bindings
+with_no_values [] e = e
+with_no_values (x ∷ xs) e = (codes "variables", map_of no_entries) ∷ e
+
+abbrev pub scope_for : Variables → List ItemData → ScopeData
+scope_for v xs = record (first_scope v) { bindings = with_no_values xs (policy_bindings v) }
+
+-- ---- why an expression isn't evaluated
+
+abbrev pub is_not_given : ToldData → Bool
+is_not_given (not_given i) = true
+is_not_given _ = false
+
+-- What isn't given to a variable isn't given to an expression that asks for the variable. One that errs is an error where it is selected,
+-- which `&&`, `||` and `?:` may pass over, as any other; and in any case of an expression that asks for it otherwise.
+abbrev pub stops : Term → Labelled → Bool
+stops t r = asks (codes "variables") r.label (is_not_given r.told) t
+
+abbrev pub first_stop : List Labelled → Term → Option ToldData
+first_stop [] t = None
+first_stop (r ∷ rs) t = if stops t r then Some r.told else first_stop rs t
+
+abbrev pub stopped_by : Option Input → Option ToldData → Option ToldData
+stopped_by (Some i) o = Some (not_given i)
+stopped_by None o = o
+
+abbrev pub why_not : ScopeData → Term → Option ToldData
+why_not s t = stopped_by (first_missing s.absent t) (first_stop s.missing t)
+
+-- ---- what an expression comes to
+
+abbrev pub reached_unless : Option ToldData → Outcome → Result Outcome ToldData
+reached_unless (Some told) o = Err told
+reached_unless None o = Ok o
+
+-- the outcome of an expression, or why it isn't evaluated
+unfoldable pub reached : Book → ScopeData → Term → Result Outcome ToldData
+reached b s t = reached_unless (why_not s t) (outcome_in b s.bindings t)
+
+abbrev pub tree_or : ToldData → Option Term → Result Term ToldData
+tree_or told (Some t) = Ok t
+tree_or told None = Err told
+
+-- the tree of a text, or what is told of a text that derives none
+abbrev pub tree_told : List ℕ → Result Term ToldData
+tree_told s = tree_or (erred (unread_text (record { text = s; original = s }))) (tree_of s)
+
+-- how expressions are reached
+abbrev pub Reach : Type 0
+Reach = Term → Result Outcome ToldData
+
+abbrev pub evaluated : Reach → List ℕ → Result Outcome ToldData
+evaluated r s = tree_told s >>= r
+
+abbrev pub fault_told : List ℕ → ToldData
+fault_told m = erred (codes "evaluation error: " ++ m)
+
+-- ---- variables
+
+abbrev pub without_value : ScopeData → List ℕ → ToldData → ScopeData
+without_value s name told = record s { missing = s.missing ++ with_told name told ∷ [] }
+
+abbrev pub with_stored : ScopeData → List ℕ → Outcome → ScopeData
+with_stored s name (Ok m) = with_values s m
+with_stored s name (Err f) = without_value s name (fault_told (fault_text f))
+
+abbrev pub with_variable : ScopeData → List ℕ → Result Outcome ToldData → ScopeData
+with_variable s name (Ok o) = with_stored s name (and_then o (λ v. put_in s.values (text name) v))
+with_variable s name (Err told) = without_value s name told
+
+-- one more variable, which sees those before it
+unfoldable pub variable_step : Book → ScopeData → ItemData → ScopeData
+variable_step b s x = with_variable s x.label (evaluated (reached b s) x.expression)
+
+abbrev pub variables_after : Book → ScopeData → List ItemData → ScopeData
+variables_after b s [] = s
+variables_after b s (x ∷ xs) = variables_after b (variable_step b s x) xs
+
+-- ---- what the code's values stand for
+
+abbrev pub scope_view : Scope → ScopeData
+scope_view s = record { bindings = bindings_of s.context; absent = s.absent.items; values = view s.values; missing = map result_view s.missing.items }
+
+-- the same names are bound, and the rest is equal
+pub record Alike (a b : ScopeData) : Type 0 where
+  pub bindings : (x : List ℕ) → binding x a.bindings ≡ binding x b.bindings
+  pub absent : a.absent ≡ b.absent
+  pub values : a.values ≡ b.values
+  pub missing : a.missing ≡ b.missing
+
+abbrev pub reached_seen : Result (Result Value ExecutionError) Told → Result Outcome ToldData
+reached_seen (Ok r) = Ok (outcome_view r)
+reached_seen (Err told) = Err (told_view told)
+
+abbrev pub tree_seen : Result Program Told → Result Term ToldData
+tree_seen (Ok p) = Ok (program_term p)
+tree_seen (Err told) = Err (told_view told)

@@ -1,0 +1,156 @@
+//! The names that the expressions of a policy see at first.
+ghost use Rattle.cel_meaning.specs.Bindings.{binding, bindings_of};
+ghost use Rattle.cel_value.specs.Data.{map_of, no_entries};
+ghost use Rattle.cel_value.specs.View.{view};
+ghost use Rattle.kube_cel_admission.specs.Requests.{empty_request, request_value, request_view};
+ghost use Rattle.kube_cel_policies.specs.Variables.{bindings_always, value_or_null, with_given};
+ghost use Rattle.kube_manifests_policies.specs.Inputs.{inputs_view, without_namespace};
+ghost use Rattle.kube_manifests_policies.specs.Policies.{item_view};
+ghost use Rattle.kube_manifests_policies.specs.Scopes.{Alike, first_scope, scope_for, scope_view, with_no_values};
+ghost use Rattle.serde_json.specs.View.{view as json_view};
+ghost use Rattle.std.specs.Prelude.{◌≡◌, [], ℕ, IfErr, IfOk, List, map, OnOk, option_map, unwrap_or};
+
+use crate::inputs::{PolicyInputs, absent_inputs};
+use crate::item::Item;
+use crate::scope::{PolicyContext, Scope};
+use cel::{Context, Entries, Value};
+use kube_cel_admission::{AdmissionRequest, request_value};
+use kube_schema_values::bind_plain;
+use kube_types_refused::Refused;
+use serde_json::Value as Json;
+use std::alloc::Global;
+
+/// A context with no name and all functions that the expressions of a policy may call.
+fn empty_context<'a>(alloc: Global) -> PolicyContext<'a>
+    ensures { bindings_of result ≡ [] }
+{
+    Context::default(alloc)
+}
+
+/// The value of what is given, else null.
+fn value_or_null(alloc: Global, value: &Option<Json>) -> Result<Value, Refused>
+    ensures value { IfOk result (λ v. view v ≡ value_or_null (option_map json_view value.now)) }
+    ensures memory { IfErr result (λ e. e ≡ Refused.Memory) }
+{
+    match value {
+        Some(value) => bind_plain(alloc, value),
+        None => Ok(Value::Null),
+    }
+}
+
+/// The value of the request that is given, else of one of which nothing is known.
+fn request_or_empty(alloc: Global, request: &Option<AdmissionRequest>) -> Result<Value, Refused>
+    ensures value { IfOk result (λ v. view v
+        ≡ request_value (unwrap_or (option_map request_view request.now) empty_request)) }
+    ensures memory { IfErr result (λ e. e ≡ Refused.Memory) }
+{
+    match request {
+        Some(request) => request_value(alloc, request),
+        None => request_value(alloc, &AdmissionRequest::default(alloc)),
+    }
+}
+
+/// Binds a name to what is given, if it is.
+fn bind_given(
+    alloc: Global,
+    context: &mut PolicyContext<'_>,
+    name: &str,
+    value: &Option<Json>,
+) -> Result<(), Refused>
+    ensures bound { OnOk result ((x : List ℕ) → binding x (bindings_of context.new)
+        ≡ binding x (with_given name.now (option_map json_view value.now) (bindings_of context.old))) }
+    ensures memory { IfErr result (λ e. e ≡ Refused.Memory) }
+{
+    let Some(value) = value else {
+        return Ok(());
+    };
+    context.add_variable(name, bind_plain(alloc, value)?)
+}
+
+/// A context with the names that are always bound.
+fn context_always<'a>(alloc: Global, inputs: &PolicyInputs) -> Result<PolicyContext<'a>, Refused>
+    ensures bound { IfOk result (λ c. (x : List ℕ) → binding x (bindings_of c)
+        ≡ binding x (bindings_always (inputs_view inputs.now))) }
+    ensures memory { IfErr result (λ e. e ≡ Refused.Memory) }
+{
+    let mut context = empty_context(alloc);
+    context.add_variable("object", value_or_null(alloc, &inputs.object)?)?;
+    context.add_variable("oldObject", value_or_null(alloc, &inputs.old_object)?)?;
+    context.add_variable("request", request_or_empty(alloc, &inputs.request)?)?;
+    Ok(context)
+}
+
+/// The map of no variable.
+fn no_values(alloc: Global) -> Result<Value, Refused>
+    ensures value { IfOk result (λ v. view v ≡ map_of no_entries) }
+    ensures memory { IfErr result (λ e. e ≡ Refused.Memory) }
+{
+    Value::from_entries(alloc, Entries::new(alloc))
+}
+
+/// What the match conditions see.
+pub(crate) fn condition_scope<'a>(
+    alloc: Global,
+    inputs: &PolicyInputs,
+) -> Result<Scope<'a>, Refused>
+    ensures scope { IfOk result (λ s. Alike (scope_view s) (first_scope (without_namespace (inputs_view inputs.now)))) }
+    ensures memory { IfErr result (λ e. e ≡ Refused.Memory) }
+{
+    let mut context = context_always(alloc, inputs)?;
+    bind_given(alloc, &mut context, "params", &inputs.params)?;
+    let absent = absent_inputs(alloc, inputs, &None)?;
+    let values = no_values(alloc)?;
+    Ok(Scope {
+        context,
+        absent,
+        values,
+        missing: Vec::new(alloc),
+    })
+}
+
+/// Binds `variables` to the map of none, where a policy has any.
+fn bind_no_values(
+    alloc: Global,
+    context: &mut PolicyContext<'_>,
+    variables: &[Item<'_>],
+) -> Result<(), Refused>
+    ensures bound { OnOk result ((x : List ℕ) → binding x (bindings_of context.new)
+        ≡ binding x (with_no_values (map item_view variables.now) (bindings_of context.old))) }
+    ensures memory { IfErr result (λ e. e ≡ Refused.Memory) }
+{
+    if variables.is_empty() {
+        return Ok(());
+    }
+    let values = no_values(alloc)?;
+    context.add_variable("variables", values)?;
+    Ok(())
+}
+
+/// What the first variable sees, or a validation of a policy without variables, where the match conditions saw this.
+pub(crate) fn policy_scope<'a>(
+    alloc: Global,
+    scope: Scope<'a>,
+    inputs: &PolicyInputs,
+    variables: &[Item<'_>],
+) -> Result<Scope<'a>, Refused>
+    requires { Alike (scope_view scope) (first_scope (without_namespace (inputs_view inputs.now))) }
+    ensures scope { IfOk result (λ s. Alike (scope_view s) (scope_for (inputs_view inputs.now) (map item_view variables.now))) }
+    ensures memory { IfErr result (λ e. e ≡ Refused.Memory) }
+{
+    let Scope {
+        mut context,
+        absent: _,
+        values,
+        missing,
+    } = scope;
+    let namespace = &inputs.namespace_object;
+    bind_given(alloc, &mut context, "namespaceObject", namespace)?;
+    bind_no_values(alloc, &mut context, variables)?;
+    let absent = absent_inputs(alloc, inputs, namespace)?;
+    Ok(Scope {
+        context,
+        absent,
+        values,
+        missing,
+    })
+}

@@ -1,0 +1,131 @@
+//! The evaluation of a policy.
+ghost use Rattle.cel_book.specs.Book.{Agrees};
+ghost use Rattle.cel_book.specs.Entries.{entries_of};
+ghost use Rattle.cel_book.specs.Settled.{Settles};
+ghost use Rattle.kube_manifests_policies.specs.Inputs.{inputs_view};
+ghost use Rattle.kube_manifests_policies.specs.Judged.{IsVerdictOf, policy_verdict, verdict_in, verdict_of_conditions};
+ghost use Rattle.kube_manifests_policies.specs.Policies.{policy_view};
+ghost use Rattle.kube_manifests_policies.specs.Scopes.{reached, scope_view};
+ghost use Rattle.kube_manifests_policies.specs.Verdicts.{result_view, verdict_view};
+ghost use Rattle.serde_json.specs.View.{view};
+ghost use Rattle.std.specs.Prelude.{◌≡◌, IfErr, IfOk, map};
+
+use crate::context::{condition_scope, policy_scope};
+use crate::fault::{PolicyFault, told};
+use crate::inputs::PolicyInputs;
+use crate::judged::{Subject, results_as};
+use crate::policy::{Policy, policy_of};
+use crate::scope::Scope;
+use crate::variables::with_variables;
+use crate::verdict::{PolicyDecision, PolicyResult, PolicyVerdict, after_conditions, decided};
+use cel::PatternBook;
+use kube_types_refused::Refused;
+use serde_json::Value;
+use std::alloc::Global;
+
+/// The verdict that match conditions give alone.
+fn verdict_of_conditions(
+    alloc: Global,
+    conditions: Vec<PolicyResult>,
+    decision: PolicyDecision,
+) -> PolicyVerdict
+    ensures { verdict_view result ≡ verdict_of_conditions (map result_view conditions.items) decision }
+{
+    PolicyVerdict {
+        decision,
+        conditions,
+        variables: Vec::new(alloc),
+        validations: Vec::new(alloc),
+        annotations: Vec::new(alloc),
+    }
+}
+
+/// The verdict where the match conditions let a policy be evaluated, among its variables.
+#[tactic(auto, unfolding(crate::specs::Judged::verdict_in))]
+fn verdict_in(
+    alloc: Global,
+    scope: Scope<'_>,
+    policy: &Policy<'_>,
+    conditions: Vec<PolicyResult>,
+    book: &mut PatternBook,
+) -> Result<PolicyVerdict, Refused>
+    ensures keeps { Agrees (entries_of book.new) (entries_of book.old) }
+    ensures verdict { IfOk result (λ v. Settles (entries_of book.new) (verdict_view v)
+        (λ b. verdict_in (reached b (scope_view scope.entry)) (scope_view scope.entry).missing (policy_view policy.now) (map result_view conditions.items))) }
+    ensures memory { IfErr result (λ e. e ≡ Refused.Memory) }
+{
+    let items = policy.validations.as_slice();
+    let validations = results_as(alloc, Subject::Validation, items, &scope, book)?;
+    let items = policy.annotations.as_slice();
+    let annotations = results_as(alloc, Subject::Annotation, items, &scope, book)?;
+    let decision = decided(
+        policy.ignores,
+        validations.as_slice(),
+        annotations.as_slice(),
+    );
+    Ok(PolicyVerdict {
+        decision,
+        conditions,
+        variables: scope.missing,
+        validations,
+        annotations,
+    })
+}
+
+/// The verdict of a policy.
+fn policy_verdict(
+    alloc: Global,
+    policy: &Policy<'_>,
+    inputs: &PolicyInputs,
+    book: &mut PatternBook,
+) -> Result<PolicyVerdict, Refused>
+    ensures verdict { IfOk result (λ v. Settles (entries_of book.new) (verdict_view v)
+        (λ b. policy_verdict b (inputs_view inputs.now) (policy_view policy.now))) }
+    ensures memory { IfErr result (λ e. e ≡ Refused.Memory) }
+{
+    let scope = condition_scope(alloc, inputs)?;
+    let items = policy.conditions.as_slice();
+    let conditions = results_as(alloc, Subject::Condition, items, &scope, book)?;
+    match after_conditions(policy.ignores, conditions.as_slice()) {
+        Some(decision) => Ok(verdict_of_conditions(alloc, conditions, decision)),
+        None => {
+            let variables = policy.variables.as_slice();
+            let first = policy_scope(alloc, scope, inputs, variables)?;
+            let all = with_variables(alloc, first, variables, book)?;
+            let verdict = verdict_in(alloc, all, policy, conditions, book)?;
+            Ok(verdict)
+        }
+    }
+}
+
+/// Evaluates a ValidatingAdmissionPolicy (`admissionregistration.k8s.io`) over these inputs, as Kubernetes documents it.
+///
+/// The match conditions come first: where one is false, the policy is skipped; where none is false and one errs, `failurePolicy` decides.
+/// Then come the variables, each of which sees those before it under `variables`. One that errs makes an error of each expression that
+/// selects it, which `&&`, `||` and `?:` may pass over as any other error. Then come validations and audit annotations. Neither
+/// `matchConstraints` nor a binding is looked at.
+///
+/// An expression that asks for what isn't given, itself or by a variable, is not evaluated: it is told as [`Told::NotGiven`](crate::Told),
+/// and the policy is never admitted then.
+///
+/// Answers the first [`PolicyFault`] where the document is no such policy.
+///
+/// # Errors
+///
+/// [`Refused`] where memory is refused.
+pub fn evaluate_policy(
+    alloc: Global,
+    policy: &Value,
+    inputs: &PolicyInputs,
+) -> Result<Result<PolicyVerdict, PolicyFault>, Refused>
+    ensures verdict { IfOk result (λ r. IsVerdictOf (inputs_view inputs.now) (view policy.now) r) }
+    ensures memory { IfErr result (λ e. e ≡ Refused.Memory) }
+{
+    let policy = match policy_of(alloc, policy)? {
+        Ok(policy) => policy,
+        Err(found) => return Ok(Err(told(alloc, found)?)),
+    };
+    let mut book = PatternBook::new(alloc);
+    let verdict = policy_verdict(alloc, &policy, inputs, &mut book)?;
+    Ok(Ok(verdict))
+}

@@ -1,0 +1,198 @@
+//! What a policy is evaluated over.
+ghost use Rattle.cel_syntax_tree.specs.Term.{term};
+ghost use Rattle.kube_cel_policies.specs.Variables.{no_variables};
+ghost use Rattle.kube_manifests_policies.specs.Inputs.{absent_in, asks_for, first_asked, first_missing, input_name, inputs_view, member_of, never_given, unless};
+ghost use Rattle.serde_json.specs.View.{view as json_view};
+ghost use Rattle.std.specs.Prelude.{◌≡◌, ◌++◌, IfErr, IfOk, OnOk, option_map, Some};
+
+use crate::uses::asks;
+use cel::Expr;
+use kube_cel_admission::AdmissionRequest;
+use kube_types_refused::Refused;
+use serde_json::Value;
+use std::alloc::{AllocError, Global};
+use std::fmt;
+
+/// What a policy is evaluated over. `None` says that something isn't known: an expression that asks for it is not judged. What is known to
+/// be null is `Some(Value::Null)`: `oldObject` where an object is created, `object` where one is deleted, `params` where a policy has none,
+/// `namespaceObject` where an object has no namespace.
+#[derive(Debug, Drop)]
+pub struct PolicyInputs {
+    /// The object of the request, `object`.
+    pub object: Option<Value>,
+    /// The object as it was, `oldObject`.
+    pub old_object: Option<Value>,
+    /// The parameters of the policy, `params`.
+    pub params: Option<Value>,
+    /// The object's namespace, `namespaceObject`.
+    pub namespace_object: Option<Value>,
+    /// The request, `request`.
+    pub request: Option<AdmissionRequest>,
+}
+
+impl PolicyInputs {
+    /// Nothing is known.
+    pub fn none() -> PolicyInputs
+        ensures { inputs_view result ≡ no_variables }
+    {
+        PolicyInputs {
+            object: None,
+            old_object: None,
+            params: None,
+            namespace_object: None,
+            request: None,
+        }
+    }
+}
+
+/// What an expression may ask for, and isn't always given.
+#[derive(Clone, Copy, Debug, PartialEq, Eq)]
+pub enum Input {
+    /// `object`.
+    Object,
+    /// `oldObject`.
+    OldObject,
+    /// `request`.
+    Request,
+    /// `params`.
+    Params,
+    /// `namespaceObject`; a match condition is never given it.
+    NamespaceObject,
+    /// `authorizer`, which asks an API server. It is never given.
+    Authorizer,
+    /// `request.subResource`, which an [`AdmissionRequest`] doesn't carry, as those that follow.
+    SubResource,
+    /// `request.requestKind`.
+    RequestKind,
+    /// `request.requestResource`.
+    RequestResource,
+    /// `request.requestSubResource`.
+    RequestSubResource,
+    /// `request.options`.
+    Options,
+}
+
+impl Input {
+    /// How an expression asks for it.
+    pub fn name(self) -> &'static str
+        ensures { result.now ≡ input_name self }
+    {
+        match self {
+            Input::Object => "object",
+            Input::OldObject => "oldObject",
+            Input::Request => "request",
+            Input::Params => "params",
+            Input::NamespaceObject => "namespaceObject",
+            Input::Authorizer => "authorizer",
+            Input::SubResource => "request.subResource",
+            Input::RequestKind => "request.requestKind",
+            Input::RequestResource => "request.requestResource",
+            Input::RequestSubResource => "request.requestSubResource",
+            Input::Options => "request.options",
+        }
+    }
+
+    /// The member of `request` that it is.
+    fn member(self) -> Option<&'static str>
+        ensures { option_map (λ s. s.now) result ≡ member_of self }
+    {
+        match self {
+            Input::Object => None,
+            Input::OldObject => None,
+            Input::Request => None,
+            Input::Params => None,
+            Input::NamespaceObject => None,
+            Input::Authorizer => None,
+            Input::SubResource => Some("subResource"),
+            Input::RequestKind => Some("requestKind"),
+            Input::RequestResource => Some("requestResource"),
+            Input::RequestSubResource => Some("requestSubResource"),
+            Input::Options => Some("options"),
+        }
+    }
+
+    /// Whether an expression asks for it.
+    fn is_asked(self, expr: &Expr) -> bool
+        ensures { result ≡ asks_for self (term expr.now) }
+    {
+        match self.member() {
+            Some(member) => asks(expr, "request", member, true),
+            None => expr.has_free_name(self.name()),
+        }
+    }
+}
+
+impl fmt::Display for Input {
+    ghost output = { λ i. Some (input_name i) };
+
+    fn fmt<W: fmt::Write>(&self, f: &mut fmt::Formatter<W>) -> fmt::Result {
+        f.write_str(self.name())
+    }
+}
+
+/// The first of these that an expression asks for.
+fn first_of(inputs: &[Input], expr: &Expr) -> Option<Input>
+    ensures { result ≡ first_asked inputs.now (term expr.now) }
+{
+    for input in inputs {
+        if input.is_asked(expr) {
+            return Some(*input);
+        }
+    }
+    None
+}
+
+/// The first of what is never given that an expression asks for.
+fn first_never(expr: &Expr) -> Option<Input>
+    ensures { result ≡ first_asked never_given (term expr.now) }
+{
+    let never = [
+        Input::Authorizer,
+        Input::SubResource,
+        Input::RequestKind,
+        Input::RequestResource,
+        Input::RequestSubResource,
+        Input::Options,
+    ];
+    first_of(&never, expr)
+}
+
+/// The first that an expression asks for, of these and of what is never given.
+pub(crate) fn first_missing(absent: &[Input], expr: &Expr) -> Option<Input>
+    ensures { result ≡ first_missing absent.now (term expr.now) }
+{
+    match first_of(absent, expr) {
+        Some(input) => Some(input),
+        None => first_never(expr),
+    }
+}
+
+/// Adds what isn't given.
+fn push_unless(absent: &mut Vec<Input>, input: Input, given: bool) -> Result<(), AllocError>
+    ensures { OnOk result (absent.new.items ≡ absent.old.items ++ unless given input) }
+{
+    if !given {
+        absent.push(input)?;
+    }
+    Ok(())
+}
+
+/// What isn't given, where this is the namespace.
+#[tactic(auto, unfolding(crate::specs::Inputs::absent_in))]
+pub(crate) fn absent_inputs(
+    alloc: Global,
+    inputs: &PolicyInputs,
+    namespace: &Option<Value>,
+) -> Result<Vec<Input>, Refused>
+    ensures absent { IfOk result (λ v. v.items
+        ≡ absent_in (record (inputs_view inputs.now) { namespace_object = option_map json_view namespace.now })) }
+    ensures memory { IfErr result (λ e. e ≡ Refused.Memory) }
+{
+    let mut absent = Vec::new(alloc);
+    push_unless(&mut absent, Input::Object, inputs.object.is_some())?;
+    push_unless(&mut absent, Input::OldObject, inputs.old_object.is_some())?;
+    push_unless(&mut absent, Input::Request, inputs.request.is_some())?;
+    push_unless(&mut absent, Input::Params, inputs.params.is_some())?;
+    push_unless(&mut absent, Input::NamespaceObject, namespace.is_some())?;
+    Ok(absent)
+}

@@ -1,0 +1,35 @@
+//! Laws of verdicts, each the contract of a call.
+ghost use Rattle.cel_book.specs.Book.{Book};
+ghost use Rattle.kube_cel_policies.specs.Results.{policy_results};
+ghost use Rattle.kube_cel_policies.specs.Variables.{Variables};
+ghost use Rattle.kube_manifests_policies.specs.Judged.{policy_verdict};
+ghost use Rattle.kube_manifests_policies.specs.Laws.{HasVariables, IsApartFrom, IsJudged, IsJudgedIn, SameVariables, expression_of, of_validations, vap_result};
+ghost use Rattle.kube_manifests_policies.specs.Policies.{ItemData, PolicyData};
+ghost use Rattle.kube_manifests_policies.specs.Scopes.{ScopeData, first_scope, variable_step};
+ghost use Rattle.std.specs.List.{AllByRecursion};
+ghost use Rattle.std.specs.Prelude.{◌≡◌, Bool, false, List, map};
+ghost use Rattle.std.specs.Str.{bytes_eq};
+
+use crate::verdict::PolicyDecision;
+
+/// A policy of validations alone, none of which asks for what isn't given: they come to the results that `VapEvaluator::evaluate` of
+/// `kube_cel_policies` has for them.
+#[tactic(auto, using(crate::proofs::Vap::alike))]
+pub fn validations_alone()
+    ensures { (b : Book) (v : Variables) (ignores : Bool) (xs : List ItemData) → AllByRecursion (IsJudgedIn (first_scope v)) xs
+        → map vap_result (policy_verdict b v (of_validations ignores xs)).validations ≡ policy_results b v (map expression_of xs) }
+{}
+
+/// Where a policy lets a request pass, nothing of it asked for what isn't given, and no validation is false.
+pub fn admitted_only_if_judged()
+    ensures { (b : Book) (v : Variables) (p : PolicyData) → (policy_verdict b v p).decision ≡ PolicyDecision.Admitted
+        → IsJudged (policy_verdict b v p) }
+{}
+
+/// The order of two variables that don't ask for each other doesn't matter: either way each of them has the same value, or none.
+#[tactic(auto, using(crate::proofs::Turned::either_order))]
+pub fn variables_in_any_order()
+    ensures { (b : Book) (s : ScopeData) (x y : ItemData) → HasVariables s → IsApartFrom x y → IsApartFrom y x
+        → bytes_eq x.label y.label ≡ false
+        → SameVariables (variable_step b (variable_step b s x) y) (variable_step b (variable_step b s y) x) }
+{}

@@ -1,0 +1,24 @@
+//! Kubernetes' ValidatingAdmissionPolicy as a whole, evaluated without an API server.
+#![tactic(auto)]
+
+mod context;
+mod evaluation;
+mod fault;
+mod inputs;
+mod item;
+mod judged;
+pub mod laws;
+mod place;
+mod policy;
+mod review;
+mod scope;
+mod uses;
+mod variables;
+mod verdict;
+
+pub use evaluation::evaluate_policy;
+pub use fault::{FaultKind, PolicyFault};
+pub use inputs::{Input, PolicyInputs};
+pub use kube_cel_admission::{AdmissionRequest, GroupVersionKind, GroupVersionResource};
+pub use kube_types_refused::Refused;
+pub use verdict::{PolicyDecision, PolicyResult, PolicyVerdict, Told};

@@ -1,0 +1,162 @@
+//! What the expressions of a policy see.
+ghost use Rattle.cel.specs.Program.{program_term};
+ghost use Rattle.cel_book.specs.Book.{Agrees};
+ghost use Rattle.cel_book.specs.Entries.{entries_of};
+ghost use Rattle.cel_book.specs.Settled.{Settles};
+ghost use Rattle.cel_meaning.specs.Outcome.{outcome_view};
+ghost use Rattle.cel_syntax_tree.specs.Term.{term};
+ghost use Rattle.kube_cel_policies.specs.Results.{outcome_in};
+ghost use Rattle.cel_meaning.specs.Bindings.{bindings_of};
+ghost use Rattle.kube_manifests_policies.specs.Scopes.{evaluated, first_stop, is_not_given, reached, reached_seen, scope_view, stops, tree_seen, tree_told, why_not};
+ghost use Rattle.kube_manifests_policies.specs.Verdicts.{result_view, told_view};
+ghost use Rattle.std.specs.Prelude.{◌≡◌, IfErr, IfOk, map, option_map};
+
+use crate::inputs::{Input, first_missing};
+use crate::uses::asks;
+use crate::verdict::{PolicyResult, Told};
+use cel::{Answer, Context, Expr, PatternBook, Program, Value};
+use kube_functions::AllFunctions;
+use kube_types_refused::Refused;
+use std::alloc::Global;
+
+/// The context of a policy's expressions. They may call all functions of Kubernetes.
+pub(crate) type PolicyContext<'a> = Context<'a, AllFunctions>;
+
+/// What the expressions of a policy see.
+#[derive(Drop)]
+pub(crate) struct Scope<'a> {
+    /// The names that are bound.
+    pub(crate) context: PolicyContext<'a>,
+    /// What isn't given.
+    pub(crate) absent: Vec<Input>,
+    /// The map of the variables that came to a value.
+    pub(crate) values: Value,
+    /// The others.
+    pub(crate) missing: Vec<PolicyResult>,
+}
+
+fn is_not_given(told: &Told) -> bool
+    ensures { result ≡ is_not_given (told_view told.now) }
+{
+    match told {
+        Told::True => false,
+        Told::False(_) => false,
+        Told::Text(_) => false,
+        Told::Null => false,
+        Told::Error(_) => false,
+        Told::NotGiven(_) => true,
+    }
+}
+
+/// Whether a variable without a value keeps an expression from being evaluated.
+fn stops(expr: &Expr, variable: &PolicyResult) -> bool
+    ensures { result ≡ stops (term expr.now) (result_view variable.now) }
+{
+    asks(
+        expr,
+        "variables",
+        variable.label.as_str(),
+        is_not_given(&variable.told),
+    )
+}
+
+/// What is told of the first variable that keeps an expression from being evaluated.
+fn first_stop<'m>(missing: &'m [PolicyResult], expr: &Expr) -> Option<&'m Told>
+    ensures { option_map (λ t. told_view t.now) result ≡ first_stop (map result_view missing.now) (term expr.now) }
+{
+    for variable in missing {
+        if stops(expr, variable) {
+            return Some(&variable.told);
+        }
+    }
+    None
+}
+
+/// Why an expression isn't evaluated.
+fn why_not(scope: &Scope<'_>, expr: &Expr) -> Result<Option<Told>, Refused>
+    ensures told { IfOk result (λ o. option_map told_view o ≡ why_not (scope_view scope.now) (term expr.now)) }
+    ensures memory { IfErr result (λ e. e ≡ Refused.Memory) }
+{
+    if let Some(input) = first_missing(scope.absent.as_slice(), expr) {
+        return Ok(Some(Told::NotGiven(input)));
+    }
+    match first_stop(scope.missing.as_slice(), expr) {
+        Some(told) => Ok(Some(told.copy()?)),
+        None => Ok(None),
+    }
+}
+
+/// What a program means among the names of a scope.
+#[tactic(auto, unfolding(kube_cel_policies::specs::Results::outcome_in))]
+fn outcome_of(
+    alloc: Global,
+    program: &Program,
+    scope: &Scope<'_>,
+    book: &mut PatternBook,
+) -> Result<Answer, Refused>
+    ensures keeps { Agrees (entries_of book.new) (entries_of book.old) }
+    ensures value { IfOk result (λ r. Settles (entries_of book.new) (outcome_view r)
+        (λ b. outcome_in b (bindings_of scope.now.context) (program_term program.now))) }
+    ensures memory { IfErr result (λ e. e ≡ Refused.Memory) }
+{
+    program.execute_with(alloc, &scope.context, book)
+}
+
+/// What a program comes to in a scope, or why it isn't run there.
+#[tactic(auto, unfolding(crate::specs::Scopes::reached))]
+pub(crate) fn reach(
+    alloc: Global,
+    program: &Program,
+    scope: &Scope<'_>,
+    book: &mut PatternBook,
+) -> Result<Result<Answer, Told>, Refused>
+    ensures keeps { Agrees (entries_of book.new) (entries_of book.old) }
+    ensures reached { IfOk result (λ r. Settles (entries_of book.new) (reached_seen r)
+        (λ b. reached b (scope_view scope.now) (program_term program.now))) }
+    ensures memory { IfErr result (λ e. e ≡ Refused.Memory) }
+{
+    match why_not(scope, program.expression())? {
+        Some(told) => Ok(Err(told)),
+        None => {
+            let answer = outcome_of(alloc, program, scope, book)?;
+            Ok(Ok(answer))
+        }
+    }
+}
+
+/// The program of a text, or what is told of a text that isn't read.
+pub(crate) fn read(alloc: Global, text: &str) -> Result<Result<Program, Told>, Refused>
+    ensures read { IfOk result (λ r. tree_seen r ≡ tree_told text.now) }
+    ensures memory { IfErr result (λ e. e ≡ Refused.Memory) }
+{
+    match Program::compile(alloc, text)? {
+        Ok(program) => Ok(Ok(program)),
+        Err(errors) => {
+            let message = format!(in alloc;
+                "failed to compile VAP expression \"{text}\": {errors}"
+            )?;
+            Ok(Err(Told::Error(message)))
+        }
+    }
+}
+
+/// What a text comes to in a scope, or why it doesn't.
+pub(crate) fn evaluate(
+    alloc: Global,
+    text: &str,
+    scope: &Scope<'_>,
+    book: &mut PatternBook,
+) -> Result<Result<Answer, Told>, Refused>
+    ensures keeps { Agrees (entries_of book.new) (entries_of book.old) }
+    ensures reached { IfOk result (λ r. Settles (entries_of book.new) (reached_seen r)
+        (λ b. evaluated (reached b (scope_view scope.now)) text.now)) }
+    ensures memory { IfErr result (λ e. e ≡ Refused.Memory) }
+{
+    match read(alloc, text)? {
+        Err(told) => Ok(Err(told)),
+        Ok(program) => {
+            let reached = reach(alloc, &program, scope, book)?;
+            Ok(reached)
+        }
+    }
+}

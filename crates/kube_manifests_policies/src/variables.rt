@@ -1,0 +1,154 @@
+//! The variables of a policy, one after another.
+ghost use Rattle.cel_book.specs.Book.{Agrees, Book};
+ghost use Rattle.cel_book.specs.Entries.{entries_of};
+ghost use Rattle.cel_meaning.specs.Members.{put_in};
+ghost use Rattle.cel_meaning.specs.Outcome.{and_then, outcome_view};
+ghost use Rattle.cel_value.specs.Data.{text};
+ghost use Rattle.cel_value.specs.View.{view};
+ghost use Rattle.kube_manifests_policies.specs.Policies.{item_view};
+ghost use Rattle.kube_manifests_policies.specs.Scopes.{Alike, reached_seen, scope_view, variable_step, variables_after, with_stored, with_values, with_variable, without_value};
+ghost use Rattle.kube_manifests_policies.specs.Verdicts.{told_view};
+ghost use Rattle.std.specs.Prelude.{◌≡◌, IfErr, IfOk, map};
+
+use crate::item::Item;
+use crate::scope::{Scope, evaluate};
+use crate::verdict::{Told, with_told};
+use cel::{Answer, PatternBook, Value};
+use cel_meaning::members::put;
+use kube_types_refused::Refused;
+use std::alloc::Global;
+
+/// The map of the variables with one more, which came to this; or its error.
+fn stored(alloc: Global, values: &Value, name: &str, answer: Answer) -> Result<Answer, Refused>
+    ensures value { IfOk result (λ r. outcome_view r
+        ≡ and_then (outcome_view answer) (λ v. put_in (view values.now) (text name.now) v)) }
+    ensures memory { IfErr result (λ e. e ≡ Refused.Memory) }
+{
+    match answer {
+        Err(fault) => Ok(Err(fault)),
+        Ok(value) => {
+            let key = Value::from_text(alloc, String::from_str(alloc, name)?)?;
+            put(alloc, values.try_clone()?, &key, &value)
+        }
+    }
+}
+
+/// A scope where this variable has no value.
+fn without_value<'a>(
+    alloc: Global,
+    scope: Scope<'a>,
+    name: &str,
+    told: Told,
+) -> Result<Scope<'a>, Refused>
+    ensures scope { IfOk result (λ s. Alike (scope_view s) (without_value (scope_view scope.entry) name.now (told_view told))) }
+    ensures memory { IfErr result (λ e. e ≡ Refused.Memory) }
+{
+    let Scope {
+        context,
+        absent,
+        values,
+        mut missing,
+    } = scope;
+    missing.push(with_told(alloc, name, told)?)?;
+    Ok(Scope {
+        context,
+        absent,
+        values,
+        missing,
+    })
+}
+
+/// A scope where the variables are these.
+fn with_values<'a>(scope: Scope<'a>, map: Value) -> Result<Scope<'a>, Refused>
+    ensures scope { IfOk result (λ s. Alike (scope_view s) (with_values (scope_view scope.entry) (view map))) }
+    ensures memory { IfErr result (λ e. e ≡ Refused.Memory) }
+{
+    let Scope {
+        mut context,
+        absent,
+        values: _,
+        missing,
+    } = scope;
+    context.add_variable("variables", map.try_clone()?)?;
+    Ok(Scope {
+        context,
+        absent,
+        values: map,
+        missing,
+    })
+}
+
+/// A scope where the map with a variable came to this.
+fn with_stored<'a>(
+    alloc: Global,
+    scope: Scope<'a>,
+    name: &str,
+    answer: Answer,
+) -> Result<Scope<'a>, Refused>
+    ensures scope { IfOk result (λ s. Alike (scope_view s) (with_stored (scope_view scope.entry) name.now (outcome_view answer))) }
+    ensures memory { IfErr result (λ e. e ≡ Refused.Memory) }
+{
+    match answer {
+        Ok(map) => with_values(scope, map),
+        Err(fault) => {
+            let message = format!(in alloc; "evaluation error: {fault}")?;
+            let kept = without_value(alloc, scope, name, Told::Error(message))?;
+            Ok(kept)
+        }
+    }
+}
+
+/// A scope where a variable came to this.
+fn with_variable<'a>(
+    alloc: Global,
+    scope: Scope<'a>,
+    name: &str,
+    reached: Result<Answer, Told>,
+) -> Result<Scope<'a>, Refused>
+    ensures scope { IfOk result (λ s. Alike (scope_view s) (with_variable (scope_view scope.entry) name.now (reached_seen reached))) }
+    ensures memory { IfErr result (λ e. e ≡ Refused.Memory) }
+{
+    match reached {
+        Err(told) => without_value(alloc, scope, name, told),
+        Ok(answer) => {
+            let stored = stored(alloc, &scope.values, name, answer)?;
+            with_stored(alloc, scope, name, stored)
+        }
+    }
+}
+
+/// A scope with one more variable.
+#[tactic(auto, unfolding(crate::specs::Scopes::variable_step))]
+fn variable_step<'a>(
+    alloc: Global,
+    scope: Scope<'a>,
+    item: &Item<'_>,
+    book: &mut PatternBook,
+) -> Result<Scope<'a>, Refused>
+    ensures keeps { Agrees (entries_of book.new) (entries_of book.old) }
+    ensures scope { IfOk result (λ s. (b : Book) → Agrees b (entries_of book.new)
+        → Alike (scope_view s) (variable_step b (scope_view scope.entry) (item_view item.now))) }
+    ensures memory { IfErr result (λ e. e ≡ Refused.Memory) }
+{
+    let reached = evaluate(alloc, item.expression, &scope, book)?;
+    with_variable(alloc, scope, item.label, reached)
+}
+
+/// A scope with these variables.
+pub(crate) fn with_variables<'a>(
+    alloc: Global,
+    scope: Scope<'a>,
+    items: &[Item<'_>],
+    book: &mut PatternBook,
+) -> Result<Scope<'a>, Refused>
+    ensures keeps { Agrees (entries_of book.new) (entries_of book.old) }
+    ensures scope { IfOk result (λ s. (b : Book) → Agrees b (entries_of book.new)
+        → Alike (scope_view s) (variables_after b (scope_view scope.entry) (map item_view items.now))) }
+    ensures memory { IfErr result (λ e. e ≡ Refused.Memory) }
+{
+    let mut so_far = scope;
+    for item in items {
+        so_far = variable_step(alloc, so_far, item, book)?;
+    }
+    Ok(so_far)
+}
