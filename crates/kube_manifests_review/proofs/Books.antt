@@ -1,0 +1,26 @@
+-- What is said by a book of patterns.
+use Rattle.std.proofs.Common.{◌≡◌, ℕ, List, [], ◌∷◌, ◌++◌, Bool, true, false, cond, map, Option, Some, None, is_none, is_err, option_map, Result, Ok, Err, refl, ap, ◌∙◌}
+use Rattle.std.proofs.lemmas.List.{flat_map_more}
+use Rattle.cel_book.specs.Book.{Book, matched_by, pattern_in}
+use Rattle.cel_meaning.specs.Outcome.{outcome_view}
+use Rattle.cel_value.specs.declared.error.ExecutionError.{ExecutionError}
+use Rattle.cel_value.specs.declared.value.Value.{Value}
+use Rattle.kube_manifests_review.specs.Doubts.{Doubt, due, is_refused, said_by}
+
+-- one more doubt
+pub due_more : (ds : List Doubt) (d : Doubt) (b : Book) → due ds b ++ said_by b d ≡ due (ds ++ d ∷ []) b
+unfolding due
+due_more ds d b = flat_map_more (said_by b) [] ds d
+
+none_mapped : {A B : Type 0} (f : A → B) (o : Option A) → is_none (option_map f o) ≡ is_none o
+none_mapped f None = refl
+none_mapped f (Some a) = refl
+
+-- a pattern that matches nothing, not even an empty text, and one that is refused
+pub refused_at : (b : Book) (p : List ℕ) (o : Option Bool) → o ≡ matched_by b p [] → is_none o ≡ is_refused p b
+unfolding matched_by is_refused
+refused_at b p o e = ap is_none e ∙ none_mapped _ (pattern_in b p)
+
+pub err_seen : (r : Result Value ExecutionError) → is_err (outcome_view r) ≡ is_err r
+err_seen (Ok v) = refl
+err_seen (Err e) = refl

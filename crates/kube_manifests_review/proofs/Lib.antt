@@ -1,0 +1,7 @@
+pub mod Edits
+pub mod Books
+pub mod Steps
+pub mod Items
+pub mod Wrong
+pub mod Seen
+pub mod Gathered

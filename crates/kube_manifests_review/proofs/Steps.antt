@@ -1,0 +1,18 @@
+-- Steps of loops that add to a list.
+use Rattle.std.proofs.Common.{◌≡◌, ℕ, List, [], ◌∷◌, ◌++◌, Option, Some, None, is_some, option_map, length, refl, sym, ap, ◌∙◌, append_assoc, append-nil}
+
+-- what was added, and what is left
+pub one_more : {A : Type 0} (new old x rest all : List A) → new ≡ old ++ x → old ++ (x ++ rest) ≡ all → new ++ rest ≡ all
+one_more new old x rest all e h = ap (λ r. r ++ rest) e ∙ append_assoc old x rest ∙ h
+
+-- nothing is left
+pub no_more : {A : Type 0} (new rest all : List A) → rest ≡ [] → new ++ rest ≡ all → new ≡ all
+no_more new rest all e h = sym (append-nil new) ∙ ap (λ r. new ++ r) (sym e) ∙ h
+
+-- one after another
+pub two_steps : {A : Type 0} (old mid new a b : List A) → mid ≡ old ++ a → new ≡ mid ++ b → new ≡ old ++ (a ++ b)
+two_steps old mid new a b e f = f ∙ ap (λ xs. xs ++ b) e ∙ append_assoc old a b
+
+pub some_mapped : {A B : Type 0} (f : A → B) (o : Option A) → is_some (option_map f o) ≡ is_some o
+some_mapped f None = refl
+some_mapped f (Some a) = refl

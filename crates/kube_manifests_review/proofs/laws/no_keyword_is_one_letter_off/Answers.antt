@@ -1,0 +1,12 @@
+use Rattle.std.proofs.Common.{refl}
+use Rattle.kube_manifests_review.proofs.laws.no_keyword_is_one_letter_off.Goals as goal
+use Rattle.kube_manifests_review.specs.Edits.{schema_keywords}
+use Rattle.kube_manifests_review.specs.Keywords.{keywords, rule_fields}
+
+pub returns-clause-keywords : goal.returns-clause-keywords
+unfolding keywords schema_keywords
+returns-clause-keywords c = refl
+
+pub returns-clause-fields : goal.returns-clause-fields
+unfolding rule_fields
+returns-clause-fields c = refl

@@ -1,0 +1,149 @@
+-- Trusted by the clauses of manifests.
+-- What is said of one node of a rule's tree: which call can't work, and which literal. Source: Kubernetes documentation, "CEL in Kubernetes"; the
+-- functions are those of `kube_functions`; that doubles have no values is this project's own.
+use Rattle.std.specs.Prelude.{ℕ, List, [], ◌∷◌, ◌++◌, ◌||◌, length, Bool, true, false, Option, Some, None, is_some, if◌then◌else◌, codes, decimal}
+use Rattle.std.specs.List.{list_any, slice_get}
+use Rattle.std.specs.Option.{option_and_then}
+use Rattle.std.specs.Str.{bytes_eq}
+use Rattle.cel_meaning.specs.declared.functions.Form.{Form}
+use Rattle.cel_meaning.specs.declared.functions.Form.TheVariants.{Unknown, Wrong, Known}
+use Rattle.cel_syntax_tree.specs.Term.{Term, literal, ident, select, has, index, unary, binary, choice, list_of, map_with, call, qualified, macro, Terms, no_terms, term_and}
+use Rattle.cel_value.specs.Data.{Data}
+use Rattle.cel_value.specs.Parts.{text_in}
+use Rattle.cel_value.specs.Same.{has_double}
+use Rattle.kube_functions.specs.Kube.{all_library}
+use Rattle.kube_manifests_review.specs.Doubts.{Doubt, When, always, refused, fails}
+use Rattle.kube_manifests_review.specs.declared.finding.ReviewKind.{ReviewKind}
+use Rattle.kube_manifests_review.specs.declared.finding.ReviewKind.TheVariants as kind
+use Rattle.kube_manifests_review.specs.declared.text.Text as code
+
+-- a text of a rule: where it stands in the document, the rule's own text, and whether it is its messageExpression
+pub record Text : Type 0 where
+  pub pointer : List ℕ
+  pub rule : List ℕ
+  pub is_message : Bool
+
+abbrev pub text_view : code.Text → Text
+text_view t = record { pointer = t.pointer.now; rule = t.rule.now; is_message = t.is_message }
+
+-- what is said of a text of a rule
+abbrev pub said : Text → ReviewKind → List ℕ → When → Doubt
+said t k m w = record { finding = record { pointer = t.pointer; rule = t.rule; kind = k; message = m }; when = w }
+
+-- ---- what stands in a call
+
+-- the string that a literal is
+abbrev pub literal_text : Term → Option (List ℕ)
+literal_text (literal v) = text_in v
+literal_text (ident x) = None
+literal_text (select a x) = None
+literal_text (has a x) = None
+literal_text (index a b) = None
+literal_text (unary o a) = None
+literal_text (binary o a b) = None
+literal_text (choice a b c) = None
+literal_text (list_of ts) = None
+literal_text (map_with ps) = None
+literal_text (call r x ts) = None
+literal_text (qualified x ts) = None
+literal_text (macro k r x f b) = None
+
+-- the literal string that is the only argument of a call without a receiver
+abbrev pub only_text : Option Term → List Term → Option (List ℕ)
+only_text None (t ∷ []) = literal_text t
+only_text None [] = None
+only_text None (t ∷ u ∷ ts) = None
+only_text (Some r) ts = None
+
+-- the literal string that is the second operand of a call
+abbrev pub second_text : Option Term → List Term → Option (List ℕ)
+second_text (Some r) ts = option_and_then literal_text (slice_get ts 0)
+second_text None ts = option_and_then literal_text (slice_get ts 1)
+
+abbrev pub is_old_self : Option Term → Bool
+is_old_self (Some (ident x)) = bytes_eq x (codes "oldSelf")
+is_old_self _ = false
+
+-- the functions whose second operand is a pattern
+unfoldable pub takes_pattern : List ℕ → Bool
+takes_pattern name = list_any (bytes_eq name) (codes "matches" ∷ codes "find" ∷ codes "findAll" ∷ [])
+
+-- the functions that ask an optional
+unfoldable pub asks_optional : List ℕ → Bool
+asks_optional name = list_any (bytes_eq name) (codes "hasValue" ∷ codes "value" ∷ [])
+
+-- ---- what is said of a call
+
+abbrev pub unknown_text : List ℕ → List ℕ
+unknown_text name = codes "function '" ++ (name ++ codes "' is unknown")
+
+abbrev pub wrong_text : List ℕ → Bool → ℕ → List ℕ
+wrong_text name true n = codes "function '" ++ (name ++ (codes "' can't be called with a receiver and this number of arguments: " ++ decimal n))
+wrong_text name false n = codes "function '" ++ (name ++ (codes "' can't be called without a receiver and with this number of arguments: " ++ decimal n))
+
+abbrev pub old_self_text : List ℕ → List ℕ
+old_self_text name = codes "'oldSelf' is no optional: " ++ (name ++ codes "() always fails")
+
+abbrev pub fails_text : List ℕ → List ℕ → List ℕ
+fails_text name s = name ++ (codes "('" ++ (s ++ codes "') always fails"))
+
+abbrev pub pattern_text : List ℕ → List ℕ
+pattern_text p = codes "pattern '" ++ (p ++ codes "' is refused")
+
+abbrev pub old_self_doubts : Text → Option Term → List ℕ → List Doubt
+old_self_doubts t r name = if asks_optional name then (if is_old_self r then said t kind.OldSelf (old_self_text name) always ∷ [] else []) else []
+
+abbrev pub fails_doubts : Text → List ℕ → Option (List ℕ) → List Doubt
+fails_doubts t name None = []
+fails_doubts t name (Some s) = said t kind.Literal (fails_text name s) (fails name s) ∷ []
+
+abbrev pub refused_doubts : Text → Option (List ℕ) → List Doubt
+refused_doubts t None = []
+refused_doubts t (Some p) = said t kind.Pattern (pattern_text p) (refused p) ∷ []
+
+abbrev pub pattern_doubts : Text → Option Term → List ℕ → List Term → List Doubt
+pattern_doubts t r name ts = if takes_pattern name then refused_doubts t (second_text r ts) else []
+
+-- of a call in a form that there is
+abbrev pub known_doubts : Text → Option Term → List ℕ → List Term → List Doubt
+known_doubts t r name ts = old_self_doubts t r name ++ (fails_doubts t name (only_text r ts) ++ pattern_doubts t r name ts)
+
+-- of an unknown function a linter tells, but not where a messageExpression calls it
+abbrev pub form_doubts : Form → Text → Option Term → List ℕ → List Term → List Doubt
+form_doubts Unknown t r name ts = if t.is_message then said t kind.Call (unknown_text name) always ∷ [] else []
+form_doubts Wrong t r name ts = said t kind.Call (wrong_text name (is_some r) (length ts)) always ∷ []
+form_doubts Known t r name ts = known_doubts t r name ts
+
+abbrev pub call_doubts : Text → Option Term → List ℕ → List Term → List Doubt
+call_doubts t r name ts = form_doubts (all_library.form_of name (is_some r) (length ts)) t r name ts
+
+-- ---- what is said of a node
+
+abbrev pub double_text : List ℕ
+double_text = codes "numbers of kind double are not supported"
+
+abbrev pub literal_doubts : Text → Data → List Doubt
+literal_doubts t v = if has_double v then said t kind.Double double_text always ∷ [] else []
+
+abbrev pub first_term : Terms → Option Term
+first_term no_terms = None
+first_term (term_and t ts) = Some t
+
+abbrev pub terms_in : Terms → List Term
+terms_in no_terms = []
+terms_in (term_and t ts) = t ∷ terms_in ts
+
+abbrev pub node_doubts : Text → Term → List Doubt
+node_doubts t (literal v) = literal_doubts t v
+node_doubts t (ident x) = []
+node_doubts t (select a x) = []
+node_doubts t (has a x) = []
+node_doubts t (index a b) = []
+node_doubts t (unary o a) = []
+node_doubts t (binary o a b) = []
+node_doubts t (choice a b c) = []
+node_doubts t (list_of ts) = []
+node_doubts t (map_with ps) = []
+node_doubts t (call r x ts) = call_doubts t (first_term r) x (terms_in ts)
+node_doubts t (qualified x ts) = call_doubts t None x (terms_in ts)
+node_doubts t (macro k r x f b) = []

@@ -1,0 +1,102 @@
+-- Trusted by the clauses of manifests.
+-- What a review says of a document, and under which condition it says it. Source: this project's own statement.
+use Rattle.std.specs.Prelude.{ℕ, List, [], ◌∷◌, Bool, true, false, ◌&&◌, Option, None, is_none, is_err, if◌then◌else◌, codes, string_bytes}
+use Rattle.std.specs.List.{flat_map}
+use Rattle.cel_book.specs.Book.{Book, pattern_in}
+use Rattle.cel_meaning.specs.declared.functions.Form.{Form}
+use Rattle.cel_meaning.specs.declared.functions.Form.TheVariants.{Unknown, Wrong, Known}
+use Rattle.cel_value.specs.Data.{text}
+use Rattle.kube_cel_lint.specs.declared.finding.LintKind.{LintKind}
+use Rattle.kube_cel_lint.specs.declared.finding.LintKind.TheVariants as lint
+use Rattle.kube_functions.specs.Kube.{all_library}
+use Rattle.kube_manifests_review.specs.declared.finding.ReviewFinding.{ReviewFinding}
+use Rattle.kube_manifests_review.specs.declared.finding.ReviewKind.{ReviewKind}
+use Rattle.kube_manifests_review.specs.declared.finding.ReviewKind.TheVariants as kind
+use Rattle.kube_manifests_review.specs.declared.doubt.Condition.{Condition}
+use Rattle.kube_manifests_review.specs.declared.doubt.Condition.TheVariants as condition
+use Rattle.kube_manifests_review.specs.declared.doubt.Doubt as declared
+
+-- what is said of one place
+pub record Finding : Type 0 where
+  -- the JSON Pointer of the place in the document (RFC 6901)
+  pub pointer : List ℕ
+  -- the text of the rule, empty where it is of no rule
+  pub rule : List ℕ
+  pub kind : ReviewKind
+  pub message : List ℕ
+
+abbrev pub finding_view : ReviewFinding → Finding
+finding_view f = record { pointer = string_bytes f.pointer; rule = string_bytes f.rule; kind = f.kind; message = string_bytes f.message }
+
+abbrev pub lint_text : LintKind → List ℕ
+lint_text lint.Compile = codes "compile"
+lint_text lint.Function = codes "function"
+lint_text lint.Scope = codes "scope"
+lint_text lint.Cost = codes "cost"
+lint_text lint.Bounds = codes "bounds"
+lint_text lint.Depth = codes "depth"
+
+-- a kind in a word
+abbrev pub kind_text : ReviewKind → List ℕ
+kind_text (kind.Lint k) = lint_text k
+kind_text kind.Document = codes "document"
+kind_text kind.Call = codes "call"
+kind_text kind.Pattern = codes "pattern"
+kind_text kind.Literal = codes "literal"
+kind_text kind.Double = codes "double"
+kind_text kind.OldSelf = codes "old-self"
+kind_text kind.Message = codes "message"
+kind_text kind.Keyword = codes "keyword"
+kind_text kind.Rules = codes "rules"
+kind_text kind.NoRules = codes "no-rules"
+
+-- when something is said
+pub data When : Type 0 where
+  always : When
+  -- where this pattern is refused
+  refused : List ℕ → When
+  -- where the call of this function with this string alone has no value
+  fails : List ℕ → List ℕ → When
+
+-- what may be said
+pub record Doubt : Type 0 where
+  pub finding : Finding
+  pub when : When
+
+-- what is said in any case, and of no rule
+abbrev pub plainly : List ℕ → ReviewKind → List ℕ → Doubt
+plainly p k m = record { finding = record { pointer = p; rule = []; kind = k; message = m }; when = always }
+
+abbrev pub when_view : Condition → When
+when_view condition.Always = always
+when_view (condition.Refused p) = refused (string_bytes p)
+when_view (condition.Fails name s) = fails (string_bytes name) (string_bytes s)
+
+abbrev pub doubt_view : declared.Doubt → Doubt
+doubt_view d = record { finding = finding_view d.finding; when = when_view d.condition }
+
+-- ---- what is said by a book of patterns
+
+abbrev pub is_known : Form → Bool
+is_known Unknown = false
+is_known Wrong = false
+is_known Known = true
+
+-- whether a function is called with one argument, and has no value at this string
+unfoldable pub fails_at : List ℕ → List ℕ → Book → Bool
+fails_at name s book = is_known (all_library.form_of name false 1) && is_err (all_library.answer_of name None (text s ∷ []) book)
+
+unfoldable pub is_refused : List ℕ → Book → Bool
+is_refused p book = is_none (pattern_in book p)
+
+abbrev pub is_due : Book → When → Bool
+is_due book always = true
+is_due book (refused p) = is_refused p book
+is_due book (fails name s) = fails_at name s book
+
+abbrev pub said_by : Book → Doubt → List Finding
+said_by book d = if is_due book d.when then d.finding ∷ [] else []
+
+-- of what may be said, what is said, in its order
+unfoldable pub due : List Doubt → Book → List Finding
+due ds book = flat_map (said_by book) ds

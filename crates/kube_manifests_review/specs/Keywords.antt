@@ -1,0 +1,69 @@
+-- Trusted by the clauses of manifests.
+-- Keys that are one letter off a keyword: the edit distance of Levenshtein between their characters is one ("Binary codes capable of correcting
+-- deletions, insertions, and reversals", 1966). The keywords are those that this project reads of a schema (Kubernetes API reference,
+-- `JSONSchemaProps`), and the fields of a rule (`ValidationRule`).
+use Rattle.std.specs.Prelude.{ℕ, List, [], ◌∷◌, ◌++◌, ◌==◌, ◌||◌, Bool, true, false, Option, Some, None, if◌then◌else◌, codes}
+use Rattle.std.specs.List.{flat_map}
+use Rattle.std.specs.Str.{bytes_eq, chars}
+use Rattle.kube_manifests_review.specs.Doubts.{Doubt, always}
+use Rattle.kube_manifests_review.specs.Pointers.{key_pointer}
+use Rattle.kube_manifests_review.specs.declared.finding.ReviewKind.TheVariants.{Keyword}
+use Rattle.kube_schema_filled.specs.Look.{keys_in}
+use Rattle.serde_json.specs.Data.{Members}
+
+-- no character is left
+abbrev pub is_end : List ℕ → Bool
+is_end [] = true
+is_end (c ∷ cs) = false
+
+-- whether one character that is put in, left out or changed makes one of the other; of equal first characters the rest decides
+abbrev pub one_letter_off : List ℕ → List ℕ → Bool
+one_letter_off [] [] = false
+one_letter_off [] (w ∷ ws) = is_end ws
+one_letter_off (k ∷ ks) [] = is_end ks
+one_letter_off (k ∷ ks) (w ∷ ws) = if k == w then one_letter_off ks ws else (bytes_eq ks ws || (bytes_eq (k ∷ ks) ws || bytes_eq ks (w ∷ ws)))
+
+-- the first of these words that the key is one letter off
+abbrev pub near : List (List ℕ) → List ℕ → Option (List ℕ)
+near [] k = None
+near (w ∷ ws) k = if one_letter_off (chars k) (chars w) then Some w else near ws k
+
+-- the keywords of a schema
+unfoldable pub keywords : List (List ℕ)
+keywords =
+    codes "x-kubernetes-validations"
+    ∷ codes "x-kubernetes-preserve-unknown-fields"
+    ∷ codes "x-kubernetes-embedded-resource"
+    ∷ codes "x-kubernetes-int-or-string"
+    ∷ codes "properties"
+    ∷ codes "items"
+    ∷ codes "additionalProperties"
+    ∷ codes "allOf"
+    ∷ codes "oneOf"
+    ∷ codes "anyOf"
+    ∷ codes "format"
+    ∷ codes "default"
+    ∷ codes "maxLength"
+    ∷ codes "maxItems"
+    ∷ codes "maxProperties"
+    ∷ []
+
+-- the fields of a rule
+unfoldable pub rule_fields : List (List ℕ)
+rule_fields =
+    codes "rule" ∷ codes "message" ∷ codes "messageExpression" ∷ codes "reason" ∷ codes "fieldPath" ∷ codes "optionalOldSelf" ∷ []
+
+-- of a key in the object at this pointer, of this rule or none
+abbrev pub near_doubts : List ℕ → List ℕ → List ℕ → Option (List ℕ) → List Doubt
+near_doubts p rule k None = []
+near_doubts p rule k (Some w) = record {
+  finding = record { pointer = key_pointer p k; rule = rule; kind = Keyword; message = codes "'" ++ (k ++ (codes "' is one letter off '" ++ (w ++ codes "'"))) };
+  when = always;
+} ∷ []
+
+abbrev pub key_doubts : List (List ℕ) → List ℕ → List ℕ → List ℕ → List Doubt
+key_doubts words p rule k = near_doubts p rule k (near words k)
+
+-- of its keys, in their order
+abbrev pub keys_doubts : List (List ℕ) → List ℕ → List ℕ → Members → List Doubt
+keys_doubts words p rule ms = flat_map (key_doubts words p rule) (keys_in ms)

@@ -1,0 +1,10 @@
+pub mod Doubts
+pub mod Pointers
+pub mod Keywords
+pub mod Edits
+pub mod Places
+pub mod Nodes
+pub mod Calls
+pub mod Messages
+pub mod Rules
+pub mod Reviewed

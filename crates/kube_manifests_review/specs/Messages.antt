@@ -1,0 +1,40 @@
+-- Trusted by the clauses of manifests.
+-- Which trees plainly give no string: the kind of the node says so, without any value. Source: CEL language definition, "List of Standard
+-- Definitions", "Macros"; of the operators `+` alone gives strings, and of strings alone.
+use Rattle.std.specs.Prelude.{Bool, true, false, not, ◌||◌, is_some}
+use Rattle.cel_syntax_tree.specs.Term.{Term, literal, ident, select, has, index, unary, binary, choice, list_of, map_with, call, qualified, macro}
+use Rattle.cel_syntax_tree.specs.declared.expr.BinaryOperator.{BinaryOperator}
+use Rattle.cel_syntax_tree.specs.declared.expr.BinaryOperator.TheVariants.{Or, And, Less, LessOrEqual, Greater, GreaterOrEqual, Equal, NotEqual, In, Add, Subtract, Multiply, Divide, Remainder}
+use Rattle.cel_value.specs.Parts.{text_in}
+
+abbrev pub may_join : BinaryOperator → Bool
+may_join Or = false
+may_join And = false
+may_join Less = false
+may_join LessOrEqual = false
+may_join Greater = false
+may_join GreaterOrEqual = false
+may_join Equal = false
+may_join NotEqual = false
+may_join In = false
+may_join Add = true
+may_join Subtract = false
+may_join Multiply = false
+may_join Divide = false
+may_join Remainder = false
+
+abbrev pub is_no_string : Term → Bool
+is_no_string (literal v) = not (is_some (text_in v))
+is_no_string (ident x) = false
+is_no_string (select a x) = false
+is_no_string (has a x) = true
+is_no_string (index a b) = false
+is_no_string (unary o a) = true
+is_no_string (binary o a b) = not (may_join o) || (is_no_string a || is_no_string b)
+-- both branches have one kind
+is_no_string (choice a b c) = is_no_string b || is_no_string c
+is_no_string (list_of ts) = true
+is_no_string (map_with ps) = true
+is_no_string (call r x ts) = false
+is_no_string (qualified x ts) = false
+is_no_string (macro k r x f b) = true

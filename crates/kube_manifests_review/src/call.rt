@@ -1,0 +1,265 @@
+//! What is said of a call.
+ghost use Rattle.std.specs.Prelude.{◌≡◌, ◌++◌, [], ◌∷◌, OnOk, if◌then◌else◌, map, option_map};
+ghost use Rattle.cel_syntax_tree.specs.Term.{term};
+ghost use Rattle.kube_manifests_review.specs.Calls as spec;
+ghost use Rattle.kube_manifests_review.specs.Calls.{text_view};
+ghost use Rattle.kube_manifests_review.specs.Doubts.{always, doubt_view};
+
+use crate::doubt::{Condition, Doubt};
+use crate::finding::ReviewKind;
+use crate::said::{fails_text, old_self_text, pattern_text, unknown_text, wrong_text};
+use crate::text::{Text, add_said};
+use cel_meaning::{Form, Functions};
+use cel_syntax_tree::Expr;
+use kube_functions::AllFunctions;
+use std::alloc::{AllocError, Global};
+
+/// The string that a literal is.
+fn literal_text(expr: &Expr) -> Option<&str>
+    ensures { option_map (λ s. s.now) result ≡ spec.literal_text (term expr.now) }
+{
+    match expr {
+        Expr::Literal(value) => value.as_str(),
+        Expr::Ident(_) => None,
+        Expr::Select(_, _) => None,
+        Expr::Has(_, _) => None,
+        Expr::Index(_, _) => None,
+        Expr::Unary(_, _) => None,
+        Expr::Binary(_, _, _) => None,
+        Expr::Cond(_, _, _) => None,
+        Expr::List(_) => None,
+        Expr::Map(_) => None,
+        Expr::Call { .. } => None,
+        Expr::Qualified { .. } => None,
+        Expr::Macro { .. } => None,
+    }
+}
+
+/// The literal string that is the only argument of a call without a receiver.
+fn only_text<'a>(receiver: Option<&'a Expr>, args: &'a [Expr]) -> Option<&'a str>
+    ensures { option_map (λ s. s.now) result ≡ spec.only_text (option_map (λ r. term r.now) receiver.entry) (map term args.now) }
+{
+    match receiver {
+        Some(_) => None,
+        None => match args {
+            [] => None,
+            [only] => literal_text(only),
+            [_, _, ..] => None,
+        },
+    }
+}
+
+/// The literal string that is the second operand of a call.
+fn second_text<'a>(receiver: Option<&'a Expr>, args: &'a [Expr]) -> Option<&'a str>
+    ensures { option_map (λ s. s.now) result ≡ spec.second_text (option_map (λ r. term r.now) receiver.entry) (map term args.now) }
+{
+    let place = match receiver {
+        Some(_) => 0,
+        None => 1,
+    };
+    literal_text(args.get(place)?)
+}
+
+/// Whether it is the name `oldSelf`.
+fn is_old_self(receiver: Option<&Expr>) -> bool
+    ensures { result ≡ spec.is_old_self (option_map (λ r. term r.now) receiver.entry) }
+{
+    match receiver {
+        Some(Expr::Ident(name)) => name.as_str() == "oldSelf",
+        Some(_) => false,
+        None => false,
+    }
+}
+
+/// Whether the second operand of the function is a pattern.
+#[tactic(auto, unfolding(crate::specs::Calls::takes_pattern))]
+fn takes_pattern(name: &str) -> bool
+    ensures { result ≡ spec.takes_pattern name.now }
+{
+    name == "matches" || name == "find" || name == "findAll"
+}
+
+/// Whether the function asks an optional.
+#[tactic(auto, unfolding(crate::specs::Calls::asks_optional))]
+fn asks_optional(name: &str) -> bool
+    ensures { result ≡ spec.asks_optional name.now }
+{
+    name == "hasValue" || name == "value"
+}
+
+/// Adds that the function is asked of `oldSelf` as of an optional, if it is.
+fn add_old_self(
+    alloc: Global,
+    text: Text<'_>,
+    receiver: Option<&Expr>,
+    name: &str,
+    doubts: &mut Vec<Doubt>,
+) -> Result<(), AllocError>
+    ensures { OnOk result (map doubt_view doubts.new.items ≡ map doubt_view doubts.old.items
+        ++ spec.old_self_doubts (text_view text.entry) (option_map (λ r. term r.now) receiver.entry) name.now) }
+{
+    if !asks_optional(name) {
+        return Ok(());
+    }
+    if !is_old_self(receiver) {
+        return Ok(());
+    }
+    let message = old_self_text(alloc, name)?;
+    add_said(
+        alloc,
+        text,
+        ReviewKind::OldSelf,
+        message,
+        Condition::Always,
+        doubts,
+    )?;
+    Ok(())
+}
+
+/// Adds that the call of the function with a string may fail.
+fn add_fails(
+    alloc: Global,
+    text: Text<'_>,
+    name: &str,
+    string: Option<&str>,
+    doubts: &mut Vec<Doubt>,
+) -> Result<(), AllocError>
+    ensures { OnOk result (map doubt_view doubts.new.items ≡ map doubt_view doubts.old.items
+        ++ spec.fails_doubts (text_view text.entry) name.now (option_map (λ s. s.now) string.entry)) }
+{
+    let Some(string) = string else {
+        return Ok(());
+    };
+    let message = fails_text(alloc, name, string)?;
+    let condition = Condition::Fails {
+        name: String::from_str(alloc, name)?,
+        text: String::from_str(alloc, string)?,
+    };
+    add_said(alloc, text, ReviewKind::Literal, message, condition, doubts)?;
+    Ok(())
+}
+
+/// Adds that a pattern may be refused.
+fn add_refused(
+    alloc: Global,
+    text: Text<'_>,
+    pattern: Option<&str>,
+    doubts: &mut Vec<Doubt>,
+) -> Result<(), AllocError>
+    ensures { OnOk result (map doubt_view doubts.new.items ≡ map doubt_view doubts.old.items
+        ++ spec.refused_doubts (text_view text.entry) (option_map (λ s. s.now) pattern.entry)) }
+{
+    let Some(pattern) = pattern else {
+        return Ok(());
+    };
+    let message = pattern_text(alloc, pattern)?;
+    let condition = Condition::Refused(String::from_str(alloc, pattern)?);
+    add_said(alloc, text, ReviewKind::Pattern, message, condition, doubts)?;
+    Ok(())
+}
+
+/// Adds that the literal pattern of a call may be refused, where it has one.
+fn add_pattern(
+    alloc: Global,
+    text: Text<'_>,
+    receiver: Option<&Expr>,
+    name: &str,
+    args: &[Expr],
+    doubts: &mut Vec<Doubt>,
+) -> Result<(), AllocError>
+    ensures { OnOk result (map doubt_view doubts.new.items ≡ map doubt_view doubts.old.items
+        ++ spec.pattern_doubts (text_view text.entry) (option_map (λ r. term r.now) receiver.entry) name.now (map term args.now)) }
+{
+    if !takes_pattern(name) {
+        return Ok(());
+    }
+    add_refused(alloc, text, second_text(receiver, args), doubts)
+}
+
+/// Adds what is said of a call in a form that there is.
+fn add_known(
+    alloc: Global,
+    text: Text<'_>,
+    receiver: Option<&Expr>,
+    name: &str,
+    args: &[Expr],
+    doubts: &mut Vec<Doubt>,
+) -> Result<(), AllocError>
+    ensures { OnOk result (map doubt_view doubts.new.items ≡ map doubt_view doubts.old.items
+        ++ spec.known_doubts (text_view text.entry) (option_map (λ r. term r.now) receiver.entry) name.now (map term args.now)) }
+{
+    add_old_self(alloc, text, receiver, name, doubts)?;
+    add_fails(alloc, text, name, only_text(receiver, args), doubts)?;
+    add_pattern(alloc, text, receiver, name, args, doubts)?;
+    Ok(())
+}
+
+/// Adds that a function has no form with or without a receiver and with so many arguments.
+fn add_wrong(
+    alloc: Global,
+    text: Text<'_>,
+    has_receiver: bool,
+    name: &str,
+    count: usize,
+    doubts: &mut Vec<Doubt>,
+) -> Result<(), AllocError>
+    ensures { OnOk result (map doubt_view doubts.new.items ≡ map doubt_view doubts.old.items
+        ++ spec.said (text_view text.entry) ReviewKind.Call (spec.wrong_text name.now has_receiver count) always ∷ []) }
+{
+    let message = wrong_text(alloc, name, has_receiver, count)?;
+    add_said(
+        alloc,
+        text,
+        ReviewKind::Call,
+        message,
+        Condition::Always,
+        doubts,
+    )?;
+    Ok(())
+}
+
+/// Adds that there is no such function, where a messageExpression calls it.
+fn add_unknown(
+    alloc: Global,
+    text: Text<'_>,
+    name: &str,
+    doubts: &mut Vec<Doubt>,
+) -> Result<(), AllocError>
+    ensures { OnOk result (map doubt_view doubts.new.items ≡ map doubt_view doubts.old.items
+        ++ (if (text_view text.entry).is_message then spec.said (text_view text.entry) ReviewKind.Call (spec.unknown_text name.now) always ∷ [] else [])) }
+{
+    if !text.is_message {
+        return Ok(());
+    }
+    let message = unknown_text(alloc, name)?;
+    add_said(
+        alloc,
+        text,
+        ReviewKind::Call,
+        message,
+        Condition::Always,
+        doubts,
+    )?;
+    Ok(())
+}
+
+/// Adds what is said of a call.
+pub(crate) fn add_call(
+    alloc: Global,
+    text: Text<'_>,
+    receiver: Option<&Expr>,
+    name: &str,
+    args: &[Expr],
+    doubts: &mut Vec<Doubt>,
+) -> Result<(), AllocError>
+    ensures { OnOk result (map doubt_view doubts.new.items ≡ map doubt_view doubts.old.items
+        ++ spec.call_doubts (text_view text.entry) (option_map (λ r. term r.now) receiver.entry) name.now (map term args.now)) }
+{
+    let has_receiver = receiver.is_some();
+    match AllFunctions.form(name, has_receiver, args.len()) {
+        Form::Unknown => add_unknown(alloc, text, name, doubts)?,
+        Form::Wrong => add_wrong(alloc, text, has_receiver, name, args.len(), doubts)?,
+        Form::Known => add_known(alloc, text, receiver, name, args, doubts)?,
+    }
+    Ok(())
+}

@@ -1,0 +1,119 @@
+//! What is said of a document.
+ghost use Rattle.std.specs.Prelude.{◌≡◌, ◌++◌, IfErr, IfOk, OnOk, map, option_map, string_bytes};
+ghost use Rattle.kube_cel_lint.specs.Findings.{Naming};
+ghost use Rattle.kube_manifests_review.specs.Doubts.{doubt_view};
+ghost use Rattle.kube_manifests_review.specs.Reviewed as spec;
+ghost use Rattle.serde_json.specs.View.{items_view, view};
+
+use crate::doubt::Doubt;
+use crate::finding::ReviewKind;
+use crate::schema::{add_schema, has_item};
+use crate::text::add_plainly;
+use kube_types_refused::Refused;
+use serde_json::Value;
+use std::alloc::{AllocError, Global};
+
+/// The versions of a document, none where there is no list of them.
+#[tactic(auto, unfolding(crate::specs::Reviewed::versions_of))]
+fn versions_of(crd: &Value) -> &[Value]
+    ensures { items_view result.now ≡ spec.versions_of (view crd.now) }
+{
+    match crd
+        .get("spec")
+        .and_then(|it| it.get("versions"))
+        .and_then(Value::as_array)
+    {
+        Some(versions) => versions.as_slice(),
+        None => &[],
+    }
+}
+
+/// The schema of a version, where it is an object.
+#[tactic(auto, unfolding(crate::specs::Reviewed::version_schema))]
+fn version_schema(version: &Value) -> Option<&Value>
+    ensures { option_map (λ s. view s.now) result ≡ spec.version_schema (view version.now) }
+{
+    let schema = version.get("schema")?.get("openAPIV3Schema")?;
+    if schema.is_object() {
+        Some(schema)
+    } else {
+        None
+    }
+}
+
+/// The pointer of a version's schema.
+fn version_pointer(alloc: Global, index: usize) -> Result<String, AllocError>
+    ensures { IfOk result (λ s. string_bytes s ≡ spec.version_pointer index) }
+{
+    format!(in alloc; "/spec/versions/{index}/schema/openAPIV3Schema")
+}
+
+/// Adds what is said of a version by its schema.
+fn add_version(
+    alloc: Global,
+    base: &str,
+    schema: Option<&Value>,
+    doubts: &mut Vec<Doubt>,
+) -> Result<(), Refused>
+    ensures doubts { OnOk result ((names : Naming) → map doubt_view doubts.new.items ≡ map doubt_view doubts.old.items
+        ++ spec.version_doubts names base.now (option_map (λ s. view s.now) schema.entry)) }
+    ensures memory { IfErr result (λ e. e ≡ Refused.Memory) }
+{
+    match schema {
+        Some(schema) => add_schema(alloc, base, schema, doubts)?,
+        None => add_plainly(
+            alloc,
+            base,
+            ReviewKind::Document,
+            "the version has no schema",
+            doubts,
+        )?,
+    }
+    Ok(())
+}
+
+/// Adds what is said of versions, in their order.
+fn add_versions(alloc: Global, versions: &[Value], doubts: &mut Vec<Doubt>) -> Result<(), Refused>
+    ensures doubts { OnOk result ((names : Naming) → map doubt_view doubts.new.items ≡ map doubt_view doubts.old.items
+        ++ spec.versions_doubts names 0 (items_view versions.now)) }
+    ensures memory { IfErr result (λ e. e ≡ Refused.Memory) }
+{
+    for (index, version) in versions.iter().enumerate() {
+        let base = version_pointer(alloc, index)?;
+        add_version(alloc, base.as_str(), version_schema(version), doubts)?;
+    }
+    Ok(())
+}
+
+/// Adds that a document has no versions, if it has none.
+fn add_no_version(
+    alloc: Global,
+    versions: &[Value],
+    doubts: &mut Vec<Doubt>,
+) -> Result<(), AllocError>
+    ensures { OnOk result (map doubt_view doubts.new.items ≡ map doubt_view doubts.old.items ++ spec.no_version_doubts (items_view versions.now)) }
+{
+    if has_item(versions) {
+        return Ok(());
+    }
+    add_plainly(
+        alloc,
+        "/spec/versions",
+        ReviewKind::Document,
+        "the document has no versions",
+        doubts,
+    )?;
+    Ok(())
+}
+
+/// What may be said of a document.
+pub(crate) fn doubts_of(alloc: Global, crd: &Value) -> Result<Vec<Doubt>, Refused>
+    ensures doubts { IfOk result (λ v. (names : Naming) → map doubt_view v.items ≡ spec.crd_doubts names (view crd.now)) }
+    ensures memory { IfErr result (λ e. e ≡ Refused.Memory) }
+{
+    let versions = versions_of(crd);
+    let mut doubts = Vec::new(alloc);
+    add_no_version(alloc, versions, &mut doubts)?;
+    add_versions(alloc, versions, &mut doubts)?;
+    Ok(doubts)
+}

@@ -1,0 +1,51 @@
+//! Trees that plainly give no string.
+ghost use Rattle.std.specs.Prelude.{◌≡◌};
+ghost use Rattle.cel_syntax_tree.specs.Term.{term};
+ghost use Rattle.kube_manifests_review.specs.Messages.{is_no_string, may_join};
+
+use cel_syntax_tree::{BinaryOperator, Expr};
+
+/// Whether the operator gives strings.
+fn may_join(operator: BinaryOperator) -> bool
+    ensures { result ≡ may_join operator }
+{
+    match operator {
+        BinaryOperator::Or => false,
+        BinaryOperator::And => false,
+        BinaryOperator::Less => false,
+        BinaryOperator::LessOrEqual => false,
+        BinaryOperator::Greater => false,
+        BinaryOperator::GreaterOrEqual => false,
+        BinaryOperator::Equal => false,
+        BinaryOperator::NotEqual => false,
+        BinaryOperator::In => false,
+        BinaryOperator::Add => true,
+        BinaryOperator::Subtract => false,
+        BinaryOperator::Multiply => false,
+        BinaryOperator::Divide => false,
+        BinaryOperator::Remainder => false,
+    }
+}
+
+/// Whether the expression plainly gives no string.
+pub(crate) fn is_no_string(expr: &Expr) -> bool
+    ensures { result ≡ is_no_string (term expr.now) }
+{
+    match expr {
+        Expr::Literal(value) => !value.as_str().is_some(),
+        Expr::Ident(_) => false,
+        Expr::Select(_, _) => false,
+        Expr::Has(_, _) => true,
+        Expr::Index(_, _) => false,
+        Expr::Unary(_, _) => true,
+        Expr::Binary(operator, left, right) => {
+            !may_join(*operator) || is_no_string(left) || is_no_string(right)
+        }
+        Expr::Cond(_, yes, no) => is_no_string(yes) || is_no_string(no),
+        Expr::List(_) => true,
+        Expr::Map(_) => true,
+        Expr::Call { .. } => false,
+        Expr::Qualified { .. } => false,
+        Expr::Macro { .. } => true,
+    }
+}

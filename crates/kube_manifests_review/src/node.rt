@@ -1,0 +1,107 @@
+//! What is said of the nodes of a rule's tree.
+ghost use Rattle.std.specs.Prelude.{◌≡◌, ◌++◌, OnOk, map, option_map};
+ghost use Rattle.cel_syntax_tree.specs.Term.{term};
+ghost use Rattle.cel_value.specs.View.{view};
+ghost use Rattle.kube_manifests_review.specs.Calls.{call_doubts, literal_doubts, node_doubts, text_view};
+ghost use Rattle.kube_manifests_review.specs.Doubts.{doubt_view};
+ghost use Rattle.kube_manifests_review.specs.Rules.{tree_doubts};
+
+use crate::call::add_call;
+use crate::doubt::{Condition, Doubt};
+use crate::finding::ReviewKind;
+use crate::nodes::add_nodes;
+use crate::text::{Text, add_said};
+use cel_syntax_tree::Expr;
+use cel_value::Value;
+use std::alloc::{AllocError, Global};
+
+/// Adds that a literal is a double, if it is.
+fn add_literal(
+    alloc: Global,
+    text: Text<'_>,
+    value: &Value,
+    doubts: &mut Vec<Doubt>,
+) -> Result<(), AllocError>
+    ensures { OnOk result (map doubt_view doubts.new.items ≡ map doubt_view doubts.old.items ++ literal_doubts (text_view text.entry) (view value.now)) }
+{
+    if !value.holds_double() {
+        return Ok(());
+    }
+    let message = String::from_str(alloc, "numbers of kind double are not supported")?;
+    add_said(
+        alloc,
+        text,
+        ReviewKind::Double,
+        message,
+        Condition::Always,
+        doubts,
+    )?;
+    Ok(())
+}
+
+/// Adds what is said of a call whose receiver may be there.
+fn add_method(
+    alloc: Global,
+    text: Text<'_>,
+    receiver: &Option<Box<Expr>>,
+    name: &str,
+    args: &[Expr],
+    doubts: &mut Vec<Doubt>,
+) -> Result<(), AllocError>
+    ensures { OnOk result (map doubt_view doubts.new.items ≡ map doubt_view doubts.old.items
+        ++ call_doubts (text_view text.entry) (option_map (λ r. term r.value) receiver.now) name.now (map term args.now)) }
+{
+    match receiver {
+        Some(receiver) => add_call(alloc, text, Some(&**receiver), name, args, doubts)?,
+        None => add_call(alloc, text, None, name, args, doubts)?,
+    }
+    Ok(())
+}
+
+/// Adds what is said of a node.
+fn add_node(
+    alloc: Global,
+    text: Text<'_>,
+    node: &Expr,
+    doubts: &mut Vec<Doubt>,
+) -> Result<(), AllocError>
+    ensures { OnOk result (map doubt_view doubts.new.items ≡ map doubt_view doubts.old.items ++ node_doubts (text_view text.entry) (term node.now)) }
+{
+    match node {
+        Expr::Literal(value) => add_literal(alloc, text, value, doubts)?,
+        Expr::Ident(_) => {}
+        Expr::Select(_, _) => {}
+        Expr::Has(_, _) => {}
+        Expr::Index(_, _) => {}
+        Expr::Unary(_, _) => {}
+        Expr::Binary(_, _, _) => {}
+        Expr::Cond(_, _, _) => {}
+        Expr::List(_) => {}
+        Expr::Map(_) => {}
+        Expr::Call { target, name, args } => {
+            add_method(alloc, text, target, name.as_str(), args.as_slice(), doubts)?;
+        }
+        Expr::Qualified { name, args } => {
+            add_call(alloc, text, None, name.as_str(), args.as_slice(), doubts)?;
+        }
+        Expr::Macro { .. } => {}
+    }
+    Ok(())
+}
+
+/// Adds what is said of the nodes of a tree, in their order.
+pub(crate) fn add_tree(
+    alloc: Global,
+    text: Text<'_>,
+    tree: &Expr,
+    doubts: &mut Vec<Doubt>,
+) -> Result<(), AllocError>
+    ensures { OnOk result (map doubt_view doubts.new.items ≡ map doubt_view doubts.old.items ++ tree_doubts (text_view text.entry) (term tree.now)) }
+{
+    let mut nodes = Vec::new(alloc);
+    add_nodes(tree, &mut nodes)?;
+    for node in &nodes {
+        add_node(alloc, text, *node, doubts)?;
+    }
+    Ok(())
+}

@@ -1,0 +1,88 @@
+//! The nodes of a tree.
+ghost use Rattle.std.specs.Prelude.{◌≡◌, ◌++◌, OnOk, map};
+ghost use Rattle.cel_syntax_tree.specs.Term.{pairs_of, term, terms_of};
+ghost use Rattle.kube_manifests_review.specs.Nodes.{nodes_of, nodes_of_all, nodes_of_pairs};
+
+use cel_syntax_tree::Expr;
+use std::alloc::AllocError;
+
+/// Adds the node of an expression, then those of its parts.
+#[cycle(nodes)]
+pub(crate) fn add_nodes<'a>(expr: &'a Expr, nodes: &mut Vec<&'a Expr>) -> Result<(), AllocError>
+    ensures { OnOk result (map (λ n. term n.now) nodes.new.items ≡ map (λ n. term n.now) nodes.old.items ++ nodes_of (term expr.now)) }
+{
+    nodes.push(expr)?;
+    match expr {
+        Expr::Literal(_) => Ok(()),
+        Expr::Ident(_) => Ok(()),
+        Expr::Select(operand, _) => add_nodes(operand, nodes),
+        Expr::Has(operand, _) => add_nodes(operand, nodes),
+        Expr::Unary(_, operand) => add_nodes(operand, nodes),
+        Expr::Index(operand, index) => {
+            add_nodes(operand, nodes)?;
+            add_nodes(index, nodes)
+        }
+        Expr::Binary(_, left, right) => {
+            add_nodes(left, nodes)?;
+            add_nodes(right, nodes)
+        }
+        Expr::Cond(test, yes, no) => {
+            add_nodes(test, nodes)?;
+            add_nodes(yes, nodes)?;
+            add_nodes(no, nodes)
+        }
+        Expr::List(items) => add_from_all(items, nodes),
+        Expr::Map(pairs) => add_from_pairs(pairs, nodes),
+        Expr::Call {
+            target,
+            name: _,
+            args,
+        } => {
+            if let Some(target) = target {
+                add_nodes(target, nodes)?;
+            }
+            add_from_all(args, nodes)
+        }
+        Expr::Qualified { name: _, args } => add_from_all(args, nodes),
+        Expr::Macro {
+            kind: _,
+            range,
+            variable: _,
+            filter,
+            body,
+        } => {
+            add_nodes(range, nodes)?;
+            if let Some(filter) = filter {
+                add_nodes(filter, nodes)?;
+            }
+            add_nodes(body, nodes)
+        }
+    }
+}
+
+/// Adds the nodes of them all.
+#[cycle(nodes)]
+fn add_from_all<'a>(items: &'a Vec<Expr>, nodes: &mut Vec<&'a Expr>) -> Result<(), AllocError>
+    ensures { OnOk result (map (λ n. term n.now) nodes.new.items ≡ map (λ n. term n.now) nodes.old.items ++ nodes_of_all (terms_of (map term items.now.items))) }
+{
+    for item in items {
+        add_nodes(item, nodes)?;
+    }
+    Ok(())
+}
+
+/// Adds the nodes of all keys and values.
+#[cycle(nodes)]
+fn add_from_pairs<'a>(
+    pairs: &'a Vec<(Expr, Expr)>,
+    nodes: &mut Vec<&'a Expr>,
+) -> Result<(), AllocError>
+    ensures { OnOk result (map (λ n. term n.now) nodes.new.items ≡ map (λ n. term n.now) nodes.old.items
+        ++ nodes_of_pairs (pairs_of (map (λ p. (term p.0, term p.1)) pairs.now.items))) }
+{
+    for pair in pairs {
+        add_nodes(&pair.0, nodes)?;
+        add_nodes(&pair.1, nodes)?;
+    }
+    Ok(())
+}

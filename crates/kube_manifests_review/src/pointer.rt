@@ -1,0 +1,58 @@
+//! JSON Pointers (RFC 6901).
+ghost use Rattle.std.specs.Prelude.{◌≡◌, ◌++◌, IfOk, OnOk, string_bytes};
+ghost use Rattle.kube_cel_lint.specs.Pointers.{escaped, token};
+ghost use Rattle.kube_manifests_review.specs.Pointers.{index_pointer, key_pointer, keyword_pointer};
+
+use std::alloc::{AllocError, Global};
+
+/// Adds a character of a name.
+fn push_escaped(out: &mut String, character: char) -> Result<(), AllocError>
+    ensures { OnOk result (string_bytes out.new ≡ string_bytes out.old ++ escaped character) }
+{
+    match character {
+        '~' => out.push_str("~0"),
+        '/' => out.push_str("~1"),
+        other => out.push(other),
+    }
+}
+
+/// Adds a name.
+fn push_name(out: &mut String, name: &str) -> Result<(), AllocError>
+    ensures { OnOk result (string_bytes out.new ≡ string_bytes out.old ++ token name.now) }
+{
+    for character in name.chars() {
+        push_escaped(out, character)?;
+    }
+    Ok(())
+}
+
+/// The pointer of a member of any name.
+pub(crate) fn key_pointer(alloc: Global, pointer: &str, key: &str) -> Result<String, AllocError>
+    ensures { IfOk result (λ s. string_bytes s ≡ key_pointer pointer.now key.now) }
+{
+    let mut inner = format!(in alloc; "{pointer}/")?;
+    push_name(&mut inner, key)?;
+    Ok(inner)
+}
+
+/// The pointer of the member of a keyword.
+pub(crate) fn keyword_pointer(
+    alloc: Global,
+    pointer: &str,
+    keyword: &str,
+) -> Result<String, AllocError>
+    ensures { IfOk result (λ s. string_bytes s ≡ keyword_pointer pointer.now keyword.now) }
+{
+    format!(in alloc; "{pointer}/{keyword}")
+}
+
+/// The pointer of an item.
+pub(crate) fn index_pointer(
+    alloc: Global,
+    pointer: &str,
+    index: usize,
+) -> Result<String, AllocError>
+    ensures { IfOk result (λ s. string_bytes s ≡ index_pointer pointer.now index) }
+{
+    format!(in alloc; "{pointer}/{index}")
+}

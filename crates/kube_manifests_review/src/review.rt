@@ -1,0 +1,136 @@
+//! The review of a document.
+ghost use Rattle.std.specs.Prelude.{◌≡◌, ◌++◌, IfErr, IfOk, OnOk, map};
+ghost use Rattle.cel_book.specs.Book.{Agrees, Book, IsBook};
+ghost use Rattle.cel_book.specs.Entries.{entries_of};
+ghost use Rattle.cel_book.specs.Settled.{Settles};
+ghost use Rattle.kube_cel_lint.specs.Findings.{Naming};
+ghost use Rattle.kube_manifests_review.specs.Doubts.{doubt_view, finding_view, when_view};
+ghost use Rattle.kube_manifests_review.specs.Doubts as spec;
+ghost use Rattle.kube_manifests_review.specs.Reviewed.{crd_findings};
+ghost use Rattle.serde_json.specs.View.{view};
+
+use crate::document::doubts_of;
+use crate::doubt::{Condition, Doubt};
+use crate::finding::ReviewFinding;
+use cel_book::PatternBook;
+use cel_meaning::{Form, Functions};
+use cel_value::Value as CelValue;
+use kube_functions::AllFunctions;
+use kube_types_refused::Refused;
+use serde_json::Value;
+use std::alloc::Global;
+
+/// Whether the call of a function with a string alone has no value.
+#[tactic(auto, unfolding(crate::specs::Doubts::fails_at))]
+fn fails_at(alloc: Global, name: &str, text: &str, book: &mut PatternBook) -> Result<bool, Refused>
+    ensures keeps { Agrees (entries_of book.new) (entries_of book.old) }
+    ensures value { IfOk result (λ r. Settles (entries_of book.new) r (spec.fails_at name.now text.now)) }
+    ensures memory { IfErr result (λ e. e ≡ Refused.Memory) }
+{
+    match AllFunctions.form(name, false, 1) {
+        Form::Unknown => Ok(false),
+        Form::Wrong => Ok(false),
+        Form::Known => {
+            let value = CelValue::from_text(alloc, String::from_str(alloc, text)?)?;
+            let args = [value];
+            let answer = AllFunctions.call(alloc, name, None, &args, book)?;
+            Ok(answer.is_err())
+        }
+    }
+}
+
+/// Whether a pattern is refused.
+#[tactic(auto, unfolding(crate::specs::Doubts::is_refused))]
+fn is_refused(pattern: &str, book: &mut PatternBook) -> Result<bool, Refused>
+    ensures keeps { Agrees (entries_of book.new) (entries_of book.old) }
+    ensures value { IfOk result (λ r. Settles (entries_of book.new) r (spec.is_refused pattern.now)) }
+    ensures memory { IfErr result (λ e. e ≡ Refused.Memory) }
+{
+    let found = book.matches(pattern, "")?;
+    Ok(found.is_none())
+}
+
+/// Whether what has this condition is said.
+fn is_due(alloc: Global, condition: Condition, book: &mut PatternBook) -> Result<bool, Refused>
+    ensures keeps { Agrees (entries_of book.new) (entries_of book.old) }
+    ensures value { IfOk result (λ r. Settles (entries_of book.new) r (λ b. spec.is_due b (when_view condition))) }
+    ensures memory { IfErr result (λ e. e ≡ Refused.Memory) }
+{
+    match condition {
+        Condition::Always => Ok(true),
+        Condition::Refused(pattern) => is_refused(pattern.as_str(), book),
+        Condition::Fails { name, text } => fails_at(alloc, name.as_str(), text.as_str(), book),
+    }
+}
+
+/// Adds what may be said, if it is said.
+fn add_due(
+    alloc: Global,
+    doubt: Doubt,
+    book: &mut PatternBook,
+    found: &mut Vec<ReviewFinding>,
+) -> Result<(), Refused>
+    ensures keeps { Agrees (entries_of book.new) (entries_of book.old) }
+    ensures value { OnOk result (Settles (entries_of book.new) (map finding_view found.new.items)
+        (λ b. map finding_view found.old.items ++ spec.said_by b (doubt_view doubt))) }
+    ensures memory { IfErr result (λ e. e ≡ Refused.Memory) }
+{
+    let Doubt { finding, condition } = doubt;
+    if !is_due(alloc, condition, book)? {
+        return Ok(());
+    }
+    found.push(finding)?;
+    Ok(())
+}
+
+/// Of what may be said, what is said.
+fn due(
+    alloc: Global,
+    doubts: Vec<Doubt>,
+    book: &mut PatternBook,
+) -> Result<Vec<ReviewFinding>, Refused>
+    ensures keeps { Agrees (entries_of book.new) (entries_of book.old) }
+    ensures value { IfOk result (λ v. Settles (entries_of book.new) (map finding_view v.items) (spec.due (map doubt_view doubts.items))) }
+    ensures memory { IfErr result (λ e. e ≡ Refused.Memory) }
+{
+    let mut found = Vec::new(alloc);
+    for doubt in doubts {
+        add_due(alloc, doubt, book, &mut found)?;
+    }
+    Ok(found)
+}
+
+/// What a person should look at in a CustomResourceDefinition, with what the book knows of patterns: of each version in its order what a linter
+/// finds, then what else is wrong with the schema or its rules, schema by schema from the outermost inwards. The book keeps its entries, also
+/// where memory is refused. (Kubernetes API reference, `CustomResourceDefinitionSpec`, `JSONSchemaProps`, `ValidationRule`.)
+///
+/// # Errors
+///
+/// [`Refused`] where memory is refused.
+pub fn review_crd_with(
+    alloc: Global,
+    crd: &Value,
+    book: &mut PatternBook,
+) -> Result<Vec<ReviewFinding>, Refused>
+    ensures keeps { Agrees (entries_of book.new) (entries_of book.old) }
+    ensures findings { IfOk result (λ v. (names : Naming) → Settles (entries_of book.new) (map finding_view v.items) (crd_findings names (view crd.now))) }
+    ensures memory { IfErr result (λ e. e ≡ Refused.Memory) }
+{
+    let doubts = doubts_of(alloc, crd)?;
+    let found = due(alloc, doubts, book)?;
+    Ok(found)
+}
+
+/// The same, with a book of patterns of its own.
+///
+/// # Errors
+///
+/// [`Refused`] where memory is refused.
+pub fn review_crd(alloc: Global, crd: &Value) -> Result<Vec<ReviewFinding>, Refused>
+    ensures findings { IfOk result (λ v. (b : Book) × IsBook b × ((names : Naming) → map finding_view v.items ≡ crd_findings names (view crd.now) b)) }
+    ensures memory { IfErr result (λ e. e ≡ Refused.Memory) }
+{
+    let mut book = PatternBook::new(alloc);
+    let found = review_crd_with(alloc, crd, &mut book)?;
+    Ok(found)
+}

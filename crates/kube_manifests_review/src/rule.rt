@@ -1,0 +1,240 @@
+//! What is said of the rules of a schema.
+ghost use Rattle.std.specs.Prelude.{◌≡◌, ◌++◌, [], IfErr, OnOk, codes, map, option_map};
+ghost use Rattle.cel.specs.Program.{program_term};
+ghost use Rattle.cel_syntax_tree.specs.Term.{term};
+ghost use Rattle.kube_manifests_review.specs.Calls.{text_view};
+ghost use Rattle.kube_manifests_review.specs.Doubts.{doubt_view};
+ghost use Rattle.kube_manifests_review.specs.Keywords.{keys_doubts};
+ghost use Rattle.kube_manifests_review.specs.Pointers.{index_pointer};
+ghost use Rattle.kube_manifests_review.specs.Rules as spec;
+ghost use Rattle.kube_manifests_review.specs.Rules.{tree_doubts};
+ghost use Rattle.kube_schema_rules.specs.Compilation.{compiled_seen, result_view};
+ghost use Rattle.serde_json.specs.View.{items_view, view};
+
+use crate::doubt::{Condition, Doubt};
+use crate::finding::ReviewKind;
+use crate::keyword::{RULE_FIELDS, add_keys};
+use crate::message::is_no_string;
+use crate::node::add_tree;
+use crate::pointer::{index_pointer, keyword_pointer};
+use crate::text::{Text, add_plainly, add_said};
+use cel::Program;
+use cel_syntax_tree::Expr;
+use kube_schema_rules::{CompilationError, CompilationResult, compile_rule};
+use kube_types_refused::Refused;
+use serde_json::Value;
+use std::alloc::{AllocError, Global};
+
+/// Adds that a messageExpression plainly gives no string, if it does.
+fn add_kind(
+    alloc: Global,
+    text: Text<'_>,
+    tree: &Expr,
+    doubts: &mut Vec<Doubt>,
+) -> Result<(), AllocError>
+    ensures { OnOk result (map doubt_view doubts.new.items ≡ map doubt_view doubts.old.items ++ spec.kind_doubts (text_view text.entry) (term tree.now)) }
+{
+    if !is_no_string(tree) {
+        return Ok(());
+    }
+    let message = String::from_str(alloc, "messageExpression gives no string")?;
+    add_said(
+        alloc,
+        text,
+        ReviewKind::Message,
+        message,
+        Condition::Always,
+        doubts,
+    )?;
+    Ok(())
+}
+
+/// Adds what is said of a messageExpression, where there is one.
+fn add_message(
+    alloc: Global,
+    text: Text<'_>,
+    program: &Option<Program>,
+    doubts: &mut Vec<Doubt>,
+) -> Result<(), AllocError>
+    ensures { OnOk result (map doubt_view doubts.new.items ≡ map doubt_view doubts.old.items
+        ++ spec.message_doubts (text_view text.entry) (option_map program_term program.now)) }
+{
+    let Some(program) = program else {
+        return Ok(());
+    };
+    let tree = program.expression();
+    add_tree(alloc, text, tree, doubts)?;
+    add_kind(alloc, text, tree, doubts)?;
+    Ok(())
+}
+
+/// Adds what is said of the text of a rule.
+fn add_text(
+    alloc: Global,
+    pointer: &str,
+    rule: &str,
+    tree: &Expr,
+    doubts: &mut Vec<Doubt>,
+) -> Result<(), AllocError>
+    ensures { OnOk result (map doubt_view doubts.new.items ≡ map doubt_view doubts.old.items
+        ++ tree_doubts (spec.rule_text_at pointer.now rule.now) (term tree.now)) }
+{
+    let place = keyword_pointer(alloc, pointer, "rule")?;
+    let text = Text {
+        pointer: place.as_str(),
+        rule,
+        is_message: false,
+    };
+    add_tree(alloc, text, tree, doubts)?;
+    Ok(())
+}
+
+/// Adds what is said of the messageExpression of a rule, where it has one.
+fn add_message_text(
+    alloc: Global,
+    pointer: &str,
+    rule: &str,
+    program: &Option<Program>,
+    doubts: &mut Vec<Doubt>,
+) -> Result<(), AllocError>
+    ensures { OnOk result (map doubt_view doubts.new.items ≡ map doubt_view doubts.old.items
+        ++ spec.message_doubts (spec.message_text_at pointer.now rule.now) (option_map program_term program.now)) }
+{
+    let place = keyword_pointer(alloc, pointer, "messageExpression")?;
+    let text = Text {
+        pointer: place.as_str(),
+        rule,
+        is_message: true,
+    };
+    add_message(alloc, text, program, doubts)?;
+    Ok(())
+}
+
+/// Adds what is said of a compiled rule.
+fn add_compiled(
+    alloc: Global,
+    pointer: &str,
+    compiled: &CompilationResult,
+    doubts: &mut Vec<Doubt>,
+) -> Result<(), AllocError>
+    ensures { OnOk result (map doubt_view doubts.new.items ≡ map doubt_view doubts.old.items
+        ++ spec.compiled_doubts pointer.now (Ok (result_view compiled.now))) }
+{
+    let rule = compiled.rule.rule.as_str();
+    add_text(alloc, pointer, rule, compiled.program.expression(), doubts)?;
+    add_message_text(alloc, pointer, rule, &compiled.message_program, doubts)?;
+    Ok(())
+}
+
+/// Adds what is said of a rule that may be compiled.
+fn add_result(
+    alloc: Global,
+    pointer: &str,
+    outcome: &Result<CompilationResult, CompilationError>,
+    doubts: &mut Vec<Doubt>,
+) -> Result<(), AllocError>
+    ensures { OnOk result (map doubt_view doubts.new.items ≡ map doubt_view doubts.old.items
+        ++ spec.compiled_doubts pointer.now (compiled_seen outcome.now)) }
+{
+    match outcome {
+        Ok(compiled) => add_compiled(alloc, pointer, compiled, doubts)?,
+        Err(_) => {}
+    }
+    Ok(())
+}
+
+/// The text of a rule, empty where it has none.
+fn text_of_rule(rule: &Value) -> &str
+    ensures { result.now ≡ spec.text_of_rule (view rule.now) }
+{
+    match rule.get("rule").and_then(Value::as_str) {
+        Some(text) => text,
+        None => "",
+    }
+}
+
+/// Adds which keys of a value are one letter off one of these words.
+pub(crate) fn add_keys_of(
+    alloc: Global,
+    words: &[&str],
+    pointer: &str,
+    rule: &str,
+    value: &Value,
+    doubts: &mut Vec<Doubt>,
+) -> Result<(), AllocError>
+    ensures { OnOk result (map doubt_view doubts.new.items ≡ map doubt_view doubts.old.items
+        ++ keys_doubts (map (λ w. w.now) words.now) pointer.now rule.now (spec.members_of (view value.now))) }
+{
+    match value.as_object() {
+        Some(members) => add_keys(alloc, words, pointer, rule, members, doubts)?,
+        None => {}
+    }
+    Ok(())
+}
+
+/// Adds what is said of a rule.
+fn add_rule(
+    alloc: Global,
+    pointer: &str,
+    rule: &Value,
+    doubts: &mut Vec<Doubt>,
+) -> Result<(), Refused>
+    ensures doubts { OnOk result (map doubt_view doubts.new.items ≡ map doubt_view doubts.old.items ++ spec.rule_doubts pointer.now (view rule.now)) }
+    ensures memory { IfErr result (λ e. e ≡ Refused.Memory) }
+{
+    add_keys_of(
+        alloc,
+        &RULE_FIELDS,
+        pointer,
+        text_of_rule(rule),
+        rule,
+        doubts,
+    )?;
+    let compiled = compile_rule(alloc, rule)?;
+    add_result(alloc, pointer, &compiled, doubts)?;
+    Ok(())
+}
+
+/// Adds what is said of rules, in their order.
+fn add_rules(
+    alloc: Global,
+    pointer: &str,
+    rules: &[Value],
+    doubts: &mut Vec<Doubt>,
+) -> Result<(), Refused>
+    ensures doubts { OnOk result (map doubt_view doubts.new.items ≡ map doubt_view doubts.old.items ++ spec.rules_doubts pointer.now 0 (items_view rules.now)) }
+    ensures memory { IfErr result (λ e. e ≡ Refused.Memory) }
+{
+    for (index, rule) in rules.iter().enumerate() {
+        let inner = index_pointer(alloc, pointer, index)?;
+        add_rule(alloc, inner.as_str(), rule, doubts)?;
+    }
+    Ok(())
+}
+
+/// Adds what is said of the rules of a schema, where it has any.
+pub(crate) fn add_validations(
+    alloc: Global,
+    pointer: &str,
+    rules: Option<&Value>,
+    doubts: &mut Vec<Doubt>,
+) -> Result<(), Refused>
+    ensures doubts { OnOk result (map doubt_view doubts.new.items ≡ map doubt_view doubts.old.items
+        ++ spec.validations_doubts pointer.now (option_map (λ v. view v.now) rules.entry)) }
+    ensures memory { IfErr result (λ e. e ≡ Refused.Memory) }
+{
+    let Some(rules) = rules else {
+        return Ok(());
+    };
+    match rules.as_array() {
+        Some(rules) => add_rules(alloc, pointer, rules.as_slice(), doubts)?,
+        None => add_plainly(
+            alloc,
+            pointer,
+            ReviewKind::Rules,
+            "x-kubernetes-validations is no list",
+            doubts,
+        )?,
+    }
+    Ok(())
+}

@@ -1,0 +1,39 @@
+//! Kinds of findings as words.
+ghost use Rattle.std.specs.Prelude.{◌≡◌};
+ghost use Rattle.kube_manifests_review.specs.Doubts.{kind_text, lint_text};
+
+use crate::finding::ReviewKind;
+use kube_cel_lint::LintKind;
+
+/// A linter's kind in a word.
+fn lint_word(kind: LintKind) -> &'static str
+    ensures { result.now ≡ lint_text kind }
+{
+    match kind {
+        LintKind::Compile => "compile",
+        LintKind::Function => "function",
+        LintKind::Scope => "scope",
+        LintKind::Cost => "cost",
+        LintKind::Bounds => "bounds",
+        LintKind::Depth => "depth",
+    }
+}
+
+/// A kind in a word.
+pub(crate) fn word_of(kind: ReviewKind) -> &'static str
+    ensures { result.now ≡ kind_text kind }
+{
+    match kind {
+        ReviewKind::Lint(kind) => lint_word(kind),
+        ReviewKind::Document => "document",
+        ReviewKind::Call => "call",
+        ReviewKind::Pattern => "pattern",
+        ReviewKind::Literal => "literal",
+        ReviewKind::Double => "double",
+        ReviewKind::OldSelf => "old-self",
+        ReviewKind::Message => "message",
+        ReviewKind::Keyword => "keyword",
+        ReviewKind::Rules => "rules",
+        ReviewKind::NoRules => "no-rules",
+    }
+}
