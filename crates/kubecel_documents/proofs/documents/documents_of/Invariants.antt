@@ -1,0 +1,6 @@
+use Rattle.kubecel_documents.proofs.documents.documents_of.Given as goal
+use Rattle.kubecel_documents.specs.Documents.{documents, left}
+use Rattle.std.proofs.Common.{◌≡◌, drop}
+
+abbrev pub invariant-loop-i : goal.invariant-loop-i
+invariant-loop-i l = documents l.fn.text ≡ left l.reading (drop l.i l.bytes)

@@ -1,0 +1,4 @@
+pub mod Documents
+pub mod Reads
+pub mod Objects
+pub mod Subjects

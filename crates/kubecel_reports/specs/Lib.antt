@@ -1,0 +1,5 @@
+pub mod Items
+pub mod Lines
+pub mod Escapes
+pub mod Json
+pub mod Output
