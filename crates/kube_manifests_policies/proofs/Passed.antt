@@ -6,7 +6,7 @@ use Rattle.kube_manifests_policies.specs.Judged.{policy_verdict, results_as, ver
 use Rattle.kube_manifests_policies.specs.Laws.{IsJudged}
 use Rattle.kube_manifests_policies.specs.Policies.{PolicyData}
 use Rattle.kube_manifests_policies.specs.Scopes.{Reach, first_scope, reached, scope_for, variables_after}
-use Rattle.kube_manifests_policies.specs.Verdicts.{Labelled, after_conditions, any_is, decided}
+use Rattle.kube_manifests_policies.specs.Verdicts.{Labelled, after_conditions, any_is}
 use Rattle.kube_manifests_policies.specs.declared.judged.Subject.TheVariants.{Annotation, Condition, Validation}
 use Rattle.kube_manifests_policies.specs.declared.verdict.Mark.TheVariants as mark
 use Rattle.kube_manifests_policies.specs.declared.verdict.PolicyDecision.{PolicyDecision}

@@ -1,7 +1,7 @@
 -- Variables that don't ask for each other, in either order.
 use Rattle.cel_book.specs.Book.{Book}
-use Rattle.cel_meaning.specs.Bindings.{Bindings, binding}
-use Rattle.cel_meaning.specs.Members.{new_entry, put_in, selected}
+use Rattle.cel_meaning.specs.Bindings.{binding}
+use Rattle.cel_meaning.specs.Members.{new_entry, put_in}
 use Rattle.cel_meaning.specs.Outcome.{Outcome}
 use Rattle.cel_syntax.specs.Reading.{tree_of}
 use Rattle.cel_syntax_tree.specs.Term.{Term}
@@ -14,7 +14,7 @@ use Rattle.kube_cel_policies.specs.Expressions.{unread_text, ◌>>=◌}
 use Rattle.kube_cel_policies.specs.Results.{outcome_in, policy_library}
 use Rattle.kube_manifests_policies.proofs.Near.{Members, Near, near}
 use Rattle.kube_manifests_policies.specs.Inputs.{first_missing}
-use Rattle.kube_manifests_policies.specs.Laws.{AreTurned, HasVariables, IsApartFrom, SameVariables}
+use Rattle.kube_manifests_policies.specs.Laws.{HasVariables, IsApartFrom, SameVariables}
 use Rattle.kube_manifests_policies.specs.Policies.{ItemData}
 use Rattle.kube_manifests_policies.specs.Scopes.{Reach, ScopeData, evaluated, fault_told, first_stop, reached, reached_unless, stopped_by, stops, tree_or, variable_step, why_not, with_stored, with_values, with_variable, without_value}
 use Rattle.kube_manifests_policies.specs.Uses.{asks}

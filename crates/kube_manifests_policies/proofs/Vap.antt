@@ -13,10 +13,10 @@ use Rattle.kube_cel_policies.specs.Variables.{Variables, policy_bindings}
 use Rattle.kube_manifests_policies.specs.Judged.{false_message, message_tree_told, outcome_told, policy_verdict, result_as, results_as, settled, truth_told, validation_told, validation_with, verdict_in, with_message}
 use Rattle.kube_manifests_policies.specs.Laws.{IsJudgedIn, expression_of, message_told, of_validations, vap_result}
 use Rattle.kube_manifests_policies.specs.Policies.{ItemData}
-use Rattle.kube_manifests_policies.specs.Scopes.{Reach, ScopeData, first_scope, reached, reached_unless, tree_or, tree_told, why_not}
-use Rattle.kube_manifests_policies.specs.Verdicts.{Labelled, ToldData, erred, with_told}
+use Rattle.kube_manifests_policies.specs.Scopes.{Reach, ScopeData, first_scope, reached, reached_unless, tree_or, why_not}
+use Rattle.kube_manifests_policies.specs.Verdicts.{erred, with_told}
 use Rattle.kube_manifests_policies.specs.declared.judged.Subject.TheVariants.{Validation}
-use Rattle.std.proofs.Common.{◌≡◌, ℕ, List, [], ◌∷◌, map, Bool, true, false, Option, Some, None, Result, Ok, Err, option_map, is_none, refl, sym, ap, ◌∙◌}
+use Rattle.std.proofs.Common.{◌≡◌, ℕ, List, [], ◌∷◌, map, Bool, true, false, Option, Some, None, Ok, Err, option_map, refl, sym, ap, ◌∙◌}
 use Rattle.std.specs.List.{AllByRecursion}
 
 message_of_truth : (m n : List ℕ) (v : Data) (o : Option Bool) → m ≡ n → message_told (with_message m (truth_told v o)) ≡ results.value_message n v o

@@ -4,7 +4,7 @@ use Rattle.kube_manifests_policies.proofs.item.entries_of.Goals as goal
 use Rattle.kube_manifests_policies.specs.Faults.{FaultData}
 use Rattle.kube_manifests_policies.specs.Policies.{ItemData, entries_after, item_view, next_entry, read}
 use Rattle.serde_json.specs.View.{items_view, view}
-use Rattle.std.proofs.Common.{◌≡◌, ◌<◌, ◌+◌, List, [], ◌∷◌, ◌++◌, Result, length, map, drop, arith, sym, ap, ◌∙◌}
+use Rattle.std.proofs.Common.{◌<◌, ◌+◌, List, [], ◌∷◌, ◌++◌, Result, length, map, drop, arith, sym, ap, ◌∙◌}
 use Rattle.std.proofs.lemmas.List.{length-map, map-append}
 
 pub returns-in-Err-clause-entries : goal.returns-in-Err-clause-entries
