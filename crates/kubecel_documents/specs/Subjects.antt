@@ -1,5 +1,4 @@
 -- Trusted by the clauses of kubecel.
--- For private clauses alone.
 -- What the code's objects stand for.
 use Rattle.kubecel_documents.specs.Reads.{Found}
 use Rattle.kubecel_documents.specs.declared.subject.Subject.{Subject}
