@@ -1,5 +1,5 @@
 -- The schemas within one.
-use Rattle.std.proofs.Common.{◌≡◌, ℕ, zero, suc, List, [], ◌∷◌, ◌++◌, codes, refl, sym, ap, ◌∙◌, append_assoc, append-nil}
+use Rattle.std.proofs.Common.{◌≡◌, ℕ, zero, suc, List, [], ◌∷◌, ◌++◌, codes, sym, ap, ◌∙◌, append_assoc, append-nil}
 use Rattle.kube_schema_filled.specs.Look.{declared, members_or_none, additional}
 use Rattle.kube_manifests_review.specs.Places.{Place, branch_places, maybe_places, named_places, places_of, places_within}
 use Rattle.kube_manifests_review.specs.Pointers.{keyword_pointer}

@@ -1,5 +1,5 @@
 -- Nodes of a tree as terms.
-use Rattle.std.proofs.Common.{◌≡◌, ℕ, List, [], ◌∷◌, Bool, true, Option, Some, None, Box, codes, cond, map, option_map, refl, sym, ap, ◌∙◌, string_bytes}
+use Rattle.std.proofs.Common.{◌≡◌, ℕ, List, [], ◌∷◌, true, Option, Some, None, Box, codes, cond, map, option_map, refl, sym, ap, ◌∙◌, string_bytes}
 use Rattle.std.specs.declared.alloc.Global.{Global}
 use Rattle.cel_syntax_tree.specs.Term.{Term, call, no_terms, qualified, term, term_and, term_step, terms_of}
 use Rattle.cel_syntax_tree.specs.declared.expr.Expr.{Expr, Expr-F, fold-roll-Expr}

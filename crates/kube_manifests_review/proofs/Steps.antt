@@ -1,5 +1,5 @@
 -- Steps of loops that add to a list.
-use Rattle.std.proofs.Common.{◌≡◌, ℕ, List, [], ◌∷◌, ◌++◌, Option, Some, None, is_some, option_map, length, refl, sym, ap, ◌∙◌, append_assoc, append-nil}
+use Rattle.std.proofs.Common.{◌≡◌, List, [], ◌++◌, Option, Some, None, is_some, option_map, refl, sym, ap, ◌∙◌, append_assoc, append-nil}
 
 -- what was added, and what is left
 pub one_more : {A : Type 0} (new old x rest all : List A) → new ≡ old ++ x → old ++ (x ++ rest) ≡ all → new ++ rest ≡ all

@@ -1,7 +1,7 @@
 -- Trusted by the clauses of manifests.
 -- What is said of one node of a rule's tree: which call can't work, and which literal. Source: Kubernetes documentation, "CEL in Kubernetes"; the
 -- functions are those of `kube_functions`; that doubles have no values is this project's own.
-use Rattle.std.specs.Prelude.{ℕ, List, [], ◌∷◌, ◌++◌, ◌||◌, length, Bool, true, false, Option, Some, None, is_some, if◌then◌else◌, codes, decimal}
+use Rattle.std.specs.Prelude.{ℕ, List, [], ◌∷◌, ◌++◌, length, Bool, true, false, Option, Some, None, is_some, if◌then◌else◌, codes, decimal}
 use Rattle.std.specs.List.{list_any, slice_get}
 use Rattle.std.specs.Option.{option_and_then}
 use Rattle.std.specs.Str.{bytes_eq}

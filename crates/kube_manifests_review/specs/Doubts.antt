@@ -1,6 +1,6 @@
 -- Trusted by the clauses of manifests.
 -- What a review says of a document, and under which condition it says it. Source: this project's own statement.
-use Rattle.std.specs.Prelude.{ℕ, List, [], ◌∷◌, Bool, true, false, ◌&&◌, Option, None, is_none, is_err, if◌then◌else◌, codes, string_bytes}
+use Rattle.std.specs.Prelude.{ℕ, List, [], ◌∷◌, Bool, true, false, ◌&&◌, None, is_none, is_err, if◌then◌else◌, codes, string_bytes}
 use Rattle.std.specs.List.{flat_map}
 use Rattle.cel_book.specs.Book.{Book, pattern_in}
 use Rattle.cel_meaning.specs.declared.functions.Form.{Form}

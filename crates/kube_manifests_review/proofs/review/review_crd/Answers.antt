@@ -1,5 +1,4 @@
 use Rattle.cel_book.proofs.Entries.{entries-IsBook}
-use Rattle.cel_book.specs.Book.{Agrees}
 use Rattle.cel_book.specs.Entries.{entries_of}
 use Rattle.kube_manifests_review.proofs.review.review_crd.Goals as goal
 
