@@ -1,6 +1,6 @@
 //! Reading a file of rows.
 
-use crate::row::{Fault, Field};
+use crate::row::{Fault, Field, Row};
 use serde_json::Value;
 use std::alloc::{AllocError, Global};
 
@@ -22,12 +22,10 @@ enum Line<'a> {
 
 /// Whether a text is a key: lower-case letters and blanks.
 fn is_key(text: &str) -> bool {
-    for byte in text.bytes() {
-        if !byte.is_ascii_lowercase() && byte != b' ' {
-            return false;
-        }
-    }
     !text.is_empty()
+        && text
+            .bytes()
+            .all(|byte| byte.is_ascii_lowercase() || byte == b' ')
 }
 
 /// What a line with a key says.
@@ -63,26 +61,32 @@ fn said(line: &str) -> Line<'_> {
     }
 }
 
-/// The fields that were read so far.
+/// The rows that were read so far.
 #[derive(Drop)]
 struct Reader {
-    fields: Vec<Field>,
+    rows: Vec<Row>,
     /// Whether the last field's text goes on.
     in_block: bool,
 }
 
 impl Reader {
-    /// Whether a row has this name.
-    fn has_row(&self, name: &str) -> bool {
-        for field in self.fields.iter() {
-            if field.key.as_str() == "==" && field.text.as_str() == name {
-                return true;
-            }
+    /// Begins a row.
+    fn begin(
+        &mut self,
+        alloc: Global,
+        name: &str,
+        line: usize,
+    ) -> Result<Option<&'static str>, AllocError> {
+        if self.rows.iter().any(|row| row.name.as_str() == name) {
+            return Ok(Some("another row has this name"));
         }
-        false
+        let name = String::from_str(alloc, name)?;
+        let fields = Vec::new(alloc);
+        self.rows.push(Row { name, line, fields })?;
+        Ok(None)
     }
 
-    /// Puts a field behind the others.
+    /// Puts a field behind those of the last row.
     fn put(
         &mut self,
         alloc: Global,
@@ -90,26 +94,27 @@ impl Reader {
         text: String,
         line: usize,
     ) -> Result<Option<&'static str>, AllocError> {
-        if key != "==" && self.fields.is_empty() {
+        let Some(row) = self.rows.last_mut() else {
             return Ok(Some("a field stands before the first row"));
-        }
+        };
         let key = String::from_str(alloc, key)?;
-        self.fields.push(Field { key, text, line })?;
+        row.fields.push(Field { key, text, line })?;
         Ok(None)
     }
 
     /// Puts a line behind the text of the last field, if its text goes on.
-    fn go_on(&mut self, text: &str) -> Result<Option<&'static str>, AllocError> {
-        match self.fields.last_mut() {
-            Some(field) if self.in_block => {
-                if !field.text.is_empty() {
-                    field.text.push('\n')?;
-                }
-                field.text.push_str(text)?;
-                Ok(None)
-            }
-            _ => Ok(Some("no field's text goes on here")),
+    fn go_on(&mut self, text: &str) -> Result<bool, AllocError> {
+        if !self.in_block {
+            return Ok(false);
         }
+        let Some(field) = self.rows.last_mut().and_then(|row| row.fields.last_mut()) else {
+            return Ok(false);
+        };
+        if !field.text.is_empty() {
+            field.text.push('\n')?;
+        }
+        field.text.push_str(text)?;
+        Ok(true)
     }
 
     /// Takes a line: what is wrong with it, if anything is.
@@ -120,13 +125,17 @@ impl Reader {
         line: usize,
     ) -> Result<Option<&'static str>, AllocError> {
         if let Some(inner) = text.strip_prefix("  ") {
-            return self.go_on(inner);
+            let goes_on = self.go_on(inner)?;
+            return Ok(if goes_on {
+                None
+            } else {
+                Some("no field's text goes on here")
+            });
         }
         self.in_block = false;
         match said(text) {
             Line::Nothing => Ok(None),
-            Line::Row(name) if self.has_row(name) => Ok(Some("another row has this name")),
-            Line::Row(name) => self.put(alloc, "==", String::from_str(alloc, name)?, line),
+            Line::Row(name) => self.begin(alloc, name, line),
             Line::Plain(key, text) => self.put(alloc, key, String::from_str(alloc, text)?, line),
             Line::Block(key) => {
                 self.in_block = true;
@@ -141,13 +150,10 @@ impl Reader {
     }
 }
 
-/// The fields of a text's rows, in order, or the first line that is wrong.
-pub(crate) fn read_rows(
-    alloc: Global,
-    text: &str,
-) -> Result<Result<Vec<Field>, Fault>, AllocError> {
+/// The rows of a text, in order, or the first line that is wrong.
+pub fn read_rows(alloc: Global, text: &str) -> Result<Result<Vec<Row>, Fault>, AllocError> {
     let mut reader = Reader {
-        fields: Vec::new(alloc),
+        rows: Vec::new(alloc),
         in_block: false,
     };
     let mut line = 0usize;
@@ -157,9 +163,11 @@ pub(crate) fn read_rows(
             return Ok(Err(Fault { line, what }));
         }
     }
-    if reader.fields.is_empty() {
-        let what = "no row";
-        return Ok(Err(Fault { line, what }));
+    if reader.rows.is_empty() {
+        return Ok(Err(Fault {
+            line,
+            what: "no row",
+        }));
     }
-    Ok(Ok(reader.fields))
+    Ok(Ok(reader.rows))
 }
