@@ -1,39 +1,48 @@
 //! The files that a program's arguments name.
 
-use crate::judge::{Subject, Tally, judge_rows};
-use crate::reader::read_rows;
-use crate::row::{Fault, Stop};
+use crate::found::Found;
+use crate::judge::{FAILURE, Report, Subject, Tally, judge_text, tell_stop};
+use crate::row::Stop;
 use std::alloc::Global;
 use std::io::Write;
 use std::process::ExitCode;
 use std::{env, fs, io};
 
-/// A tally of something that isn't a row and failed.
-const FAILURE: Tally = Tally {
-    rows: 0,
-    checks: 0,
-    failures: 1,
-};
-
-/// Runs the rows of a file's text.
-fn run_text<S: Subject>(
+/// Judges what the grammar of a file makes.
+fn judge_grammar<S: Subject>(
     alloc: Global,
-    file: &str,
     text: &str,
     subject: &mut S,
-    out: &mut impl Write,
+    report: &mut Report<'_>,
 ) -> Result<Tally, Stop> {
-    match read_rows(alloc, text)? {
-        Ok(rows) => judge_rows(alloc, file, rows.as_slice(), subject, out),
-        Err(Fault { line, what }) => {
-            let _ = writeln!(out, "{file}:{line}: {what}");
+    let mut found = Found::new(alloc);
+    match subject.generate(alloc, text, &mut found, &mut report.text) {
+        Ok(()) => Ok(Tally::default()),
+        Err(stop) => {
+            tell_stop(stop, &mut found)?;
+            report.tell(0, found.text.as_str())?;
             Ok(FAILURE)
         }
     }
 }
 
-/// Runs the rows of a file, and writes how many hold.
-pub fn run_file<S: Subject>(
+/// Judges a file's text: that of a grammar, where its name ends so, or else of rows.
+fn judge_file<S: Subject>(
+    alloc: Global,
+    text: &str,
+    subject: &mut S,
+    report: &mut Report<'_>,
+) -> Result<Tally, Stop> {
+    if report.file.ends_with(".grammar") {
+        return judge_grammar(alloc, text, subject, report);
+    }
+    let tally = judge_text(alloc, text, subject, report)?;
+    tally.tell(report.file, &mut report.text)?;
+    Ok(tally)
+}
+
+/// Judges a file, and writes what comes of it.
+fn run_file<S: Subject>(
     rt: &HostRuntime,
     file: &str,
     subject: &mut S,
@@ -43,55 +52,34 @@ pub fn run_file<S: Subject>(
         let _ = writeln!(out, "{file}: can't be read");
         return FAILURE;
     };
-    let tally = match run_text(rt.alloc(), file, text.as_str(), subject, out) {
+    let mut report = Report {
+        file,
+        text: String::new(rt.alloc()),
+    };
+    let judged = judge_file(rt.alloc(), text.as_str(), subject, &mut report);
+    let _ = out.write_all(report.text.as_bytes());
+    match judged {
         Ok(tally) => tally,
-        Err(Stop::Memory) => {
+        Err(_) => {
             let _ = writeln!(out, "{file}: there is no memory");
             FAILURE
         }
-        Err(Stop::Broken(why)) => {
-            let why = why.as_str();
-            let _ = writeln!(out, "{file}: {why}");
-            FAILURE
-        }
-    };
-    summarize(file, tally, out);
-    tally
-}
-
-/// Writes how many rows there are and how many of their checks hold.
-fn summarize(what: &str, tally: Tally, out: &mut impl Write) {
-    let Tally {
-        rows,
-        checks,
-        failures,
-    } = tally;
-    let _ = if failures == 0 {
-        writeln!(out, "{what}: {rows} rows, {checks} checks hold")
-    } else {
-        writeln!(
-            out,
-            "{what}: {rows} rows, {failures} of {checks} checks FAILED"
-        )
-    };
-}
-
-/// Writes how many rows of all files hold. The status is 0 where each does and there is one.
-pub fn finish(all: Tally, out: &mut impl Write) -> ExitCode {
-    summarize("all", all, out);
-    if all.failures == 0 && all.checks > 0 {
-        ExitCode::SUCCESS
-    } else {
-        ExitCode::FAILURE
     }
 }
 
-/// Runs the rows of the files that the program's arguments name, and writes how many hold, as `finish` does.
+/// Judges the files that a program's arguments name, and writes what comes of them. The status is 0 where each check holds and there is one.
 pub fn run_files<S: Subject>(rt: &HostRuntime, subject: &mut S) -> io::Result<ExitCode> {
     let mut out = rt.stdout();
     let mut all = Tally::default();
     for file in env::args(rt)?.skip(1) {
         all = all.with(run_file(rt, file.as_str(), subject, &mut out));
     }
-    Ok(finish(all, &mut out))
+    let mut report = String::new(rt.alloc());
+    let _ = all.tell("all", &mut report);
+    let _ = out.write_all(report.as_bytes());
+    Ok(if all.failures == 0 && all.checks > 0 {
+        ExitCode::SUCCESS
+    } else {
+        ExitCode::FAILURE
+    })
 }

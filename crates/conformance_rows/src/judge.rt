@@ -1,29 +1,36 @@
 //! Running rows.
 
-use crate::row::{Field, Row, Stop};
+use crate::found::Found;
+use crate::reader::read_rows;
+use crate::row::{Fault, Field, Stop};
+use crate::texts::push_all;
 use std::alloc::Global;
-use std::io::Write;
-
-/// What a subject did with a field.
-#[derive(Drop)]
-pub enum Taken {
-    /// The field gives something.
-    Given,
-    /// What the field expects was found.
-    Holds,
-    /// This was found, which isn't what the field expects.
-    Found(String),
-    /// The subject knows no such field.
-    Unknown,
-}
 
 /// What rows are about.
 pub trait Subject {
-    /// Begins a row, in which nothing is given yet.
-    fn begin(&mut self, alloc: Global) -> Result<(), Stop>;
+    /// Begins a row.
+    fn begin(&mut self, alloc: Global);
 
-    /// Takes what a field gives, or compares what it expects with what was found.
-    fn take(&mut self, alloc: Global, field: &Field) -> Result<Taken, Stop>;
+    /// Whether a field of this key gives something.
+    fn gives(&self, key: &str) -> bool;
+
+    /// Finds what a field asks, by the fields before it in its row. It holds where that is the field's text.
+    fn find(
+        &mut self,
+        alloc: Global,
+        given: &[Field],
+        field: &Field,
+        found: &mut Found,
+    ) -> Result<(), Stop>;
+
+    /// Judges what a grammar makes, and writes how much of it holds. Where something doesn't, that is told by `found`.
+    fn generate(
+        &mut self,
+        alloc: Global,
+        grammar: &str,
+        found: &mut Found,
+        report: &mut String,
+    ) -> Result<(), Stop>;
 }
 
 /// How many checks were made, and how many of them failed.
@@ -34,77 +41,19 @@ pub struct Tally {
     pub failures: usize,
 }
 
-/// What comes of comparing what was found with what a field expects.
-pub fn compared(found: String, field: &Field) -> Taken {
-    if found.as_str() == field.text.as_str() {
-        Taken::Holds
-    } else {
-        Taken::Found(found)
-    }
-}
+/// A row without a check.
+const ROW: Tally = Tally {
+    rows: 1,
+    checks: 0,
+    failures: 0,
+};
 
-/// Writes what was expected and what was found.
-fn tell(out: &mut impl Write, file: &str, row: &Row, field: &Field, found: &str) {
-    let (line, name, key) = (field.line, row.name.as_str(), field.key.as_str());
-    let expected = field.text.as_str();
-    let _ = writeln!(
-        out,
-        "{file}:{line}: {name}\n  {key} expected: {expected}\n  {key} found: {found}"
-    );
-}
-
-/// Hands the fields of a row to a subject, and counts what comes of them.
-fn judge_row<S: Subject>(
-    alloc: Global,
-    file: &str,
-    row: &Row,
-    subject: &mut S,
-    out: &mut impl Write,
-) -> Result<Tally, Stop> {
-    let mut tally = Tally {
-        rows: 1,
-        checks: 0,
-        failures: 0,
-    };
-    subject.begin(alloc)?;
-    for field in row.fields.iter() {
-        match subject.take(alloc, field)? {
-            Taken::Given => continue,
-            Taken::Holds => {}
-            Taken::Found(found) => {
-                tally.failures = tally.failures.saturating_add(1);
-                tell(out, file, row, field, found.as_str());
-            }
-            Taken::Unknown => {
-                tally.failures = tally.failures.saturating_add(1);
-                tell(out, file, row, field, "a field that isn't known here");
-            }
-        }
-        tally.checks = tally.checks.saturating_add(1);
-    }
-    if tally.checks == 0 {
-        tally.failures = 1;
-        let (line, name) = (row.line, row.name.as_str());
-        let _ = writeln!(out, "{file}:{line}: {name}\n  nothing is expected");
-    }
-    Ok(tally)
-}
-
-/// Hands rows to a subject in order, tells those that fail, and counts.
-pub fn judge_rows<S: Subject>(
-    alloc: Global,
-    file: &str,
-    rows: &[Row],
-    subject: &mut S,
-    out: &mut impl Write,
-) -> Result<Tally, Stop> {
-    let mut tally = Tally::default();
-    for row in rows {
-        let one = judge_row(alloc, file, row, subject, out)?;
-        tally = tally.with(one);
-    }
-    Ok(tally)
-}
+/// Something that isn't a row and failed.
+pub const FAILURE: Tally = Tally {
+    rows: 0,
+    checks: 0,
+    failures: 1,
+};
 
 impl Tally {
     /// This and another, added up.
@@ -113,6 +62,155 @@ impl Tally {
             rows: self.rows.saturating_add(other.rows),
             checks: self.checks.saturating_add(other.checks),
             failures: self.failures.saturating_add(other.failures),
+        }
+    }
+
+    /// Writes how many rows there are and how many of their checks hold.
+    pub fn tell(self, what: &str, report: &mut String) -> Result<(), Stop> {
+        let (rows, checks, failures) = (self.rows, self.checks, self.failures);
+        if failures == 0 {
+            write!(report, "{what}: {rows} rows, {checks} checks hold\n")?;
+        } else {
+            write!(
+                report,
+                "{what}: {rows} rows, {failures} of {checks} checks FAILED\n"
+            )?;
+        }
+        Ok(())
+    }
+}
+
+/// The report of a file.
+#[derive(Drop)]
+pub(crate) struct Report<'f> {
+    pub(crate) file: &'f str,
+    pub(crate) text: String,
+}
+
+impl Report<'_> {
+    /// Writes what is wrong at a line.
+    pub(crate) fn tell(&mut self, line: usize, what: &str) -> Result<(), Stop> {
+        let file = self.file;
+        write!(self.text, "{file}:{line}: ")?;
+        Ok(push_all(&mut self.text, &[what, "\n"])?)
+    }
+
+    /// Writes what a field expects, and what was found.
+    fn tell_found(&mut self, name: &str, field: &Field, found: &str) -> Result<(), Stop> {
+        self.tell(field.line, name)?;
+        let (key, expected) = (field.key.as_str(), field.text.as_str());
+        let told = [
+            "  ",
+            key,
+            " expected: ",
+            expected,
+            "\n  ",
+            key,
+            " found: ",
+            found,
+            "\n",
+        ];
+        Ok(push_all(&mut self.text, &told)?)
+    }
+}
+
+/// Tells why there is no one answer in place of what was found.
+pub(crate) fn tell_stop(stop: Stop, found: &mut Found) -> Result<(), Stop> {
+    match stop {
+        Stop::Memory => return Err(Stop::Memory),
+        Stop::TooLarge => found.text.push_str(", and too large")?,
+        Stop::Unfit(key) => push_all(&mut found.text, &[key, " isn't given as it has to be"])?,
+        Stop::Differs(call) => {
+            push_all(&mut found.text, &[", but by ", call, ": "])?;
+            found.text.push_str(found.other.as_str())?;
+        }
+    }
+    Ok(())
+}
+
+/// Whether a field holds. Where it doesn't, what was found is told by `found`.
+fn holds<S: Subject>(
+    alloc: Global,
+    given: &[Field],
+    field: &Field,
+    subject: &mut S,
+    found: &mut Found,
+) -> Result<bool, Stop> {
+    found.clear();
+    match subject.find(alloc, given, field, found) {
+        Ok(()) => Ok(found.text.as_str() == field.text.as_str()),
+        Err(stop) => {
+            tell_stop(stop, found)?;
+            Ok(false)
+        }
+    }
+}
+
+/// Judges a row, by the fields behind the one that begins it, and counts.
+fn judge_row<S: Subject>(
+    alloc: Global,
+    row: &Field,
+    fields: &[Field],
+    subject: &mut S,
+    report: &mut Report<'_>,
+) -> Result<Tally, Stop> {
+    let mut tally = ROW;
+    let mut found = Found::new(alloc);
+    for index in 0..fields.len() {
+        let (given, field) = (fields.split_at(index).0, &fields[index]);
+        if field.key.as_str() == "==" {
+            break;
+        }
+        if subject.gives(field.key.as_str()) {
+            continue;
+        }
+        tally.checks = tally.checks.saturating_add(1);
+        if !holds(alloc, given, field, subject, &mut found)? {
+            tally.failures = tally.failures.saturating_add(1);
+            report.tell_found(row.text.as_str(), field, found.text.as_str())?;
+        }
+    }
+    Ok(tally)
+}
+
+/// Judges rows in order, tells what fails, and counts.
+fn judge_rows<S: Subject>(
+    alloc: Global,
+    fields: &[Field],
+    subject: &mut S,
+    report: &mut Report<'_>,
+) -> Result<Tally, Stop> {
+    let mut all = Tally::default();
+    for index in 0..fields.len() {
+        let [row, below @ ..] = fields.split_at(index).1 else {
+            continue;
+        };
+        if row.key.as_str() != "==" {
+            continue;
+        }
+        subject.begin(alloc);
+        let mut tally = judge_row(alloc, row, below, subject, report)?;
+        if tally.checks == 0 {
+            tally.failures = 1;
+            report.tell(row.line, "nothing is expected")?;
+        }
+        all = all.with(tally);
+    }
+    Ok(all)
+}
+
+/// Judges the rows of a file's text, tells what fails, and counts.
+pub(crate) fn judge_text<S: Subject>(
+    alloc: Global,
+    text: &str,
+    subject: &mut S,
+    report: &mut Report<'_>,
+) -> Result<Tally, Stop> {
+    match read_rows(alloc, text)? {
+        Ok(fields) => judge_rows(alloc, fields.as_slice(), subject, report),
+        Err(Fault { line, what }) => {
+            report.tell(line, what)?;
+            Ok(FAILURE)
         }
     }
 }

@@ -1,17 +1,22 @@
 //! Rows: text files that state what the library and the program have to answer (docs/ROWS.md).
 //!
-//! [`read_rows`] reads a file's text. [`run_files`] is all that a program of rows does: it reads the files that its arguments name, hands
-//! each field to a [`Subject`], and prints how many checks hold and each that doesn't. [`run_file`] and [`finish`] are its parts.
+//! [`run_files`] is all that a program of rows does: it reads the files that its arguments name, asks a [`Subject`] what each field finds, and
+//! prints how many checks hold and each that doesn't. What a row gave, and the texts, schemas and sequences that rows and grammars make,
+//! have modules of their own.
 #![tactic(auto)]
 
 mod files;
+mod found;
+pub mod given;
+pub mod grammar;
 mod judge;
-mod nested;
+pub mod nested;
+pub mod random;
 mod reader;
 mod row;
+pub mod texts;
 
-pub use files::{finish, run_file, run_files};
-pub use judge::{Subject, Taken, Tally, compared, judge_rows};
-pub use nested::nested_text;
-pub use reader::read_rows;
-pub use row::{Fault, Field, Row, Stop};
+pub use files::run_files;
+pub use found::Found;
+pub use judge::{FAILURE, Subject, Tally};
+pub use row::{Field, Stop};

@@ -1,22 +1,89 @@
-//! Texts of many levels.
+//! Schemas and values of many levels. JSON texts nest 127 levels at most, and a level of `properties` or of branches takes two.
 
+use crate::row::{Field, Stop};
+use serde_json::{Map, Value};
 use std::alloc::{AllocError, Global};
 
-/// A text between so many openings and closings.
-pub fn nested_text(
-    alloc: Global,
-    open: &str,
-    inner: &str,
-    close: &str,
-    levels: usize,
-) -> Result<String, AllocError> {
-    let mut text = String::new(alloc);
-    for _ in 0..levels {
-        text.push_str(open)?;
+/// So many levels, and the step that leads from one to the next.
+#[derive(Clone, Copy)]
+pub struct Nesting {
+    pub step: &'static str,
+    pub levels: u64,
+}
+
+/// The step from a level to the next, by the key that gives how many levels there are.
+fn step_of(key: &str) -> Option<&'static str> {
+    match key {
+        "nested items" => Some("items"),
+        "nested properties" => Some("properties a"),
+        "nested additional properties" => Some("additionalProperties"),
+        "nested all of" => Some("allOf 0"),
+        "nested one of" => Some("oneOf 0"),
+        "nested any of" => Some("anyOf 0"),
+        _ => None,
     }
-    text.push_str(inner)?;
-    for _ in 0..levels {
-        text.push_str(close)?;
+}
+
+/// The levels that a row gave last, and none where it gave none.
+pub fn nesting_given(given: &[Field]) -> Result<Nesting, Stop> {
+    for field in given.iter().rev() {
+        if let Some(step) = step_of(field.key.as_str()) {
+            return match field.text.parse::<u64>() {
+                Ok(levels) => Ok(Nesting { step, levels }),
+                Err(_) => Err(Stop::Unfit("nested")),
+            };
+        }
     }
-    Ok(text)
+    let (step, levels) = ("items", 0);
+    Ok(Nesting { step, levels })
+}
+
+/// A list of one value.
+fn list_of(alloc: Global, value: Value) -> Result<Value, AllocError> {
+    let mut items = Vec::new(alloc);
+    items.push(value)?;
+    Ok(Value::Array(items))
+}
+
+/// An object of one member.
+fn object_of(alloc: Global, key: &str, value: Value) -> Result<Value, AllocError> {
+    let mut members = Map::new(alloc);
+    members.insert(String::from_str(alloc, key)?, value)?;
+    Ok(Value::Object(members))
+}
+
+/// The schema a level above.
+fn schema_above(alloc: Global, step: &str, below: Value) -> Result<Value, AllocError> {
+    match step.split_once(' ') {
+        None => object_of(alloc, step, below),
+        Some((keyword, "a")) => object_of(alloc, keyword, object_of(alloc, "a", below)?),
+        Some((keyword, _)) => object_of(alloc, keyword, list_of(alloc, below)?),
+    }
+}
+
+/// The value a level above, where the step leads to the one below.
+fn value_above(alloc: Global, step: &str, below: Value) -> Result<Value, AllocError> {
+    match step {
+        "items" => list_of(alloc, below),
+        "properties a" | "additionalProperties" => object_of(alloc, "a", below),
+        _ => Ok(below),
+    }
+}
+
+/// A schema so many levels below another.
+pub fn nested_schema(alloc: Global, nesting: Nesting, inner: Value) -> Result<Value, AllocError> {
+    let mut schema = inner;
+    for _ in 0..nesting.levels {
+        schema = schema_above(alloc, nesting.step, schema)?;
+    }
+    Ok(schema)
+}
+
+/// A value so many levels below another.
+pub fn nested_value(alloc: Global, nesting: Nesting, inner: Value) -> Result<Value, AllocError> {
+    let mut value = inner;
+    for _ in 0..nesting.levels {
+        value = value_above(alloc, nesting.step, value)?;
+    }
+    Ok(value)
 }

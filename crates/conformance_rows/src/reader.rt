@@ -1,6 +1,6 @@
 //! Reading a file of rows.
 
-use crate::row::{Fault, Field, Row};
+use crate::row::{Fault, Field};
 use serde_json::Value;
 use std::alloc::{AllocError, Global};
 
@@ -22,10 +22,12 @@ enum Line<'a> {
 
 /// Whether a text is a key: lower-case letters and blanks.
 fn is_key(text: &str) -> bool {
+    for byte in text.bytes() {
+        if !byte.is_ascii_lowercase() && byte != b' ' {
+            return false;
+        }
+    }
     !text.is_empty()
-        && text
-            .bytes()
-            .all(|byte| byte.is_ascii_lowercase() || byte == b' ')
 }
 
 /// What a line with a key says.
@@ -61,32 +63,26 @@ fn said(line: &str) -> Line<'_> {
     }
 }
 
-/// The rows that were read so far.
+/// The fields that were read so far.
 #[derive(Drop)]
 struct Reader {
-    rows: Vec<Row>,
+    fields: Vec<Field>,
     /// Whether the last field's text goes on.
     in_block: bool,
 }
 
 impl Reader {
-    /// Begins a row.
-    fn begin(
-        &mut self,
-        alloc: Global,
-        name: &str,
-        line: usize,
-    ) -> Result<Option<&'static str>, AllocError> {
-        if self.rows.iter().any(|row| row.name.as_str() == name) {
-            return Ok(Some("another row has this name"));
+    /// Whether a row has this name.
+    fn has_row(&self, name: &str) -> bool {
+        for field in self.fields.iter() {
+            if field.key.as_str() == "==" && field.text.as_str() == name {
+                return true;
+            }
         }
-        let name = String::from_str(alloc, name)?;
-        let fields = Vec::new(alloc);
-        self.rows.push(Row { name, line, fields })?;
-        Ok(None)
+        false
     }
 
-    /// Puts a field behind those of the last row.
+    /// Puts a field behind the others.
     fn put(
         &mut self,
         alloc: Global,
@@ -94,27 +90,26 @@ impl Reader {
         text: String,
         line: usize,
     ) -> Result<Option<&'static str>, AllocError> {
-        let Some(row) = self.rows.last_mut() else {
+        if key != "==" && self.fields.is_empty() {
             return Ok(Some("a field stands before the first row"));
-        };
+        }
         let key = String::from_str(alloc, key)?;
-        row.fields.push(Field { key, text, line })?;
+        self.fields.push(Field { key, text, line })?;
         Ok(None)
     }
 
     /// Puts a line behind the text of the last field, if its text goes on.
-    fn go_on(&mut self, text: &str) -> Result<bool, AllocError> {
-        if !self.in_block {
-            return Ok(false);
+    fn go_on(&mut self, text: &str) -> Result<Option<&'static str>, AllocError> {
+        match self.fields.last_mut() {
+            Some(field) if self.in_block => {
+                if !field.text.is_empty() {
+                    field.text.push('\n')?;
+                }
+                field.text.push_str(text)?;
+                Ok(None)
+            }
+            _ => Ok(Some("no field's text goes on here")),
         }
-        let Some(field) = self.rows.last_mut().and_then(|row| row.fields.last_mut()) else {
-            return Ok(false);
-        };
-        if !field.text.is_empty() {
-            field.text.push('\n')?;
-        }
-        field.text.push_str(text)?;
-        Ok(true)
     }
 
     /// Takes a line: what is wrong with it, if anything is.
@@ -125,17 +120,13 @@ impl Reader {
         line: usize,
     ) -> Result<Option<&'static str>, AllocError> {
         if let Some(inner) = text.strip_prefix("  ") {
-            let goes_on = self.go_on(inner)?;
-            return Ok(if goes_on {
-                None
-            } else {
-                Some("no field's text goes on here")
-            });
+            return self.go_on(inner);
         }
         self.in_block = false;
         match said(text) {
             Line::Nothing => Ok(None),
-            Line::Row(name) => self.begin(alloc, name, line),
+            Line::Row(name) if self.has_row(name) => Ok(Some("another row has this name")),
+            Line::Row(name) => self.put(alloc, "==", String::from_str(alloc, name)?, line),
             Line::Plain(key, text) => self.put(alloc, key, String::from_str(alloc, text)?, line),
             Line::Block(key) => {
                 self.in_block = true;
@@ -150,10 +141,13 @@ impl Reader {
     }
 }
 
-/// The rows of a text, in order, or the first line that is wrong.
-pub fn read_rows(alloc: Global, text: &str) -> Result<Result<Vec<Row>, Fault>, AllocError> {
+/// The fields of a text's rows, in order, or the first line that is wrong.
+pub(crate) fn read_rows(
+    alloc: Global,
+    text: &str,
+) -> Result<Result<Vec<Field>, Fault>, AllocError> {
     let mut reader = Reader {
-        rows: Vec::new(alloc),
+        fields: Vec::new(alloc),
         in_block: false,
     };
     let mut line = 0usize;
@@ -163,11 +157,9 @@ pub fn read_rows(alloc: Global, text: &str) -> Result<Result<Vec<Row>, Fault>, A
             return Ok(Err(Fault { line, what }));
         }
     }
-    if reader.rows.is_empty() {
-        return Ok(Err(Fault {
-            line,
-            what: "no row",
-        }));
+    if reader.fields.is_empty() {
+        let what = "no row";
+        return Ok(Err(Fault { line, what }));
     }
-    Ok(Ok(reader.rows))
+    Ok(Ok(reader.fields))
 }

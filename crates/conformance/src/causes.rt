@@ -1,0 +1,75 @@
+//! Rows of what serde writes of a validation's errors, and of their causes.
+
+use crate::case;
+use crate::types::{expect, find_expected, put_and_read, read};
+use conformance_rows::texts::push_line;
+use conformance_rows::{Field, Found, Stop, given as rows};
+use kube_cel::{ValidationError, ValidationErrors, validate};
+use std::alloc::Global;
+
+/// The errors of the row's object.
+fn errors_of(alloc: Global, given: &[Field]) -> Result<ValidationErrors, Stop> {
+    let case = case::given(alloc, given)?;
+    match validate(alloc, &case.schema, &case.object, case.old.as_ref())? {
+        Ok(()) => Err(Stop::Unfit("object")),
+        Err(errors) => Ok(errors),
+    }
+}
+
+/// Writes the text of an error's cause in a line, `none` where it has none.
+fn put_cause(error: &ValidationError, out: &mut String) -> Result<(), Stop> {
+    push_line(out, "")?;
+    match error.cause() {
+        Some(cause) => write!(out, "{cause}")?,
+        None => out.push_str("none")?,
+    }
+    Ok(())
+}
+
+/// Finds the causes of errors, a line each. A copy of each error has the same.
+fn find_causes(errors: &[ValidationError], found: &mut Found) -> Result<(), Stop> {
+    for error in errors {
+        put_cause(error, &mut found.text)?;
+        let copy = error.try_clone()?;
+        put_cause(&copy, &mut found.other)?;
+        if copy != *error || found.other.as_str() != found.text.as_str() {
+            return Err(Stop::Differs("try_clone"));
+        }
+    }
+    Ok(())
+}
+
+/// Finds the causes of a copy of the errors of the row's object.
+fn find_copied(alloc: Global, given: &[Field], found: &mut Found) -> Result<(), Stop> {
+    let errors = errors_of(alloc, given)?;
+    let copy = errors.try_clone()?;
+    if copy != errors {
+        return Err(Stop::Differs("try_clone"));
+    }
+    find_causes(copy.as_slice(), found)
+}
+
+/// Finds the causes of the errors of the row's object, or of those that are read from its JSON, or what serde writes of them.
+pub(crate) fn find(
+    alloc: Global,
+    given: &[Field],
+    field: &Field,
+    found: &mut Found,
+) -> Result<(), Stop> {
+    match field.key.as_str() {
+        "causes" => find_copied(alloc, given, found),
+        "causes read" => {
+            let errors: Option<ValidationErrors> = read(alloc, rows::needed(given, "json")?)?;
+            match errors {
+                Some(errors) => find_causes(errors.as_slice(), found),
+                None => Err(Stop::Unfit("json")),
+            }
+        }
+        _ => {
+            let (errors, text) = (errors_of(alloc, given)?, field.text.as_str());
+            expect(field, found)?;
+            let is_read = put_and_read(alloc, &errors, text, &mut found.other)?;
+            find_expected(is_read, field, found)
+        }
+    }
+}

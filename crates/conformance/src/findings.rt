@@ -1,0 +1,66 @@
+//! Rows of the linter.
+
+use crate::case::schema_given;
+use conformance_rows::texts::push_line;
+use conformance_rows::{Field, Stop};
+use kube_cel::{LintFinding, LintKind, compile_schema, lint_schema};
+use serde_json::Value;
+use std::alloc::Global;
+
+/// The kind of findings of a name.
+pub(crate) fn lint_kind_of(name: &str) -> Result<LintKind, Stop> {
+    match name {
+        "Compile" => Ok(LintKind::Compile),
+        "Function" => Ok(LintKind::Function),
+        "Scope" => Ok(LintKind::Scope),
+        "Cost" => Ok(LintKind::Cost),
+        "Bounds" => Ok(LintKind::Bounds),
+        "Depth" => Ok(LintKind::Depth),
+        _ => Err(Stop::Unfit("kind")),
+    }
+}
+
+/// The text of a member of an object.
+fn member<'v>(object: &'v Value, key: &'static str) -> Result<&'v str, Stop> {
+    match object.get(key).and_then(Value::as_str) {
+        Some(text) => Ok(text),
+        None => Err(Stop::Unfit(key)),
+    }
+}
+
+/// The finding that an object states.
+pub(crate) fn finding_of(alloc: Global, object: &Value) -> Result<LintFinding, Stop> {
+    let kind = lint_kind_of(member(object, "kind")?)?;
+    let pointer = member(object, "pointer")?;
+    let rule = member(object, "rule")?;
+    let message = member(object, "message")?;
+    Ok(LintFinding {
+        pointer: String::from_str(alloc, pointer)?,
+        rule: String::from_str(alloc, rule)?,
+        kind,
+        message: String::from_str(alloc, message)?,
+    })
+}
+
+/// Writes a finding: its pointer behind a number sign, its rule, where it has one, and its kind and message.
+fn put_finding(finding: &LintFinding, out: &mut String) -> Result<(), Stop> {
+    let (kind, message) = (finding.kind, finding.message.as_str());
+    push_line(out, "#")?;
+    out.push_str(finding.pointer.as_str())?;
+    if !finding.rule.is_empty() {
+        out.push_str("\n  rule: ")?;
+        out.push_str(finding.rule.as_str())?;
+    }
+    Ok(write!(out, "\n  {kind:?}: {message}")?)
+}
+
+/// Writes what the linter finds in the row's schema.
+pub(crate) fn find(alloc: Global, given: &[Field], out: &mut String) -> Result<(), Stop> {
+    let schema = schema_given(alloc, given)?;
+    let compiled = compile_schema(alloc, &schema)?;
+    let findings = lint_schema(alloc, &compiled)?;
+    for finding in findings.iter() {
+        put_finding(finding, out)?;
+    }
+    Ok(())
+}

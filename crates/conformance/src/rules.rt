@@ -1,0 +1,73 @@
+//! What is read and compiled of a node's rules.
+
+use crate::case::schema_given;
+use conformance_rows::texts::{push_json, push_line, push_member};
+use conformance_rows::{Field, Stop};
+use kube_schema::{CompilationError, CompilationResult, Rule, rule_values};
+use std::alloc::Global;
+
+/// Writes a member that is a text, if there is one.
+fn put_member(
+    alloc: Global,
+    key: &str,
+    text: &Option<String>,
+    out: &mut String,
+) -> Result<(), Stop> {
+    if let Some(text) = text {
+        push_member(alloc, out, key, text.as_str())?;
+    }
+    Ok(())
+}
+
+/// Writes a member that is true or false.
+fn put_bool(key: &str, holds: bool, out: &mut String) -> Result<(), Stop> {
+    Ok(push_json(out, key, if holds { "true" } else { "false" })?)
+}
+
+/// Writes the fields of a rule.
+fn put_fields(alloc: Global, rule: &Rule, out: &mut String) -> Result<(), Stop> {
+    push_member(alloc, out, "rule", rule.rule.as_str())?;
+    put_member(alloc, "message", &rule.message, out)?;
+    put_member(alloc, "messageExpression", &rule.message_expression, out)?;
+    put_member(alloc, "reason", &rule.reason, out)?;
+    put_member(alloc, "fieldPath", &rule.field_path, out)?;
+    match rule.optional_old_self {
+        Some(holds) => put_bool("optionalOldSelf", holds, out),
+        None => Ok(()),
+    }
+}
+
+/// Writes the rules of a row's schema as they are read, each copied, an object on a line.
+pub(crate) fn read(alloc: Global, given: &[Field], out: &mut String) -> Result<(), Stop> {
+    let schema = schema_given(alloc, given)?;
+    for value in rule_values(&schema) {
+        push_line(out, "{")?;
+        match Rule::from_json(alloc, value)? {
+            Ok(rule) => put_fields(alloc, &rule.try_clone()?, out)?,
+            Err(fault) => push_member(alloc, out, "fault", fault.to_string(alloc)?.as_str())?,
+        }
+        out.push('}')?;
+    }
+    Ok(())
+}
+
+/// Writes what rules came to, an object on a line.
+pub(crate) fn put_compiled(
+    alloc: Global,
+    rules: &[Result<CompilationResult, CompilationError>],
+    out: &mut String,
+) -> Result<(), Stop> {
+    for rule in rules {
+        push_line(out, "{")?;
+        match rule {
+            Ok(compiled) => {
+                put_fields(alloc, &compiled.rule, out)?;
+                put_bool("transition rule", compiled.is_transition_rule, out)?;
+                put_bool("message program", compiled.message_program.is_some(), out)?;
+            }
+            Err(error) => push_member(alloc, out, "error", error.to_string(alloc)?.as_str())?,
+        }
+        out.push('}')?;
+    }
+    Ok(())
+}
