@@ -1,13 +1,15 @@
 # shellcheck shell=bash
-# What celcheck is made of: for ./celcheck and ./install, which read this file.
+# What programs are made of: for ./celcheck, ./kubecel and ./install, which read this file.
 
-# Prints a line for celcheck and for each crate of the repository TOP that it stands on: its name, and those right below it.
-crates_below() { # TOP
-    awk '
+# Prints a line for each of these programs, and for each crate of the repository TOP that they stand on: its name, and those right
+# below it.
+crates_below() { # TOP PROGRAM..
+    awk -v programs="${*:2}" '
         { sub(/#.*/, "") }
         split($0, side, ":") == 2 { split(side[1], name, " "); below[name[1]] = side[2] }
         END {
-            found[n = 1] = "celcheck"
+            n = split(programs, found, " ")
+            for (i = 1; i <= n; i++) seen[found[i]]++
             for (i = 1; i <= n; i++) {
                 count = split(below[found[i]], names, " ")
                 line = found[i]
@@ -21,15 +23,15 @@ crates_below() { # TOP
 }
 
 # Prints the names of these crates alone.
-crate_names() { # TOP
-    crates_below "$1" | cut -d' ' -f1
+crate_names() { # TOP PROGRAM..
+    crates_below "$@" | cut -d' ' -f1
 }
 
-# Prints the folder of each of these parts of each of these crates.
-folders_of() { # TOP PART..
+# Prints the folder of each of these parts of each crate of a program.
+folders_of() { # TOP PROGRAM PART..
     local name part names top=$1
-    shift
-    mapfile -t names < <(crate_names "$top")
+    mapfile -t names < <(crate_names "$top" "$2")
+    shift 2
     for name in "${names[@]}"; do
         for part in "$@"; do
             echo "$top/crates/$name/$part"
@@ -37,14 +39,14 @@ folders_of() { # TOP PART..
     done
 }
 
-# Prints one SHA-256 of all that the program of the repository TOP is made of: its crates' code, specifications and proofs, and
+# Prints one SHA-256 of all that a program of the repository TOP is made of: its crates' code, specifications and proofs, and
 # which crate stands on which.
-sum_of_sources() { # TOP
+sum_of_sources() { # TOP PROGRAM
     (
         cd "$1" || exit
-        mapfile -t folders < <(folders_of . src specs proofs)
+        mapfile -t folders < <(folders_of . "$2" src specs proofs)
         {
-            crates_below .
+            crates_below . "$2"
             find "${folders[@]}" -type f -print0 2>/dev/null | LC_ALL=C sort -z | xargs -0 sha256sum
         } | sum_of
     )

@@ -1,0 +1,42 @@
+//! The real files.
+
+use kubecel_run::{Refused, Sources};
+use std::alloc::Global;
+use std::{fs, io};
+
+/// The files of the machine. The path `-` is standard input.
+#[derive(Drop)]
+pub struct Files<'a> {
+    pub rt: &'a HostRuntime,
+    /// Files that are read in place of others: `PATH=OTHER` for each.
+    pub converted: &'a [&'a str],
+}
+
+impl Files<'_> {
+    /// The path of the file that is read in place of this one.
+    fn read_for<'p>(&'p self, path: &'p str) -> &'p str {
+        for pair in self.converted {
+            if let Some((name, other)) = pair.rsplit_once('=') {
+                if name == path {
+                    return other;
+                }
+            }
+        }
+        path
+    }
+}
+
+impl Sources for Files<'_> {
+    fn read(&mut self, alloc: Global, path: &str) -> Result<io::Result<String>, Refused> {
+        let text = if path == "-" {
+            io::read_to_string(alloc, self.rt.stdin())
+        } else {
+            fs::read_to_string(self.rt, self.read_for(path))
+        };
+        match text {
+            Ok(text) => Ok(Ok(text)),
+            Err(error) if error.kind() == io::ErrorKind::OutOfMemory => Err(Refused::Memory),
+            Err(error) => Ok(Err(error)),
+        }
+    }
+}
