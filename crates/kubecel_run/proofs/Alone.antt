@@ -4,6 +4,7 @@ use Rattle.kubecel_documents.specs.declared.sources.Document.{Document}
 use Rattle.kubecel_run.specs.Runs.{IsOneRead}
 use Rattle.serde_json.specs.Data.{Data}
 use Rattle.serde_json.specs.View.{view}
+use Rattle.std.proofs.lemmas.Bool.{eqb-true}
 use Rattle.std.proofs.Common.{◌≡◌, ℕ, ◌==◌, List, [], ◌∷◌, ◌++◌, get_or, length, true, Option, string_bytes, ap, arith, refl, subst}
 
 the_first : (path : List ℕ) (f : Found) (values : List Data) (rest : List Found) → rest ≡ [] → f ∷ [] ≡ numbered path 0 values ++ rest → (f.file ≡ path) × (f.index ≡ 0)
@@ -28,4 +29,4 @@ one_read reads a path d b are =
 -- a value that was taken off the end, and left none, was the only one
 pub only_one : {A : Type 0} (all left : List A) (x : A) (n : ℕ) → all ≡ left ++ x ∷ [] → n ≡ length left → (n == 0) ≡ true → all ≡ x ∷ []
 only_one all [] x n are is none = are
-only_one all (y ∷ left) x n are is none = absurd (omega (arith, is, none))
+only_one all (y ∷ left) x n are is none = absurd (omega (arith, is, eqb-true n 0 none))
