@@ -7,7 +7,7 @@ use Rattle.kubecel_run.proofs.check.checked.Goals as goal
 use Rattle.kubecel_run.specs.Commands.{check_view}
 use Rattle.kubecel_run.specs.Runs.{AreItems, IsJudgedBy, IsSetOf}
 use Rattle.std.proofs.lemmas.Bool.{eqb-false}
-use Rattle.std.proofs.Common.{⊥, ◌≡◌, ◌<◌, ◌==◌, false, length, map, sym, subst, arith, ◌∙◌}
+use Rattle.std.proofs.Common.{◌≡◌, ◌<◌, ◌==◌, false, length, map, sym, subst, arith, ◌∙◌}
 
 pub returns : goal.returns
 returns g c =
