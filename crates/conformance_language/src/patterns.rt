@@ -1,7 +1,7 @@
 //! What a book of patterns answers, to a pattern that it is asked of for the first time and to one that it holds.
 
+use cel::PatternBook;
 use conformance_rows::{Field, Found, Stop, given};
-use kube_cel::cel::PatternBook;
 
 /// Finds whether a pattern has a match in a text, asked twice.
 pub(crate) fn matches(

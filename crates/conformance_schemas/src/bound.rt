@@ -1,7 +1,7 @@
 //! Objects bound by their schema, and what expressions of them give.
 
-use crate::answers::put_answer;
 use crate::case::Case;
+use conformance_language::answers::put_answer;
 use conformance_rows::{Field, Found, Stop, given as rows};
 use kube_cel::cel::{Context, Program, StandardFunctions, Value};
 use kube_schema::{bind, bind_node, compile_schema};

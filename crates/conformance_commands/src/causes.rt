@@ -1,9 +1,9 @@
 //! Rows of what serde writes of a validation's errors, and of their causes.
 
-use crate::case;
 use crate::types::{expect, find_expected, put_and_read, read};
 use conformance_rows::texts::push_line;
 use conformance_rows::{Field, Found, Stop, given as rows};
+use conformance_schemas::case;
 use kube_cel::{ValidationError, ValidationErrors, validate};
 use std::alloc::Global;
 

@@ -5,9 +5,9 @@ use crate::keys::item_type;
 use crate::questions::{maker, question, word_for};
 use crate::values;
 use crate::ways::executed;
+use cel::{Answer, Context, ExecutionError, Value};
 use conformance_rows::{Field, Found, Stop, given as rows};
-use kube_cel::cel::{Answer, Context, ExecutionError, Value};
-use kube_cel::{Context as KubeContext, KubeCelExt};
+use kube_functions::{Context as KubeContext, KubeCelExt};
 use std::alloc::Global;
 
 /// The field that gave the item, or the other one, last.
@@ -22,7 +22,7 @@ pub(crate) fn given(given: &[Field], wants_other: bool) -> Option<&Field> {
 }
 
 /// Binds a name to a text.
-pub(crate) fn bind_text(
+pub fn bind_text(
     alloc: Global,
     context: &mut KubeContext<'_>,
     name: &str,

@@ -3,9 +3,9 @@
 use crate::outline::put_outline;
 use crate::tokens::put_tokens;
 use crate::values::yes_or_no;
+use cel::Program;
 use conformance_rows::texts::push_times;
 use conformance_rows::{Field, Found, Stop, given};
-use kube_cel::cel::Program;
 use std::alloc::Global;
 
 /// Writes a text of so many levels, each of which puts `before` and `after` around what stands `within`.

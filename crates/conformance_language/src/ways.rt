@@ -2,16 +2,14 @@
 
 use crate::answers::{Ran, put_answer};
 use crate::keys::bound_name;
+use cel::{Answer, Context, Functions, PatternBook, Program, StandardFunctions, Value, run_code};
 use conformance_rows::{Field, Found, Stop, given};
-use kube_cel::cel::{
-    Answer, Context, Functions, PatternBook, Program, StandardFunctions, Value, run_code,
-};
-use kube_cel::{Context as KubeContext, KubeCelExt};
-use kube_schema::bind_plain;
+use kube_functions::{Context as KubeContext, KubeCelExt};
+use kube_schema_values::bind_plain;
 use std::alloc::Global;
 
 /// The calls that run a program, each in one context.
-pub(crate) type Calls = [&'static str; 3];
+pub type Calls = [&'static str; 3];
 
 const IN_STANDARD: Calls = [
     "execute, StandardFunctions",
@@ -64,7 +62,7 @@ fn hold(
 }
 
 /// Executes a program, runs its code with a new book, and executes it with the book of that run.
-pub(crate) fn run_program<F: Functions>(
+pub fn run_program<F: Functions>(
     alloc: Global,
     asked: &str,
     program: &Program,

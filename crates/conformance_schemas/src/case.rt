@@ -8,15 +8,15 @@ use std::alloc::{AllocError, Global};
 
 /// A schema, an object and its old state, and what is told of the whole object.
 #[derive(Drop)]
-pub(crate) struct Case {
-    pub(crate) schema: Value,
-    pub(crate) object: Value,
-    pub(crate) old: Option<Value>,
-    pub(crate) root: Option<RootContext>,
+pub struct Case {
+    pub schema: Value,
+    pub object: Value,
+    pub old: Option<Value>,
+    pub root: Option<RootContext>,
 }
 
 /// The schema that a row gave last, nested as the row says; an empty one where it gave none.
-pub(crate) fn schema_given(alloc: Global, given: &[Field]) -> Result<Value, Stop> {
+pub fn schema_given(alloc: Global, given: &[Field]) -> Result<Value, Stop> {
     match rows::json(alloc, given, "schema")? {
         Some(schema) => Ok(nested_schema(alloc, nesting_given(given)?, schema)?),
         None => Ok(Value::Object(Map::new(alloc))),
@@ -57,7 +57,7 @@ fn root_given(alloc: Global, given: &[Field]) -> Result<Option<RootContext>, Sto
 }
 
 /// What a row gave.
-pub(crate) fn given(alloc: Global, given: &[Field]) -> Result<Case, Stop> {
+pub fn given(alloc: Global, given: &[Field]) -> Result<Case, Stop> {
     let nesting = nesting_given(given)?;
     let object = match value_given(alloc, given, nesting, "object")? {
         Some(object) => object,

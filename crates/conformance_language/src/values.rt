@@ -1,8 +1,8 @@
 //! What values answer by their own calls, whatever their kinds.
 
+use cel::{Key, Kind, OptionalValue, Value};
 use conformance_rows::texts::push_line;
 use conformance_rows::{Found, Stop};
-use kube_cel::cel::{Key, Kind, OptionalValue, Value};
 use std::alloc::Global;
 use std::cmp::Ordering;
 use std::rc::Rc;

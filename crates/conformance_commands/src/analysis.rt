@@ -1,9 +1,9 @@
 //! Rows of what is said of a rule without an object: names that aren't there, costs, and both.
 
-use crate::case::schema_given;
 use crate::types::{expect, find_expected, put_and_read, scope_of};
 use conformance_rows::texts::push_line;
 use conformance_rows::{Field, Found, Stop, given as rows};
+use conformance_schemas::case::schema_given;
 use kube_cel::cel::Program;
 use kube_cel::{
     AnalysisWarning, ScopeContext, analyze_rule, check_rule_scope, compile_schema,

@@ -1,0 +1,38 @@
+//! Rows (docs/ROWS.md) of schemas with objects: verdicts, defaults, objects bound by their schema, and compiled schemas.
+//!
+//! [`find`] answers the fields of these rows. What is made by a grammar is judged by the same functions as a row's object.
+#![tactic(auto)]
+
+mod bound;
+pub mod case;
+mod errors;
+pub mod filled;
+mod nodes;
+mod rules;
+mod shown;
+pub mod verdicts;
+
+use conformance_rows::{Field, Found, Stop};
+use std::alloc::Global;
+
+/// Finds what a field asks of a schema with an object. False where it asks something else.
+pub fn find(
+    alloc: Global,
+    given: &[Field],
+    field: &Field,
+    found: &mut Found,
+) -> Result<bool, Stop> {
+    match field.key.as_str() {
+        "errors" | "error parts" | "printed" | "copied" | "told apart" => {
+            verdicts::find(alloc, &case::given(alloc, given)?, field, found)?;
+        }
+        "filled" => filled::find(alloc, &case::given(alloc, given)?, given, field, found)?,
+        "bound" => bound::find(alloc, &case::given(alloc, given)?, given, found)?,
+        "node count" | "shown" | "rules compiled" | "compilation errors" => {
+            nodes::find(alloc, given, field, found)?;
+        }
+        "rules read" => rules::read(alloc, given, &mut found.text)?,
+        _ => return Ok(false),
+    }
+    Ok(true)
+}
