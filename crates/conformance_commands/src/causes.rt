@@ -1,6 +1,6 @@
 //! Rows of what serde writes of a validation's errors, and of their causes.
 
-use crate::types::{expect, find_expected, put_and_read, read};
+use crate::types::{find_written, read};
 use conformance_rows::texts::push_line;
 use conformance_rows::{Field, Found, Stop, given as rows};
 use conformance_schemas::case;
@@ -26,13 +26,18 @@ fn put_cause(error: &ValidationError, out: &mut String) -> Result<(), Stop> {
     Ok(())
 }
 
+/// Writes the cause of a copy of an error, and whether the copy is equal to it.
+fn put_copied(error: &ValidationError, out: &mut String) -> Result<bool, Stop> {
+    let copy = error.try_clone()?;
+    put_cause(&copy, out)?;
+    Ok(copy == *error)
+}
+
 /// Finds the causes of errors, a line each. A copy of each error has the same.
 fn find_causes(errors: &[ValidationError], found: &mut Found) -> Result<(), Stop> {
     for error in errors {
         put_cause(error, &mut found.text)?;
-        let copy = error.try_clone()?;
-        put_cause(&copy, &mut found.other)?;
-        if copy != *error || found.other.as_str() != found.text.as_str() {
+        if !put_copied(error, &mut found.other)? || found.other.as_str() != found.text.as_str() {
             return Err(Stop::Differs("try_clone"));
         }
     }
@@ -65,11 +70,6 @@ pub(crate) fn find(
                 None => Err(Stop::Unfit("json")),
             }
         }
-        _ => {
-            let (errors, text) = (errors_of(alloc, given)?, field.text.as_str());
-            expect(field, found)?;
-            let is_read = put_and_read(alloc, &errors, text, &mut found.other)?;
-            find_expected(is_read, field, found)
-        }
+        _ => find_written(alloc, &errors_of(alloc, given)?, field, found),
     }
 }

@@ -9,6 +9,7 @@ use kube_cel::{
     WarningKind,
 };
 use serde::{Deserialize, Serialize};
+use serde_json::Value;
 use std::alloc::{AllocError, Global};
 
 /// What serde reads of a text, if it is read.
@@ -33,7 +34,7 @@ fn put<T: Serialize>(alloc: Global, value: &T, out: &mut String) -> Result<(), A
 }
 
 /// Writes what serde writes of a value; whether it reads an equal one of a text.
-pub(crate) fn put_and_read<'t, T: Serialize + Deserialize<'t> + PartialEq + Drop>(
+fn put_and_read<'t, T: Serialize + Deserialize<'t> + PartialEq + Drop>(
     alloc: Global,
     value: &T,
     text: &'t str,
@@ -48,18 +49,30 @@ pub(crate) fn put_and_read<'t, T: Serialize + Deserialize<'t> + PartialEq + Drop
 }
 
 /// Begins to find the field's text, as JSON that is written: white space outside strings isn't compared.
-pub(crate) fn expect(field: &Field, found: &mut Found) -> Result<(), Stop> {
+fn expect(field: &Field, found: &mut Found) -> Result<(), Stop> {
     push_compact(&mut found.other, field.text.as_str())?;
     found.end("what is expected")
 }
 
 /// Finds the field's text, where it was written, and read as it has to be.
-pub(crate) fn find_expected(is_read: bool, field: &Field, found: &mut Found) -> Result<(), Stop> {
+fn find_expected(is_read: bool, field: &Field, found: &mut Found) -> Result<(), Stop> {
     found.end("to_string")?;
     if !is_read {
         return Err(Stop::Differs("from_str"));
     }
     Ok(found.say(field.text.as_str())?)
+}
+
+/// Finds the field's text, where serde writes it of a value, and reads an equal one of it.
+pub(crate) fn find_written<'t, T: Serialize + Deserialize<'t> + PartialEq + Drop>(
+    alloc: Global,
+    value: &T,
+    field: &'t Field,
+    found: &mut Found,
+) -> Result<(), Stop> {
+    expect(field, found)?;
+    let is_read = put_and_read(alloc, value, field.text.as_str(), &mut found.other)?;
+    find_expected(is_read, field, found)
 }
 
 /// Writes what is written of what is read of a text, or `unread`.
@@ -150,16 +163,21 @@ fn differ_of<'t, T: Deserialize<'t> + PartialEq + Drop>(
     }
 }
 
-/// The findings of a JSON list.
-fn findings_of(alloc: Global, text: &str) -> Result<Vec<LintFinding>, Stop> {
+/// The findings that JSON states, if it is a list.
+fn findings_in(alloc: Global, json: &Value) -> Result<Vec<LintFinding>, Stop> {
     let mut findings = Vec::new(alloc);
-    let json = rows::json_of(alloc, "differ", text)?;
     if let Some(items) = json.as_array() {
         for item in items {
             findings.push(finding_of(alloc, item)?)?;
         }
     }
     Ok(findings)
+}
+
+/// The findings of a JSON list.
+fn findings_of(alloc: Global, text: &str) -> Result<Vec<LintFinding>, Stop> {
+    let json = rows::json_of(alloc, "differ", text)?;
+    findings_in(alloc, &json)
 }
 
 /// The same of a JSON list of findings.
