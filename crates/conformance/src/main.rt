@@ -3,7 +3,6 @@
 #![tactic(auto)]
 
 mod keys;
-mod made;
 mod subject;
 
 use conformance_rows::run_files;

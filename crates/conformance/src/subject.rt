@@ -1,7 +1,8 @@
 //! What is found for the fields of rows.
 
-use crate::{keys, made};
+use crate::keys;
 use conformance_rows::{Field, Found, Stop, Subject};
+use conformance_schemas::made;
 use kube_cel::cel::PatternBook;
 use std::alloc::Global;
 

@@ -6,7 +6,7 @@ use kube_cel::{ErrorKind, ValidationError, ValidationErrors};
 use std::alloc::Global;
 
 /// What is said of an object.
-pub type Verdict = Result<(), ValidationErrors>;
+pub(crate) type Verdict = Result<(), ValidationErrors>;
 
 /// Writes an error behind others, as a JSON object on a line.
 fn push_error(alloc: Global, error: &ValidationError, out: &mut String) -> Result<(), Stop> {

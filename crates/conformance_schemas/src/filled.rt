@@ -36,7 +36,7 @@ fn fill_compiled(
 }
 
 /// Fills an object once and twice, by both forms of its schema: each has to come to what was found before, if something was.
-pub fn fill_all(
+pub(crate) fn fill_all(
     alloc: Global,
     schema: &Value,
     object: &Value,

@@ -1,16 +1,18 @@
 //! Rows (docs/ROWS.md) of schemas with objects: verdicts, defaults, objects bound by their schema, and compiled schemas.
 //!
-//! [`find`] answers the fields of these rows. What is made by a grammar is judged by the same functions as a row's object.
+//! [`find`] answers the fields of these rows. [`made`] makes expressions, schemas and texts from a grammar, and asks of them what a row's
+//! fields ask, by the same functions.
 #![tactic(auto)]
 
 mod bound;
 pub mod case;
 mod errors;
-pub mod filled;
+mod filled;
+pub mod made;
 mod nodes;
 mod rules;
 mod shown;
-pub mod verdicts;
+mod verdicts;
 
 use conformance_rows::{Field, Found, Stop};
 use std::alloc::Global;

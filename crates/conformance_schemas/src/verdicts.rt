@@ -97,7 +97,7 @@ fn hold_all(
 }
 
 /// The verdict on a case, which is the same by each call.
-pub fn judged(alloc: Global, case: &Case, found: &mut Found) -> Result<Verdict, Stop> {
+pub(crate) fn judged(alloc: Global, case: &Case, found: &mut Found) -> Result<Verdict, Stop> {
     let (old, root) = (case.old.as_ref(), case.root.as_ref());
     let judge = Validator::new();
     let first = judge.validate_with_context(alloc, &case.schema, &case.object, old, root)?;

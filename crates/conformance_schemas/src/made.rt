@@ -1,6 +1,9 @@
 //! Expressions, schemas and texts made from a grammar by a fixed sequence of numbers, for what holds of each of them: all runs of a program
 //! answer alike, all calls that judge an object do, and what is printed is read back.
 
+use crate::case::Case;
+use crate::filled::fill_all;
+use crate::verdicts::judged;
 use conformance_language::items::bind_text;
 use conformance_language::names::put_escaped;
 use conformance_language::questions::maker as maker_of;
@@ -9,9 +12,6 @@ use conformance_rows::grammar::Grammar;
 use conformance_rows::random::Random;
 use conformance_rows::texts::push_line;
 use conformance_rows::{Found, Stop, given};
-use conformance_schemas::case::Case;
-use conformance_schemas::filled::fill_all;
-use conformance_schemas::verdicts::judged;
 use kube_cel::cel::{Context, Program, Value};
 use kube_cel::{Context as KubeContext, KubeCelExt};
 use serde_json::Value as Json;
@@ -261,7 +261,7 @@ fn run_all(
 }
 
 /// Runs what a grammar makes, and writes how much of it holds. Where something doesn't, the text is told by `found`.
-pub(crate) fn run(
+pub fn run(
     alloc: Global,
     grammar: &str,
     found: &mut Found,
