@@ -1,9 +1,9 @@
 //! Rows of what is said of a rule without an object: names that aren't there, costs, and both.
 
+use crate::schemas::compiled_given;
 use crate::types::{find_written, scope_of};
 use conformance_rows::texts::push_line;
 use conformance_rows::{Field, Found, Stop, given as rows};
-use conformance_schemas::case::compiled_given;
 use kube_cel::cel::Program;
 use kube_cel::{AnalysisWarning, ScopeContext, analyze_rule, check_rule_scope, estimate_rule_cost};
 use kube_cel_analysis::{Sizes, estimated_cost};

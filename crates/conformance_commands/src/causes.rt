@@ -1,20 +1,11 @@
 //! Rows of what serde writes of a validation's errors, and of their causes.
 
+use crate::schemas::errors_given;
 use crate::types::{find_written, read};
 use conformance_rows::texts::push_line;
 use conformance_rows::{Field, Found, Stop, given as rows};
-use conformance_schemas::case;
-use kube_cel::{ValidationError, ValidationErrors, validate};
+use kube_cel::{ValidationError, ValidationErrors};
 use std::alloc::Global;
-
-/// The errors of the row's object.
-fn errors_of(alloc: Global, given: &[Field]) -> Result<ValidationErrors, Stop> {
-    let case = case::given(alloc, given)?;
-    match validate(alloc, &case.schema, &case.object, case.old.as_ref())? {
-        Ok(()) => Err(Stop::Unfit("object")),
-        Err(errors) => Ok(errors),
-    }
-}
 
 /// Writes the text of an error's cause in a line, `none` where it has none.
 fn put_cause(error: &ValidationError, out: &mut String) -> Result<(), Stop> {
@@ -46,7 +37,7 @@ fn find_causes(errors: &[ValidationError], found: &mut Found) -> Result<(), Stop
 
 /// Finds the causes of a copy of the errors of the row's object.
 fn find_copied(alloc: Global, given: &[Field], found: &mut Found) -> Result<(), Stop> {
-    let errors = errors_of(alloc, given)?;
+    let errors = errors_given(alloc, given)?;
     let copy = errors.try_clone()?;
     if copy != errors {
         return Err(Stop::Differs("try_clone"));
@@ -70,6 +61,6 @@ pub(crate) fn find(
                 None => Err(Stop::Unfit("json")),
             }
         }
-        _ => find_written(alloc, &errors_of(alloc, given)?, field, found),
+        _ => find_written(alloc, &errors_given(alloc, given)?, field, found),
     }
 }

@@ -1,8 +1,8 @@
 //! Rows of the linter.
 
+use crate::schemas::compiled_given;
 use conformance_rows::texts::push_line;
 use conformance_rows::{Field, Stop};
-use conformance_schemas::case::compiled_given;
 use kube_cel::{LintFinding, LintKind, lint_schema};
 use serde_json::Value;
 use std::alloc::Global;

@@ -7,6 +7,7 @@ mod commands;
 mod findings;
 mod memory;
 mod policies;
+mod schemas;
 mod types;
 
 use conformance_rows::{Field, Found, Stop};

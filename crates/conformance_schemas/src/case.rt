@@ -3,31 +3,24 @@
 use conformance_rows::nested::{Nesting, nested_schema, nested_value, nesting_given};
 use conformance_rows::{Field, Stop, given as rows};
 use kube_cel::RootContext;
-use kube_schema::{CompiledSchema, compile_schema};
 use serde_json::{Map, Value};
 use std::alloc::{AllocError, Global};
 
 /// A schema, an object and its old state, and what is told of the whole object.
 #[derive(Drop)]
-pub struct Case {
-    pub schema: Value,
-    pub object: Value,
-    pub old: Option<Value>,
-    pub root: Option<RootContext>,
+pub(crate) struct Case {
+    pub(crate) schema: Value,
+    pub(crate) object: Value,
+    pub(crate) old: Option<Value>,
+    pub(crate) root: Option<RootContext>,
 }
 
 /// The schema that a row gave last, nested as the row says; an empty one where it gave none.
-pub fn schema_given(alloc: Global, given: &[Field]) -> Result<Value, Stop> {
+pub(crate) fn schema_given(alloc: Global, given: &[Field]) -> Result<Value, Stop> {
     match rows::json(alloc, given, "schema")? {
         Some(schema) => Ok(nested_schema(alloc, nesting_given(given)?, schema)?),
         None => Ok(Value::Object(Map::new(alloc))),
     }
-}
-
-/// The same, compiled.
-pub fn compiled_given(alloc: Global, given: &[Field]) -> Result<CompiledSchema, Stop> {
-    let schema = schema_given(alloc, given)?;
-    Ok(compile_schema(alloc, &schema)?)
 }
 
 /// The value that a row gave last by a key, nested as the row says.
@@ -93,7 +86,7 @@ impl Case {
 }
 
 /// What a row gave.
-pub fn given(alloc: Global, given: &[Field]) -> Result<Case, Stop> {
+pub(crate) fn given(alloc: Global, given: &[Field]) -> Result<Case, Stop> {
     let mut case = Case::empty(alloc);
     case.put(alloc, given)?;
     Ok(case)

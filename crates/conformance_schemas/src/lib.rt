@@ -5,7 +5,7 @@
 #![tactic(auto)]
 
 mod bound;
-pub mod case;
+mod case;
 mod errors;
 mod filled;
 pub mod made;
