@@ -26,10 +26,7 @@ pub(crate) fn matches(
 /// The number of matches that are wanted, where one is given.
 fn limit_in(given: &[Field]) -> Result<Option<usize>, Stop> {
     match given::text(given, "limit") {
-        Some(text) => match text.parse::<usize>() {
-            Ok(limit) => Ok(Some(limit)),
-            Err(_) => Err(Stop::Unfit("limit")),
-        },
+        Some(_) => Ok(Some(given::number(given, "limit", 0)? as usize)),
         None => Ok(None),
     }
 }

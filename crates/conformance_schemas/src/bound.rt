@@ -63,10 +63,7 @@ pub(crate) fn find(
     given: &[Field],
     found: &mut Found,
 ) -> Result<(), Stop> {
-    let depth = match rows::text(given, "depth").unwrap_or("0").parse::<usize>() {
-        Ok(depth) => depth,
-        Err(_) => return Err(Stop::Unfit("depth")),
-    };
+    let depth = rows::number(given, "depth", 0)? as usize;
     match Program::compile(alloc, rows::needed(given, "expression")?)? {
         Ok(program) => run_both(alloc, &program, case, depth, found),
         Err(_) => Err(Stop::Unfit("expression")),
