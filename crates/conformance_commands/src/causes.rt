@@ -1,7 +1,7 @@
 //! Rows of what serde writes of a validation's errors, and of their causes.
 
 use crate::schemas::errors_given;
-use crate::types::{find_written, read};
+use crate::types::{expect, find_expected, put_and_read, read};
 use conformance_rows::texts::push_line;
 use conformance_rows::{Field, Found, Stop, given as rows};
 use kube_cel::{ValidationError, ValidationErrors};
@@ -61,6 +61,11 @@ pub(crate) fn find(
                 None => Err(Stop::Unfit("json")),
             }
         }
-        _ => find_written(alloc, &errors_given(alloc, given)?, field, found),
+        _ => {
+            expect(field, found)?;
+            let errors = errors_given(alloc, given)?;
+            let is_read = put_and_read(alloc, &errors, field.text.as_str(), &mut found.other)?;
+            find_expected(is_read, field, found)
+        }
     }
 }

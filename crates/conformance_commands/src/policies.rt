@@ -1,6 +1,6 @@
 //! Rows of policies: what is told of expressions over an object, an old object, parameters, a namespace and a request.
 
-use crate::types::{find_written, read};
+use crate::types::{expect, find_expected, put_and_read, read};
 use conformance_rows::texts::push_line;
 use conformance_rows::{Field, Found, Stop, given as rows};
 use kube_cel::{
@@ -265,7 +265,9 @@ fn find_results_written(
 ) -> Result<(), Stop> {
     let evaluator = built(alloc, given, VapEvaluator::builder())?;
     let results = evaluator.evaluate(alloc, expressions)?;
-    find_written(alloc, &results, field, found)
+    expect(field, found)?;
+    let is_read = put_and_read(alloc, &results, field.text.as_str(), &mut found.other)?;
+    find_expected(is_read, field, found)
 }
 
 /// Finds what a field asks of the row's expressions.

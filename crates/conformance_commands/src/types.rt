@@ -34,7 +34,7 @@ fn put<T: Serialize>(alloc: Global, value: &T, out: &mut String) -> Result<(), A
 }
 
 /// Writes what serde writes of a value; whether it reads an equal one of a text.
-fn put_and_read<'t, T: Serialize + Deserialize<'t> + PartialEq + Drop>(
+pub(crate) fn put_and_read<'t, T: Serialize + Deserialize<'t> + PartialEq + Drop>(
     alloc: Global,
     value: &T,
     text: &'t str,
@@ -49,30 +49,18 @@ fn put_and_read<'t, T: Serialize + Deserialize<'t> + PartialEq + Drop>(
 }
 
 /// Begins to find the field's text, as JSON that is written: white space outside strings isn't compared.
-fn expect(field: &Field, found: &mut Found) -> Result<(), Stop> {
+pub(crate) fn expect(field: &Field, found: &mut Found) -> Result<(), Stop> {
     push_compact(&mut found.other, field.text.as_str())?;
     found.end("what is expected")
 }
 
 /// Finds the field's text, where it was written, and read as it has to be.
-fn find_expected(is_read: bool, field: &Field, found: &mut Found) -> Result<(), Stop> {
+pub(crate) fn find_expected(is_read: bool, field: &Field, found: &mut Found) -> Result<(), Stop> {
     found.end("to_string")?;
     if !is_read {
         return Err(Stop::Differs("from_str"));
     }
     Ok(found.say(field.text.as_str())?)
-}
-
-/// Finds the field's text, where serde writes it of a value, and reads an equal one of it.
-pub(crate) fn find_written<'t, T: Serialize + Deserialize<'t> + PartialEq + Drop>(
-    alloc: Global,
-    value: &T,
-    field: &'t Field,
-    found: &mut Found,
-) -> Result<(), Stop> {
-    expect(field, found)?;
-    let is_read = put_and_read(alloc, value, field.text.as_str(), &mut found.other)?;
-    find_expected(is_read, field, found)
 }
 
 /// Writes what is written of what is read of a text, or `unread`.
