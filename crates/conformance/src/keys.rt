@@ -1,6 +1,6 @@
 //! The keys of fields that give something.
 
-use crate::questions::maker;
+use conformance_language::keys;
 
 /// The keys of what is given, but for names that are bound and items.
 const GIVEN: [&str; 42] = [
@@ -48,24 +48,7 @@ const GIVEN: [&str; 42] = [
     "within",
 ];
 
-/// The name that a field of this key binds.
-pub(crate) fn bound_name(key: &str) -> Option<&str> {
-    if key == "self" {
-        Some(key)
-    } else {
-        key.strip_prefix("let ")
-    }
-}
-
-/// The type of the item that a field of this key gives, and whether it is the other one.
-pub(crate) fn item_type(key: &str) -> (&str, bool) {
-    match key.strip_prefix("other ") {
-        Some(of) => (of, true),
-        None => (key, false),
-    }
-}
-
 /// Whether a field of this key gives something.
 pub(crate) fn gives(key: &str) -> bool {
-    GIVEN.contains(&key) || bound_name(key).is_some() || maker(item_type(key).0).is_some()
+    GIVEN.contains(&key) || keys::gives(key)
 }

@@ -2,34 +2,8 @@
 //! that the library has for it; and what a grammar makes. The words name the files.
 #![tactic(auto)]
 
-mod analysis;
-mod answers;
-mod bound;
-mod case;
-mod causes;
-mod commands;
-mod errors;
-mod filled;
-mod findings;
-mod items;
 mod keys;
-mod made;
-mod memory;
-mod names;
-mod nodes;
-mod outline;
-mod patterns;
-mod policies;
-mod questions;
-mod rules;
-mod shown;
-mod sources;
 mod subject;
-mod tokens;
-mod types;
-mod values;
-mod verdicts;
-mod ways;
 
 use conformance_rows::run_files;
 use std::io;

@@ -1,8 +1,8 @@
 //! What values answer by their own calls, whatever their kinds.
 
+use cel::{Key, Kind, OptionalValue, Value};
 use conformance_rows::texts::push_line;
 use conformance_rows::{Found, Stop};
-use kube_cel::cel::{Key, Kind, OptionalValue, Value};
 use std::alloc::Global;
 use std::cmp::Ordering;
 use std::rc::Rc;
@@ -61,16 +61,23 @@ pub(crate) fn optionals_are_kept(alloc: Global, found: &mut Found) -> Result<(),
     Ok(found.say(yes_or_no(copy == Value::Optional(held)))?)
 }
 
+/// Whether a value is equal to its copy.
+fn is_kept(value: &Value) -> Result<bool, Stop> {
+    let copy = value.try_clone()?;
+    Ok(copy == *value)
+}
+
 /// Whether two values are equal, from both sides, and each to its copy.
 fn equality(left: &Value, right: &Value) -> Result<&'static str, Stop> {
     let is_equal = left == right;
     if (right == left) != is_equal {
         return Ok("equal from one side alone");
     }
-    if left.try_clone()? != *left || right.try_clone()? != *right {
-        return Ok("no value equals its copy");
+    if is_kept(left)? && is_kept(right)? {
+        Ok(yes_or_no(is_equal))
+    } else {
+        Ok("no value equals its copy")
     }
-    Ok(yes_or_no(is_equal))
 }
 
 /// The word for an order that was found from both sides, where the sides and equality agree.

@@ -3,18 +3,17 @@
 
 use crate::case::Case;
 use crate::filled::fill_all;
-use crate::items::bind_text;
-use crate::names::put_escaped;
-use crate::questions::maker as maker_of;
 use crate::verdicts::judged;
-use crate::ways::{Calls, run_program};
+use conformance_language::items::bind_text;
+use conformance_language::names::put_escaped;
+use conformance_language::questions::maker as maker_of;
+use conformance_language::ways::{Calls, plain_value, run_program};
 use conformance_rows::grammar::Grammar;
 use conformance_rows::random::Random;
 use conformance_rows::texts::push_line;
 use conformance_rows::{Found, Stop, given};
 use kube_cel::cel::{Context, Program, Value};
 use kube_cel::{Context as KubeContext, KubeCelExt};
-use kube_schema::bind_plain;
 use serde_json::Value as Json;
 use std::alloc::Global;
 
@@ -84,14 +83,25 @@ fn run_expressions(
     found: &mut Found,
     report: &mut String,
 ) -> Result<(), Stop> {
+    let value = plain_value(alloc, SELF)?;
     let mut context: KubeContext<'_> = Context::default(alloc);
     context.register_all();
-    let object = given::json_of(alloc, "self", SELF)?;
-    context.add_variable_from_value("self", bind_plain(alloc, &object)?)?;
+    context.add_variable_from_value("self", value)?;
+    run_expressions_in(alloc, &context, maker, found, report)
+}
+
+/// Runs expressions in a context.
+fn run_expressions_in(
+    alloc: Global,
+    context: &KubeContext<'_>,
+    maker: &mut Maker,
+    found: &mut Found,
+    report: &mut String,
+) -> Result<(), Stop> {
     let (mut read, mut values) = (0usize, 0usize);
     for _ in 0..EXPRESSIONS {
         maker.make(alloc, "expression", 12)?;
-        if let Some(has_value) = run_expression(alloc, &context, maker.text.as_str(), found)? {
+        if let Some(has_value) = run_expression(alloc, context, maker.text.as_str(), found)? {
             read = read.saturating_add(1);
             values = values.saturating_add(usize::from(has_value));
         }
@@ -190,21 +200,20 @@ fn comes_back(
     }
 }
 
-/// Reads texts of a type, and reads back what is printed of them.
-fn run_texts(
+/// Reads texts of a type in a context, and reads back what is printed of them.
+fn run_texts_in(
     alloc: Global,
+    context: &mut KubeContext<'_>,
     maker: &mut Maker,
     of: &str,
-    read: &Program,
-    again: &Program,
+    (read, again): (&Program, &Program),
     report: &mut String,
 ) -> Result<(), Stop> {
-    let mut context: KubeContext<'_> = Context::default(alloc).with_all();
     let mut count = 0usize;
     for _ in 0..TEXTS {
         maker.make(alloc, of, 8)?;
         let text = maker.text.as_str();
-        let is_read = comes_back(alloc, &mut context, read, again, text)?;
+        let is_read = comes_back(alloc, context, read, again, text)?;
         count = count.saturating_add(usize::from(is_read));
     }
     write!(
@@ -212,6 +221,19 @@ fn run_texts(
         "{of}: {TEXTS} made, {count} read; each comes back\n"
     )?;
     Ok(())
+}
+
+/// Reads texts of a type by an expression, and reads back what is printed of them by another one.
+fn run_texts(
+    alloc: Global,
+    maker: &mut Maker,
+    (of, again): (&str, &str),
+    report: &mut String,
+) -> Result<(), Stop> {
+    let read = program_of(alloc, maker_of(of).unwrap_or(""))?;
+    let again = program_of(alloc, again)?;
+    let mut context: KubeContext<'_> = Context::default(alloc).with_all();
+    run_texts_in(alloc, &mut context, maker, of, (&read, &again), report)
 }
 
 /// The program of an expression that is known to be read.
@@ -232,16 +254,14 @@ fn run_all(
     run_expressions(alloc, maker, found, report)?;
     run_schemas(alloc, maker, found, report)?;
     run_names(alloc, maker, found, report)?;
-    for (of, again) in COMES_BACK {
-        let read = program_of(alloc, maker_of(of).unwrap_or(""))?;
-        let again = program_of(alloc, again)?;
-        run_texts(alloc, maker, of, &read, &again, report)?;
+    for item in COMES_BACK {
+        run_texts(alloc, maker, item, report)?;
     }
     Ok(())
 }
 
 /// Runs what a grammar makes, and writes how much of it holds. Where something doesn't, the text is told by `found`.
-pub(crate) fn run(
+pub fn run(
     alloc: Global,
     grammar: &str,
     found: &mut Found,

@@ -2,16 +2,14 @@
 
 use crate::answers::{Ran, put_answer};
 use crate::keys::bound_name;
+use cel::{Answer, Context, Functions, PatternBook, Program, StandardFunctions, Value, run_code};
 use conformance_rows::{Field, Found, Stop, given};
-use kube_cel::cel::{
-    Answer, Context, Functions, PatternBook, Program, StandardFunctions, Value, run_code,
-};
-use kube_cel::{Context as KubeContext, KubeCelExt};
-use kube_schema::bind_plain;
+use kube_functions::{Context as KubeContext, KubeCelExt};
+use kube_schema_values::bind_plain;
 use std::alloc::Global;
 
 /// The calls that run a program, each in one context.
-pub(crate) type Calls = [&'static str; 3];
+pub type Calls = [&'static str; 3];
 
 const IN_STANDARD: Calls = [
     "execute, StandardFunctions",
@@ -47,6 +45,23 @@ fn is_same(first: &Ran, other: &Ran) -> bool {
 }
 
 /// Compares a run with the first one, and what is asked of it with what was found before.
+fn compare(
+    alloc: Global,
+    asked: &str,
+    first: &Ran,
+    other: &Ran,
+    call: &'static str,
+    found: &mut Found,
+) -> Result<(), Stop> {
+    put_answer(alloc, asked, other, &mut found.other)?;
+    if is_same(first, other) {
+        found.end(call)
+    } else {
+        Err(Stop::Differs(call))
+    }
+}
+
+/// The same of a run that isn't needed any more.
 fn hold(
     alloc: Global,
     asked: &str,
@@ -55,16 +70,30 @@ fn hold(
     call: &'static str,
     found: &mut Found,
 ) -> Result<(), Stop> {
-    put_answer(alloc, asked, &other, &mut found.other)?;
-    if is_same(first, &other) {
-        found.end(call)
-    } else {
-        Err(Stop::Differs(call))
-    }
+    compare(alloc, asked, first, &other, call, found)
+}
+
+/// Compares with a program's first run its code's with a new book, and the program's with the book of that run.
+fn run_again<F: Functions>(
+    alloc: Global,
+    asked: &str,
+    program: &Program,
+    context: &Context<'_, F>,
+    first: &Ran,
+    calls: &Calls,
+    found: &mut Found,
+) -> Result<(), Stop> {
+    put_answer(alloc, asked, first, &mut found.other)?;
+    found.end(calls[0])?;
+    let mut book = PatternBook::new(alloc);
+    let by_code = run_code(alloc, program.code(), context, &mut book);
+    hold(alloc, asked, first, by_code, calls[1], found)?;
+    let with_book = program.execute_with(alloc, context, &mut book);
+    hold(alloc, asked, first, with_book, calls[2], found)
 }
 
 /// Executes a program, runs its code with a new book, and executes it with the book of that run.
-pub(crate) fn run_program<F: Functions>(
+pub fn run_program<F: Functions>(
     alloc: Global,
     asked: &str,
     program: &Program,
@@ -73,13 +102,7 @@ pub(crate) fn run_program<F: Functions>(
     found: &mut Found,
 ) -> Result<(), Stop> {
     let first = program.execute(alloc, context);
-    put_answer(alloc, asked, &first, &mut found.other)?;
-    found.end(calls[0])?;
-    let mut book = PatternBook::new(alloc);
-    let by_code = run_code(alloc, program.code(), context, &mut book);
-    hold(alloc, asked, &first, by_code, calls[1], found)?;
-    let with_book = program.execute_with(alloc, context, &mut book);
-    hold(alloc, asked, &first, with_book, calls[2], found)
+    run_again(alloc, asked, program, context, &first, calls, found)
 }
 
 /// What a text comes to in a context.
@@ -94,11 +117,17 @@ pub(crate) fn executed(
     }
 }
 
+/// The value of a JSON text, as where no schema says more.
+pub fn plain_value(alloc: Global, text: &str) -> Result<Value, Stop> {
+    let json = given::json_of(alloc, "self", text)?;
+    Ok(bind_plain(alloc, &json)?)
+}
+
 /// What a field binds its name to: `self` to a JSON value, and each other name to what an expression comes to.
 fn bound_value(alloc: Global, context: &KubeContext<'_>, field: &Field) -> Result<Value, Stop> {
     let text = field.text.as_str();
     if field.key.as_str() == "self" {
-        return Ok(bind_plain(alloc, &given::json_of(alloc, "self", text)?)?);
+        return plain_value(alloc, text);
     }
     match executed(alloc, context, text)? {
         Ok(value) => Ok(value),
@@ -158,12 +187,16 @@ fn run_in_kubernetes(
     found: &mut Found,
 ) -> Result<(), Stop> {
     let mut context: KubeContext<'_> = Context::default(alloc);
-    copy_names(&mut context, bound, given)?;
-    if !registered {
-        return run_program(alloc, asked, program, &context, &IN_FIRST, found);
+    if registered {
+        context.register_all();
     }
-    context.register_all();
-    run_program(alloc, asked, program, &context, &IN_REGISTERED, found)
+    let calls = if registered {
+        &IN_REGISTERED
+    } else {
+        &IN_FIRST
+    };
+    copy_names(&mut context, bound, given)?;
+    run_program(alloc, asked, program, &context, calls, found)
 }
 
 /// Runs a program in each way where the functions are known that the row names.
@@ -192,6 +225,22 @@ fn run_each(
     Ok(())
 }
 
+/// Runs a text in each way, where the names that a row gave are bound in a context.
+fn run_text(
+    alloc: Global,
+    asked: &str,
+    text: &str,
+    bound: &mut KubeContext<'_>,
+    given: &[Field],
+    found: &mut Found,
+) -> Result<(), Stop> {
+    bind_names(alloc, bound, given)?;
+    match Program::compile(alloc, text)? {
+        Ok(program) => run_each(alloc, asked, &program, bound, given, found),
+        Err(_) => Err(Stop::Unfit("expression")),
+    }
+}
+
 /// Finds what a row's expression comes to, in each way to run it.
 pub(crate) fn find(
     alloc: Global,
@@ -201,9 +250,5 @@ pub(crate) fn find(
 ) -> Result<(), Stop> {
     let text = given::needed(given, "expression")?;
     let mut bound: KubeContext<'_> = Context::default(alloc).with_all();
-    bind_names(alloc, &mut bound, given)?;
-    match Program::compile(alloc, text)? {
-        Ok(program) => run_each(alloc, field.key.as_str(), &program, &bound, given, found),
-        Err(_) => Err(Stop::Unfit("expression")),
-    }
+    run_text(alloc, field.key.as_str(), text, &mut bound, given, found)
 }

@@ -1,7 +1,7 @@
 //! What a book of patterns answers, to a pattern that it is asked of for the first time and to one that it holds.
 
+use cel::PatternBook;
 use conformance_rows::{Field, Found, Stop, given};
-use kube_cel::cel::PatternBook;
 
 /// Finds whether a pattern has a match in a text, asked twice.
 pub(crate) fn matches(
@@ -26,10 +26,7 @@ pub(crate) fn matches(
 /// The number of matches that are wanted, where one is given.
 fn limit_in(given: &[Field]) -> Result<Option<usize>, Stop> {
     match given::text(given, "limit") {
-        Some(text) => match text.parse::<usize>() {
-            Ok(limit) => Ok(Some(limit)),
-            Err(_) => Err(Stop::Unfit("limit")),
-        },
+        Some(_) => Ok(Some(given::number(given, "limit", 0)? as usize)),
         None => Ok(None),
     }
 }

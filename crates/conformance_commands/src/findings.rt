@@ -1,9 +1,9 @@
 //! Rows of the linter.
 
-use crate::case::schema_given;
+use crate::schemas::compiled_given;
 use conformance_rows::texts::push_line;
 use conformance_rows::{Field, Stop};
-use kube_cel::{LintFinding, LintKind, compile_schema, lint_schema};
+use kube_cel::{LintFinding, LintKind, lint_schema};
 use serde_json::Value;
 use std::alloc::Global;
 
@@ -56,8 +56,7 @@ fn put_finding(finding: &LintFinding, out: &mut String) -> Result<(), Stop> {
 
 /// Writes what the linter finds in the row's schema.
 pub(crate) fn find(alloc: Global, given: &[Field], out: &mut String) -> Result<(), Stop> {
-    let schema = schema_given(alloc, given)?;
-    let compiled = compile_schema(alloc, &schema)?;
+    let compiled = compiled_given(alloc, given)?;
     let findings = lint_schema(alloc, &compiled)?;
     for finding in findings.iter() {
         put_finding(finding, out)?;

@@ -5,9 +5,9 @@ use crate::keys::item_type;
 use crate::questions::{maker, question, word_for};
 use crate::values;
 use crate::ways::executed;
+use cel::{Answer, Context, ExecutionError, Value};
 use conformance_rows::{Field, Found, Stop, given as rows};
-use kube_cel::cel::{Answer, Context, ExecutionError, Value};
-use kube_cel::{Context as KubeContext, KubeCelExt};
+use kube_functions::{Context as KubeContext, KubeCelExt};
 use std::alloc::Global;
 
 /// The field that gave the item, or the other one, last.
@@ -22,7 +22,7 @@ pub(crate) fn given(given: &[Field], wants_other: bool) -> Option<&Field> {
 }
 
 /// Binds a name to a text.
-pub(crate) fn bind_text(
+pub fn bind_text(
     alloc: Global,
     context: &mut KubeContext<'_>,
     name: &str,
@@ -54,20 +54,40 @@ fn bind_others(alloc: Global, context: &mut KubeContext<'_>, fields: &[Field]) -
     Ok(())
 }
 
-/// Writes how an answer is told: a value by `yes` and `no`, by what it prints, or by its text, and an error by its message.
-fn put_told(alloc: Global, key: &str, answer: &Answer, out: &mut String) -> Result<(), Stop> {
-    match answer {
-        Ok(Value::Bool(holds)) => out.push_str(values::yes_or_no(*holds))?,
-        Ok(value) => put_shown(alloc, value, out)?,
-        Err(ExecutionError::FunctionError { message, .. }) => {
-            out.push_str(word_for(key, message.as_str()))?;
+/// Writes how a value is told: `yes` or `no`, what it prints, or its text.
+fn put_value(alloc: Global, value: &Value, out: &mut String) -> Result<(), Stop> {
+    match value {
+        Value::Bool(holds) => Ok(out.push_str(values::yes_or_no(*holds))?),
+        _ => put_shown(alloc, value, out),
+    }
+}
+
+/// Writes how an error is told where a field has this key: by its message, or by `no`.
+fn put_error(
+    alloc: Global,
+    key: &str,
+    error: &ExecutionError,
+    out: &mut String,
+) -> Result<(), Stop> {
+    match (key, error) {
+        ("valid", _) => Ok(out.push_str("no")?),
+        (_, ExecutionError::FunctionError { message, .. }) => {
+            Ok(out.push_str(word_for(key, message.as_str()))?)
         }
-        Err(error) => {
+        _ => {
             let message = error.to_string(alloc)?;
-            out.push_str(word_for(key, message.as_str()))?;
+            Ok(out.push_str(word_for(key, message.as_str()))?)
         }
     }
-    Ok(())
+}
+
+/// Writes how an answer to what a field of this key asks is told.
+fn put_told(alloc: Global, key: &str, answer: &Answer, out: &mut String) -> Result<(), Stop> {
+    match answer {
+        Ok(_) if key == "integer error" => Ok(out.push_str("none")?),
+        Ok(value) => put_value(alloc, value, out),
+        Err(error) => put_error(alloc, key, error, out),
+    }
 }
 
 /// Finds what a field asks of an item, by an expression.
@@ -79,9 +99,6 @@ fn ask(
     out: &mut String,
 ) -> Result<(), Stop> {
     let answer = executed(alloc, context, expression)?;
-    if key == "integer error" && answer.is_ok() {
-        return Ok(out.push_str("none")?);
-    }
     put_told(alloc, key, &answer, out)
 }
 
@@ -96,8 +113,13 @@ fn ask_value(
     let Some(item) = context.get("item") else {
         return Err(Stop::Unfit("item"));
     };
-    if values::put(key, item, context.get("other"), out)? {
-        return Ok(());
+    match (key, item) {
+        ("valid", Value::Null) => return Ok(out.push_str("no")?),
+        ("valid", _) => return Ok(out.push_str("yes")?),
+        ("error", _) => return Ok(out.push_str("none")?),
+        ("printed", _) => return put_value(alloc, item, out),
+        _ if values::put(key, item, context.get("other"), out)? => return Ok(()),
+        _ => {}
     }
     match question(key, types.0, types.1) {
         Some(expression) => ask(alloc, context, key, expression, out),
@@ -105,26 +127,26 @@ fn ask_value(
     }
 }
 
-/// Finds what a field asks of what an item's text is made into.
-fn ask_made(
+/// Finds what a field asks of an item, in a context of all functions.
+fn find_in(
     alloc: Global,
     context: &mut KubeContext<'_>,
+    fields: &[Field],
+    item: &Field,
     key: &str,
-    types: (&str, &str),
-    made: Answer,
     out: &mut String,
 ) -> Result<(), Stop> {
-    match (key, made) {
-        ("valid", Ok(Value::Null) | Err(_)) => Ok(out.push_str("no")?),
-        ("valid", Ok(_)) => Ok(out.push_str("yes")?),
-        ("error", Ok(_)) => Ok(out.push_str("none")?),
-        ("printed", made) => put_told(alloc, key, &made, out),
-        (_, Ok(value)) => {
-            context.add_variable("item", value)?;
-            ask_value(alloc, context, key, types, out)
-        }
-        (_, made) => put_told(alloc, key, &made, out),
+    bind_others(alloc, context, fields)?;
+    match make(alloc, context, item)? {
+        Ok(value) => context.add_variable("item", value)?,
+        Err(error) => return put_error(alloc, key, &error, out),
     }
+    let other = match given(fields, true) {
+        Some(other) => item_type(other.key.as_str()).0,
+        None => "",
+    };
+    let types = (item_type(item.key.as_str()).0, other);
+    ask_value(alloc, context, key, types, out)
 }
 
 /// Finds what a field asks of an item.
@@ -136,12 +158,6 @@ pub(crate) fn find(
     found: &mut Found,
 ) -> Result<(), Stop> {
     let mut context: KubeContext<'_> = Context::default(alloc).with_all();
-    bind_others(alloc, &mut context, fields)?;
-    let of = item_type(item.key.as_str()).0;
-    let other = match given(fields, true) {
-        Some(other) => item_type(other.key.as_str()).0,
-        None => "",
-    };
-    let (key, made) = (field.key.as_str(), make(alloc, &mut context, item)?);
-    ask_made(alloc, &mut context, key, (of, other), made, &mut found.text)
+    let (key, out) = (field.key.as_str(), &mut found.text);
+    find_in(alloc, &mut context, fields, item, key, out)
 }

@@ -9,6 +9,7 @@ use kube_cel::{
     WarningKind,
 };
 use serde::{Deserialize, Serialize};
+use serde_json::Value;
 use std::alloc::{AllocError, Global};
 
 /// What serde reads of a text, if it is read.
@@ -150,16 +151,21 @@ fn differ_of<'t, T: Deserialize<'t> + PartialEq + Drop>(
     }
 }
 
-/// The findings of a JSON list.
-fn findings_of(alloc: Global, text: &str) -> Result<Vec<LintFinding>, Stop> {
+/// The findings that JSON states, if it is a list.
+fn findings_in(alloc: Global, json: &Value) -> Result<Vec<LintFinding>, Stop> {
     let mut findings = Vec::new(alloc);
-    let json = rows::json_of(alloc, "differ", text)?;
     if let Some(items) = json.as_array() {
         for item in items {
             findings.push(finding_of(alloc, item)?)?;
         }
     }
     Ok(findings)
+}
+
+/// The findings of a JSON list.
+fn findings_of(alloc: Global, text: &str) -> Result<Vec<LintFinding>, Stop> {
+    let json = rows::json_of(alloc, "differ", text)?;
+    findings_in(alloc, &json)
 }
 
 /// The same of a JSON list of findings.

@@ -44,29 +44,50 @@ fn fill(field: &mut String, value: &Value, key: &str) -> Result<(), AllocError> 
     }
 }
 
-/// A copy of what a row told last of the whole object. What it leaves out is as by default.
-fn root_given(alloc: Global, given: &[Field]) -> Result<Option<RootContext>, Stop> {
-    let Some(told) = rows::json(alloc, given, "root context")? else {
-        return Ok(None);
-    };
+/// A copy of what JSON tells of a whole object. What it leaves out is as by default.
+fn root_of(alloc: Global, told: &Value) -> Result<RootContext, Stop> {
     let mut root = RootContext::default(alloc);
-    fill(&mut root.api_version, &told, "apiVersion")?;
-    fill(&mut root.api_group, &told, "apiGroup")?;
-    fill(&mut root.kind, &told, "kind")?;
-    Ok(Some(root.try_clone()?))
+    fill(&mut root.api_version, told, "apiVersion")?;
+    fill(&mut root.api_group, told, "apiGroup")?;
+    fill(&mut root.kind, told, "kind")?;
+    Ok(root.try_clone()?)
+}
+
+/// What a row told last of the whole object.
+fn root_given(alloc: Global, given: &[Field]) -> Result<Option<RootContext>, Stop> {
+    match rows::json(alloc, given, "root context")? {
+        Some(told) => Ok(Some(root_of(alloc, &told)?)),
+        None => Ok(None),
+    }
+}
+
+impl Case {
+    /// An empty schema and an empty object, and nothing more.
+    fn empty(alloc: Global) -> Case {
+        Case {
+            schema: Value::Object(Map::new(alloc)),
+            object: Value::Object(Map::new(alloc)),
+            old: None,
+            root: None,
+        }
+    }
+
+    /// Puts in what a row gave.
+    fn put(&mut self, alloc: Global, given: &[Field]) -> Result<(), Stop> {
+        let nesting = nesting_given(given)?;
+        if let Some(object) = value_given(alloc, given, nesting, "object")? {
+            self.object = object;
+        }
+        self.schema = schema_given(alloc, given)?;
+        self.old = value_given(alloc, given, nesting, "old object")?;
+        self.root = root_given(alloc, given)?;
+        Ok(())
+    }
 }
 
 /// What a row gave.
 pub(crate) fn given(alloc: Global, given: &[Field]) -> Result<Case, Stop> {
-    let nesting = nesting_given(given)?;
-    let object = match value_given(alloc, given, nesting, "object")? {
-        Some(object) => object,
-        None => Value::Object(Map::new(alloc)),
-    };
-    Ok(Case {
-        schema: schema_given(alloc, given)?,
-        object,
-        old: value_given(alloc, given, nesting, "old object")?,
-        root: root_given(alloc, given)?,
-    })
+    let mut case = Case::empty(alloc);
+    case.put(alloc, given)?;
+    Ok(case)
 }

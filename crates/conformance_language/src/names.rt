@@ -3,11 +3,11 @@
 use crate::values::yes_or_no;
 use conformance_rows::texts::push_quoted;
 use conformance_rows::{Field, Found, Stop, given};
-use kube_cel::{escape_field_name, unescape_field_name};
+use kube_schema_values::{escape_field_name, unescape_field_name};
 use std::alloc::Global;
 
 /// Writes a field's name in CEL, from which the name has to come back.
-pub(crate) fn put_escaped(alloc: Global, name: &str, out: &mut String) -> Result<(), Stop> {
+pub fn put_escaped(alloc: Global, name: &str, out: &mut String) -> Result<(), Stop> {
     let escaped = escape_field_name(alloc, name)?;
     out.push_str(escaped.as_str())?;
     match unescape_field_name(alloc, escaped.as_str())? {

@@ -1,13 +1,12 @@
 //! What answers show.
 
+use cel::{Answer, Refused, Value};
 use conformance_rows::Stop;
 use conformance_rows::texts::push_all;
-use kube_cel::Refused;
-use kube_cel::cel::{Answer, Value};
 use std::alloc::Global;
 
 /// What running an expression comes to.
-pub(crate) type Ran = Result<Answer, Refused>;
+pub type Ran = Result<Answer, Refused>;
 
 /// Writes the text of a value, as `%s` shows it, or else what stands for a text and the value's kind.
 fn put_text(alloc: Global, value: &Value, instead: &str, out: &mut String) -> Result<(), Stop> {
@@ -59,12 +58,7 @@ fn put_value(alloc: Global, asked: &str, value: &Value, out: &mut String) -> Res
 }
 
 /// Writes what is asked of an answer, or else what the answer is.
-pub(crate) fn put_answer(
-    alloc: Global,
-    asked: &str,
-    answer: &Ran,
-    out: &mut String,
-) -> Result<(), Stop> {
+pub fn put_answer(alloc: Global, asked: &str, answer: &Ran, out: &mut String) -> Result<(), Stop> {
     match answer {
         Ok(Ok(value)) => put_value(alloc, asked, value, out),
         Ok(Err(error)) => {

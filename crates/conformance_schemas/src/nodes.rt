@@ -106,7 +106,22 @@ fn compare(
     Ok(())
 }
 
-/// Finds what a field asks of the node that the row's steps lead to.
+/// Finds what a field asks of the node that a row's steps lead to.
+fn find_in(
+    alloc: Global,
+    given: &[Field],
+    schema: &Value,
+    compiled: &CompiledSchema,
+    key: &str,
+    found: &mut Found,
+) -> Result<(), Stop> {
+    compare(alloc, schema, compiled, found)?;
+    let steps = rows::text(given, "node").unwrap_or("");
+    let node = node_at(compiled, nesting_given(given)?, steps);
+    find_of(alloc, compiled, node, key, &mut found.text)
+}
+
+/// Finds what a field asks of a node of the row's schema.
 pub(crate) fn find(
     alloc: Global,
     given: &[Field],
@@ -115,8 +130,6 @@ pub(crate) fn find(
 ) -> Result<(), Stop> {
     let schema = schema_given(alloc, given)?;
     let compiled = compile_schema(alloc, &schema)?;
-    compare(alloc, &schema, &compiled, found)?;
-    let steps = rows::text(given, "node").unwrap_or("");
-    let node = node_at(&compiled, nesting_given(given)?, steps);
-    find_of(alloc, &compiled, node, field.key.as_str(), &mut found.text)
+    let key = field.key.as_str();
+    find_in(alloc, given, &schema, &compiled, key, found)
 }

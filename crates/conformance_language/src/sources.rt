@@ -3,16 +3,14 @@
 use crate::outline::put_outline;
 use crate::tokens::put_tokens;
 use crate::values::yes_or_no;
+use cel::Program;
 use conformance_rows::texts::push_times;
 use conformance_rows::{Field, Found, Stop, given};
-use kube_cel::cel::Program;
 use std::alloc::Global;
 
-/// Writes a text of so many levels, each of which puts `before` and `after` around what stands `within`.
-fn push_levels(given: &[Field], levels: &str, out: &mut String) -> Result<(), Stop> {
-    let Ok(levels) = levels.parse::<usize>() else {
-        return Err(Stop::Unfit("levels"));
-    };
+/// Writes a text of as many levels as a row gave, each of which puts `before` and `after` around what stands `within`.
+fn push_levels(given: &[Field], out: &mut String) -> Result<(), Stop> {
+    let levels = given::number(given, "levels", 0)? as usize;
     push_times(out, given::needed(given, "before")?, levels)?;
     out.push_str(given::needed(given, "within")?)?;
     Ok(push_times(out, given::needed(given, "after")?, levels)?)
@@ -23,7 +21,7 @@ fn push_source(given: &[Field], out: &mut String) -> Result<(), Stop> {
     for field in given.iter().rev() {
         match field.key.as_str() {
             "text" | "expression" => return Ok(out.push_str(field.text.as_str())?),
-            "levels" => return push_levels(given, field.text.as_str(), out),
+            "levels" => return push_levels(given, out),
             _ => {}
         }
     }

@@ -4,6 +4,7 @@ use crate::case::schema_given;
 use conformance_rows::texts::{push_json, push_line, push_member};
 use conformance_rows::{Field, Stop};
 use kube_schema::{CompilationError, CompilationResult, Rule, rule_values};
+use serde_json::Value;
 use std::alloc::Global;
 
 /// Writes a member that is a text, if there is one.
@@ -37,16 +38,21 @@ fn put_fields(alloc: Global, rule: &Rule, out: &mut String) -> Result<(), Stop> 
     }
 }
 
-/// Writes the rules of a row's schema as they are read, each copied, an object on a line.
+/// Writes a rule as it is read, copied, as an object on a line.
+fn put_read(alloc: Global, value: &Value, out: &mut String) -> Result<(), Stop> {
+    push_line(out, "{")?;
+    match Rule::from_json(alloc, value)? {
+        Ok(rule) => put_fields(alloc, &rule.try_clone()?, out)?,
+        Err(fault) => push_member(alloc, out, "fault", fault.to_string(alloc)?.as_str())?,
+    }
+    Ok(out.push('}')?)
+}
+
+/// Writes the rules of a row's schema as they are read, an object on a line.
 pub(crate) fn read(alloc: Global, given: &[Field], out: &mut String) -> Result<(), Stop> {
     let schema = schema_given(alloc, given)?;
     for value in rule_values(&schema) {
-        push_line(out, "{")?;
-        match Rule::from_json(alloc, value)? {
-            Ok(rule) => put_fields(alloc, &rule.try_clone()?, out)?,
-            Err(fault) => push_member(alloc, out, "fault", fault.to_string(alloc)?.as_str())?,
-        }
-        out.push('}')?;
+        put_read(alloc, value, out)?;
     }
     Ok(())
 }

@@ -65,7 +65,7 @@ const QUESTIONS: [(&str, &str, &str); 30] = [
 ];
 
 /// How a value of a type is made of the text `written`.
-pub(crate) fn maker(of: &str) -> Option<&'static str> {
+pub fn maker(of: &str) -> Option<&'static str> {
     for (name, expression) in MAKERS {
         if name == of {
             return Some(expression);

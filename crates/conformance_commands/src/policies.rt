@@ -10,22 +10,33 @@ use kube_cel::{
 use serde_json::Value;
 use std::alloc::Global;
 
-/// A copy of the request that the row gives, if it gives one. A copy of each of its parts is equal to it.
+/// Whether a copy of a request is equal to it, and copies of its parts to them.
+fn is_copied(request: &AdmissionRequest, copy: &AdmissionRequest) -> Result<bool, Stop> {
+    let kind = copy.kind.try_clone()?;
+    let resource = copy.resource.try_clone()?;
+    Ok(copy == request && kind == request.kind && resource == request.resource)
+}
+
+/// A copy of a request, which has to be equal to it.
+fn copy_of(request: &AdmissionRequest) -> Result<AdmissionRequest, Stop> {
+    let copy = request.try_clone()?;
+    if is_copied(request, &copy)? {
+        Ok(copy)
+    } else {
+        Err(Stop::Differs("try_clone"))
+    }
+}
+
+/// A copy of the request that the row gives, if it gives one.
 fn request_given(alloc: Global, given: &[Field]) -> Result<Option<AdmissionRequest>, Stop> {
     let Some(text) = rows::text(given, "request") else {
         return Ok(None);
     };
-    let Some(request): Option<AdmissionRequest> = read(alloc, text)? else {
-        return Err(Stop::Unfit("request"));
-    };
-    let copy = request.try_clone()?;
-    if copy != request
-        || copy.kind.try_clone()? != request.kind
-        || copy.resource.try_clone()? != request.resource
-    {
-        return Err(Stop::Differs("try_clone"));
+    let request: Option<AdmissionRequest> = read(alloc, text)?;
+    match request {
+        Some(request) => Ok(Some(copy_of(&request)?)),
+        None => Err(Stop::Unfit("request")),
     }
-    Ok(Some(copy))
 }
 
 /// Sets the value of a key, where there is one.
@@ -39,20 +50,41 @@ fn set(builder: VapEvaluatorBuilder, key: &str, value: Option<Value>) -> VapEval
     }
 }
 
+/// Sets the value that the row gives by a key, if it gives one.
+fn with_value(
+    alloc: Global,
+    given: &[Field],
+    builder: VapEvaluatorBuilder,
+    key: &'static str,
+) -> Result<VapEvaluatorBuilder, Stop> {
+    let value = rows::json(alloc, given, key)?;
+    Ok(set(builder, key, value))
+}
+
+/// Sets the request that the row gives, if it gives one.
+fn with_request(
+    alloc: Global,
+    given: &[Field],
+    builder: VapEvaluatorBuilder,
+) -> Result<VapEvaluatorBuilder, Stop> {
+    match request_given(alloc, given)? {
+        Some(request) => Ok(builder.request(request)),
+        None => Ok(builder),
+    }
+}
+
 /// The evaluator that has what the row sets over what a builder has.
 fn built(
     alloc: Global,
     given: &[Field],
     builder: VapEvaluatorBuilder,
 ) -> Result<VapEvaluator, Stop> {
-    let mut builder = builder;
-    for key in ["object", "old object", "params", "namespace object"] {
-        builder = set(builder, key, rows::json(alloc, given, key)?);
-    }
-    match request_given(alloc, given)? {
-        Some(request) => Ok(builder.request(request).build()),
-        None => Ok(builder.build()),
-    }
+    let builder = with_value(alloc, given, builder, "object")?;
+    let builder = with_value(alloc, given, builder, "old object")?;
+    let builder = with_value(alloc, given, builder, "params")?;
+    let builder = with_value(alloc, given, builder, "namespace object")?;
+    let builder = with_request(alloc, given, builder)?;
+    Ok(builder.build())
 }
 
 /// A builder by which is set already what stands for an object, an old object and a request that aren't set.
@@ -71,7 +103,17 @@ fn text_given(alloc: Global, given: &[Field], key: &str) -> Result<Option<String
     }
 }
 
-/// The expressions that the row gives: a JSON list of them, else one with its messages.
+/// The expression that the row gives, with its messages.
+fn expression_given(alloc: Global, given: &[Field]) -> Result<VapExpression, Stop> {
+    let text = rows::needed(given, "expression")?;
+    Ok(VapExpression {
+        expression: String::from_str(alloc, text)?,
+        message: text_given(alloc, given, "message")?,
+        message_expression: text_given(alloc, given, "message expression")?,
+    })
+}
+
+/// The expressions that the row gives: a JSON list of them, else one.
 fn expressions_given(alloc: Global, given: &[Field]) -> Result<Vec<VapExpression>, Stop> {
     if let Some(text) = rows::text(given, "expressions") {
         return match read(alloc, text)? {
@@ -79,13 +121,9 @@ fn expressions_given(alloc: Global, given: &[Field]) -> Result<Vec<VapExpression
             None => Err(Stop::Unfit("expressions")),
         };
     }
-    let text = rows::needed(given, "expression")?;
+    let expression = expression_given(alloc, given)?;
     let mut expressions = Vec::new(alloc);
-    expressions.push(VapExpression {
-        expression: String::from_str(alloc, text)?,
-        message: text_given(alloc, given, "message")?,
-        message_expression: text_given(alloc, given, "message expression")?,
-    })?;
+    expressions.push(expression)?;
     Ok(expressions)
 }
 
@@ -99,10 +137,11 @@ fn put_result(told: &VapResult, of: &VapExpression, out: &mut String) -> Result<
     if told.expression.as_str() != of.expression.as_str() {
         return Err(Stop::Differs("the result's expression"));
     }
-    if told.try_clone()? != *told || of.try_clone()? != *of {
-        return Err(Stop::Differs("try_clone"));
+    if told.try_clone()? == *told && of.try_clone()? == *of {
+        Ok(())
+    } else {
+        Err(Stop::Differs("try_clone"))
     }
-    Ok(())
 }
 
 /// Writes the results of expressions.
@@ -161,6 +200,18 @@ fn find_by(
     found.end("evaluate, each alone")
 }
 
+/// Finds the results of expressions that an evaluator with nothing set compiles by another one.
+fn find_by_other(
+    alloc: Global,
+    evaluator: &VapEvaluator,
+    expressions: &[VapExpression],
+    found: &mut Found,
+) -> Result<(), Stop> {
+    let compiler = VapEvaluator::builder().build();
+    evaluate_compiled(alloc, &compiler, evaluator, expressions, &mut found.other)?;
+    found.end("evaluate_compiled of what another compiled")
+}
+
 /// Finds the results of the row's expressions, also by an evaluator on which was more set before, of what one with nothing set compiled.
 fn find_results(
     alloc: Global,
@@ -171,9 +222,7 @@ fn find_results(
     let evaluator = built(alloc, given, VapEvaluator::builder())?;
     find_by(alloc, &evaluator, expressions, found)?;
     let other = built(alloc, given, filled_builder(alloc))?;
-    let compiler = VapEvaluator::builder().build();
-    evaluate_compiled(alloc, &compiler, &other, expressions, &mut found.other)?;
-    found.end("evaluate_compiled of what another compiled")
+    find_by_other(alloc, &other, expressions, found)
 }
 
 /// Writes what compiling an expression comes to: `compiled`, or the error's text, the text that isn't read, and that of the expression.
@@ -206,6 +255,21 @@ fn put_all_compiled(
     Ok(())
 }
 
+/// Finds what serde writes of the results of expressions, and reads of that.
+fn find_results_written(
+    alloc: Global,
+    given: &[Field],
+    expressions: &[VapExpression],
+    field: &Field,
+    found: &mut Found,
+) -> Result<(), Stop> {
+    let evaluator = built(alloc, given, VapEvaluator::builder())?;
+    let results = evaluator.evaluate(alloc, expressions)?;
+    expect(field, found)?;
+    let is_read = put_and_read(alloc, &results, field.text.as_str(), &mut found.other)?;
+    find_expected(is_read, field, found)
+}
+
 /// Finds what a field asks of the row's expressions.
 pub(crate) fn find(
     alloc: Global,
@@ -217,11 +281,7 @@ pub(crate) fn find(
     match field.key.as_str() {
         "compiled" => put_all_compiled(alloc, expressions.as_slice(), &mut found.text),
         "results written" => {
-            let evaluator = built(alloc, given, VapEvaluator::builder())?;
-            let results = evaluator.evaluate(alloc, expressions.as_slice())?;
-            expect(field, found)?;
-            let is_read = put_and_read(alloc, &results, field.text.as_str(), &mut found.other)?;
-            find_expected(is_read, field, found)
+            find_results_written(alloc, given, expressions.as_slice(), field, found)
         }
         _ => find_results(alloc, given, expressions.as_slice(), found),
     }

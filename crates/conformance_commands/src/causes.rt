@@ -1,20 +1,11 @@
 //! Rows of what serde writes of a validation's errors, and of their causes.
 
-use crate::case;
+use crate::schemas::errors_given;
 use crate::types::{expect, find_expected, put_and_read, read};
 use conformance_rows::texts::push_line;
 use conformance_rows::{Field, Found, Stop, given as rows};
-use kube_cel::{ValidationError, ValidationErrors, validate};
+use kube_cel::{ValidationError, ValidationErrors};
 use std::alloc::Global;
-
-/// The errors of the row's object.
-fn errors_of(alloc: Global, given: &[Field]) -> Result<ValidationErrors, Stop> {
-    let case = case::given(alloc, given)?;
-    match validate(alloc, &case.schema, &case.object, case.old.as_ref())? {
-        Ok(()) => Err(Stop::Unfit("object")),
-        Err(errors) => Ok(errors),
-    }
-}
 
 /// Writes the text of an error's cause in a line, `none` where it has none.
 fn put_cause(error: &ValidationError, out: &mut String) -> Result<(), Stop> {
@@ -26,13 +17,18 @@ fn put_cause(error: &ValidationError, out: &mut String) -> Result<(), Stop> {
     Ok(())
 }
 
+/// Writes the cause of a copy of an error, and whether the copy is equal to it.
+fn put_copied(error: &ValidationError, out: &mut String) -> Result<bool, Stop> {
+    let copy = error.try_clone()?;
+    put_cause(&copy, out)?;
+    Ok(copy == *error)
+}
+
 /// Finds the causes of errors, a line each. A copy of each error has the same.
 fn find_causes(errors: &[ValidationError], found: &mut Found) -> Result<(), Stop> {
     for error in errors {
         put_cause(error, &mut found.text)?;
-        let copy = error.try_clone()?;
-        put_cause(&copy, &mut found.other)?;
-        if copy != *error || found.other.as_str() != found.text.as_str() {
+        if !put_copied(error, &mut found.other)? || found.other.as_str() != found.text.as_str() {
             return Err(Stop::Differs("try_clone"));
         }
     }
@@ -41,7 +37,7 @@ fn find_causes(errors: &[ValidationError], found: &mut Found) -> Result<(), Stop
 
 /// Finds the causes of a copy of the errors of the row's object.
 fn find_copied(alloc: Global, given: &[Field], found: &mut Found) -> Result<(), Stop> {
-    let errors = errors_of(alloc, given)?;
+    let errors = errors_given(alloc, given)?;
     let copy = errors.try_clone()?;
     if copy != errors {
         return Err(Stop::Differs("try_clone"));
@@ -66,9 +62,9 @@ pub(crate) fn find(
             }
         }
         _ => {
-            let (errors, text) = (errors_of(alloc, given)?, field.text.as_str());
             expect(field, found)?;
-            let is_read = put_and_read(alloc, &errors, text, &mut found.other)?;
+            let errors = errors_given(alloc, given)?;
+            let is_read = put_and_read(alloc, &errors, field.text.as_str(), &mut found.other)?;
             find_expected(is_read, field, found)
         }
     }

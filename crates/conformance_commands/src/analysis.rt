@@ -1,14 +1,11 @@
 //! Rows of what is said of a rule without an object: names that aren't there, costs, and both.
 
-use crate::case::schema_given;
+use crate::schemas::compiled_given;
 use crate::types::{expect, find_expected, put_and_read, scope_of};
 use conformance_rows::texts::push_line;
 use conformance_rows::{Field, Found, Stop, given as rows};
 use kube_cel::cel::Program;
-use kube_cel::{
-    AnalysisWarning, ScopeContext, analyze_rule, check_rule_scope, compile_schema,
-    estimate_rule_cost,
-};
+use kube_cel::{AnalysisWarning, ScopeContext, analyze_rule, check_rule_scope, estimate_rule_cost};
 use kube_cel_analysis::{Sizes, estimated_cost};
 use std::alloc::Global;
 
@@ -20,7 +17,7 @@ fn scope(given: &[Field]) -> Result<ScopeContext, Stop> {
     }
 }
 
-/// Writes a warning of a rule: its kind and message.
+/// Writes a warning of a rule: its kind and message. A copy is equal to it.
 fn put_warning(warning: &AnalysisWarning, rule: &str, out: &mut String) -> Result<(), Stop> {
     let (kind, message) = (warning.kind, warning.message.as_str());
     push_line(out, "")?;
@@ -28,11 +25,11 @@ fn put_warning(warning: &AnalysisWarning, rule: &str, out: &mut String) -> Resul
     if warning.rule.as_str() != rule {
         return Err(Stop::Differs("the warning's rule"));
     }
-    let copy = warning.try_clone()?;
-    if copy != *warning {
-        return Err(Stop::Differs("try_clone"));
+    if warning.try_clone()? == *warning {
+        Ok(())
+    } else {
+        Err(Stop::Differs("try_clone"))
     }
-    Ok(())
 }
 
 /// What the row's rule is warned of by the call that a key names.
@@ -42,15 +39,16 @@ fn warnings_of(
     rule: &str,
     key: &str,
 ) -> Result<Vec<AnalysisWarning>, Stop> {
+    let scope = scope(given)?;
     if key == "scope warnings" {
-        return Ok(check_rule_scope(alloc, rule, scope(given)?)?);
+        return Ok(check_rule_scope(alloc, rule, scope)?);
     }
-    let schema = schema_given(alloc, given)?;
-    let compiled = compile_schema(alloc, &schema)?;
+    let compiled = compiled_given(alloc, given)?;
     if key == "cost warnings" {
-        return Ok(estimate_rule_cost(alloc, rule, &compiled)?);
+        Ok(estimate_rule_cost(alloc, rule, &compiled)?)
+    } else {
+        Ok(analyze_rule(alloc, rule, &compiled, scope)?)
     }
-    Ok(analyze_rule(alloc, rule, &compiled, scope(given)?)?)
 }
 
 /// Writes what the row's rule is warned of by the call that a key names.

@@ -1,7 +1,7 @@
 //! Trees as outlines: each node in a line of its own, and its parts below it, two blanks further in.
 
+use cel::{BinaryOperator, Expr, MacroKind, UnaryOperator, Value};
 use conformance_rows::texts::{push_all, push_line, push_times};
-use kube_cel::cel::{BinaryOperator, Expr, MacroKind, UnaryOperator, Value};
 use std::alloc::AllocError;
 
 /// How an operator on two values is written.
