@@ -1,2 +1,5 @@
 pub mod Judging
 pub mod Writes
+pub mod Alone
+pub mod Checking
+pub mod Admitting

@@ -30,7 +30,11 @@ pub data Asked : Type 0 where
 -- ---- what the code's values stand for
 
 abbrev pub check_view : Check → CheckData
-check_view c = record { crds = map (λ s. s.now) c.crds.now; olds = map (λ s. s.now) c.olds.now; objects = map (λ s. s.now) c.objects.now }
+check_view c = record {
+  crds = map (λ s. s.now) c.crds.now;
+  olds = map (λ s. s.now) c.olds.now;
+  objects = map (λ s. s.now) c.objects.now;
+}
 
 abbrev pub admit_view : Admit → AdmitData
 admit_view a = record {

@@ -1,5 +1,6 @@
 -- Trusted by the clauses of kubecel.
--- What a run of `kubecel` rests on: the files that it names, read one after another, and what came of each thing that they hold.
+-- What a run of `kubecel` rests on: the files that it names, read one after another, and what came of each
+-- thing that they hold.
 use Rattle.cel_book.specs.Book.{Book, IsBook}
 use Rattle.kube_cel_lint.specs.Findings.{Naming}
 use Rattle.kube_cel_policies.specs.Variables.{Variables, no_variables}
@@ -28,23 +29,39 @@ use Rattle.std.specs.Prelude.{◌≡◌, ℕ, ◌<◌, List, [], ◌∷◌, map,
 -- each thing, in order, is told as one item
 abbrev pub AreItems : (Found → ItemData → Type 0) → List Found → List ItemData → Type 0
 AreItems Is [] items = items ≡ []
-AreItems Is (f ∷ fs) items = (i : ItemData) × (rest : List ItemData) × (items ≡ i ∷ rest) × Is f i × AreItems Is fs rest
+AreItems Is (f ∷ fs) items =
+    (i : ItemData) × (rest : List ItemData) × (items ≡ i ∷ rest) × Is f i × AreItems Is fs rest
 
 -- ---- what came of one thing
 
 -- an object is judged by these versions, with the old object that it was before
 abbrev pub IsJudged : List (Version Data) → List Data → Found → ItemData → Type 0
-IsJudged versions olds f i = (j : Judgement) × IsJudgement versions f.value (old_of olds f.value) j × (i ≡ judged_item f j)
+IsJudged versions olds f i =
+    (j : Judgement) × IsJudgement versions f.value (old_of olds f.value) j × (i ≡ judged_item f j)
 
 -- a definition is reviewed, under some book of patterns
 pub record IsReviewed (f : Found) (i : ItemData) : Type 0 where
-  pub is_definition : is_crd f.value ≡ true → (b : Book) × IsBook b × ((names : Naming) → i ≡ reviewed_item f (crd_findings names f.value b))
+  pub is_definition : is_crd f.value ≡ true
+      → (b : Book) × IsBook b × ((names : Naming) → i ≡ reviewed_item f (crd_findings names f.value b))
   pub is_none : is_crd f.value ≡ false → i ≡ no_crd_item f
+
+-- ---- what a policy is judged over
+
+-- what an AdmissionReview gives; nothing where there is none
+abbrev pub base_of : Option Data → Result Variables FaultData
+base_of None = Ok no_variables
+base_of (Some d) = review_of d
+
+-- what is given besides goes before what was given
+abbrev pub instead : Option Data → Option Data → Option Data
+instead None given = given
+instead (Some d) given = Some d
 
 module _ {S : Type 0} (reads : S → List ℕ → Option (List ℕ) → S → Type 0) where
   -- the file at the path holds this document alone
   abbrev pub IsOneRead : S → List ℕ → Data → S → Type 0
-  IsOneRead before path value after = AreRead reads before (path ∷ []) (record { file = path; index = 0; value = value } ∷ []) after
+  IsOneRead before path value after =
+      AreRead reads before (path ∷ []) (record { file = path; index = 0; value = value } ∷ []) after
 
   -- so does a file that may not be named; then nothing is read
   abbrev pub IsOneReadWhereNamed : S → Option (List ℕ) → Option Data → S → Type 0
@@ -55,7 +72,8 @@ module _ {S : Type 0} (reads : S → List ℕ → Option (List ℕ) → S → Ty
 
   -- ---- what a command finds
 
-  -- The definitions, the old objects and the objects were read in order. All definitions are whole, there is an object, and each is judged.
+  -- The definitions, the old objects and the objects were read in order. All definitions are whole, there is
+  -- an object, and each is judged.
   pub record AreChecked (before : S) (asked : CheckData) (after : S) (items : List ItemData) : Type 0 where
     pub crds : List Found
     pub olds : List Found
@@ -68,24 +86,16 @@ module _ {S : Type 0} (reads : S → List ℕ → Option (List ℕ) → S → Ty
     pub versions : List (Version Data)
     pub whole : versions_of (items_of (map (λ f. f.value) crds)) ≡ Ok versions
     pub some : 0 < length (all_objects objects)
-    pub judged : AreItems (IsJudged versions (map (λ f. f.value) (all_objects olds))) (all_objects objects) items
+    pub judged : AreItems (IsJudged versions (map (λ f. f.value) (all_objects olds)))
+        (all_objects objects) items
 
   -- The definitions were read. There is one, and each is reviewed.
-  pub record AreReviewed (before : S) (paths : List (List ℕ)) (after : S) (items : List ItemData) : Type 0 where
+  pub record AreReviewed (before : S) (paths : List (List ℕ)) (after : S) (items : List ItemData)
+      : Type 0 where
     pub crds : List Found
     pub crds_read : AreRead reads before paths crds after
     pub some : 0 < length (all_objects crds)
     pub reviewed : AreItems IsReviewed (all_objects crds) items
-
-  -- what an AdmissionReview gives; nothing where there is none
-  abbrev pub base_of : Option Data → Result Variables FaultData
-  base_of None = Ok no_variables
-  base_of (Some d) = review_of d
-
-  -- what is given besides goes before what was given
-  abbrev pub instead : Option Data → Option Data → Option Data
-  instead None given = given
-  instead (Some d) given = Some d
 
   -- The policy, and what is given, were read in order, and this is the verdict.
   pub record AreAdmitted (before : S) (asked : AdmitData) (after : S) (items : List ItemData) : Type 0 where
@@ -115,7 +125,8 @@ module _ {S : Type 0} (reads : S → List ℕ → Option (List ℕ) → S → Ty
       params = instead params base.params;
       namespace_object = instead namespace base.namespace_object;
     }) policy (Ok verdict)
-    pub told : items ≡ policy_item (record { file = asked.policy; index = 0; value = policy }) (verdict_view verdict) ∷ []
+    pub told : items
+        ≡ policy_item (record { file = asked.policy; index = 0; value = policy }) (verdict_view verdict) ∷ []
 
   abbrev pub AreFound : S → Asked → S → List ItemData → Type 0
   AreFound before (check asked) after items = AreChecked before asked after items
@@ -138,9 +149,14 @@ IfReport (Err s) P = ⊥
 
 -- the set of these definitions, by their versions
 abbrev pub IsSetOf : List Found → CrdSet → Type 0
-IsSetOf crds set = (versions : List (Version Data)) × (versions_of (items_of (map (λ f. f.value) crds)) ≡ Ok versions) × (set_view set ≡ map compiled versions)
+IsSetOf crds set =
+    (versions : List (Version Data)) × (versions_of (items_of (map (λ f. f.value) crds)) ≡ Ok versions)
+    × (set_view set ≡ map compiled versions)
 
 -- an object is judged by a set, with the old object that it was before
 abbrev pub IsJudgedBy : CrdSet → List Data → Found → ItemData → Type 0
-IsJudgedBy set olds f i = (j : Judgement) × ((versions : List (Version Data)) → set_view set ≡ map compiled versions → IsJudgement versions f.value (old_of olds f.value) j)
+IsJudgedBy set olds f i =
+    (j : Judgement)
+    × ((versions : List (Version Data)) → set_view set ≡ map compiled versions
+    → IsJudgement versions f.value (old_of olds f.value) j)
     × (i ≡ judged_item f j)

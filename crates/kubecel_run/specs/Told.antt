@@ -43,17 +43,23 @@ error_finding e = record { place = e.field_path; rule = e.rule; message = e.mess
 
 -- why an object isn't judged; of a definition it is said where it belongs
 abbrev pub why_not : Data → reason.NotJudged → List ℕ
-why_not d r = reason_text r ++ (if is_crd d then codes " (a CustomResourceDefinition stands behind --crds)" else [])
+why_not d r =
+    reason_text r ++ (if is_crd d then codes " (a CustomResourceDefinition stands behind --crds)" else [])
 
 abbrev pub judged_item : Found → Judgement → ItemData
 judged_item f (judgement.Judged (Ok u)) = item_of f verdict.Pass []
-judged_item f (judgement.Judged (Err es)) = item_of f verdict.Fail (map (λ e. error_finding (error_view e)) (errors_in es))
+judged_item f (judgement.Judged (Err es)) =
+    item_of f verdict.Fail (map (λ e. error_finding (error_view e)) (errors_in es))
 judged_item f (judgement.NotJudged r) = item_of f verdict.NotJudged (remark (why_not f.value r))
 
 -- ---- definitions
 
 abbrev pub review_finding : Finding → FindingData
-review_finding f = record { place = f.pointer; rule = f.rule; message = kind_text f.kind ++ (codes ": " ++ f.message) }
+review_finding f = record {
+  place = f.pointer;
+  rule = f.rule;
+  message = kind_text f.kind ++ (codes ": " ++ f.message);
+}
 
 abbrev pub pass_unless : List FindingData → Verdict
 pass_unless [] = verdict.Pass
@@ -63,7 +69,8 @@ abbrev pub reviewed_item : Found → List Finding → ItemData
 reviewed_item f findings = item_of f (pass_unless (map review_finding findings)) (map review_finding findings)
 
 abbrev pub no_crd_item : Found → ItemData
-no_crd_item f = item_of f verdict.NotJudged (remark (codes "it is no CustomResourceDefinition of apiextensions.k8s.io/v1"))
+no_crd_item f = item_of f verdict.NotJudged
+    (remark (codes "it is no CustomResourceDefinition of apiextensions.k8s.io/v1"))
 
 -- ---- policies
 
@@ -84,12 +91,16 @@ is_quiet (not_given i) = false
 
 -- what is said of an expression, after what it is and what it goes by
 abbrev pub result_findings : List ℕ → Labelled → List FindingData
-result_findings what r = if is_quiet r.told then [] else record { place = what ++ (codes " " ++ r.label); rule = []; message = told_text r.told } ∷ []
+result_findings what r =
+    if is_quiet r.told then []
+    else record { place = what ++ (codes " " ++ r.label); rule = []; message = told_text r.told } ∷ []
 
 abbrev pub verdict_findings : VerdictData → List FindingData
 verdict_findings v =
-    flat_map (result_findings (codes "match condition")) v.conditions ++ (flat_map (result_findings (codes "variable")) v.variables
-    ++ (flat_map (result_findings (codes "validation")) v.validations ++ flat_map (result_findings (codes "audit annotation")) v.annotations))
+    flat_map (result_findings (codes "match condition")) v.conditions
+    ++ (flat_map (result_findings (codes "variable")) v.variables
+    ++ (flat_map (result_findings (codes "validation")) v.validations
+    ++ flat_map (result_findings (codes "audit annotation")) v.annotations))
 
 abbrev pub policy_item : Found → VerdictData → ItemData
 policy_item f v = item_of f (decision_verdict v.decision) (verdict_findings v)

@@ -29,7 +29,8 @@ pub(crate) fn admitted<S: Sources>(
     admit: Admit<'_>,
     files: &mut S,
 ) -> Result<Report, Stop>
-    ensures { IfOk result (λ r. AreAdmitted S.reads files.old (admit_view admit.entry) files.new (map item_view r.items.items)) }
+    ensures { IfOk result (λ r.
+        AreAdmitted S.reads files.old (admit_view admit.entry) files.new (map item_view r.items.items)) }
 {
     let policy = read_one(alloc, admit.policy, files)?;
     let request = read_where_named(alloc, admit.request, files)?;
@@ -70,7 +71,9 @@ fn read_where_named<S: Sources>(
     path: Option<&str>,
     files: &mut S,
 ) -> Result<Option<Value>, Stop>
-    ensures { IfOk result (λ v. IsOneReadWhereNamed S.reads files.old (option_map (λ s. s.now) path.entry) (option_map view v) files.new) }
+    ensures { IfOk result (λ v.
+        IsOneReadWhereNamed S.reads files.old (option_map (λ s. s.now) path.entry)
+        (option_map view v) files.new) }
 {
     match path {
         None => Ok(None),
@@ -124,7 +127,8 @@ fn report_of(
     policy: &Document,
     verdict: &PolicyVerdict,
 ) -> Result<Report, AllocError>
-    ensures { IfOk result (λ r. map item_view r.items.items ≡ policy_item (document_view policy.now) (verdict_view verdict.now) ∷ []) }
+    ensures { IfOk result (λ r. map item_view r.items.items
+        ≡ policy_item (document_view policy.now) (verdict_view verdict.now) ∷ []) }
 {
     let subject = Subject {
         file: policy.file.as_str(),
@@ -180,7 +184,8 @@ fn add_results(
     findings: &mut Vec<Finding>,
 ) -> Result<(), AllocError>
     ensures { OnOk result (map finding_view findings.new.items
-        ≡ map finding_view findings.old.items ++ flat_map (result_findings what.now) (map result_view results.now)) }
+        ≡ map finding_view findings.old.items
+        ++ flat_map (result_findings what.now) (map result_view results.now)) }
 {
     for one in results {
         add_result(alloc, what, one, findings)?;

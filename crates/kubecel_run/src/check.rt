@@ -36,7 +36,8 @@ pub(crate) fn checked<S: Sources, E: Write>(
     files: &mut S,
     err: &mut E,
 ) -> Result<Report, Stop>
-    ensures { IfOk result (λ r. AreChecked S.reads files.old (check_view check.entry) files.new (map item_view r.items.items)) }
+    ensures { IfOk result (λ r.
+        AreChecked S.reads files.old (check_view check.entry) files.new (map item_view r.items.items)) }
 {
     let crds = read_documents(alloc, check.crds, files)?;
     let olds = read_documents(alloc, check.olds, files)?;
@@ -98,7 +99,9 @@ fn judge_all<E: Write>(
     form: Form,
     err: &mut E,
 ) -> Result<Report, Refused>
-    ensures { IfOk result (λ r. AreItems (IsJudgedBy set.now (map (λ f. f.value) (map subject_view olds.now))) (map subject_view subjects.now) (map item_view r.items.items)) }
+    ensures { IfOk result (λ r.
+        AreItems (IsJudgedBy set.now (map (λ f. f.value) (map subject_view olds.now)))
+        (map subject_view subjects.now) (map item_view r.items.items)) }
 {
     let mut items = Vec::with_capacity(alloc, subjects.len())?;
     let (mut rules, mut compared) = (0u64, 0u64);
@@ -184,7 +187,8 @@ fn why_not(alloc: Global, object: &Value, reason: NotJudged) -> Result<String, A
 
 /// Errors as they are told.
 fn error_findings(alloc: Global, errors: &[ValidationError]) -> Result<Vec<Finding>, AllocError>
-    ensures { IfOk result (λ v. map finding_view v.items ≡ map (λ e. error_finding (error_view e)) errors.now) }
+    ensures { IfOk result (λ v. map finding_view v.items
+        ≡ map (λ e. error_finding (error_view e)) errors.now) }
 {
     let mut findings = Vec::with_capacity(alloc, errors.len())?;
     for error in errors {

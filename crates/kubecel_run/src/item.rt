@@ -15,7 +15,8 @@ pub(crate) fn item_of(
     verdict: Verdict,
     findings: Vec<Finding>,
 ) -> Result<Item, AllocError>
-    ensures { IfOk result (λ i. item_view i ≡ item_of (subject_view subject.now) verdict (map finding_view findings.items)) }
+    ensures { IfOk result (λ i. item_view i
+        ≡ item_of (subject_view subject.now) verdict (map finding_view findings.items)) }
 {
     let called = subject.identity;
     Ok(Item {

@@ -28,12 +28,13 @@ use std::io::Write;
 
 /// Does what a command asks for, and answers the exit status.
 ///
-/// It is 0 where all that was asked about was judged and holds, or is a policy that doesn't apply, and 1 where all was judged and some
-/// rule doesn't hold. Then the files that the command names were read in order, and nothing else; what came of each thing is what the
-/// definitions say of what the files hold; and this was written to `out` whole, in the form that is asked for. Every other case ends with
-/// 2: a file that can't be read or holds no JSON, a broken definition or policy, an object that couldn't be judged, nothing to judge, no
-/// memory, a failed write. No contract can say that 2 comes in no further case, since whether there is memory, and whether a write
-/// succeeds, is known to no caller.
+/// It is 0 where all that was asked about was judged and holds, or is a policy that doesn't apply, and 1
+/// where all was judged and some rule doesn't hold. Then the files that the command names were read in
+/// order, and nothing else; what came of each thing is what the definitions say of what the files hold;
+/// and this was written to `out` whole, in the form that is asked for. Every other case ends with 2: a
+/// file that can't be read or holds no JSON, a broken definition or policy, an object that couldn't be
+/// judged, nothing to judge, no memory, a failed write. No contract can say that 2 comes in no further
+/// case, since whether there is memory, and whether a write succeeds, is known to no caller.
 pub fn run<S: Sources, O: Write, E: Write>(
     alloc: Global,
     command: Command<'_>,
@@ -42,7 +43,8 @@ pub fn run<S: Sources, O: Write, E: Write>(
     out: &mut O,
     err: &mut E,
 ) -> u8
-    ensures told { result ≤ 1 → IsTold (AreFound S.reads files.old (command_view command.entry) files.new) result
+    ensures told { result ≤ 1
+        → IsTold (AreFound S.reads files.old (command_view command.entry) files.new) result
         (λ items. Appends (O.contents out.old) (O.contents out.new) (output_text form.output items)) }
     ensures statuses { result ≤ 2 }
 {
@@ -58,7 +60,8 @@ fn found_by<S: Sources, E: Write>(
     files: &mut S,
     err: &mut E,
 ) -> Result<Report, Stop>
-    ensures { IfOk result (λ r. AreFound S.reads files.old (command_view command.entry) files.new (map item_view r.items.items)) }
+    ensures { IfOk result (λ r.
+        AreFound S.reads files.old (command_view command.entry) files.new (map item_view r.items.items)) }
 {
     match command {
         Command::Check(check) => checked(alloc, check, form, files, err),

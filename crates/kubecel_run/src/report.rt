@@ -63,7 +63,8 @@ fn tell_report<O: Write, E: Write>(
     err: &mut E,
 ) -> u8
     ensures told { result ≤ 1 → (result ≡ items_status (map item_view report.now.items.items))
-        × Appends (O.contents out.old) (O.contents out.new) (output_text form.output (map item_view report.now.items.items)) }
+        × Appends (O.contents out.old) (O.contents out.new)
+        (output_text form.output (map item_view report.now.items.items)) }
     ensures statuses { result ≤ 2 }
 {
     let items = report.items.as_slice();
@@ -81,7 +82,9 @@ fn tell_report<O: Write, E: Write>(
 
 /// Writes all items, and sees that no writer keeps some of them back.
 fn write_all<O: Write>(alloc: Global, form: Form, items: &[Item], out: &mut O) -> io::Result<()>
-    ensures { OnOk result (Appends (O.contents out.old) (O.contents out.new) (output_text form.output (map item_view items.now))) }
+    ensures { OnOk result
+        (Appends (O.contents out.old) (O.contents out.new)
+        (output_text form.output (map item_view items.now))) }
 {
     write_items(alloc, form.output, items, out)?;
     out.flush()

@@ -21,7 +21,8 @@ pub(crate) fn reviewed<S: Sources>(
     crds: &[&str],
     files: &mut S,
 ) -> Result<Report, Stop>
-    ensures { IfOk result (λ r. AreReviewed S.reads files.old (map (λ s. s.now) crds.now) files.new (map item_view r.items.items)) }
+    ensures { IfOk result (λ r.
+        AreReviewed S.reads files.old (map (λ s. s.now) crds.now) files.new (map item_view r.items.items)) }
 {
     let documents = read_documents(alloc, crds, files)?;
     let subjects = objects_of(alloc, documents.as_slice())?;
@@ -77,7 +78,8 @@ fn pass_unless(findings: &[Finding]) -> Verdict
 
 /// Findings as they are told.
 fn review_findings(alloc: Global, found: &[ReviewFinding]) -> Result<Vec<Finding>, AllocError>
-    ensures { IfOk result (λ v. map finding_view v.items ≡ map review_finding (map doubts.finding_view found.now)) }
+    ensures { IfOk result (λ v. map finding_view v.items
+        ≡ map review_finding (map doubts.finding_view found.now)) }
 {
     let mut findings = Vec::with_capacity(alloc, found.len())?;
     for finding in found {
