@@ -123,8 +123,11 @@ pub fn words<'a>(alloc: Global) -> Result<Words<'a>, AllocError> {
 }
 
 /// All values of an option.
-pub fn all_of<'m, 'a>(found: &'m ArgMatches<'a>, name: &str) -> &'m [&'a str] {
-    found.get_strs(name).unwrap_or(&[])
+pub fn all_of<'m>(found: &'m ArgMatches<'m>, name: &str) -> &'m [&'m str] {
+    match found.get_strs(name) {
+        Some(values) => values,
+        None => &[],
+    }
 }
 
 /// The command that was asked for.
