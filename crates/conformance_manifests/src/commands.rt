@@ -13,6 +13,16 @@ struct Ran {
     err: Vec<u8>,
 }
 
+impl Ran {
+    /// What it wrote to the stream that a key of a row names.
+    fn stream(&self, key: &str) -> &[u8] {
+        match key {
+            "output" => self.out.as_slice(),
+            _ => self.err.as_slice(),
+        }
+    }
+}
+
 /// The lines of what a row gives by a key, none where it gives nothing.
 fn lines<'g>(alloc: Global, given: &'g [Field], key: &str) -> Result<Vec<&'g str>, AllocError> {
     match rows::text(given, key) {
@@ -33,40 +43,63 @@ fn output(given: &[Field]) -> Result<Output, Stop> {
     }
 }
 
-/// Runs a row's command, whose standard output takes so many writes: that of the key that was given.
-fn run_given(alloc: Global, given: &[Field], writes: u64) -> Result<Ran, Stop> {
-    let crds = lines(alloc, given, "by")?;
-    let olds = lines(alloc, given, "before")?;
-    let objects = lines(alloc, given, "check")?;
-    let reviewed = lines(alloc, given, "review")?;
-    let command = if let Some(policy) = rows::text(given, "admit") {
-        Command::Admit(Admit {
+/// The paths that a row's command names.
+#[derive(Drop)]
+struct Paths<'g> {
+    crds: Vec<&'g str>,
+    olds: Vec<&'g str>,
+    objects: Vec<&'g str>,
+    reviewed: Vec<&'g str>,
+}
+
+/// A row's command, by what it gives and these paths.
+fn command_of<'l, 'g>(given: &'g [Field], paths: &'l Paths<'g>) -> Command<'l, 'g> {
+    match rows::text(given, "admit") {
+        Some(policy) => Command::Admit(Admit {
             policy,
             request: rows::text(given, "with request"),
             object: rows::text(given, "with object"),
             old: rows::text(given, "with old object"),
             params: rows::text(given, "with params"),
             namespace: rows::text(given, "with namespace"),
-        })
-    } else if reviewed.is_empty() {
-        Command::Check(Check {
-            crds: crds.as_slice(),
-            olds: olds.as_slice(),
-            objects: objects.as_slice(),
-        })
-    } else {
-        Command::Review(reviewed.as_slice())
-    };
+        }),
+        None if paths.reviewed.is_empty() => Command::Check(Check {
+            crds: paths.crds.as_slice(),
+            olds: paths.olds.as_slice(),
+            objects: paths.objects.as_slice(),
+        }),
+        None => Command::Review(paths.reviewed.as_slice()),
+    }
+}
+
+/// Runs the command with these paths.
+fn run_paths<'g>(
+    alloc: Global,
+    given: &'g [Field],
+    paths: &Paths<'g>,
+    writes: u64,
+) -> Result<Ran, Stop> {
     let form = Form {
         output: output(given)?,
         progress: rows::text(given, "progress").is_some(),
     };
-    Ok(run_command(alloc, command, form, given, writes))
+    Ok(run_command(alloc, command_of(given, paths), form, given, writes))
+}
+
+/// Runs a row's command, whose standard output takes so many writes.
+fn run_given(alloc: Global, given: &[Field], writes: u64) -> Result<Ran, Stop> {
+    let paths = Paths {
+        crds: lines(alloc, given, "by")?,
+        olds: lines(alloc, given, "before")?,
+        objects: lines(alloc, given, "check")?,
+        reviewed: lines(alloc, given, "review")?,
+    };
+    run_paths(alloc, given, &paths, writes)
 }
 
 fn run_command(
     alloc: Global,
-    command: Command<'_>,
+    command: Command<'_, '_>,
     form: Form,
     given: &[Field],
     writes: u64,
@@ -82,31 +115,36 @@ fn run_command(
     }
 }
 
-/// Finds the status of a row's command, or what it wrote to one stream, without the line feed at its end where the field's text has none.
+/// What is compared with a field's text: what was written, without the line feed at its end where the field's text has none.
+fn compared<'t>(written: &'t str, expected: &str) -> &'t str {
+    if expected.is_empty() || expected.ends_with('\n') {
+        return written;
+    }
+    if let Some(text) = written.strip_suffix("\n") {
+        return text;
+    }
+    "no line feed at the end"
+}
+
+/// Finds the status of a row's command, or what it wrote to one stream.
 pub(crate) fn find(
     alloc: Global,
     given: &[Field],
     field: &Field,
     found: &mut Found,
 ) -> Result<(), Stop> {
+    if field.key.as_str() == "each write refused" {
+        return refuse_each_write(alloc, given, found);
+    }
     let writes = rows::number(given, "refused write", MANY)?.saturating_sub(1);
-    let Ran { status, out, err } = run_given(alloc, given, writes)?;
-    let written = match field.key.as_str() {
-        "output" => out,
-        "error output" => err,
-        "each write refused" => return refuse_each_write(alloc, given, found),
-        _ => return Ok(write!(found.text, "{status}")?),
-    };
-    let written = String::from_utf8_lossy(alloc, written.as_slice())?;
-    let whole = written.as_str();
-    let said = if field.text.is_empty() || field.text.ends_with('\n') {
-        whole
-    } else {
-        whole
-            .strip_suffix("\n")
-            .unwrap_or("no line feed at the end")
-    };
-    Ok(found.say(said)?)
+    let ran = run_given(alloc, given, writes)?;
+    if field.key.as_str() == "status" {
+        let status = ran.status;
+        return Ok(write!(found.text, "{status}")?);
+    }
+    let written = ran.stream(field.key.as_str());
+    let written = String::from_utf8_lossy(alloc, written)?;
+    Ok(found.say(compared(written.as_str(), field.text.as_str()))?)
 }
 
 /// Finds the status 2, where each write of a row's command to standard output is refused in turn, until a run meets no refusal: each run with a

@@ -6,13 +6,13 @@ use std::{fs, io};
 
 /// The files of the machine. The path `-` is standard input.
 #[derive(Drop)]
-pub struct Files<'r, 'm> {
+pub struct Files<'r, 'm, 'a> {
     pub rt: &'r HostRuntime,
     /// Files that are read in place of others: `PATH=OTHER` for each.
-    pub converted: &'m [&'m str],
+    pub converted: &'m [&'a str],
 }
 
-impl Files<'_, '_> {
+impl Files<'_, '_, '_> {
     /// The path of the file that is read in place of this one.
     fn read_for<'p>(&'p self, path: &'p str) -> &'p str {
         for pair in self.converted {
@@ -26,7 +26,7 @@ impl Files<'_, '_> {
     }
 }
 
-impl Sources for Files<'_, '_> {
+impl Sources for Files<'_, '_, '_> {
     fn read(&mut self, alloc: Global, path: &str) -> Result<io::Result<String>, Refused> {
         let text = if path == "-" {
             io::read_to_string(alloc, self.rt.stdin())

@@ -28,7 +28,7 @@ use words::{all_of, command_of, output_of, words};
 const STOPPED: u8 = 2;
 
 /// Does what a command's words ask for, and answers the status.
-fn obey<'m>(rt: &HostRuntime, name: &str, found: &'m ArgMatches<'m>) -> io::Result<u8> {
+fn obey(rt: &HostRuntime, name: &str, found: &ArgMatches<'_>) -> io::Result<u8> {
     let mut files = Files {
         rt,
         converted: all_of(found, "converted"),

@@ -123,15 +123,12 @@ pub fn words<'a>(alloc: Global) -> Result<Words<'a>, AllocError> {
 }
 
 /// All values of an option.
-pub fn all_of<'m>(found: &'m ArgMatches<'m>, name: &str) -> &'m [&'m str] {
-    match found.get_strs(name) {
-        Some(values) => values,
-        None => &[],
-    }
+pub fn all_of<'m, 'a>(found: &'m ArgMatches<'a>, name: &str) -> &'m [&'a str] {
+    found.get_strs(name).unwrap_or_default()
 }
 
 /// The command that was asked for.
-pub fn command_of<'m>(name: &str, found: &'m ArgMatches<'m>) -> Command<'m> {
+pub fn command_of<'m, 'a>(name: &str, found: &'m ArgMatches<'a>) -> Command<'m, 'a> {
     match name {
         "check" => Command::Check(Check {
             crds: all_of(found, "crds"),

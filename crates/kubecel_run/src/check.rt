@@ -31,7 +31,7 @@ const STEP: usize = 100;
 /// Judges objects. All files are read, in order, before anything is judged.
 pub(crate) fn checked<S: Sources, E: Write>(
     alloc: Global,
-    check: Check<'_>,
+    check: Check<'_, '_>,
     form: Form,
     files: &mut S,
     err: &mut E,

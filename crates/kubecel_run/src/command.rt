@@ -2,24 +2,24 @@
 
 /// What a command line asks for.
 #[derive(Clone, Copy)]
-pub enum Command<'w> {
+pub enum Command<'l, 'w> {
     /// Whether objects hold by their CustomResourceDefinitions.
-    Check(Check<'w>),
+    Check(Check<'l, 'w>),
     /// What a person should look at in the CustomResourceDefinitions at these paths.
-    Review(&'w [&'w str]),
+    Review(&'l [&'w str]),
     /// What a policy says of a request.
     Admit(Admit<'w>),
 }
 
 /// The paths that `check` is given.
 #[derive(Clone, Copy)]
-pub struct Check<'w> {
+pub struct Check<'l, 'w> {
     /// Of CustomResourceDefinitions.
-    pub crds: &'w [&'w str],
+    pub crds: &'l [&'w str],
     /// Of the objects as they were.
-    pub olds: &'w [&'w str],
+    pub olds: &'l [&'w str],
     /// Of the objects.
-    pub objects: &'w [&'w str],
+    pub objects: &'l [&'w str],
 }
 
 /// The paths that `admit` is given.

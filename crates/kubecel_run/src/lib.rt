@@ -37,7 +37,7 @@ use std::io::Write;
 /// case, since whether there is memory, and whether a write succeeds, is known to no caller.
 pub fn run<S: Sources, O: Write, E: Write>(
     alloc: Global,
-    command: Command<'_>,
+    command: Command<'_, '_>,
     form: Form,
     files: &mut S,
     out: &mut O,
@@ -55,7 +55,7 @@ pub fn run<S: Sources, O: Write, E: Write>(
 /// What a command finds.
 fn found_by<S: Sources, E: Write>(
     alloc: Global,
-    command: Command<'_>,
+    command: Command<'_, '_>,
     form: Form,
     files: &mut S,
     err: &mut E,
