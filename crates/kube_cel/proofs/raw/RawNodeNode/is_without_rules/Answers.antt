@@ -1,7 +1,7 @@
 use Rattle.kube_cel.proofs.raw.RawNodeNode.is_without_rules.Goals as goal
 use Rattle.kube_cel.proofs.RawNodes.{none_read}
 use Rattle.kube_cel.specs.Raw.{raw_form}
-use Rattle.kube_cel_walk.specs.Form.{is_none_of}
+use Rattle.kube_cel_walk.specs.WalkAccessors.{is_none_of}
 use Rattle.kube_schema_rules.specs.Compilation.{compiled_rules}
 use Rattle.std.proofs.Common.{sym, ap, ◌∙◌}
 
