@@ -1,0 +1,5 @@
+pub mod Parts
+pub mod Results
+pub mod Macros
+pub mod Read
+pub mod Pruned

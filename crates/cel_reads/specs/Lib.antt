@@ -1,0 +1,4 @@
+pub mod Part
+pub mod Reads
+pub mod Alike
+pub mod Pruned
