@@ -9,10 +9,10 @@ use Rattle.cel_syntax_tree.specs.declared.expr.MacroKind.TheVariants.{All, Exist
 use Rattle.cel_value.specs.Data.{Data, bool, list}
 use Rattle.cel_value.specs.Faults.{Fault}
 use Rattle.cel_value.specs.View.{items_of}
-use Rattle.cel_reads.specs.Alike.{OptionsAlike, ListsAlike, Alike, ResultsAlike}
+use Rattle.cel_reads.specs.Alike.{OptionsAlike, ListsAlike, Alike}
 use Rattle.cel_reads.specs.Part.{Part, nothing, whole, each_item, some_members, in_items}
 use Rattle.cel_reads.specs.Reads.{kept_part, body_part}
-use Rattle.cel_reads.proofs.Results.{results_equal, whole_results, results_then, range_alike, images_alike, lists_equal}
+use Rattle.cel_reads.proofs.Results.{ResultsAlike, results_equal, whole_results, results_then, range_alike, images_alike, lists_equal}
 
 -- the part of what an item gives that is read
 abbrev gift_part : MacroKind → Part → Part

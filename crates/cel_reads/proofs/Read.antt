@@ -17,12 +17,12 @@ use Rattle.cel_value.specs.Data.{Data, text_key, list, map_of, no_entries}
 use Rattle.cel_value.specs.Faults.{Fault, undeclared}
 use Rattle.cel_value.specs.View.{items_of}
 use Rattle.std.specs.Prelude.{Bool, true, false, Result, Err}
-use Rattle.cel_reads.specs.Alike.{ListsAlike, Alike, MembersAlike, BoundAlike, ResultsAlike}
+use Rattle.cel_reads.specs.Alike.{ListsAlike, Alike, MembersAlike, BoundAlike}
 use Rattle.cel_reads.specs.Part.{Part, nothing, whole, each_item, some_members, Members, no_members, member, both, all_members, part_at, without}
 use Rattle.cel_reads.specs.Reads.{reads, all_reads, pair_reads, kept_part, body_part}
 use Rattle.cel_reads.proofs.Macros.{made_over_alike}
 use Rattle.cel_reads.proofs.Parts.{with_member_alike, both_alike, all_members_alike, bound_inside, alike-refl}
-use Rattle.cel_reads.proofs.Results.{results_equal, whole_results, results_then, found_alike, selected_alike, has_alike, range_alike, images_alike}
+use Rattle.cel_reads.proofs.Results.{ResultsAlike, results_equal, whole_results, results_then, found_alike, selected_alike, has_alike, range_alike, images_alike}
 
 chosen_alike : (p : Part) (t : Result Bool Fault) (r s u v : Outcome) → ResultsAlike (Alike p) r s → ResultsAlike (Alike p) u v → ResultsAlike (Alike p) (chosen t r u) (chosen t s v)
 chosen_alike p (Ok true) r s u v h k = h

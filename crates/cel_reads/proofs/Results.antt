@@ -7,9 +7,16 @@ use Rattle.cel_meaning.specs.Ranges.{items_list, range_of}
 use Rattle.cel_value.specs.Data.{Data, bool, list, map_of, text_key}
 use Rattle.cel_value.specs.Faults.{Fault, no_key}
 use Rattle.cel_value.specs.Find.{find}
-use Rattle.cel_reads.specs.Alike.{OptionsAlike, ListsAlike, Alike, MembersAlike, ResultsAlike}
+use Rattle.cel_reads.specs.Alike.{OptionsAlike, ListsAlike, Alike, MembersAlike}
 use Rattle.cel_reads.specs.Part.{Part, nothing, whole, each_item, some_members, no_members, member}
 use Rattle.cel_reads.proofs.Parts.{alike-refl, lists-refl, lists_case, maps_case}
+
+-- both values and alike, or both the same error
+abbrev pub ResultsAlike : {A : Type 0} → (A → A → Type 0) → Result A Fault → Result A Fault → Type 0
+ResultsAlike R (Ok v) (Ok w) = R v w
+ResultsAlike R (Ok v) (Err b) = ⊥
+ResultsAlike R (Err a) (Ok w) = ⊥
+ResultsAlike R (Err a) (Err b) = a ≡ b
 
 results-refl : {A : Type 0} (R : A → A → Type 0) → ((v : A) → R v v) → (r : Result A Fault) → ResultsAlike R r r
 results-refl R same (Ok v) = same v

@@ -1,11 +1,9 @@
 -- Trusted by laws alone.
 -- When two values are alike in a part.
-use Rattle.std.specs.Prelude.{◌≡◌, ◌⊎◌, ℕ, List, [], ◌∷◌, Option, Some, None, Result, Ok, Err}
+use Rattle.std.specs.Prelude.{◌≡◌, ◌⊎◌, ℕ, List, [], ◌∷◌, Option, Some, None}
 use Rattle.cel_meaning.specs.Bindings.{Bindings, binding}
-use Rattle.cel_meaning.specs.Outcome.{Outcome}
 use Rattle.cel_meaning.specs.Ranges.{items_list}
 use Rattle.cel_value.specs.Data.{text_key, Data, list, map_of, Items, Entries}
-use Rattle.cel_value.specs.Faults.{Fault}
 use Rattle.cel_value.specs.Find.{find}
 use Rattle.cel_reads.specs.Part.{Part, nothing, whole, each_item, some_members, Members, no_members, member}
 
@@ -48,10 +46,3 @@ abbrev mutual
 -- these names are bound alike
 abbrev pub BoundAlike : Members → Bindings → Bindings → Type 0
 BoundAlike ms e f = MembersAlike ms (λ x. binding x e) (λ x. binding x f)
-
--- both values and alike, or both the same error
-abbrev pub ResultsAlike : {A : Type 0} → (A → A → Type 0) → Result A Fault → Result A Fault → Type 0
-ResultsAlike R (Ok v) (Ok w) = R v w
-ResultsAlike R (Ok v) (Err b) = ⊥
-ResultsAlike R (Err a) (Ok w) = ⊥
-ResultsAlike R (Err a) (Err b) = a ≡ b
