@@ -3,3 +3,4 @@ pub mod Results
 pub mod Macros
 pub mod Read
 pub mod Pruned
+pub mod Views

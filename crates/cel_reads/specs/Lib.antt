@@ -2,3 +2,5 @@ pub mod Part
 pub mod Reads
 pub mod Alike
 pub mod Pruned
+pub mod Demand
+pub mod Places
