@@ -71,16 +71,12 @@ pub(crate) fn add_member(
 {
     match place_of(members, name.as_str()) {
         Some(place) => {
-            let member = &mut members[place];
-            let joined = both(alloc, demand, &member.1)?;
-            member.1 = joined;
-            Ok(())
+            let joined = both(alloc, demand, &members[place].1)?;
+            members[place].1 = joined;
         }
-        None => {
-            members.push((name.clone()?, demand.copy(alloc)?))?;
-            Ok(())
-        }
+        None => members.push((name.clone()?, demand.copy(alloc)?))?,
     }
+    Ok(())
 }
 
 /// Where a name stands first.
