@@ -14,6 +14,7 @@ ghost use Rattle.serde_json.specs.View.{view};
 ghost use Rattle.std.specs.List.{flat_map};
 ghost use Rattle.std.specs.Prelude.{◌≡◌, ◌++◌, ℕ, IfErr, IfOk, List, map, OnOk, Option, option_map, Some};
 
+use crate::keys::KeyCache;
 use cel::PatternBook;
 use cel_value::Value as CelValue;
 use kube_cel_errors::ValidationError;
@@ -21,20 +22,22 @@ use kube_cel_places::BranchKind;
 use kube_cel_places_table::branches::{branch_count, branch_of};
 use kube_cel_verdicts::verdict::{Context, add_verdict};
 use kube_cel_walk::Node;
-use kube_schema::{CompilationError, CompilationResult, SchemaNode, bind_node};
+use kube_schema::{CompilationError, CompilationResult, SchemaNode, bind_node, bind_node_with};
 use kube_types::Refused;
 use serde_json::Value;
 use std::alloc::{AllocError, Global};
 
-/// A node of a schema that was compiled.
+/// A node of a schema that was compiled, with the keys that were made so far.
 #[derive(Clone, Copy)]
 pub(crate) struct CompiledNode<'a> {
     pub(crate) node: SchemaNode<'a>,
+    pub(crate) keys: &'a KeyCache,
 }
 
 /// Adds a declared member with its name, if there is one.
 fn push_named<'a>(
     property: Option<(&'a str, SchemaNode<'a>)>,
+    keys: &'a KeyCache,
     nodes: &mut Vec<(&'a str, CompiledNode<'a>)>,
 ) -> Result<(), AllocError>
     ensures { OnOk result (map named_node nodes.new.items ≡ map named_node nodes.old.items ++ listed (option_map named_property property.entry)) }
@@ -42,7 +45,7 @@ fn push_named<'a>(
     let Some((name, node)) = property else {
         return Ok(());
     };
-    nodes.push((name, CompiledNode { node }))?;
+    nodes.push((name, CompiledNode { node, keys }))?;
     Ok(())
 }
 
@@ -50,6 +53,7 @@ fn push_named<'a>(
 fn named_nodes<'a>(
     alloc: Global,
     node: &SchemaNode<'a>,
+    keys: &'a KeyCache,
 ) -> Result<Vec<(&'a str, CompiledNode<'a>)>, AllocError>
     ensures { IfOk result (λ v. map named_node v.items
         ≡ map {B = List ℕ × Option Tree} (λ k. (k, property_of k (shown node.now))) (in_order (names (named_of (shown node.now))))) }
@@ -57,7 +61,7 @@ fn named_nodes<'a>(
     let count = node.property_count();
     let mut nodes = Vec::with_capacity(alloc, count)?;
     for index in 0..count {
-        push_named(node.property(index), &mut nodes)?;
+        push_named(node.property(index), keys, &mut nodes)?;
     }
     Ok(nodes)
 }
@@ -106,26 +110,35 @@ impl Node for CompiledNode<'_> {
 
     #[tactic(auto, unfolding(crate::specs::Compiled::compiled_form, kube_cel_places_table::specs::Compiled::compiled_shape))]
     fn properties(&self, alloc: Global) -> Result<Vec<(&str, Self)>, AllocError> {
-        let nodes = named_nodes(alloc, &self.node)?;
+        let nodes = named_nodes(alloc, &self.node, self.keys)?;
         Ok(nodes)
     }
 
     #[tactic(auto, unfolding(crate::specs::Compiled::compiled_form, kube_cel_places_table::specs::Compiled::compiled_shape))]
     fn property(&self, name: &str) -> Option<Self> {
         let node = self.node.property_named(name)?;
-        Some(CompiledNode { node })
+        Some(CompiledNode {
+            node,
+            keys: self.keys,
+        })
     }
 
     #[tactic(auto, unfolding(crate::specs::Compiled::compiled_form, kube_cel_places_table::specs::Compiled::compiled_shape))]
     fn items(&self) -> Option<Self> {
         let node = self.node.items()?;
-        Some(CompiledNode { node })
+        Some(CompiledNode {
+            node,
+            keys: self.keys,
+        })
     }
 
     #[tactic(auto, unfolding(crate::specs::Compiled::compiled_form, kube_cel_places_table::specs::Compiled::compiled_shape))]
     fn extra(&self) -> Option<Self> {
         let node = extra(&self.node)?;
-        Some(CompiledNode { node })
+        Some(CompiledNode {
+            node,
+            keys: self.keys,
+        })
     }
 
     #[tactic(auto, unfolding(crate::specs::Compiled::compiled_form, kube_cel_places_table::specs::Compiled::compiled_shape))]
@@ -136,12 +149,19 @@ impl Node for CompiledNode<'_> {
     #[tactic(auto, unfolding(crate::specs::Compiled::compiled_form, kube_cel_places_table::specs::Compiled::compiled_shape))]
     fn branch(&self, kind: BranchKind, index: usize) -> Option<Self> {
         let node = branch_of(&self.node, kind, index)?;
-        Some(CompiledNode { node })
+        Some(CompiledNode {
+            node,
+            keys: self.keys,
+        })
     }
 
     #[tactic(auto, unfolding(crate::specs::Compiled::compiled_form))]
     fn bind(&self, alloc: Global, value: &Value, depth: usize) -> Result<CelValue, Refused> {
-        let bound = bind_node(alloc, &self.node, value, depth)?;
+        let Ok(mut keys) = self.keys.keys.try_borrow_mut() else {
+            let bound = bind_node(alloc, &self.node, value, depth)?;
+            return Ok(bound);
+        };
+        let bound = bind_node_with(alloc, &self.node, value, depth, &mut keys)?;
         Ok(bound)
     }
 

@@ -28,6 +28,7 @@
 mod cache;
 mod compiled;
 mod judged;
+mod keys;
 pub mod laws;
 mod raw;
 pub mod validation;

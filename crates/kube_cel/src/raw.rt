@@ -15,22 +15,24 @@ ghost use Rattle.std.specs.List.{flat_map};
 ghost use Rattle.std.specs.Prelude.{◌≡◌, ℕ, codes, IfErr, IfOk, List, map, OnOk, Option, option_and_then, option_map, Some};
 
 use crate::cache::RuleCache;
+use crate::keys::KeyCache;
 use cel::PatternBook;
 use cel_value::Value as CelValue;
 use kube_cel_errors::ValidationError;
 use kube_cel_places::BranchKind;
 use kube_cel_verdicts::verdict::{Context, add_verdict};
 use kube_cel_walk::Node;
-use kube_schema::{bind, rule_values};
+use kube_schema::{bind, bind_with, rule_values};
 use kube_types::Refused;
 use serde_json::{Map, Value};
 use std::alloc::{AllocError, Global};
 
-/// A node of a schema as JSON, with the rules that were compiled so far.
+/// A node of a schema as JSON, with the rules that were compiled and the keys that were made so far.
 #[derive(Clone, Copy)]
 pub(crate) struct RawNode<'a> {
     pub(crate) schema: &'a Value,
     pub(crate) cache: &'a RuleCache,
+    pub(crate) keys: &'a KeyCache,
 }
 
 /// The members of an object, each as a node with its name.
@@ -38,13 +40,19 @@ fn named_nodes<'a>(
     alloc: Global,
     members: &'a Map<String, Value>,
     cache: &'a RuleCache,
+    keys: &'a KeyCache,
 ) -> Result<Vec<(&'a str, RawNode<'a>)>, AllocError>
     ensures { IfOk result (λ v. map {B = List ℕ × Option Data} (λ p. (p.0.now, Some (view p.1.schema.now))) v.items
         ≡ map {B = List ℕ × Option Data} (λ k. (k, get_member k (members_view members.now.entries))) (in_order (keys_in (members_view members.now.entries)))) }
 {
     let mut nodes = Vec::with_capacity(alloc, members.len())?;
     for (key, schema) in members.iter() {
-        nodes.push((key.as_str(), RawNode { schema, cache }))?;
+        let node = RawNode {
+            schema,
+            cache,
+            keys,
+        };
+        nodes.push((key.as_str(), node))?;
     }
     Ok(nodes)
 }
@@ -148,7 +156,7 @@ impl Node for RawNode<'_> {
     fn properties(&self, alloc: Global) -> Result<Vec<(&str, Self)>, AllocError> {
         match properties_of(self.schema) {
             Some(members) => {
-                let nodes = named_nodes(alloc, members, self.cache)?;
+                let nodes = named_nodes(alloc, members, self.cache, self.keys)?;
                 Ok(nodes)
             }
             None => Ok(Vec::new(alloc)),
@@ -161,6 +169,7 @@ impl Node for RawNode<'_> {
         Some(RawNode {
             schema,
             cache: self.cache,
+            keys: self.keys,
         })
     }
 
@@ -170,6 +179,7 @@ impl Node for RawNode<'_> {
         Some(RawNode {
             schema,
             cache: self.cache,
+            keys: self.keys,
         })
     }
 
@@ -179,6 +189,7 @@ impl Node for RawNode<'_> {
         Some(RawNode {
             schema,
             cache: self.cache,
+            keys: self.keys,
         })
     }
 
@@ -196,12 +207,17 @@ impl Node for RawNode<'_> {
         Some(RawNode {
             schema,
             cache: self.cache,
+            keys: self.keys,
         })
     }
 
     #[tactic(auto, unfolding(crate::specs::Raw::raw_form, kube_cel_places::specs::Raw::raw_shape))]
     fn bind(&self, alloc: Global, value: &Value, depth: usize) -> Result<CelValue, Refused> {
-        let bound = bind(alloc, self.schema, value, depth)?;
+        let Ok(mut keys) = self.keys.keys.try_borrow_mut() else {
+            let bound = bind(alloc, self.schema, value, depth)?;
+            return Ok(bound);
+        };
+        let bound = bind_with(alloc, self.schema, value, depth, &mut keys)?;
         Ok(bound)
     }
 

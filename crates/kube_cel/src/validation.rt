@@ -14,6 +14,7 @@ ghost use Rattle.std.specs.Prelude.{◌≡◌, IfErr, IfOk, None};
 use crate::cache::RuleCache;
 use crate::compiled::CompiledNode;
 use crate::judged::judged;
+use crate::keys::KeyCache;
 use crate::raw::RawNode;
 use cel::PatternBook;
 use kube_cel_errors::ValidationErrors;
@@ -94,9 +95,11 @@ impl Validator {
     {
         let object = filled_value(alloc, schema, object)?;
         let cache = RuleCache::new(alloc);
+        let keys = KeyCache::new(alloc);
         let node = RawNode {
             schema,
             cache: &cache,
+            keys: &keys,
         };
         let Some(old) = old else {
             let answer = judged(alloc, node, &object, None, root, book)?;
@@ -170,7 +173,11 @@ impl Validator {
     {
         let root_node = compiled.root();
         let object = filled_by_node(alloc, &root_node, object)?;
-        let node = CompiledNode { node: root_node };
+        let keys = KeyCache::new(alloc);
+        let node = CompiledNode {
+            node: root_node,
+            keys: &keys,
+        };
         let Some(old) = old else {
             let answer = judged(alloc, node, &object, None, root, book)?;
             return Ok(answer);

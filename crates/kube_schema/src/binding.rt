@@ -8,7 +8,7 @@ ghost use Rattle.kube_schema_table.specs.Shown.{shown};
 ghost use Rattle.kube_schema.specs.Compiled.{compiled};
 
 use cel_value::{Refused, Value};
-use kube_schema_bound::{Node, SchemaFormat, bind_at};
+use kube_schema_bound::{MemberKeys, Node, SchemaFormat, bind_at, bind_at_with};
 use kube_schema_table::SchemaNode;
 use serde_json::Value as Json;
 use std::alloc::Global;
@@ -75,6 +75,26 @@ pub fn bind_node(
     ensures memory { IfErr result (λ e. e ≡ Refused.Memory) }
 {
     bind_at(alloc, CompiledNode { node: *node }, value, depth)
+}
+
+/// The same, sharing the keys that were made before.
+///
+/// # Errors
+///
+/// [`Refused`] where memory is refused.
+pub fn bind_node_with(
+    alloc: Global,
+    node: &SchemaNode<'_>,
+    value: &Json,
+    depth: usize,
+    keys: &mut MemberKeys,
+) -> Result<Value, Refused>
+    ensures value { IfOk result (λ v. view v ≡ bound compiled (levels depth) (shown node.now) (json_view value.now)) }
+    ensures memory { IfErr result (λ e. e ≡ Refused.Memory) }
+{
+    let node = CompiledNode { node: *node };
+    let bound = bind_at_with(alloc, node, value, depth, keys)?;
+    Ok(bound)
 }
 
 // The node that a member goes by: its property, else the node of members that aren't declared.

@@ -24,8 +24,8 @@
 pub mod binding;
 pub mod laws;
 
-pub use binding::bind_node;
-pub use kube_schema_bound::{SchemaFormat, bind, laws as bound_laws};
+pub use binding::{bind_node, bind_node_with};
+pub use kube_schema_bound::{MemberKeys, SchemaFormat, bind, bind_with, laws as bound_laws};
 pub use kube_schema_filled::{apply_defaults, filled_value, laws as filled_laws};
 pub use kube_schema_rules::{
     CompilationError, CompilationResult, Rule, RuleFault, compile_rule, rule_values, rules_of,

@@ -32,7 +32,27 @@ pub fn bind(alloc: Global, schema: &Json, value: &Json, depth: usize) -> Result<
     bind_at(alloc, RawNode { schema }, value, depth)
 }
 
-/// The same at a node of a schema in whatever form the schema is held.
+/// The same, sharing the keys that were made before.
+///
+/// # Errors
+///
+/// [`Refused`] where memory is refused.
+pub fn bind_with(
+    alloc: Global,
+    schema: &Json,
+    value: &Json,
+    depth: usize,
+    keys: &mut MemberKeys,
+) -> Result<Value, Refused>
+    ensures value { IfOk result (λ v. view v ≡ bound raw (levels depth) (json_view schema.now) (json_view value.now)) }
+    ensures memory { IfErr result (λ e. e ≡ Refused.Memory) }
+{
+    let node = RawNode { schema };
+    let bound = bind_at_with(alloc, node, value, depth, keys)?;
+    Ok(bound)
+}
+
+/// The value at a node of a schema in whatever form the schema is held.
 ///
 /// # Errors
 ///
@@ -47,13 +67,17 @@ pub fn bind_at<N: Node>(
     ensures memory { IfErr result (λ e. e ≡ Refused.Memory) }
 {
     let mut keys = MemberKeys::new(alloc);
-    let bound = bind_with(alloc, node, value, depth, &mut keys)?;
+    let bound = bind_at_with(alloc, node, value, depth, &mut keys)?;
     Ok(bound)
 }
 
-// The same, sharing the keys that were made before.
+/// The same, sharing the keys that were made before.
+///
+/// # Errors
+///
+/// [`Refused`] where memory is refused.
 #[cycle(bind)]
-fn bind_with<N: Node>(
+pub fn bind_at_with<N: Node>(
     alloc: Global,
     node: N,
     value: &Json,
@@ -118,12 +142,9 @@ fn bind_items<N: Node>(
         ≡ items_by (bound N.look (65 - depth) (N.seen node)) (json_items_view items.now.items)) }
     ensures memory { IfErr result (λ e. e ≡ Refused.Memory) }
 {
-    if items.len() > 1 {
-        keys.keep_names();
-    }
     let mut bound = Vec::with_capacity(alloc, items.len())?;
     for item in items {
-        bound.push(bind_with(alloc, node, item, depth, keys)?)?;
+        bound.push(bind_at_with(alloc, node, item, depth, keys)?)?;
     }
     Ok(bound)
 }
@@ -207,6 +228,6 @@ fn bind_member<N: Node>(
         let plain = bind_plain_with(alloc, member, keys)?;
         return Ok(plain);
     };
-    let bound = bind_with(alloc, inner, member, depth + 1, keys)?;
+    let bound = bind_at_with(alloc, inner, member, depth + 1, keys)?;
     Ok(bound)
 }

@@ -7,7 +7,7 @@ pub mod laws;
 pub mod node;
 pub mod resource;
 
-pub use binding::{bind, bind_at};
+pub use binding::{bind, bind_at, bind_at_with, bind_with};
 pub use format::SchemaFormat;
-pub use kube_schema_values::Refused;
+pub use kube_schema_values::{MemberKeys, Refused};
 pub use node::Node;

@@ -83,9 +83,6 @@ fn bind_items(
     ensures items { IfOk result (λ v. items_view v.items ≡ plain_items (json_items_view items.now.items)) }
     ensures memory { IfErr result (λ e. e ≡ Refused.Memory) }
 {
-    if items.len() > 1 {
-        keys.keep_names();
-    }
     let mut bound = Vec::with_capacity(alloc, items.len())?;
     for item in items {
         bound.push(bind_plain_with(alloc, item, keys)?)?;

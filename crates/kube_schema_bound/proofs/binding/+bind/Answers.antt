@@ -9,13 +9,13 @@ use Rattle.kube_schema_bound.specs.Bound.{bound, entries_by, key_in, member_by, 
 use Rattle.kube_schema_bound.proofs.Bounds.{bound_past, bound_within, items_by_is}
 use Rattle.kube_schema_bound.proofs.binding.+bind.Goals as goal
 
-pub bind_with-returns-then-depth-gt-MAX_DEPTH-clause-value : goal.bind_with-returns-then-depth-gt-MAX_DEPTH-clause-value
-bind_with-returns-then-depth-gt-MAX_DEPTH-clause-value g t c =
+pub bind_at_with-returns-then-depth-gt-MAX_DEPTH-clause-value : goal.bind_at_with-returns-then-depth-gt-MAX_DEPTH-clause-value
+bind_at_with-returns-then-depth-gt-MAX_DEPTH-clause-value g t c =
     let none : 65 - c.args.depth ≡ 0 = omega arith in
     c.in_ok-plain.ensures.value ∙ sym (bound_past g.N.Node.look (65 - c.args.depth) (g.N.Node.seen c.args.node) (json_view c.args.value.now) none)
 
-pub bind_with-returns-clause-value : goal.bind_with-returns-clause-value
-bind_with-returns-clause-value g t c =
+pub bind_at_with-returns-clause-value : goal.bind_at_with-returns-clause-value
+bind_at_with-returns-clause-value g t c =
     let some : 65 - c.args.depth ≡ suc (64 - c.args.depth) = omega arith in
     c.in_ok-bound.ensures.value ∙ sym (bound_within g.N.Node.look (65 - c.args.depth) (64 - c.args.depth) (g.N.Node.seen c.args.node) (json_view c.args.value.now) some)
 

@@ -5,8 +5,8 @@ use Rattle.cel_value.specs.View.{view, entries_view}
 use Rattle.kube_schema_bound.specs.Bound.{bound, entries_by, member_by, member_key}
 use Rattle.kube_schema_bound.proofs.binding.+bind.Given as goal
 
-abbrev pub decreases-bind_with : goal.decreases-bind_with
-decreases-bind_with g l = 5 * (66 - l.depth)
+abbrev pub decreases-bind_at_with : goal.decreases-bind_at_with
+decreases-bind_at_with g l = 5 * (66 - l.depth)
 
 abbrev pub decreases-bind_by : goal.decreases-bind_by
 decreases-bind_by g l = 5 * (66 - l.depth) - 1
