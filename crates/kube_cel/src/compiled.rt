@@ -5,6 +5,7 @@ ghost use Rattle.cel_meaning.specs.Bindings.{bindings_of};
 ghost use Rattle.kube_cel.specs.Named.{named_node, named_property};
 ghost use Rattle.kube_cel_places.specs.Inside.{in_order};
 ghost use Rattle.kube_cel_places_table.specs.Compiled.{compiled_shape};
+ghost use Rattle.kube_cel_verdicts.specs.Reads.{is_read};
 ghost use Rattle.kube_cel_verdicts.specs.Told.{AreAdded};
 ghost use Rattle.kube_cel_verdicts.specs.Verdicts.{listed, verdict};
 ghost use Rattle.kube_schema_rules.specs.Compilation.{compiled_seen};
@@ -20,7 +21,7 @@ use cel_value::Value as CelValue;
 use kube_cel_errors::ValidationError;
 use kube_cel_places::BranchKind;
 use kube_cel_places_table::branches::{branch_count, branch_of};
-use kube_cel_verdicts::verdict::{Context, add_verdict};
+use kube_cel_verdicts::verdict::{Context, add_verdict, reads};
 use kube_cel_walk::Node;
 use kube_schema::{CompilationError, CompilationResult, SchemaNode, bind_node, bind_node_with};
 use kube_types::Refused;
@@ -75,6 +76,18 @@ fn extra<'a>(node: &SchemaNode<'a>) -> Option<SchemaNode<'a>>
         return None;
     }
     node.additional_properties()
+}
+
+/// Whether one of the rules reads a name.
+fn is_read(rules: &[Result<CompilationResult, CompilationError>], name: &str) -> bool
+    ensures { result ≡ is_read (map compiled_seen rules.now) name.now }
+{
+    for rule in rules {
+        if reads(rule, name) {
+            return true;
+        }
+    }
+    false
 }
 
 /// Adds the verdicts of rules that were compiled, in their order.
@@ -168,6 +181,11 @@ impl Node for CompiledNode<'_> {
     #[tactic(auto, unfolding(crate::specs::Compiled::compiled_form))]
     fn is_without_rules(&self) -> bool {
         self.node.validations().is_empty()
+    }
+
+    #[tactic(auto, unfolding(crate::specs::Compiled::compiled_form))]
+    fn may_read(&self, name: &str) -> bool {
+        is_read(self.node.validations(), name)
     }
 
     #[tactic(auto, unfolding(crate::specs::Compiled::compiled_form))]

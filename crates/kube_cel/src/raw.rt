@@ -226,6 +226,11 @@ impl Node for RawNode<'_> {
         rule_values(self.schema).is_empty()
     }
 
+    /// It doesn't look: a rule would have to be compiled.
+    fn may_read(&self, _name: &str) -> bool {
+        true
+    }
+
     #[tactic(auto, unfolding(crate::specs::Raw::raw_form))]
     fn add_verdicts(
         &self,

@@ -9,12 +9,17 @@ use Rattle.cel_value.specs.Faults.{Fault}
 use Rattle.cel_value.specs.Parts.{bool_in}
 use Rattle.kube_cel_errors.specs.Errors.{ErrorData}
 use Rattle.kube_cel_errors.specs.RuleErrors.{fault_error, malformed_error, undeclared_name}
-use Rattle.kube_cel_verdicts.proofs.Bound.{meaning_same, under}
+use Rattle.cel.proofs.Unread.{meaning_alike}
+use Rattle.cel_syntax_tree.specs.FreeNames.{is_free}
+use Rattle.kube_cel_verdicts.proofs.Bound.{meaning_same}
+use Rattle.kube_cel_verdicts.specs.Reads.{reads}
 use Rattle.kube_cel_verdicts.specs.Verdicts.{is_applicable, is_old_null, outcome_in, told_text, own_message, failed_message, value_error, outcome_error, bound_verdict, rule_bindings, compiled_verdict, verdict}
 use Rattle.kube_schema_rules.specs.Compilation.{Compiled, Malformed}
 use Rattle.kube_schema_rules.specs.Rules.{Fields}
 use Rattle.serde_json.specs.Data.{Data as Json}
-use Rattle.std.proofs.Common.{◌≡◌, ℕ, List, ◌∷◌, codes, Bool, true, false, Option, Some, None, option_map, unwrap_or, Result, Ok, Err, if◌then◌else◌, refl, sym, ap, ◌∙◌}
+use Rattle.std.proofs.Common.{◌≡◌, ℕ, List, ◌∷◌, codes, Bool, true, false, ◌||◌, Option, Some, None, option_map, unwrap_or, Result, Ok, Err, if◌then◌else◌, refl, sym, ap, ◌∙◌}
+use Rattle.std.specs.Option.{option_map_or}
+use Rattle.std.specs.Str.{bytes_eq}
 
 pub malformed_found : (b : Book) (e : Bindings) (old : Option Json) (path : List ℕ) (r : Result Compiled Malformed) (m : Malformed) (x : ErrorData)
     → Err m ≡ r → x ≡ malformed_error path m → Some x ≡ verdict b e old path r
@@ -78,16 +83,42 @@ pub null_found : (b : Book) (e f : Bindings) (old : Option Json) (path : List �
     → ((x : List ℕ) → binding x f ≡ binding x ((codes "oldSelf", null) ∷ e)) → o ≡ bound_verdict b f path c → o ≡ compiled_verdict b e old path c
 null_found b e f old path c o a n h q = q ∙ verdict_same b path c f ((codes "oldSelf", null) ∷ e) h ∙ sym (λ i. judged b e path c (a i) (n i))
 
--- ---- a verdict depends only on what the names are bound to
+-- ---- a verdict depends only on what the names that the rule reads are bound to
 
-rule_under : (n : Bool) (e f : Bindings) → ((y : List ℕ) → binding y e ≡ binding y f) → (y : List ℕ)
+pub or_left : (a b : Bool) → a ≡ true → (a || b) ≡ true
+or_left a b h = ap (λ c. c || b) h
+
+pub or_right : (a b : Bool) → b ≡ true → (a || b) ≡ true
+or_right true b h = refl
+or_right false b h = h
+
+outcome_read : (b : Book) (t : Term) (e f : Bindings) → ((x : List ℕ) → is_free x t ≡ true → binding x e ≡ binding x f) → outcome_in b e t ≡ outcome_in b f t
+unfolding outcome_in
+outcome_read b t e f h = meaning_alike all_library b t e f h
+
+told_read : (b : Book) (o : Option Term) (e f : Bindings) → ((x : List ℕ) → option_map_or (is_free x) o false ≡ true → binding x e ≡ binding x f)
+    → option_map (outcome_in b e) o ≡ option_map (outcome_in b f) o
+told_read b None e f h = refl
+told_read b (Some t) e f h = ap Some (outcome_read b t e f h)
+
+bound_read : (b : Book) (path : List ℕ) (c : Compiled) (e f : Bindings)
+    → ((x : List ℕ) → (option_map_or (is_free x) c.message_tree false || is_free x c.tree) ≡ true → binding x e ≡ binding x f)
+    → bound_verdict b e path c ≡ bound_verdict b f path c
+unfolding bound_verdict
+bound_read b path c e f h =
+    let ht = λ (x : List ℕ) (a : is_free x c.tree ≡ true). h x (or_right (option_map_or (is_free x) c.message_tree false) (is_free x c.tree) a) in
+    let hm = λ (x : List ℕ) (a : option_map_or (is_free x) c.message_tree false ≡ true). h x (or_left (option_map_or (is_free x) c.message_tree false) (is_free x c.tree) a) in
+    λ i. outcome_error path c.fields (failed_message c.fields (told_read b c.message_tree e f hm i)) (outcome_read b c.tree e f ht i)
+
+rule_under_read : (p : List ℕ → Bool) (n : Bool) (e f : Bindings) → ((y : List ℕ) → p y ≡ true → binding y e ≡ binding y f) → (y : List ℕ) → p y ≡ true
     → binding y (if n then (codes "oldSelf", null) ∷ e else e) ≡ binding y (if n then (codes "oldSelf", null) ∷ f else f)
-rule_under true e f h y = under (codes "oldSelf") null e f h y
-rule_under false e f h y = h y
+rule_under_read p true e f h y k = ap (λ o. if bytes_eq y (codes "oldSelf") then Some null else o) (h y k)
+rule_under_read p false e f h y k = h y k
 
-pub verdict_alike : (b : Book) (e f : Bindings) (old : Option Json) (path : List ℕ) (r : Result Compiled Malformed) → ((y : List ℕ) → binding y e ≡ binding y f)
-    → verdict b e old path r ≡ verdict b f old path r
-unfolding verdict
-verdict_alike b e f old path (Err m) h = refl
-verdict_alike b e f old path (Ok c) h =
-    ap (λ x. if is_applicable old c then x else None) (verdict_same b path c (rule_bindings e old c.fields) (rule_bindings f old c.fields) (rule_under (is_old_null old c.fields) e f h))
+pub verdict_read : (b : Book) (e f : Bindings) (old : Option Json) (path : List ℕ) (r : Result Compiled Malformed)
+    → ((y : List ℕ) → reads y r ≡ true → binding y e ≡ binding y f) → verdict b e old path r ≡ verdict b f old path r
+unfolding verdict reads
+verdict_read b e f old path (Err m) h = refl
+verdict_read b e f old path (Ok c) h =
+    let p = λ (x : List ℕ). option_map_or (is_free x) c.message_tree false || is_free x c.tree in
+    ap (λ x. if is_applicable old c then x else None) (bound_read b path c (rule_bindings e old c.fields) (rule_bindings f old c.fields) (rule_under_read p (is_old_null old c.fields) e f h))

@@ -1,3 +1,4 @@
+pub mod Reads
 pub mod Roots
 pub mod Told
 pub mod Verdicts

@@ -8,6 +8,7 @@ ghost use Rattle.cel_value.specs.Data.{null};
 ghost use Rattle.cel_value.specs.Parts.{bool_in};
 ghost use Rattle.cel_value.specs.View.{view as cel_view};
 ghost use Rattle.kube_cel_errors.specs.Errors.{error_view};
+ghost use Rattle.kube_cel_verdicts.specs.Reads.{reads};
 ghost use Rattle.kube_cel_verdicts.specs.Roots.{root_view};
 ghost use Rattle.kube_cel_verdicts.specs.Told.{AreAdded, IsVerdict};
 ghost use Rattle.kube_cel_verdicts.specs.Verdicts.{bound_verdict, compiled_verdict, failed_message, is_applicable, is_old_null, is_old_optional, listed, outcome_in, own_message, told_text, value_error, verdict, with_root};
@@ -220,6 +221,20 @@ fn judge_rule(
             let error = judge_compiled(alloc, rule, context, old, path, book)?;
             Ok(error)
         }
+    }
+}
+
+/// Whether a rule reads a name: its text does, or its messageExpression. A malformed one reads none.
+#[tactic(auto, unfolding(crate::specs::Reads::reads))]
+pub fn reads(rule: &Result<CompilationResult, CompilationError>, name: &str) -> bool
+    ensures { result ≡ reads name.now (compiled_seen rule.now) }
+{
+    match rule {
+        Err(_) => false,
+        Ok(rule) => match &rule.message_program {
+            Some(message) => message.has_variable(name) || rule.program.has_variable(name),
+            None => rule.program.has_variable(name),
+        },
     }
 }
 

@@ -4,13 +4,14 @@ ghost use Rattle.cel_book.specs.Entries.{entries_of};
 ghost use Rattle.cel_meaning.specs.Bindings.{bindings_of};
 ghost use Rattle.cel_value.specs.View.{view as cel_view};
 ghost use Rattle.kube_cel_places.specs.Inside.{in_order};
+ghost use Rattle.kube_cel_verdicts.specs.Reads.{is_read};
 ghost use Rattle.kube_cel_verdicts.specs.Told.{AreAdded};
 ghost use Rattle.kube_cel_verdicts.specs.Verdicts.{listed, verdict};
 ghost use Rattle.kube_cel_walk.specs.Form.{Form, is_none_of};
 ghost use Rattle.kube_schema_bound.specs.Bound.{bound, levels};
 ghost use Rattle.serde_json.specs.View.{view};
 ghost use Rattle.std.specs.List.{flat_map};
-ghost use Rattle.std.specs.Prelude.{◌≡◌, ℕ, IfErr, IfOk, List, map, OnOk, Option, option_map, Some};
+ghost use Rattle.std.specs.Prelude.{◌≡◌, ℕ, IfErr, IfOk, List, map, OnOk, Option, option_map, Some, true};
 
 use cel::PatternBook;
 use cel_value::Value as CelValue;
@@ -62,6 +63,10 @@ pub trait Node: Copy {
     /// Whether the node has no rules.
     fn is_without_rules(&self) -> bool
         ensures { result ≡ is_none_of (form.rules (seen self.now)) };
+
+    /// Whether a rule of the node may read a name. It may answer so of a name that none reads.
+    fn may_read(&self, name: &str) -> bool
+        ensures { is_read (form.rules (seen self.now)) name.now ≡ true → result ≡ true };
 
     /// Adds the verdicts of the node's rules, in order, where these names are bound.
     fn add_verdicts(
