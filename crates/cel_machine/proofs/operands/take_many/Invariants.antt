@@ -2,7 +2,7 @@ use Rattle.std.proofs.Common.{◌≡◌, ◌-◌, ◌≤◌, [], length, map, re
 use Rattle.cel_value.specs.View.{view}
 use Rattle.cel_machine.specs.Machine.{taken}
 use Rattle.cel_machine.specs.State.{outcomes}
-use Rattle.cel_machine.proofs.operands.take_values.Given as goal
+use Rattle.cel_machine.proofs.operands.take_many.Given as goal
 
 abbrev pub invariant-loop-values : goal.invariant-loop-values
 invariant-loop-values l =

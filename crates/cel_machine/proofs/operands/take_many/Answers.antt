@@ -4,7 +4,7 @@ use Rattle.cel_value.specs.View.{view}
 use Rattle.cel_machine.specs.Machine.{taken}
 use Rattle.cel_machine.specs.State.{outcomes}
 use Rattle.cel_machine.proofs.Parts.{next_taken, all_taken}
-use Rattle.cel_machine.proofs.operands.take_values.Goals as goal
+use Rattle.cel_machine.proofs.operands.take_many.Goals as goal
 
 pub loop-values-preserved : goal.loop-values-preserved
 loop-values-preserved c =
