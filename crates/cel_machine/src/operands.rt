@@ -13,7 +13,7 @@ ghost use Rattle.cel_machine.specs.Correct.{Turns, TurnsValues, Lacks};
 use crate::instr::Test;
 use crate::stack::{
     drop_answer, drop_aside, is_clear, is_on_top, pop_answer, pop_aside, push_answer, push_aside,
-    push_last, put_top, top,
+    put_top, top,
 };
 use cel_meaning::operators::{Answer, Progress, absorb, no_such_overload, settle};
 use cel_value::{ExecutionError, Refused, Value};
@@ -286,7 +286,6 @@ pub(crate) fn take_right(
 }
 
 /// The topmost value, unless it is an error.
-#[inline(always)]
 pub(crate) fn pop_operand(values: &mut Vec<Answer>) -> Option<Value>
     ensures { MatchOption result (Lacks (outcomes values.old.items)) (λ v. outcomes values.old.items ≡ Ok (view v) ∷ outcomes values.new.items) }
 {
@@ -351,8 +350,7 @@ pub(crate) fn put_over_two(values: &mut Vec<Answer>, answer: Answer)
 }
 
 /// Puts so many values from the top into `found`, the lowest first. Gives whether there are so many, and none of them is an error.
-#[inline(never)]
-fn take_many(
+pub(crate) fn take_values(
     count: usize,
     values: &mut Vec<Answer>,
     found: &mut Vec<Value>,
@@ -370,45 +368,4 @@ fn take_many(
     }
     found.reverse();
     Ok(true)
-}
-
-/// Puts the topmost value into `found`, which has none. Gives whether it is there, and no error.
-#[inline(always)]
-fn take_one(values: &mut Vec<Answer>, found: &mut Vec<Value>) -> Result<bool, AllocError>
-    requires { found.old.items ≡ [] }
-    ensures { IfOk result (λ done. MatchBool done
-        ((length found.new.items ≡ 1) × (taken 1 (outcomes values.old.items) [] ≡ Some (map view found.new.items, outcomes values.new.items)))
-        (taken 1 (outcomes values.old.items) [] ≡ None)) }
-{
-    match pop_operand(values) {
-        None => Ok(false),
-        Some(value) => {
-            push_last(found, value)?;
-            Ok(true)
-        }
-    }
-}
-
-/// Puts so many values from the top into `found`, the lowest first. Gives whether there are so many, and none of them is an error.
-#[inline(always)]
-pub(crate) fn take_values(
-    count: usize,
-    values: &mut Vec<Answer>,
-    found: &mut Vec<Value>,
-) -> Result<bool, AllocError>
-    ensures { IfOk result (λ done. MatchBool done
-        ((length found.new.items ≡ count) × (taken count (outcomes values.old.items) [] ≡ Some (map view found.new.items, outcomes values.new.items)))
-        (taken count (outcomes values.old.items) [] ≡ None)) }
-{
-    match count {
-        0 => {
-            found.clear();
-            Ok(true)
-        }
-        1 => {
-            found.clear();
-            take_one(values, found)
-        }
-        _ => take_many(count, values, found),
-    }
 }
