@@ -1,17 +1,17 @@
 -- A meaning depends only on what the free names are bound to.
-use Rattle.cel_book.specs.Book.{Book}
-use Rattle.cel_meaning.specs.Bindings.{Bindings, binding}
-use Rattle.cel_meaning.specs.Decisions.{truth, chosen}
-use Rattle.cel_meaning.specs.Library.{Library}
-use Rattle.cel_meaning.specs.Calls.{receiver_of, is_there, by_form, called}
-use Rattle.cel_meaning.specs.Macros.{macro_name, macro_of, gift_of}
-use Rattle.cel_meaning.specs.Meaning.{meaning, meanings, map_meaning, binary_of, strictly, entry_of}
-use Rattle.cel_meaning.specs.Members.{selected, has_member, indexed}
-use Rattle.cel_meaning.specs.Operators.{operated_on_one}
-use Rattle.cel_meaning.specs.Outcome.{and_then, all_values}
-use Rattle.cel_meaning.specs.Ranges.{range_of}
-use Rattle.cel_syntax_tree.specs.FreeNames.{is_free, is_free_in_any, is_free_in_pairs}
-use Rattle.cel_syntax_tree.specs.Term.{Term, literal, ident, select, has, index, unary, binary, choice, list_of, map_with, call, qualified, macro, Terms, no_terms, term_and, count_of, Pairs, no_pairs, pair_and}
+use Rattle.cel_patterns.specs.Book.{Book}
+use Rattle.cel_semantics.specs.Bindings.{Bindings, binding}
+use Rattle.cel_semantics.specs.Decisions.{truth, branch_outcome}
+use Rattle.cel_semantics.specs.Library.{Library}
+use Rattle.cel_semantics.specs.Calls.{receiver_of, is_there, by_form, call_outcome}
+use Rattle.cel_semantics.specs.Macros.{macro_name, macro_of, iteration_result_of}
+use Rattle.cel_semantics.specs.Meaning.{meaning, meanings, map_meaning, binary_of, strictly, entry_of}
+use Rattle.cel_semantics.specs.Members.{selection, has_member, index_outcome}
+use Rattle.cel_semantics.specs.Operators.{unary_outcome}
+use Rattle.cel_semantics.specs.Outcome.{and_then, all_values}
+use Rattle.cel_semantics.specs.Ranges.{range_of}
+use Rattle.cel_syntax_ast.specs.FreeNames.{is_free, is_free_in_any, is_free_in_pairs}
+use Rattle.cel_syntax_ast.specs.Term.{Term, literal, ident, select, has, index, unary, binary, conditional, list_of, map_with, call, qualified, macro, Terms, no_terms, term_and, count_of, Pairs, no_pairs, pair_and}
 use Rattle.cel_value.specs.Data.{Data, text_key, list, map_of, no_entries}
 use Rattle.cel_value.specs.Faults.{undeclared}
 use Rattle.cel_value.specs.View.{items_of}
@@ -49,32 +49,32 @@ mutual
   pub meaning_alike : (library : Library) (book : Book) (t : Term) (e f : Bindings) → ((x : List ℕ) → is_free x t ≡ true → binding x e ≡ binding x f) → meaning library book t e ≡ meaning library book t f
   meaning_alike library book (literal v) e f h = refl
   meaning_alike library book (ident x) e f h = ap (λ o. option_map_or Ok o (Err (undeclared x))) (h x ((bytes_eq-Decides x x).1 refl))
-  meaning_alike library book (select a x) e f h = ap (λ r. and_then r (λ v. selected (text_key x) v)) (meaning_alike library book a e f h)
+  meaning_alike library book (select a x) e f h = ap (λ r. and_then r (λ v. selection (text_key x) v)) (meaning_alike library book a e f h)
   meaning_alike library book (has a x) e f h = ap (λ r. and_then r (λ v. has_member (text_key x) v)) (meaning_alike library book a e f h)
   meaning_alike library book (index a b) e f h =
       let ha = left (λ x. is_free x a) (λ x. is_free x b) e f h in
       let hb = right (λ x. is_free x a) (λ x. is_free x b) e f h in
-      λ i. strictly indexed (meaning_alike library book a e f ha i) (meaning_alike library book b e f hb i)
-  meaning_alike library book (unary op a) e f h = ap (λ r. and_then r (λ v. operated_on_one op v)) (meaning_alike library book a e f h)
+      λ i. strictly index_outcome (meaning_alike library book a e f ha i) (meaning_alike library book b e f hb i)
+  meaning_alike library book (unary op a) e f h = ap (λ r. and_then r (λ v. unary_outcome op v)) (meaning_alike library book a e f h)
   meaning_alike library book (binary op a b) e f h =
       let ha = left (λ x. is_free x a) (λ x. is_free x b) e f h in
       let hb = right (λ x. is_free x a) (λ x. is_free x b) e f h in
       λ i. binary_of op (meaning_alike library book a e f ha i) (meaning_alike library book b e f hb i)
-  meaning_alike library book (choice a b c) e f h =
+  meaning_alike library book (conditional a b c) e f h =
       let ha = left (λ x. is_free x a) (λ x. is_free x b || is_free x c) e f h in
       let more = right (λ x. is_free x a) (λ x. is_free x b || is_free x c) e f h in
       let hb = left (λ x. is_free x b) (λ x. is_free x c) e f more in
       let hc = right (λ x. is_free x b) (λ x. is_free x c) e f more in
-      λ i. chosen (truth (codes "?:") (meaning_alike library book a e f ha i)) (meaning_alike library book b e f hb i) (meaning_alike library book c e f hc i)
+      λ i. branch_outcome (truth (codes "?:") (meaning_alike library book a e f ha i)) (meaning_alike library book b e f hb i) (meaning_alike library book c e f hc i)
   meaning_alike library book (list_of ts) e f h = λ i. and_then (all_values (meanings_alike library book ts e f h i)) (λ vs. Ok (list (items_of vs)))
   meaning_alike library book (map_with ps) e f h = map_meaning_alike library book ps e f h (map_of no_entries)
   meaning_alike library book (call target name args) e f h =
       let ht = left (λ x. is_free_in_any x target) (λ x. is_free_in_any x args) e f h in
       let ha = right (λ x. is_free_in_any x target) (λ x. is_free_in_any x args) e f h in
       λ i. by_form (library.form_of name (is_there target) (count_of args)) name
-      (and_then (all_values (meanings_alike library book target e f ht i)) (λ rs. and_then (all_values (meanings_alike library book args e f ha i)) (λ vs. called library book name (receiver_of rs) vs)))
+      (and_then (all_values (meanings_alike library book target e f ht i)) (λ rs. and_then (all_values (meanings_alike library book args e f ha i)) (λ vs. call_outcome library book name (receiver_of rs) vs)))
   meaning_alike library book (qualified name args) e f h = λ i. by_form (library.form_of name false (count_of args)) name
-      (and_then (all_values (meanings_alike library book args e f h i)) (λ vs. called library book name None vs))
+      (and_then (all_values (meanings_alike library book args e f h i)) (λ vs. call_outcome library book name None vs))
   meaning_alike library book (macro kind range y filter body) e f h =
       let within = λ (x : List ℕ). is_free_in_any x filter || is_free x body in
       let hr = left (λ x. is_free x range) (λ x. not (bytes_eq x y) && within x) e f h in
@@ -83,7 +83,7 @@ mutual
       let hb = λ (d : Data). right (λ x. is_free_in_any x filter) (λ x. is_free x body) ((y, d) ∷ e) ((y, d) ∷ f) (inside within y d e f more) in
       λ i. and_then (meaning_alike library book range e f hr i) (λ v. and_then (range_of (macro_name kind) v)
       (λ items. macro_of kind (map (λ d. meaning_alike library book body ((y, d) ∷ e) ((y, d) ∷ f) (hb d) i) items)
-      (map (λ d. gift_of kind d (meanings_alike library book filter ((y, d) ∷ e) ((y, d) ∷ f) (hf d) i) (meaning_alike library book body ((y, d) ∷ e) ((y, d) ∷ f) (hb d) i)) items)))
+      (map (λ d. iteration_result_of kind d (meanings_alike library book filter ((y, d) ∷ e) ((y, d) ∷ f) (hf d) i) (meaning_alike library book body ((y, d) ∷ e) ((y, d) ∷ f) (hb d) i)) items)))
 
   meanings_alike : (library : Library) (book : Book) (ts : Terms) (e f : Bindings) → ((x : List ℕ) → is_free_in_any x ts ≡ true → binding x e ≡ binding x f) → meanings library book ts e ≡ meanings library book ts f
   meanings_alike library book no_terms e f h = refl

@@ -2,7 +2,7 @@
 -- The tree of a program.
 use Rattle.std.specs.Prelude.{Option, Some, None, Result, Ok, Err}
 use Rattle.cel_syntax.specs.declared.error.ParseErrors.{ParseErrors}
-use Rattle.cel_syntax_tree.specs.Term.{Term, term}
+use Rattle.cel_syntax_ast.specs.Term.{Term, term}
 use Rattle.cel.specs.declared.program.Program.{Program}
 
 abbrev pub program_term : Program → Term

@@ -1,16 +1,16 @@
 //! Laws of code and of meanings, each the contract of a call that does nothing.
 ghost use Rattle.std.specs.Prelude.{◌≡◌, ◌≤◌, ◌+◌, ◌*◌, ℕ, List, true, length};
-ghost use Rattle.cel_book.specs.Book.{Book};
-ghost use Rattle.cel_meaning.specs.Bindings.{Bindings, binding};
-ghost use Rattle.cel_meaning.specs.Library.{Library};
-ghost use Rattle.cel_meaning.specs.Meaning.{meaning};
-ghost use Rattle.cel_syntax_tree.specs.FreeNames.{is_free};
-ghost use Rattle.cel_syntax_tree.specs.Term.{Term};
-ghost use Rattle.cel_machine.specs.Code.{code_of};
-ghost use Rattle.cel_machine.specs.Size.{nodes};
+ghost use Rattle.cel_patterns.specs.Book.{Book};
+ghost use Rattle.cel_semantics.specs.Bindings.{Bindings, binding};
+ghost use Rattle.cel_semantics.specs.Library.{Library};
+ghost use Rattle.cel_semantics.specs.Meaning.{meaning};
+ghost use Rattle.cel_syntax_ast.specs.FreeNames.{is_free};
+ghost use Rattle.cel_syntax_ast.specs.Term.{Term};
+ghost use Rattle.cel_vm.specs.Code.{code_of};
+ghost use Rattle.cel_vm.specs.Size.{nodes};
 
 /// The code of a tree has fewer than five instructions for each of its nodes.
-#[tactic(auto, using(cel_machine::proofs::Sizes::code_is_short))]
+#[tactic(auto, using(cel_vm::proofs::Sizes::code_is_short))]
 pub fn code_is_short()
     ensures { (t : Term) → length (code_of t) + 2 ≤ 5 * nodes t }
 {}

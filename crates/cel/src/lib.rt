@@ -21,24 +21,24 @@
 //! A [`PatternBook`] remembers what `regex` answered to each pattern; lent to several calls, it lets them answer alike.
 //!
 //! Proved: a program has the tree that its text derives, and an execution ends with what the tree means (`Meaning.antt` of
-//! `cel_meaning`) under the context's names and functions, for every set of functions that keeps the law of [`Functions`].
+//! `cel_semantics`) under the context's names and functions, for every set of functions that keeps the law of [`Functions`].
 //! There is no evaluator of trees: that the code's run ends with the tree's meaning is a theorem.
 #![tactic(auto)]
 
 pub mod laws;
 pub mod program;
 
-pub use cel_book::PatternBook;
-pub use cel_machine::{Instr, run_code};
-pub use cel_meaning::{Answer, Context, Form, Functions};
-pub use cel_standard::StandardFunctions;
+pub use cel_patterns::PatternBook;
+pub use cel_semantics::{Answer, Context, Form, Functions};
+pub use cel_stdlib::StandardFunctions;
 pub use cel_syntax::ParseErrors;
-pub use cel_syntax_names::References;
-pub use cel_syntax_tree::{BinaryOperator, Expr, MacroKind, UnaryOperator};
+pub use cel_syntax_ast::{BinaryOperator, Expr, MacroKind, UnaryOperator};
+pub use cel_syntax_references::References;
 pub use cel_value::{
     Duration, Entries, ExecutionError, Key, Kind, List, MAX_VALUE_LEVELS, Map, OptionalValue,
     Refused, Timestamp, Value,
 };
+pub use cel_vm::{Instr, run_code};
 pub use kube_types::{
     FormatKind, IntegerError, KubeCIDR, KubeFormat, KubeIP, KubeQuantity, KubeSemver, KubeUrl,
 };

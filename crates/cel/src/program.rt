@@ -1,29 +1,29 @@
 //! Programs: an expression with its code.
 ghost use Rattle.std.specs.Prelude.{◌≡◌, ℕ, IfOk, IfErr, MatchResult, map};
-ghost use Rattle.cel_book.specs.Book.{Book, IsBook, Agrees};
-ghost use Rattle.cel_book.specs.Entries.{entries_of};
-ghost use Rattle.cel_book.specs.Settled.{Settles};
+ghost use Rattle.cel_patterns.specs.Book.{Book, IsBook, Extends};
+ghost use Rattle.cel_patterns.specs.Entries.{entries_of};
+ghost use Rattle.cel_patterns.specs.Extensions.{HoldsForExtensions};
 ghost use Rattle.cel_syntax.specs.Reading.{TextDerives, tree_of};
 ghost use Rattle.kube_types_refused.specs.declared.Refused.TheVariants.{Memory};
-ghost use Rattle.cel_syntax_names.specs.Calls.{is_called};
-ghost use Rattle.cel_syntax_names.specs.Names.{AreNames};
-ghost use Rattle.cel_syntax_names.specs.References.{variable_names, function_names};
-ghost use Rattle.cel_syntax_tree.specs.FreeNames.{is_free};
-ghost use Rattle.cel_syntax_tree.specs.Term.{Term, term};
-ghost use Rattle.cel_meaning.specs.Bindings.{bindings_of, functions_of};
-ghost use Rattle.cel_meaning.specs.Meaning.{meaning};
-ghost use Rattle.cel_meaning.specs.Outcome.{outcome_view};
-ghost use Rattle.cel_machine.proofs.Sets.{same_code-prop};
-ghost use Rattle.cel_machine.specs.Code.{code_of};
-ghost use Rattle.cel_machine.specs.Op.{op};
+ghost use Rattle.cel_syntax_references.specs.Calls.{is_called};
+ghost use Rattle.cel_syntax_references.specs.Names.{AreNames};
+ghost use Rattle.cel_syntax_references.specs.References.{variable_names, function_names};
+ghost use Rattle.cel_syntax_ast.specs.FreeNames.{is_free};
+ghost use Rattle.cel_syntax_ast.specs.Term.{Term, term};
+ghost use Rattle.cel_semantics.specs.Bindings.{bindings_of, functions_of};
+ghost use Rattle.cel_semantics.specs.Meaning.{meaning};
+ghost use Rattle.cel_semantics.specs.Outcome.{outcome_view};
+ghost use Rattle.cel_vm.proofs.Sets.{same_code-prop};
+ghost use Rattle.cel_vm.specs.Code.{code_of};
+ghost use Rattle.cel_vm.specs.Op.{op};
 
-use cel_book::PatternBook;
-use cel_machine::{Instr, compile_tree, run_code};
-use cel_meaning::{Answer, Context, Functions};
+use cel_patterns::PatternBook;
+use cel_semantics::{Answer, Context, Functions};
 use cel_syntax::{ParseErrors, parse};
-use cel_syntax_names::References;
-use cel_syntax_tree::Expr;
+use cel_syntax_ast::Expr;
+use cel_syntax_references::References;
 use cel_value::Refused;
+use cel_vm::{Instr, compile_tree, run_code};
 use std::alloc::Global;
 
 /// An expression, ready to be run.
@@ -106,7 +106,8 @@ impl Program {
         alloc: Global,
         context: &Context<'_, F>,
     ) -> Result<Answer, Refused>
-        ensures value { IfOk result (λ r. (book : Book) × IsBook book × Settles book (outcome_view r)
+        ensures value { IfOk result (λ r. (book : Book) × IsBook book
+            × HoldsForExtensions book (outcome_view r)
             (λ b. meaning (F.library (functions_of context.now)) b (program_term self.now) (bindings_of context.now))) }
         ensures memory { IfErr result (λ e. e ≡ Memory) }
     {
@@ -124,8 +125,8 @@ impl Program {
         context: &Context<'_, F>,
         book: &mut PatternBook,
     ) -> Result<Answer, Refused>
-        ensures keeps { Agrees (entries_of book.new) (entries_of book.old) }
-        ensures value { IfOk result (λ r. Settles (entries_of book.new) (outcome_view r)
+        ensures keeps { Extends (entries_of book.new) (entries_of book.old) }
+        ensures value { IfOk result (λ r. HoldsForExtensions (entries_of book.new) (outcome_view r)
             (λ b. meaning (F.library (functions_of context.now)) b (program_term self.now) (bindings_of context.now))) }
         ensures memory { IfErr result (λ e. e ≡ Memory) }
     {

@@ -3,29 +3,29 @@ use Rattle.std.proofs.Common.{◌≡◌, ℕ, refl, sym, ◌∙◌, Option, Some
 use Rattle.std.specs.Prelude.{Result, Ok, Err, IfOk, MatchResult, MatchOption, option_map}
 use Rattle.kube_types_refused.specs.declared.Refused.{Refused}
 use Rattle.kube_types_refused.specs.declared.Refused.TheVariants.{Memory}
-use Rattle.cel_syntax_tokens.specs.Token.{Token}
-use Rattle.cel_syntax_tokens.specs.Tokens.{CutsInto, CutsIntoNone}
-use Rattle.cel_syntax_tokens.specs.Cut.{cut}
-use Rattle.cel_syntax_tokens.proofs.CutOf.{cuts_of_cut, cut_of_cuts}
-use Rattle.cel_syntax_tree.specs.Term.{Term, term}
-use Rattle.cel_syntax_tree.specs.declared.expr.Expr.{Expr}
-use Rattle.cel_syntax_grammar.specs.Grammar.{Derives}
-use Rattle.cel_syntax_grammar.specs.Parser.{tree_of_tokens}
-use Rattle.cel_syntax_grammar.proofs.Complete.{complete_parse}
-use Rattle.cel_syntax_grammar.proofs.Sound.{sound_parse}
+use Rattle.cel_syntax_lexer.specs.Token.{Token}
+use Rattle.cel_syntax_lexer.specs.Tokens.{CutsInto, CutsIntoNone}
+use Rattle.cel_syntax_lexer.specs.Cut.{tokens_of_text}
+use Rattle.cel_syntax_lexer.proofs.CutOf.{cuts_of_cut, cut_of_cuts}
+use Rattle.cel_syntax_ast.specs.Term.{Term, term}
+use Rattle.cel_syntax_ast.specs.declared.expr.Expr.{Expr}
+use Rattle.cel_syntax_parser.specs.Grammar.{Derives}
+use Rattle.cel_syntax_parser.specs.Parser.{tree_of_tokens}
+use Rattle.cel_syntax_parser.proofs.Complete.{complete_parse}
+use Rattle.cel_syntax_parser.proofs.Sound.{sound_parse}
 use Rattle.cel_syntax.specs.Reading.{TextDerives, tree_of, tree_of_cut}
 
 pub complete_text : (z : List ℕ) (t : Term) → TextDerives z t → tree_of z ≡ Some t
 unfolding tree_of
 complete_text z t (ts, cuts, d) = rw (cut_of_cuts z ts cuts) (complete_parse ts t d)
 
-sound_by : (z : List ℕ) (t : Term) (o : Option (List Token)) → cut z ≡ o → tree_of_cut o ≡ Some t → TextDerives z t
+sound_by : (z : List ℕ) (t : Term) (o : Option (List Token)) → tokens_of_text z ≡ o → tree_of_cut o ≡ Some t → TextDerives z t
 sound_by z t None is e = absurd (cc)
 sound_by z t (Some ts) is e = (ts, cuts_of_cut z ts is, sound_parse ts t e)
 
 pub sound_text : (z : List ℕ) (t : Term) → tree_of z ≡ Some t → TextDerives z t
 unfolding tree_of
-sound_text z t e = sound_by z t (cut z) refl e
+sound_text z t e = sound_by z t (tokens_of_text z) refl e
 
 some_same : {A : Type 0} {a b : A} → Some a ≡ Some b → a ≡ b
 some_same e = cc
@@ -38,13 +38,13 @@ pub of_tokens : (z : List ℕ) (ts : List Token) → CutsInto z ts → tree_of_t
 unfolding tree_of
 of_tokens z ts cuts = rw (cut_of_cuts z ts cuts.0)
 
-none_by : (z : List ℕ) (o : Option (List Token)) → cut z ≡ o → CutsIntoNone z → tree_of_cut o ≡ None
+none_by : (z : List ℕ) (o : Option (List Token)) → tokens_of_text z ≡ o → CutsIntoNone z → tree_of_cut o ≡ None
 none_by z None is none = refl
 none_by z (Some ts) is none = absurd (none ts (cuts_of_cut z ts is))
 
 pub of_no_tokens : (z : List ℕ) → CutsIntoNone z → tree_of z ≡ None
 unfolding tree_of
-of_no_tokens z none = none_by z (cut z) refl none
+of_no_tokens z none = none_by z (tokens_of_text z) refl none
 
 -- what an answer that is the text's tree says of the grammar
 pub some_derives : (z : List ℕ) (t : Term) → Some t ≡ tree_of z → TextDerives z t
@@ -53,9 +53,9 @@ some_derives z t e = sound_text z t (sym e)
 pub none_derives : (z : List ℕ) → None ≡ tree_of z → (t : Term) → TextDerives z t → ⊥
 none_derives z e t d = absurd (cc (complete_text z t d))
 
--- the answer of the parser of tokens, told of the text
-pub told : (z : List ℕ) (ts : List Token) (r : Result (Option Expr) Refused) → CutsInto z ts
+-- the answer of the parser, as that of the text
+pub reported : (z : List ℕ) (ts : List Token) (r : Result (Option Expr) Refused) → CutsInto z ts
     → MatchResult r (λ o. MatchOption o ((t : Term) → Derives ts t → ⊥) (λ e. Derives ts (term e))) (λ e. e ≡ Memory)
     → IfOk r (λ o. option_map term o ≡ tree_of_tokens ts) → MatchResult r (λ o. option_map term o ≡ tree_of z) (λ e. e ≡ Memory)
-told z ts (Ok o) cuts m reads = reads ∙ of_tokens z ts cuts
-told z ts (Err e) cuts m reads = m
+reported z ts (Ok o) cuts m reads = reads ∙ of_tokens z ts cuts
+reported z ts (Err e) cuts m reads = m

@@ -1,13 +1,13 @@
 -- Trusted by the headline.
 -- Which text derives which tree. Source: section "Syntax" of the CEL language definition.
 use Rattle.std.specs.Prelude.{ℕ, List, Option, Some, None, Result, Ok, Err}
-use Rattle.cel_syntax_tokens.specs.Token.{Token}
-use Rattle.cel_syntax_tokens.specs.Tokens.{Cuts}
-use Rattle.cel_syntax_tokens.specs.Cut.{cut}
-use Rattle.cel_syntax_tree.specs.Term.{Term, term}
-use Rattle.cel_syntax_tree.specs.declared.expr.Expr.{Expr}
-use Rattle.cel_syntax_grammar.specs.Grammar.{Derives}
-use Rattle.cel_syntax_grammar.specs.Parser.{tree_of_tokens}
+use Rattle.cel_syntax_lexer.specs.Token.{Token}
+use Rattle.cel_syntax_lexer.specs.Tokens.{Cuts}
+use Rattle.cel_syntax_lexer.specs.Cut.{tokens_of_text}
+use Rattle.cel_syntax_ast.specs.Term.{Term, term}
+use Rattle.cel_syntax_ast.specs.declared.expr.Expr.{Expr}
+use Rattle.cel_syntax_parser.specs.Grammar.{Derives}
+use Rattle.cel_syntax_parser.specs.Parser.{tree_of_tokens}
 use Rattle.cel_syntax.specs.declared.error.ParseErrors.{ParseErrors}
 
 -- The text cuts into tokens that derive the tree.
@@ -20,7 +20,7 @@ tree_of_cut (Some ts) = tree_of_tokens ts
 
 -- the tree that a text derives, computed
 unfoldable pub tree_of : List ℕ → Option Term
-tree_of z = tree_of_cut (cut z)
+tree_of z = tree_of_cut (tokens_of_text z)
 
 -- the tree of an answer
 abbrev pub tree_seen : Result Expr ParseErrors → Option Term

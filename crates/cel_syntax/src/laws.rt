@@ -1,7 +1,7 @@
 //! Laws of the syntax.
 
 ghost use Rattle.std.specs.Prelude.{◌≡◌, ℕ, List, Some};
-ghost use Rattle.cel_syntax_tree.specs.Term.{Term};
+ghost use Rattle.cel_syntax_ast.specs.Term.{Term};
 ghost use Rattle.cel_syntax.specs.Reading.{TextDerives, tree_of};
 
 /// A text derives at most one tree.

@@ -24,7 +24,7 @@ mod error;
 pub mod laws;
 mod reading;
 
-pub use cel_syntax_names::References;
-pub use cel_syntax_tree::{BinaryOperator, Expr, MacroKind, UnaryOperator};
+pub use cel_syntax_ast::{BinaryOperator, Expr, MacroKind, UnaryOperator};
+pub use cel_syntax_references::References;
 pub use error::ParseErrors;
 pub use reading::parse;

@@ -2,13 +2,13 @@
 
 ghost use Rattle.std.specs.Prelude.{◌≡◌, MatchResult, IfOk, option_map};
 ghost use Rattle.kube_types_refused.specs.declared.Refused.TheVariants.{Memory};
-ghost use Rattle.cel_syntax_tree.specs.Term.{Term, term};
+ghost use Rattle.cel_syntax_ast.specs.Term.{Term, term};
 ghost use Rattle.cel_syntax.specs.Reading.{TextDerives, tree_of, tree_seen};
 
 use crate::error::ParseErrors;
-use cel_syntax_grammar::parse_tokens;
-use cel_syntax_tokens::lexer::tokens;
-use cel_syntax_tree::Expr;
+use cel_syntax_ast::Expr;
+use cel_syntax_lexer::lexer::tokens;
+use cel_syntax_parser::parse_tokens;
 use kube_types_refused::Refused;
 use std::alloc::Global;
 

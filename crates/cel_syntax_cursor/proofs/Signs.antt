@@ -1,7 +1,7 @@
 -- The signs that come next.
 use Rattle.std.proofs.Common.{◌≡◌, ℕ, ◌+◌, refl, ap, arith, true, false, List, [], ◌∷◌, drop, length}
-use Rattle.cel_syntax_tokens.specs.Token.{Token}
-use Rattle.cel_syntax_tree.specs.declared.expr.UnaryOperator.{UnaryOperator}
+use Rattle.cel_syntax_lexer.specs.Token.{Token}
+use Rattle.cel_syntax_ast.specs.declared.expr.UnaryOperator.{UnaryOperator}
 use Rattle.cel_syntax_cursor.specs.Ahead.{signs, sees_sign}
 
 none_left : (s : UnaryOperator) (ts : List Token) → sees_sign s ts ≡ false → signs s ts ≡ (0, ts)

@@ -2,24 +2,24 @@
 -- What comes first in the tokens that are left.
 use Rattle.std.specs.Prelude.{ℕ, ◌+◌, nat_eq, Bool, true, false, ◌&&◌, not, if◌then◌else◌, List, [], ◌∷◌, drop, map, Option, Some, None, is_some}
 use denote.Enum.Bare.{sameb}
-use Rattle.cel_syntax_tokens.specs.contracts.mark.Mark.{the_type}
-use Rattle.cel_syntax_tokens.specs.declared.mark.Mark.{Mark}
-use Rattle.cel_syntax_tokens.specs.declared.mark.Mark.TheVariants as m
-use Rattle.cel_syntax_tokens.specs.Token.{Token, mark, token_of}
-use Rattle.cel_syntax_tree.specs.declared.expr.UnaryOperator.{UnaryOperator}
-use Rattle.cel_syntax_tree.specs.declared.expr.BinaryOperator.{BinaryOperator}
-use Rattle.cel_syntax_cursor.specs.declared.tokens.Tokens.{Tokens}
+use Rattle.cel_syntax_lexer.specs.contracts.punctuator.Punctuator.{the_type}
+use Rattle.cel_syntax_lexer.specs.declared.punctuator.Punctuator.{Punctuator}
+use Rattle.cel_syntax_lexer.specs.declared.punctuator.Punctuator.TheVariants as m
+use Rattle.cel_syntax_lexer.specs.Token.{Token, punctuator, token_of}
+use Rattle.cel_syntax_ast.specs.declared.expr.UnaryOperator.{UnaryOperator}
+use Rattle.cel_syntax_ast.specs.declared.expr.BinaryOperator.{BinaryOperator}
+use Rattle.cel_syntax_cursor.specs.declared.cursor.Cursor.{Cursor}
 use Rattle.cel_syntax_cursor.specs.Operator.{sign, operator, is_operator_before}
 
-unfoldable pub same_mark : Mark → Mark → Bool
-same_mark = sameb the_type
+unfoldable pub same_punctuator : Punctuator → Punctuator → Bool
+same_punctuator = sameb the_type
 
-abbrev pub sees : Mark → List Token → Bool
-sees m (mark k ∷ ts) = same_mark k m
+abbrev pub sees : Punctuator → List Token → Bool
+sees m (punctuator k ∷ ts) = same_punctuator k m
 sees m _ = false
 
 -- the tokens behind such a mark, if it comes first
-abbrev pub after : Mark → List Token → List Token
+abbrev pub after : Punctuator → List Token → List Token
 after m ts = if sees m ts then drop 1 ts else ts
 
 -- the operator that comes first, if it binds so loosely
@@ -37,7 +37,7 @@ sees_operator [] = false
 sees_operator (t ∷ ts) = is_some (operator t)
 
 -- A comma or a closing bracket ends the items, or comes before the first of them.
-abbrev pub is_end : Mark → Bool
+abbrev pub is_end : Punctuator → Bool
 is_end m.CloseRound = true
 is_end m.CloseSquare = true
 is_end m.CloseBrace = true
@@ -45,7 +45,7 @@ is_end m.Comma = true
 is_end _ = false
 
 abbrev pub sees_end : List Token → Bool
-sees_end (mark k ∷ ts) = is_end k
+sees_end (punctuator k ∷ ts) = is_end k
 sees_end _ = false
 
 -- whether another item comes first, behind a comma
@@ -62,5 +62,5 @@ signs s (t ∷ ts) = if sees_sign s (t ∷ ts) then ((signs s ts).0 + 1, (signs 
 
 -- ---- what the code's values stand for
 
-abbrev pub left : Tokens → List Token
-left t = map token_of t.rest.now
+abbrev pub tokens_left : Cursor → List Token
+tokens_left t = map token_of t.rest.now

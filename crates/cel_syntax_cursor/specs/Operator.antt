@@ -2,17 +2,17 @@
 -- The operators. Source: section "Syntax" of the CEL language definition (table of precedence and associativity).
 use Rattle.std.specs.Prelude.{ℕ, Bool, true, false, not, if◌then◌else◌, List, [], ◌∷◌, Option, Some, None, codes}
 use Rattle.std.specs.Str.{bytes_eq}
-use Rattle.cel_syntax_tokens.specs.Token.{Token, word, number, quoted, mark}
-use Rattle.cel_syntax_tokens.specs.declared.mark.Mark.{Mark}
-use Rattle.cel_syntax_tokens.specs.declared.mark.Mark.TheVariants as m
-use Rattle.cel_syntax_tree.specs.declared.expr.UnaryOperator.{UnaryOperator}
-use Rattle.cel_syntax_tree.specs.declared.expr.UnaryOperator.TheVariants as u
-use Rattle.cel_syntax_tree.specs.declared.expr.BinaryOperator.{BinaryOperator}
-use Rattle.cel_syntax_tree.specs.declared.expr.BinaryOperator.TheVariants as b
+use Rattle.cel_syntax_lexer.specs.Token.{Token, word, number, quoted, punctuator}
+use Rattle.cel_syntax_lexer.specs.declared.punctuator.Punctuator.{Punctuator}
+use Rattle.cel_syntax_lexer.specs.declared.punctuator.Punctuator.TheVariants as m
+use Rattle.cel_syntax_ast.specs.declared.expr.UnaryOperator.{UnaryOperator}
+use Rattle.cel_syntax_ast.specs.declared.expr.UnaryOperator.TheVariants as u
+use Rattle.cel_syntax_ast.specs.declared.expr.BinaryOperator.{BinaryOperator}
+use Rattle.cel_syntax_ast.specs.declared.expr.BinaryOperator.TheVariants as b
 use Rattle.cel_syntax_literals.specs.Literal.{takes_minus}
 
 -- how an operator on one value is written
-abbrev pub sign : UnaryOperator → Mark
+abbrev pub sign : UnaryOperator → Punctuator
 sign u.Not = m.Not
 sign u.Negate = m.Minus
 
@@ -27,7 +27,7 @@ is_operator_before u.Not ts = true
 is_operator_before u.Negate ts = not (begins_number ts)
 
 -- How loosely an operator on two values binds, and which it is: 1 for products, 2 for sums, 3 for relations, 4 for "and", 5 for "or".
-abbrev pub operator_of : Mark → Option (ℕ × BinaryOperator)
+abbrev pub operator_of : Punctuator → Option (ℕ × BinaryOperator)
 operator_of m.Star = Some (1, b.Multiply)
 operator_of m.Slash = Some (1, b.Divide)
 operator_of m.Percent = Some (1, b.Remainder)
@@ -51,4 +51,4 @@ abbrev pub operator : Token → Option (ℕ × BinaryOperator)
 operator (word w) = word_operator w
 operator (number ds) = None
 operator (quoted s) = None
-operator (mark m) = operator_of m
+operator (punctuator m) = operator_of m

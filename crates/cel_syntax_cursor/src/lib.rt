@@ -1,7 +1,7 @@
 //! A cursor over the tokens of a CEL text, and the operators and signs that they may begin with.
 #![tactic(auto)]
 
+mod cursor;
 mod operators;
-mod tokens;
 
-pub use tokens::Tokens;
+pub use cursor::Cursor;

@@ -1,41 +1,41 @@
 //! Which tokens are operators.
 
 ghost use Rattle.std.specs.Prelude.{◌≡◌};
-ghost use Rattle.cel_syntax_tokens.specs.Token.{token_of};
+ghost use Rattle.cel_syntax_lexer.specs.Token.{token_of};
 ghost use Rattle.cel_syntax_cursor.specs.Operator as spec;
 
-use cel_syntax_tokens::mark::Mark;
-use cel_syntax_tokens::token::Token;
-use cel_syntax_tree::{BinaryOperator, UnaryOperator};
+use cel_syntax_ast::{BinaryOperator, UnaryOperator};
+use cel_syntax_lexer::punctuator::Punctuator;
+use cel_syntax_lexer::token::Token;
 
-/// The mark that the sign is written with.
-pub(crate) fn sign_mark(sign: UnaryOperator) -> Mark
+/// The punctuator that the sign is written with.
+pub(crate) fn sign_punctuator(sign: UnaryOperator) -> Punctuator
     ensures { result ≡ spec.sign sign }
 {
     match sign {
-        UnaryOperator::Not => Mark::Not,
-        UnaryOperator::Negate => Mark::Minus,
+        UnaryOperator::Not => Punctuator::Not,
+        UnaryOperator::Negate => Punctuator::Minus,
     }
 }
 
-/// The operator that the mark is, and how loosely it binds.
-fn operator_of(mark: Mark) -> Option<(u8, BinaryOperator)>
-    ensures { result ≡ spec.operator_of mark }
+/// The operator that the punctuator is, and how loosely it binds.
+fn operator_of(punctuator: Punctuator) -> Option<(u8, BinaryOperator)>
+    ensures { result ≡ spec.operator_of punctuator }
 {
-    match mark {
-        Mark::Star => Some((1, BinaryOperator::Multiply)),
-        Mark::Slash => Some((1, BinaryOperator::Divide)),
-        Mark::Percent => Some((1, BinaryOperator::Remainder)),
-        Mark::Plus => Some((2, BinaryOperator::Add)),
-        Mark::Minus => Some((2, BinaryOperator::Subtract)),
-        Mark::Less => Some((3, BinaryOperator::Less)),
-        Mark::LessOrEqual => Some((3, BinaryOperator::LessOrEqual)),
-        Mark::Greater => Some((3, BinaryOperator::Greater)),
-        Mark::GreaterOrEqual => Some((3, BinaryOperator::GreaterOrEqual)),
-        Mark::Equal => Some((3, BinaryOperator::Equal)),
-        Mark::NotEqual => Some((3, BinaryOperator::NotEqual)),
-        Mark::And => Some((4, BinaryOperator::And)),
-        Mark::Or => Some((5, BinaryOperator::Or)),
+    match punctuator {
+        Punctuator::Star => Some((1, BinaryOperator::Multiply)),
+        Punctuator::Slash => Some((1, BinaryOperator::Divide)),
+        Punctuator::Percent => Some((1, BinaryOperator::Remainder)),
+        Punctuator::Plus => Some((2, BinaryOperator::Add)),
+        Punctuator::Minus => Some((2, BinaryOperator::Subtract)),
+        Punctuator::Less => Some((3, BinaryOperator::Less)),
+        Punctuator::LessOrEqual => Some((3, BinaryOperator::LessOrEqual)),
+        Punctuator::Greater => Some((3, BinaryOperator::Greater)),
+        Punctuator::GreaterOrEqual => Some((3, BinaryOperator::GreaterOrEqual)),
+        Punctuator::Equal => Some((3, BinaryOperator::Equal)),
+        Punctuator::NotEqual => Some((3, BinaryOperator::NotEqual)),
+        Punctuator::And => Some((4, BinaryOperator::And)),
+        Punctuator::Or => Some((5, BinaryOperator::Or)),
         _ => None,
     }
 }
@@ -58,7 +58,7 @@ pub(crate) fn token_operator(token: Token<'_>) -> Option<(u8, BinaryOperator)>
 {
     match token {
         Token::Word(word) => word_operator(word),
-        Token::Mark(mark) => operator_of(mark),
+        Token::Punctuator(punctuator) => operator_of(punctuator),
         _ => None,
     }
 }

@@ -7,7 +7,7 @@ use Rattle.std.proofs.lemmas.Bool.{ltb-true, leb-true}
 use Rattle.std.proofs.lemmas.Bool.Decides.{nat_tests}
 use Rattle.std.proofs.lemmas.Option.{same_Some}
 use Rattle.cel_syntax_literals.specs.Number.{of_64_bits}
-use Rattle.cel_syntax_literals.specs.Escape.{letter_code, digits_code, octet, code_point, octet_code, unicode_code, sized, escape}
+use Rattle.cel_syntax_literals.specs.Escape.{letter_code, digits_code, octet, code_point, octet_code, unicode_code, code_and_size, escape}
 use Rattle.cel_syntax_literals.specs.declared.content.Content.{Content}
 use Rattle.cel_syntax_literals.specs.declared.content.Content.TheVariants.{Text, Bytes}
 use Rattle.cel_syntax_literals.proofs.Bits.{of_bits}
@@ -82,7 +82,7 @@ letter_small c x e =
     itself : (c : ℕ) → (nat_eq c 92 || (nat_eq c 63 || (nat_eq c 34 || (nat_eq c 39 || nat_eq c 96)))) ≡ true → c < 256
     itself c b = grind (arith, nat_tests)
 
-sized_gives : (P : ℕ × ℕ → Type 0) (n : ℕ) (o : Option ℕ) → ((x : ℕ) → o ≡ Some x → P (x, n)) → (e : ℕ × ℕ) → sized n o ≡ Some e → P e
+sized_gives : (P : ℕ × ℕ → Type 0) (n : ℕ) (o : Option ℕ) → ((x : ℕ) → o ≡ Some x → P (x, n)) → (e : ℕ × ℕ) → code_and_size n o ≡ Some e → P e
 sized_gives P n None h e is = absurd (none_some is)
 sized_gives P n (Some x) h e is = subst P (same_Some (x, n) e is) (h x refl)
 

@@ -2,7 +2,7 @@
 use Rattle.std.proofs.Common.{◌≡◌, ℕ, refl, Bool, true, false, Option, Some, None, List, cond, ◌||◌, option_map}
 use Rattle.std.specs.Option.{option_and_then}
 use Rattle.cel_value.specs.Data.{Data, uint}
-use Rattle.cel_syntax_tokens.specs.Token.{Token, word, number, quoted, mark}
+use Rattle.cel_syntax_lexer.specs.Token.{Token, word, number, quoted, punctuator}
 use Rattle.cel_syntax_literals.specs.Literal.{literal_value, takes_minus}
 use Rattle.cel_syntax_literals.specs.Number.{numeral_value, is_integer, integer_value, uint_value, is_double, is_unsigned, without_last, goes_with_minus, number_value}
 
@@ -33,4 +33,4 @@ pub no_literal : (t : Token) → takes_minus t ≡ false → literal_value true 
 no_literal (word w) e = refl
 no_literal (number s) e = no_number s e
 no_literal (quoted s) e = refl
-no_literal (mark m) e = refl
+no_literal (punctuator m) e = refl

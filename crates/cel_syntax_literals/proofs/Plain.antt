@@ -7,16 +7,16 @@ use Rattle.std.proofs.lemmas.List.{take-append-le}
 use Rattle.cel_value.specs.Data.{text, bytes}
 use Rattle.cel_syntax_literals.specs.declared.content.Content.{Content}
 use Rattle.cel_syntax_literals.specs.declared.content.Content.TheVariants.{Text, Bytes}
-use Rattle.cel_syntax_literals.specs.Escape.{unescaped_after, unescaped}
+use Rattle.cel_syntax_literals.specs.Escape.{unescaped_after, unescaped_bytes}
 use Rattle.cel_syntax_literals.specs.Plain.{is_free_of}
-use Rattle.cel_syntax_literals.specs.Quoted.{before_quotes, between, body_of, written, quoted_value}
+use Rattle.cel_syntax_literals.specs.Strings.{before_quotes, between, body_of, content_bytes, quoted_value}
 use Rattle.cel_syntax_literals.proofs.Numerals.{both}
 
 is_not : (b : Bool) → not b ≡ true → b ≡ false
 is_not true e = absurd (cc)
 is_not false e = refl
 
-itself : (content : Content) (s : List ℕ) → is_free_of 92 s ≡ true → unescaped content s ≡ Some s
+itself : (content : Content) (s : List ℕ) → is_free_of 92 s ≡ true → unescaped_bytes content s ≡ Some s
 unfolding unescaped_after
 itself content [] e = refl
 itself content (c ∷ s) e =
@@ -55,13 +55,13 @@ body_plain s e = rw (not_tripled s e) (closed s)
 -- ---- values
 
 pub string_plain : (s : List ℕ) → is_free_of 34 s ≡ true → is_free_of 92 s ≡ true → is_utf8 s ≡ true → quoted_value (34 ∷ s ++ 34 ∷ []) ≡ Some (text s)
-unfolding quoted_value written
+unfolding quoted_value content_bytes
 string_plain s quotes slashes utf8 = rw (body_plain s quotes, itself Text s slashes, utf8)
 
 pub bytes_plain : (s : List ℕ) → is_free_of 34 s ≡ true → is_free_of 92 s ≡ true → quoted_value (98 ∷ 34 ∷ s ++ 34 ∷ []) ≡ Some (bytes s)
-unfolding quoted_value written
+unfolding quoted_value content_bytes
 bytes_plain s quotes slashes = rw (body_plain s quotes, itself Bytes s slashes)
 
 pub raw_plain : (s : List ℕ) → is_free_of 34 s ≡ true → is_utf8 s ≡ true → quoted_value (114 ∷ 34 ∷ s ++ 34 ∷ []) ≡ Some (text s)
-unfolding quoted_value written
+unfolding quoted_value content_bytes
 raw_plain s quotes utf8 = rw (body_plain s quotes, utf8)

@@ -39,20 +39,20 @@ unfoldable pub unicode_code : Content → ℕ → List ℕ → Option ℕ
 unicode_code Text n s = option_and_then code_point (digits_code 16 n s)
 unicode_code Bytes n s = None
 
-abbrev pub sized : ℕ → Option ℕ → Option (ℕ × ℕ)
-sized n None = None
-sized n (Some code) = Some (code, n)
+abbrev pub code_and_size : ℕ → Option ℕ → Option (ℕ × ℕ)
+code_and_size n None = None
+code_and_size n (Some code) = Some (code, n)
 
 -- what stands after a backslash: the code that it writes, and how many bytes it takes
 -- x and X have two hex digits, u four and U eight, and without a letter there are three octal digits.
 unfoldable pub escape : Content → List ℕ → Option (ℕ × ℕ)
 escape content [] = None
 escape content (c ∷ s) =
-    if nat_eq c 120 || nat_eq c 88 then sized 3 (octet_code 16 2 s)
-    else (if nat_eq c 117 then sized 5 (unicode_code content 4 s)
-    else (if nat_eq c 85 then sized 9 (unicode_code content 8 s)
-    else (if is_digit c 8 then sized 3 (octet_code 8 3 (c ∷ s))
-    else sized 1 (letter_code c))))
+    if nat_eq c 120 || nat_eq c 88 then code_and_size 3 (octet_code 16 2 s)
+    else (if nat_eq c 117 then code_and_size 5 (unicode_code content 4 s)
+    else (if nat_eq c 85 then code_and_size 9 (unicode_code content 8 s)
+    else (if is_digit c 8 then code_and_size 3 (octet_code 8 3 (c ∷ s))
+    else code_and_size 1 (letter_code c))))
 
 -- In a text a code is a code point, and in bytes a byte.
 unfoldable pub code_bytes : Content → ℕ → List ℕ
@@ -72,5 +72,5 @@ unescaped_after content zero (b ∷ s) =
     else option_map (λ made. b ∷ made) (unescaped_after content zero s)
 
 -- the bytes that a body writes: a backslash begins an escape, and any other byte stands for itself
-abbrev pub unescaped : Content → List ℕ → Option (List ℕ)
-unescaped content s = unescaped_after content 0 s
+abbrev pub unescaped_bytes : Content → List ℕ → Option (List ℕ)
+unescaped_bytes content s = unescaped_after content 0 s

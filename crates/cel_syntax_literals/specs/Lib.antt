@@ -1,5 +1,5 @@
 pub mod Number
 pub mod Escape
-pub mod Quoted
+pub mod Strings
 pub mod Literal
 pub mod Plain

@@ -3,9 +3,9 @@
 use Rattle.std.specs.Prelude.{ℕ, Bool, true, false, if◌then◌else◌, List, Option, Some, None, codes}
 use Rattle.std.specs.Str.{bytes_eq}
 use Rattle.cel_value.specs.Data.{Data, null, bool}
-use Rattle.cel_syntax_tokens.specs.Token.{Token, word, number, quoted, mark}
+use Rattle.cel_syntax_lexer.specs.Token.{Token, word, number, quoted, punctuator}
 use Rattle.cel_syntax_literals.specs.Number.{goes_with_minus, number_value}
-use Rattle.cel_syntax_literals.specs.Quoted.{quoted_value}
+use Rattle.cel_syntax_literals.specs.Strings.{quoted_value}
 
 unfoldable pub word_value : List ℕ → Option Data
 word_value w =
@@ -23,11 +23,11 @@ abbrev pub takes_minus : Token → Bool
 takes_minus (word w) = false
 takes_minus (number s) = goes_with_minus s
 takes_minus (quoted s) = false
-takes_minus (mark m) = false
+takes_minus (punctuator m) = false
 
--- the value of a literal, the flag telling whether a minus belongs to it, where the token is one that is read
+-- the value of a literal, with whether a minus belongs to it, where the token is one that is read
 abbrev pub literal_value : Bool → Token → Option Data
 literal_value negative (word w) = unless_negative negative (word_value w)
 literal_value negative (number s) = number_value negative s
 literal_value negative (quoted s) = unless_negative negative (quoted_value s)
-literal_value negative (mark m) = None
+literal_value negative (punctuator m) = None

@@ -8,7 +8,7 @@ ghost use Rattle.cel_syntax_literals.specs.Escape as spec;
 ghost use Rattle.cel_syntax_literals.specs.Number.{of_64_bits};
 
 use crate::content::Content;
-use crate::number::natural;
+use crate::number_value::natural;
 use kube_types_refused::Refused;
 use std::alloc::Global;
 
@@ -30,7 +30,7 @@ fn letter_code(letter: u8) -> Option<char>
     }
 }
 
-/// The number that the first bytes write, so many of them, if 64 bits hold it.
+/// The number that the first `count` bytes write, if 64 bits hold it.
 #[tactic(auto, unfolding(crate::specs::Escape::digits_code))]
 fn digits_code(radix: u32, count: usize, text: &[u8]) -> Option<u64>
     requires low { 2 ≤ radix }
@@ -74,8 +74,8 @@ fn unicode_code(content: Content, count: usize, text: &[u8]) -> Option<char>
     }
 }
 
-fn sized(size: usize, code: Option<char>) -> Option<(char, usize)>
-    ensures { result ≡ spec.sized size code }
+fn code_and_size(size: usize, code: Option<char>) -> Option<(char, usize)>
+    ensures { result ≡ spec.code_and_size size code }
 {
     match code {
         Some(code) => Some((code, size)),
@@ -89,11 +89,11 @@ fn escape(content: Content, text: &[u8]) -> Option<(char, usize)>
     ensures { result ≡ spec.escape content text.now }
 {
     match text {
-        [b'x' | b'X', digits @ ..] => sized(3, octet_code(16, 2, digits)),
-        [b'u', digits @ ..] => sized(5, unicode_code(content, 4, digits)),
-        [b'U', digits @ ..] => sized(9, unicode_code(content, 8, digits)),
-        [b'0'..=b'7', ..] => sized(3, octet_code(8, 3, text)),
-        [letter, ..] => sized(1, letter_code(*letter)),
+        [b'x' | b'X', digits @ ..] => code_and_size(3, octet_code(16, 2, digits)),
+        [b'u', digits @ ..] => code_and_size(5, unicode_code(content, 4, digits)),
+        [b'U', digits @ ..] => code_and_size(9, unicode_code(content, 8, digits)),
+        [b'0'..=b'7', ..] => code_and_size(3, octet_code(8, 3, text)),
+        [letter, ..] => code_and_size(1, letter_code(*letter)),
         [] => None,
     }
 }
@@ -129,7 +129,7 @@ pub(crate) fn unescape(
     body: &[u8],
 ) -> Result<Option<Vec<u8>>, Refused>
     ensures { MatchResult result
-        (λ made. option_map (λ bytes. bytes.items) made ≡ spec.unescaped content body.now)
+        (λ made. option_map (λ bytes. bytes.items) made ≡ spec.unescaped_bytes content body.now)
         (λ refused. refused ≡ Memory) }
 {
     let mut made = Vec::new(alloc);

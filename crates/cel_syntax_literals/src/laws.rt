@@ -4,7 +4,7 @@ ghost use Rattle.std.specs.Fmt.{decimal};
 ghost use Rattle.std.specs.Str.{is_utf8};
 ghost use Rattle.std.specs.Prelude.{◌≡◌, ◌^◌, ◌<◌, ◌≤◌, ◌∷◌, [], ◌++◌, Bool, List, ℕ, Some, None, codes, false, neg_ℤ, pos, true};
 ghost use Rattle.cel_value.specs.Data.{bytes, double, int, text, uint};
-ghost use Rattle.cel_syntax_tokens.specs.Token.{Token, number, quoted};
+ghost use Rattle.cel_syntax_lexer.specs.Token.{Token, number, quoted};
 ghost use Rattle.cel_syntax_literals.specs.Literal.{literal_value, takes_minus};
 ghost use Rattle.cel_syntax_literals.specs.Plain.{is_free_of};
 

@@ -6,8 +6,8 @@
 mod content;
 mod escape;
 pub mod laws;
-mod number;
-mod quoted;
+mod number_value;
+mod string_value;
 mod value;
 
 pub use value::{literal, takes_minus};

@@ -3,13 +3,13 @@
 ghost use Rattle.std.specs.Prelude.{◌≡◌, MatchResult, option_map};
 ghost use Rattle.std.specs.Str.{bytes_eq};
 ghost use Rattle.kube_types_refused.specs.declared.Refused.TheVariants.{Memory};
-ghost use Rattle.cel_syntax_tokens.specs.Token.{token_of};
+ghost use Rattle.cel_syntax_lexer.specs.Token.{token_of};
 ghost use Rattle.cel_value.specs.View.{view};
 ghost use Rattle.cel_syntax_literals.specs.Literal as spec;
 
-use crate::number::{goes_with_minus, number};
-use crate::quoted::quoted;
-use cel_syntax_tokens::token::Token;
+use crate::number_value::{goes_with_minus, number};
+use crate::string_value::quoted;
+use cel_syntax_lexer::token::Token;
 use cel_value::Value;
 use kube_types_refused::Refused;
 use std::alloc::Global;
@@ -45,7 +45,7 @@ pub fn takes_minus(token: Token<'_>) -> bool
     }
 }
 
-/// The value of a literal, where the token is one that is read; `negative` tells whether a minus belongs to it.
+/// The value of a literal, where the token is one that is read; `negative` is whether a minus belongs to it.
 ///
 /// An int has 64 bits and its sign, and a uint 64 bits. A double has no number. An escape writes a
 /// code point in a string, and a byte in bytes; an unknown one, a surrogate or a code past 10FFFF
@@ -61,6 +61,6 @@ pub fn literal(alloc: Global, negative: bool, token: Token<'_>) -> Result<Option
         _ if negative => Ok(None),
         Token::Word(name) => Ok(word(name)),
         Token::Quoted(spelling) => quoted(alloc, spelling),
-        Token::Mark(_) => Ok(None),
+        Token::Punctuator(_) => Ok(None),
     }
 }

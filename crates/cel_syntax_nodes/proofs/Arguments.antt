@@ -1,8 +1,8 @@
 -- Arguments, by how many there are.
 use Rattle.std.proofs.Common.{◌≡◌, ◌≢◌, suc, refl, ap, arith, None, List, [], ◌∷◌, length, map, get_or}
-use Rattle.cel_syntax_tree.specs.Term.{Term, term}
-use Rattle.cel_syntax_tree.specs.declared.expr.Expr.{Expr}
-use Rattle.cel_syntax_tree.specs.declared.expr.MacroKind.{MacroKind}
+use Rattle.cel_syntax_ast.specs.Term.{Term, term}
+use Rattle.cel_syntax_ast.specs.declared.expr.Expr.{Expr}
+use Rattle.cel_syntax_ast.specs.declared.expr.MacroKind.{MacroKind}
 use Rattle.cel_syntax_nodes.specs.Calls.{macro_of}
 
 pub length_terms : (es : List Expr) → length (map term es) ≡ length es

@@ -4,10 +4,10 @@
 use Rattle.std.specs.Prelude.{ℕ, ◌-◌, nat_eq, length, Bool, ◌&&◌, if◌then◌else◌, List, [], ◌∷◌, ◌++◌, Option, Some, None, codes}
 use Rattle.std.specs.List.{list_any}
 use Rattle.std.specs.Str.{bytes_eq}
-use Rattle.cel_syntax_tree.specs.Term as tree
-use Rattle.cel_syntax_tree.specs.Term.{Term, Terms, terms_of}
-use Rattle.cel_syntax_tree.specs.declared.expr.MacroKind.{MacroKind}
-use Rattle.cel_syntax_tree.specs.declared.expr.MacroKind.TheVariants as kind
+use Rattle.cel_syntax_ast.specs.Term as tree
+use Rattle.cel_syntax_ast.specs.Term.{Term, Terms, terms_of}
+use Rattle.cel_syntax_ast.specs.declared.expr.MacroKind.{MacroKind}
+use Rattle.cel_syntax_ast.specs.declared.expr.MacroKind.TheVariants as kind
 
 -- ---- names with a dot: the library before it, the function after it
 
@@ -66,7 +66,7 @@ kind_of_two w =
 unfoldable pub kind_of_three : List ℕ → Option MacroKind
 kind_of_three w = if bytes_eq w (codes "map") then Some kind.Map else None
 
--- the macro of that name with so many arguments
+-- the macro of that name with this number of arguments
 unfoldable pub kind_of : List ℕ → ℕ → Option MacroKind
 kind_of w n = if nat_eq n 2 then kind_of_two w else (if nat_eq n 3 then kind_of_three w else None)
 

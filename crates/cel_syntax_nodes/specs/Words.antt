@@ -8,9 +8,9 @@ use Rattle.std.specs.Str.{bytes_eq, is_utf8}
 unfoldable pub is_literal : List ℕ → Bool
 is_literal w = list_any (bytes_eq w) (codes "true" ∷ codes "false" ∷ codes "null" ∷ codes "in" ∷ [])
 
--- The other reserved words are kept for the hosts of the language.
-unfoldable pub is_kept : List ℕ → Bool
-is_kept w = list_any (bytes_eq w) (codes "break" ∷ codes "continue" ∷ codes "for" ∷ codes "loop" ∷ codes "while" ∷ codes "else" ∷ codes "function" ∷ codes "if" ∷ codes "return"
+-- The other reserved words are reserved for the hosts of the language.
+unfoldable pub is_reserved : List ℕ → Bool
+is_reserved w = list_any (bytes_eq w) (codes "break" ∷ codes "continue" ∷ codes "for" ∷ codes "loop" ∷ codes "while" ∷ codes "else" ∷ codes "function" ∷ codes "if" ∷ codes "return"
     ∷ codes "const" ∷ codes "let" ∷ codes "var" ∷ codes "void" ∷ codes "as" ∷ codes "import" ∷ codes "namespace" ∷ codes "package" ∷ [])
 
 -- A selected field may have any name but those of literals. (A word is of ASCII letters, so it is UTF-8.)
@@ -19,4 +19,4 @@ is_selector w = is_utf8 w && not (is_literal w)
 
 -- An identifier is no reserved word.
 unfoldable pub is_identifier : List ℕ → Bool
-is_identifier w = is_selector w && not (is_kept w)
+is_identifier w = is_selector w && not (is_reserved w)

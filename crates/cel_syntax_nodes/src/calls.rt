@@ -2,15 +2,15 @@
 
 ghost use Rattle.std.specs.Prelude.{◌≡◌, map, string_bytes, option_map, MatchResult};
 ghost use Rattle.kube_types_refused.specs.declared.Refused.TheVariants.{Memory};
-ghost use Rattle.cel_syntax_tree.specs.Term as tree;
-ghost use Rattle.cel_syntax_tree.specs.Term.{term, terms_of};
+ghost use Rattle.cel_syntax_ast.specs.Term as tree;
+ghost use Rattle.cel_syntax_ast.specs.Term.{term, terms_of};
 ghost use Rattle.cel_syntax_nodes.specs.Calls as spec;
 
 use crate::macros::{has, kind_of, macro_of, one};
 use crate::nodes::shared;
 use crate::qualified::qualified_name;
 use crate::words::is_word;
-use cel_syntax_tree::Expr;
+use cel_syntax_ast::Expr;
 use kube_types_refused::Refused;
 use std::alloc::Global;
 use std::rc::Rc;

@@ -1,13 +1,13 @@
-//! Macros, told by their names and the counts of their arguments.
+//! Macros, recognized by their names and the counts of their arguments.
 
 ghost use Rattle.std.specs.Prelude.{◌≡◌, ◌∷◌, [], map, vec_len, string_bytes, option_map, MatchOption, MatchResult, Some, None};
 ghost use Rattle.kube_types_refused.specs.declared.Refused.TheVariants.{Memory};
-ghost use Rattle.cel_syntax_tree.specs.Term as tree;
-ghost use Rattle.cel_syntax_tree.specs.Term.{term};
+ghost use Rattle.cel_syntax_ast.specs.Term as tree;
+ghost use Rattle.cel_syntax_ast.specs.Term.{term};
 ghost use Rattle.cel_syntax_nodes.specs.Calls as spec;
 
 use crate::words::is_word;
-use cel_syntax_tree::{Expr, MacroKind};
+use cel_syntax_ast::{Expr, MacroKind};
 use kube_types_refused::Refused;
 use std::alloc::Global;
 use std::rc::Rc;
@@ -42,7 +42,7 @@ fn kind_of_three(name: &[u8]) -> Option<MacroKind>
     }
 }
 
-/// The macro of that name with so many arguments.
+/// The macro of that name with this number of arguments.
 #[tactic(auto, unfolding(crate::specs::Calls::kind_of))]
 pub(crate) fn kind_of(name: &[u8], count: usize) -> Option<MacroKind>
     ensures { result ≡ spec.kind_of name.now count }

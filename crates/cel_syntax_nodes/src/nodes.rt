@@ -2,10 +2,10 @@
 
 ghost use Rattle.std.specs.Prelude.{◌≡◌, IfOk, MatchResult, string_bytes};
 ghost use Rattle.kube_types_refused.specs.declared.Refused.TheVariants.{Memory};
-ghost use Rattle.cel_syntax_tree.specs.Term as tree;
-ghost use Rattle.cel_syntax_tree.specs.Term.{term};
+ghost use Rattle.cel_syntax_ast.specs.Term as tree;
+ghost use Rattle.cel_syntax_ast.specs.Term.{term};
 
-use cel_syntax_tree::{BinaryOperator, Expr, UnaryOperator};
+use cel_syntax_ast::{BinaryOperator, Expr, UnaryOperator};
 use kube_types_refused::Refused;
 use std::alloc::{AllocError, Global};
 use std::rc::Rc;
@@ -62,7 +62,7 @@ pub fn binary(
 
 /// A condition with its two branches.
 pub fn conditional(alloc: Global, test: Expr, yes: Expr, no: Expr) -> Result<Expr, Refused>
-    ensures { MatchResult result (λ e. term e ≡ tree.choice (term test) (term yes) (term no)) (λ refused. refused ≡ Memory) }
+    ensures { MatchResult result (λ e. term e ≡ tree.conditional (term test) (term yes) (term no)) (λ refused. refused ≡ Memory) }
 {
     let test = Box::new(alloc, test)?;
     let yes = Box::new(alloc, yes)?;

@@ -2,11 +2,11 @@
 
 ghost use Rattle.std.specs.Prelude.{◌≡◌, ◌∷◌, ◌++◌, IfOk, MatchOption, MatchResult, Some, None, map, string_bytes};
 ghost use Rattle.kube_types_refused.specs.declared.Refused.TheVariants.{Memory};
-ghost use Rattle.cel_syntax_tree.specs.Term.{term};
+ghost use Rattle.cel_syntax_ast.specs.Term.{term};
 ghost use Rattle.cel_syntax_nodes.specs.Calls as spec;
 
 use crate::words::{is_one_of, is_word};
-use cel_syntax_tree::Expr;
+use cel_syntax_ast::Expr;
 use kube_types_refused::Refused;
 use std::alloc::{AllocError, Global};
 use std::rc::Rc;

@@ -9,7 +9,7 @@ ghost use Rattle.cel_syntax_nodes.specs.Words as spec;
 const LITERALS: [&[u8]; 4] = [b"true", b"false", b"null", b"in"];
 
 /// The reserved words.
-const KEPT: [&[u8]; 17] = [
+const RESERVED: [&[u8]; 17] = [
     b"break",
     b"continue",
     b"for",
@@ -55,11 +55,11 @@ fn is_literal(word: &[u8]) -> bool
     is_one_of(word, &LITERALS)
 }
 
-#[tactic(auto, unfolding(crate::specs::Words::is_kept))]
-fn is_kept(word: &[u8]) -> bool
-    ensures { result ≡ spec.is_kept word.now }
+#[tactic(auto, unfolding(crate::specs::Words::is_reserved))]
+fn is_reserved(word: &[u8]) -> bool
+    ensures { result ≡ spec.is_reserved word.now }
 {
-    is_one_of(word, &KEPT)
+    is_one_of(word, &RESERVED)
 }
 
 /// The word, where it may be the name of a selected field.
@@ -81,7 +81,7 @@ pub fn selector(word: &[u8]) -> Option<&str>
 pub fn identifier(word: &[u8]) -> Option<&str>
     ensures { MatchOption result (spec.is_identifier word.now ≡ false) (λ name. (name.now ≡ word.now) × (spec.is_identifier word.now ≡ true)) }
 {
-    if is_kept(word) {
+    if is_reserved(word) {
         return None;
     }
     selector(word)

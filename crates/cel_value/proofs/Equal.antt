@@ -102,7 +102,7 @@ same_urls u (url v) w h =
     ap (λ p. same (url u) (url p)) held ∙ path_tests u.1 w.1 (pointwise nat_eq (serialize u.0) (serialize w.0))
 same_urls u _ w h = grind arith
 
--- formats are told apart by their names
+-- formats are distinguished by their names
 pub same_names : (f g : FormatKind) → pointwise nat_eq (name_of f) (name_of g) ≡ sameb the_type f g
 same_names f g = both_ways (pointwise nat_eq (name_of f) (name_of g)) (sameb the_type f g)
     (λ e. true_same the_type f g (names_apart f g (same_text (name_of f) (name_of g) e)))

@@ -5,7 +5,7 @@ use Rattle.std.specs.declared.cmp.Ordering.{Ordering}
 use Rattle.std.specs.declared.cmp.Ordering.TheVariants.{Less, Equal, Greater}
 use Rattle.std.specs.Ordering.{is_eq, match_ordering}
 use Rattle.cel_value.specs.Data.{KeyData, Data, Entries, no_entries, entry}
-use Rattle.cel_value.specs.Find.{listed, entries_listed, find}
+use Rattle.cel_value.specs.Find.{list_of_items, list_of_entries, find}
 use Rattle.cel_value.specs.Keys.{key_order, put}
 use Rattle.cel_value.specs.Levels.{levels, entries_levels}
 use Rattle.cel_value.specs.Same.{has_double, entries_have_double}
@@ -13,15 +13,15 @@ use Rattle.cel_value.specs.View.{view, items_view, entries_view}
 use Rattle.cel_value.specs.declared.key.Key.{Key}
 use Rattle.cel_value.specs.declared.value.Value.{Value}
 
-pub listed_length : (vs : List Value) → length (listed (items_view vs)) ≡ length vs
+pub listed_length : (vs : List Value) → length (list_of_items (items_view vs)) ≡ length vs
 listed_length [] = refl
 listed_length (v ∷ vs) = rw (listed_length vs)
 
-pub entries_length : (es : List (Key × Value)) → length (entries_listed (entries_view es)) ≡ length es
+pub entries_length : (es : List (Key × Value)) → length (list_of_entries (entries_view es)) ≡ length es
 entries_length [] = refl
 entries_length (e ∷ es) = rw (entries_length es)
 
-pub listed_get : (vs : List Value) (i : ℕ) → slice_get (listed (items_view vs)) i ≡ option_map view (slice_get vs i)
+pub listed_get : (vs : List Value) (i : ℕ) → slice_get (list_of_items (items_view vs)) i ≡ option_map view (slice_get vs i)
 listed_get [] zero = refl
 listed_get [] (suc i) = refl
 listed_get (v ∷ vs) zero = refl

@@ -6,7 +6,7 @@ use Rattle.std.specs.Ordering.{is_some_and, is_eq, int_cmp, nat_cmp, ordering_th
 use Rattle.std.specs.Cmp.Lexicographic.{slice_cmp, lists_ties, texts_ties}
 use Rattle.cel_value.specs.Data.{Data, null, bool, int, uint, double, text, bytes, list, map_of, timestamp, duration, optional, ip, cidr, quantity, semver, url, format}
 use Rattle.cel_value.specs.View.{kind_of}
-use Rattle.cel_value.specs.Same.{Shape, shape_of, Shapes, no_shapes, shape, same_shape, same_shapes, same, class_of, is_ordered, is_ordered_kind, has_order, shape_order, compared}
+use Rattle.cel_value.specs.Same.{Shape, shape_of, Shapes, no_shapes, shape, same_shape, same_shapes, same, class_of, is_ordered, is_ordered_kind, has_order, shape_order, comparison}
 
 abbrev parts_of : Shape → Shapes
 parts_of (shape_of k ns s p) = p
@@ -62,7 +62,7 @@ agree (shape_of k ns s p) (shape_of l ms t q) f g =
     (λ o e. no_parts_same p q (f o) (g (sym (ap is_ordered (eq_numbers k l e)) ∙ o)))
     tied
 
-pub equal_where_same : (a b : Data) → is_some_and is_eq (compared a b) ≡ (has_order a && (has_order b && same a b))
+pub equal_where_same : (a b : Data) → is_some_and is_eq (comparison a b) ≡ (has_order a && (has_order b && same a b))
 equal_where_same a b = agree (shape a) (shape b) (ordered_flat a) (ordered_flat b)
 
 pub order_goes_by_kind : (d : Data) → has_order d ≡ is_ordered_kind (kind_of d)

@@ -5,7 +5,7 @@ use Rattle.cel_value.specs.View.{view}
 use Rattle.kube_types_formats.specs.Formats.{kind_of}
 use Rattle.kube_types_quantity.specs.Shown.{number}
 use Rattle.kube_types_semver.specs.Shown.{parts}
-use Rattle.kube_types_url.specs.Shown.{shown}
+use Rattle.kube_types_url.specs.Shown.{url_view}
 use Rattle.cel_value.specs.declared.value.Value.TheVariants as value
 
 pub view_list : (v : _) → view (value.List v) ≡ list v.value
@@ -23,7 +23,7 @@ view_quantity q = refl
 pub view_semver : (v : _) → view (value.Semver v) ≡ semver (parts v.value)
 view_semver v = refl
 
-pub view_url : (u : _) → view (value.Url u) ≡ url (shown u.value)
+pub view_url : (u : _) → view (value.Url u) ≡ url (url_view u.value)
 view_url u = refl
 
 pub view_format : (f : _) → view (value.Format f) ≡ format (kind_of f)

@@ -72,21 +72,21 @@ pub data Piece : Type 0 where
   some : Items → Piece
   pairs : Entries → Piece
 
-abbrev listed : (Items → Data) → List Piece → List Piece
-listed f (some ds ∷ ps) = whole (f ds) ∷ ps
-listed f _ = []
+abbrev list_pieces : (Items → Data) → List Piece → List Piece
+list_pieces f (some ds ∷ ps) = whole (f ds) ∷ ps
+list_pieces f _ = []
 
-abbrev mapped : List Piece → List Piece
-mapped (pairs es ∷ ps) = whole (map_of es) ∷ ps
-mapped _ = []
+abbrev map_pieces : List Piece → List Piece
+map_pieces (pairs es ∷ ps) = whole (map_of es) ∷ ps
+map_pieces _ = []
 
-abbrev joined : List Piece → List Piece
-joined (whole d ∷ some ds ∷ ps) = some (item d ds) ∷ ps
-joined _ = []
+abbrev item_pieces : List Piece → List Piece
+item_pieces (whole d ∷ some ds ∷ ps) = some (item d ds) ∷ ps
+item_pieces _ = []
 
-abbrev paired : KeyData → List Piece → List Piece
-paired k (whole d ∷ pairs es ∷ ps) = pairs (entry k d es) ∷ ps
-paired k _ = []
+abbrev entry_pieces : KeyData → List Piece → List Piece
+entry_pieces k (whole d ∷ pairs es ∷ ps) = pairs (entry k d es) ∷ ps
+entry_pieces k _ = []
 
 abbrev read_one : Mark → List Piece → List Piece
 read_one m_null ps = whole null ∷ ps
@@ -104,13 +104,13 @@ read_one (m_quantity q) ps = whole (quantity q) ∷ ps
 read_one (m_semver v) ps = whole (semver v) ∷ ps
 read_one (m_url u) ps = whole (url u) ∷ ps
 read_one (m_format f) ps = whole (format f) ∷ ps
-read_one m_list ps = listed list ps
-read_one m_map ps = mapped ps
-read_one m_optional ps = listed optional ps
+read_one m_list ps = list_pieces list ps
+read_one m_map ps = map_pieces ps
+read_one m_optional ps = list_pieces optional ps
 read_one m_end ps = some no_items ∷ ps
-read_one m_item ps = joined ps
+read_one m_item ps = item_pieces ps
 read_one m_last ps = pairs no_entries ∷ ps
-read_one (m_entry k) ps = paired k ps
+read_one (m_entry k) ps = entry_pieces k ps
 
 abbrev pieces : Marks → List Piece
 pieces [] = []

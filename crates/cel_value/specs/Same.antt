@@ -97,8 +97,8 @@ abbrev pub shape_order : Shape → Shape → Option Ordering
 shape_order (shape_of k ns s p) (shape_of l ms t q) =
     if (k == l) && is_ordered k then Some (ordering_then (slice_cmp int_cmp ns ms) (slice_cmp nat_cmp s t)) else None
 
-abbrev pub compared : Data → Data → Option Ordering
-compared a b = shape_order (shape a) (shape b)
+abbrev pub comparison : Data → Data → Option Ordering
+comparison a b = shape_order (shape a) (shape b)
 
 -- the kinds whose values have an order
 abbrev pub is_ordered_kind : Kind → Bool

@@ -77,12 +77,12 @@ unless_textless None s = Ok s
 unless_textless (Some k) s = Err k
 
 -- the text, or the kind that has none
-abbrev pub printed : Data → Result (List ℕ) Kind
-printed d = unless_textless (textless d) (text_form false d)
+abbrev pub printed_text : Data → Result (List ℕ) Kind
+printed_text d = unless_textless (textless d) (text_form false d)
 
-abbrev pub shown : Result (String Global) Kind → Result (List ℕ) Kind
-shown (Ok s) = Ok (string_bytes s)
-shown (Err k) = Err k
+abbrev pub printed_view : Result (String Global) Kind → Result (List ℕ) Kind
+printed_view (Ok s) = Ok (string_bytes s)
+printed_view (Err k) = Err k
 
 abbrev pub fault_text : Fault → List ℕ
 fault_text (undeclared n) = codes "undeclared reference to '" ++ (n ++ codes "'")

@@ -17,7 +17,7 @@ use Rattle.kube_types_address.specs.Shown.{address}
 use Rattle.kube_types_formats.specs.Formats as formats
 use Rattle.kube_types_quantity.specs.Shown.{number}
 use Rattle.kube_types_semver.specs.Shown.{parts}
-use Rattle.kube_types_url.specs.Shown.{shown}
+use Rattle.kube_types_url.specs.Shown.{url_view}
 
 abbrev pub items_of : List Data → Items
 items_of [] = no_items
@@ -44,7 +44,7 @@ view (value.Ip a) = ip (address a.value)
 view (value.Cidr c) = cidr (network c.value)
 view (value.Quantity q) = quantity (number q.value)
 view (value.Semver v) = semver (parts v.value)
-view (value.Url u) = url (shown u.value)
+view (value.Url u) = url (url_view u.value)
 view (value.Format f) = format (formats.kind_of f)
 
 abbrev pub items_view : List Value → Items

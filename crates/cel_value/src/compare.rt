@@ -1,7 +1,7 @@
 //! The order of values, where they have one.
 ghost use Rattle.std.specs.Prelude.{◌≡◌};
 ghost use Rattle.cel_value.specs.View.{view};
-ghost use Rattle.cel_value.specs.Same.{compared};
+ghost use Rattle.cel_value.specs.Same.{comparison};
 
 use crate::value::Value;
 use std::cmp::Ordering;
@@ -11,7 +11,7 @@ impl Value {
     /// strings by code points, bytes, timestamps by their instants, durations, each class within itself (CEL language
     /// definition, "Ordering").
     pub fn compare(&self, other: &Value) -> Option<Ordering>
-        ensures { result ≡ compared (view self.now) (view other.now) }
+        ensures { result ≡ comparison (view self.now) (view other.now) }
     {
         match self {
             Value::Bool(x) => match other.as_bool() {

@@ -1,7 +1,7 @@
 //! Why an execution has no value.
 use crate::key::Key;
 
-/// Why an expression has no value. Its text is fixed, and tells no more than this.
+/// Why an expression has no value. Its text is fixed, and says no more than this.
 #[derive(Debug, Drop)]
 pub enum ExecutionError {
     /// A name that nothing declares.

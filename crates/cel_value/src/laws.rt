@@ -11,7 +11,7 @@ ghost use Rattle.kube_types_url.specs.Equality.{same_url};
 ghost use Rattle.kube_types_url.specs.Shown.{Shown};
 ghost use Rattle.semver.specs.Parse.{Parts};
 ghost use Rattle.cel_value.specs.Data.{Data, int, uint, timestamp, ip, cidr, quantity, semver, url, format};
-ghost use Rattle.cel_value.specs.Same.{same, compared, has_order, is_ordered_kind};
+ghost use Rattle.cel_value.specs.Same.{same, comparison, has_order, is_ordered_kind};
 ghost use Rattle.cel_value.specs.View.{kind_of};
 
 /// Equality is reflexive, symmetric and transitive.
@@ -22,7 +22,7 @@ pub fn equality_is_an_equivalence()
 /// `compare` says Equal exactly where both values have an order and are equal.
 pub fn equal_where_same()
     ensures { (a b : Data)
-        → is_some_and is_eq (compared a b) ≡ (has_order a && (has_order b && same a b)) }
+        → is_some_and is_eq (comparison a b) ≡ (has_order a && (has_order b && same a b)) }
 {}
 
 /// Values have an order by their kind: bools, numbers, strings, bytes, timestamps and durations.

@@ -16,7 +16,7 @@
 //! }
 //! ```
 //!
-//! Proved: `==` is an equivalence and, with `compare`, goes by its definition (`specs/Same.antt`); copies, parts, look-ups and texts
+//! Proved: `==` is an equivalence and, with `compare`, is as defined (`specs/Same.antt`); copies, parts, look-ups and texts
 //! answer theirs. A contract sees a value as `Data` (`specs/Data.antt`). A double is carried, without its number.
 #![tactic(auto)]
 

@@ -8,7 +8,7 @@ ghost use Rattle.kube_types_address.specs.Shown.{address};
 ghost use Rattle.kube_types_formats.specs.Formats.{kind_of};
 ghost use Rattle.kube_types_quantity.specs.Shown.{number};
 ghost use Rattle.kube_types_semver.specs.Shown.{parts};
-ghost use Rattle.kube_types_url.specs.Shown.{shown};
+ghost use Rattle.kube_types_url.specs.Shown.{url_view};
 
 use crate::value::{List, Map, OptionalValue, Value};
 use cel_value_times::{Duration, Timestamp};
@@ -148,7 +148,7 @@ impl Value {
 
     /// The URL that it is.
     pub fn as_url(&self) -> Option<&KubeUrl>
-        ensures { option_map (λ x. shown x.now) result ≡ url_in (view self.now) }
+        ensures { option_map (λ x. url_view x.now) result ≡ url_in (view self.now) }
     {
         match self {
             Value::Url(url) => Some(url.as_ref()),

@@ -3,7 +3,7 @@ ghost use Rattle.std.specs.Prelude.{◌≡◌, ◌∷◌, ◌++◌, IfOk, IfErr,
 ghost use Rattle.cel_value.specs.Keys.{key_view};
 ghost use Rattle.cel_value.specs.View.{view};
 ghost use Rattle.cel_value.specs.Faults.{fault_view};
-ghost use Rattle.cel_value.specs.Texts.{shown, quoted_if, text_form, items_text, entries_text, key_form, textless, items_textless, entries_textless, printed, fault_text};
+ghost use Rattle.cel_value.specs.Texts.{printed_view, quoted_if, text_form, items_text, entries_text, key_form, textless, items_textless, entries_textless, printed_text, fault_text};
 
 use crate::error::ExecutionError;
 use crate::key::Key;
@@ -56,7 +56,7 @@ impl fmt::Display for ExecutionError {
 impl Value {
     /// The text that `%s` prints, or the kind of the first part that has none.
     pub fn text(&self, alloc: Global) -> Result<Result<String, Kind>, Refused>
-        ensures value { IfOk result (λ r. shown r ≡ printed (view self.now)) }
+        ensures value { IfOk result (λ r. printed_view r ≡ printed_text (view self.now)) }
         ensures memory { IfErr result (λ e. e ≡ Refused.Memory) }
     {
         match find_textless(self) {

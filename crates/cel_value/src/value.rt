@@ -206,7 +206,7 @@ impl Model for OptionalValue {
     ghost size_decreases = { λ a h. optional_falls a };
 }
 
-/// The levels of what holds values of so many levels.
+/// The levels of what holds values with this number of levels.
 ///
 /// # Errors
 /// `Memory` where they are more than [`MAX_VALUE_LEVELS`].

@@ -9,7 +9,7 @@ use Rattle.std.specs.List.{prefix_len}
 use Rattle.std.specs.Str.{all_ascii_digits}
 use Rattle.cel_value_times.specs.Digits.{number, cut_part, digits_after_dot, fraction_text}
 use Rattle.cel_value_times.specs.DurationTexts.{IsUnit, hour, minute, second, millisecond, microsecond, micro_sign, greek_mu, nanosecond, Amount, amount_text, IsAmount, amount_nanoseconds}
-use Rattle.cel_value_times.specs.Fronts.{after, leading_digits, after_digits, fraction_at, named, minute_or_millisecond, unit_at, amount_of, amount_with, amount_at}
+use Rattle.cel_value_times.specs.Fronts.{after, leading_digits, after_digits, fraction_at, unit_and_rest, minute_or_millisecond, unit_at, amount_of, amount_with, amount_at}
 use Rattle.cel_value_times.proofs.DigitLemmas.{digits_then_rest, leading_are_digits, leading_run, after_run}
 
 -- which way a test went
@@ -42,12 +42,12 @@ pub record BeginsWithUnit (text : List ℕ) (found : ℕ × List ℕ) : Type 0 w
 begins_with : (text name later : List ℕ) (u : ℕ) (x : ℕ × List ℕ) → IsUnit name u → text ≡ name ++ later → (u, later) ≡ x → BeginsWithUnit text x
 begins_with text name later u x unit spelled e = subst (λ (y : ℕ × List ℕ). BeginsWithUnit text y) e (record { name = name; unit = unit; spelled = spelled })
 
-with_s : (c u : ℕ) (rest : List ℕ) (x : ℕ × List ℕ) → named u (after 115 rest) ≡ Some x → IsUnit (c ∷ 115 ∷ []) u → BeginsWithUnit (c ∷ rest) x
+with_s : (c u : ℕ) (rest : List ℕ) (x : ℕ × List ℕ) → unit_and_rest u (after 115 rest) ≡ Some x → IsUnit (c ∷ 115 ∷ []) u → BeginsWithUnit (c ∷ rest) x
 with_s c u rest x h unit =
     let m = map_some (λ r. (u, r)) (after 115 rest) x h in
     begins_with _ (c ∷ 115 ∷ []) m.0 u x unit (ap (λ (r : List ℕ). c ∷ r) (after_found 115 rest m.0 m.1)) m.2
 
-with_byte_and_s : (c byte u : ℕ) (rest : List ℕ) (x : ℕ × List ℕ) → named u (option_and_then (after 115) (after byte rest)) ≡ Some x → IsUnit (c ∷ byte ∷ 115 ∷ []) u → BeginsWithUnit (c ∷ rest) x
+with_byte_and_s : (c byte u : ℕ) (rest : List ℕ) (x : ℕ × List ℕ) → unit_and_rest u (option_and_then (after 115) (after byte rest)) ≡ Some x → IsUnit (c ∷ byte ∷ 115 ∷ []) u → BeginsWithUnit (c ∷ rest) x
 with_byte_and_s c byte u rest x h unit =
     let m = map_some (λ r. (u, r)) (option_and_then (after 115) (after byte rest)) x h in
     let t = then_some (after 115) (after byte rest) m.0 m.1 in

@@ -68,7 +68,7 @@ unfolding places_text
 places_digits zero n few = refl
 places_digits (suc p) n few = digits_by_test p n (n == 0) few (places_digits p (n % 10 ^ p) (mod_below n (10 ^ p) (pow_positive p)))
 
--- a fraction of so many places
+-- a fraction with this number of places
 fraction_of : ℕ → ℕ → Option (List ℕ)
 fraction_of p r = cond (r == 0) None (Some (places_text p r))
 

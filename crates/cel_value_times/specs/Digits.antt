@@ -7,7 +7,7 @@ abbrev pub number : List ℕ → ℕ
 number [] = 0
 number (c ∷ cs) = (c - 48) * 10 ^ length cs + number cs
 
--- how many of a unit of so many parts the digits after a dot write, cut to whole parts
+-- how many parts of a unit the digits after a dot write, cut to whole parts
 abbrev pub cut_part : ℕ → List ℕ → ℕ
 cut_part parts digits = number digits * parts / 10 ^ length digits
 
@@ -21,7 +21,7 @@ abbrev pub fraction_text : Option (List ℕ) → List ℕ
 fraction_text None = []
 fraction_text (Some digits) = 46 ∷ digits
 
--- the first so many decimal places of n parts of `10 ^ places`, without the zeros at the end
+-- the first decimal places of n parts of `10 ^ places`, without the zeros at the end
 unfoldable pub places_text : ℕ → ℕ → List ℕ
 places_text zero n = []
 places_text (suc places) n =

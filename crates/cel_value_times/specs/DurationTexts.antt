@@ -51,7 +51,7 @@ abbrev pub total_nanoseconds : List Amount → ℕ
 total_nanoseconds [] = 0
 total_nanoseconds (a ∷ rest) = amount_nanoseconds a + total_nanoseconds rest
 
--- the text is amounts, one after the other and perhaps none, of so many nanoseconds together
+-- the text is amounts, one after the other and perhaps none, of this number of nanoseconds together
 pub record AreAmounts (text : List ℕ) (nanoseconds : ℕ) : Type 0 where
   pub amounts : List Amount
   pub each : AllByRecursion IsAmount amounts
@@ -62,7 +62,7 @@ pub record AreAmounts (text : List ℕ) (nanoseconds : ℕ) : Type 0 where
 abbrev pub IsMagnitude : List ℕ → ℕ → Type 0
 IsMagnitude text n = ((text ≡ codes "0") × (n ≡ 0)) ⊎ ((0 < length text) × AreAmounts text n)
 
--- the text means a duration of so many nanoseconds
+-- the text means a duration of this number of nanoseconds
 pub data IsDurationText (text : List ℕ) (nanoseconds : ℤ) : Type 0 where
   forward : (n : ℕ) → IsMagnitude text n → nanoseconds ≡ pos n →
       IsDuration nanoseconds → IsDurationText text nanoseconds

@@ -32,8 +32,8 @@ fraction_at (c ∷ rest) =
     if c == 46 then (Some (leading_digits rest), after_digits rest) else (None, c ∷ rest)
 
 -- a unit's nanoseconds, and the text after its name
-abbrev pub named : ℕ → Option (List ℕ) → Option (ℕ × List ℕ)
-named unit rest = option_map (λ r. (unit, r)) rest
+abbrev pub unit_and_rest : ℕ → Option (List ℕ) → Option (ℕ × List ℕ)
+unit_and_rest unit rest = option_map (λ r. (unit, r)) rest
 
 abbrev pub minute_or_millisecond : Option (List ℕ) → List ℕ → ℕ × List ℕ
 minute_or_millisecond None rest = (60_000_000_000, rest)
@@ -45,10 +45,10 @@ unit_at (c ∷ rest) =
     if c == 104 then Some (3_600_000_000_000, rest)
     else (if c == 109 then Some (minute_or_millisecond (after 115 rest) rest)
     else (if c == 115 then Some (1_000_000_000, rest)
-    else (if c == 117 then named 1_000 (after 115 rest)
-    else (if c == 0xc2 then named 1_000 (option_and_then (after 115) (after 0xb5 rest))
-    else (if c == 0xce then named 1_000 (option_and_then (after 115) (after 0xbc rest))
-    else (if c == 110 then named 1 (after 115 rest)
+    else (if c == 117 then unit_and_rest 1_000 (after 115 rest)
+    else (if c == 0xc2 then unit_and_rest 1_000 (option_and_then (after 115) (after 0xb5 rest))
+    else (if c == 0xce then unit_and_rest 1_000 (option_and_then (after 115) (after 0xbc rest))
+    else (if c == 110 then unit_and_rest 1 (after 115 rest)
     else None))))))
 
 -- an amount's nanoseconds, and the text after it

@@ -8,7 +8,7 @@ use Rattle.cel_value_times.specs.Ranges.{IsNanosecond, local_nanosecond}
 abbrev pub instant : Timestamp → ℤ
 instant t = t.seconds *ℤ pos 1_000_000_000 +ℤ pos t.nanoseconds
 
--- there is a timestamp of this instant whose local clock is so many minutes ahead
+-- there is a timestamp of this instant whose local clock is this number of minutes ahead
 abbrev pub HasTimestamp : ℤ → ℤ → Type 0
 HasTimestamp nanosecond offset =
     IsNanosecond nanosecond × IsNanosecond (local_nanosecond nanosecond offset)

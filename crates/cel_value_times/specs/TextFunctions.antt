@@ -27,7 +27,7 @@ magnitude_of (c ∷ cs) =
     if (c == 48) && (length cs == 0) then Some 0
     else amounts_within (length (c ∷ cs)) (c ∷ cs)
 
--- the nanoseconds, if a duration has so many
+-- the nanoseconds, if a duration holds them
 abbrev pub in_64_bits : ℤ → Option ℤ
 in_64_bits n =
     if int_lt n (neg_ℤ (pos 9_223_372_036_854_775_808)) then None

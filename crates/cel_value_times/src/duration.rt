@@ -19,7 +19,7 @@ impl Duration {
         nanoseconds
     }
 
-    /// The duration of so many nanoseconds, if there is one.
+    /// The duration of this number of nanoseconds, if there is one.
     pub(crate) fn of(nanoseconds: i128) -> Option<Duration>
         ensures succeeds { IsSome result ↔ IsDuration nanoseconds }
         ensures value { IfSome result (λ d. d.nanoseconds ≡ nanoseconds) }

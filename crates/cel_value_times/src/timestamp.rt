@@ -96,7 +96,7 @@ impl Timestamp {
         }
     }
 
-    /// The timestamp so much later, by the same local clock, or `None` where it would leave the
+    /// The timestamp that much later, by the same local clock, or `None` where it would leave the
     /// range of instants or of local years.
     pub fn checked_add(self, duration: Duration) -> Option<Timestamp>
         ensures succeeds { IsSome result ↔
@@ -110,7 +110,7 @@ impl Timestamp {
         )
     }
 
-    /// The timestamp so much earlier, by the same local clock, or `None` where it would leave the
+    /// The timestamp that much earlier, by the same local clock, or `None` where it would leave the
     /// range of instants or of local years.
     pub fn checked_sub(self, duration: Duration) -> Option<Timestamp>
         ensures succeeds { IsSome result ↔
@@ -186,7 +186,7 @@ fn is_nanosecond(nanosecond: i128) -> bool
     FIRST_NANOSECOND <= nanosecond && nanosecond <= LAST_NANOSECOND
 }
 
-/// What a clock so many minutes ahead of UTC shows at the instant.
+/// What a clock this number of minutes ahead of UTC shows at the instant.
 fn local_nanosecond(nanosecond: i128, offset_minutes: i16) -> i128
     requires instant { IsNanosecond nanosecond }
     requires offset { IsOffset offset_minutes }

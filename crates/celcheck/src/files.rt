@@ -1,6 +1,6 @@
 //! The real files.
 
-use celcheck_run::Sources;
+use celcheck_cli::Sources;
 use kube_cel::Refused;
 use std::alloc::Global;
 use std::{fs, io};

@@ -11,21 +11,21 @@
 //! nothing could be judged: other words, a file that can't be read or holds no JSON, a policy of another shape, no memory, a failed
 //! write.
 //!
-//! All that it does stands in `celcheck_run`, whose `run` is proved for every kind of source and of writer, in the terms in which that
+//! All that it does stands in `celcheck_cli`, whose `run` is proved for every kind of source and of writer, in the terms in which that
 //! kind shows what it holds. The files of the machine and standard output show nothing of that: that this program reads the files
 //! that it names, and writes what `run` writes, is tested.
 #![tactic(auto)]
 
 mod files;
 
-use celcheck_run::run;
+use celcheck_cli::run;
 use files::Files;
 use kube_cel::Refused;
 use std::io::Write;
 use std::process::ExitCode;
 use std::{env, io};
 
-/// The words after the program's name, none where one of them is no UTF-8, so that the usage is told.
+/// The words after the program's name, none where one of them is no UTF-8, so that the usage is reported.
 fn words_given(rt: &HostRuntime) -> Result<Vec<String>, Refused> {
     let mut words = Vec::new(rt.alloc());
     let given = match env::args(rt) {

@@ -1,7 +1,7 @@
 //! Rows of the program: each command over files in memory, also where files can't be read and where writes are refused.
 
 use crate::memory::{Files, MANY, Narrow};
-use celcheck_run::run;
+use celcheck_cli::run;
 use conformance_rows::{Field, Found, Stop, given as rows};
 use std::alloc::{AllocError, Global};
 

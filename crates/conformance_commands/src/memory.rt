@@ -1,6 +1,6 @@
 //! Files and writers in memory.
 
-use celcheck_run::Sources;
+use celcheck_cli::Sources;
 use conformance_rows::{Field, given};
 use kube_cel::Refused;
 use std::alloc::Global;

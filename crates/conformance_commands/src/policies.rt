@@ -1,4 +1,4 @@
-//! Rows of policies: what is told of expressions over an object, an old object, parameters, a namespace and a request.
+//! Rows of policies: what is reported of expressions over an object, an old object, parameters, a namespace and a request.
 
 use crate::types::{expect, find_expected, put_and_read, read};
 use conformance_rows::texts::push_line;
@@ -128,16 +128,16 @@ fn expressions_given(alloc: Global, given: &[Field]) -> Result<Vec<VapExpression
 }
 
 /// Writes the result of an expression: `pass` or `fail`, and its message, if it has one. Copies of both are equal to them.
-fn put_result(told: &VapResult, of: &VapExpression, out: &mut String) -> Result<(), Stop> {
-    push_line(out, if told.passed { "pass" } else { "fail" })?;
-    if let Some(message) = &told.message {
+fn put_result(reported: &VapResult, of: &VapExpression, out: &mut String) -> Result<(), Stop> {
+    push_line(out, if reported.passed { "pass" } else { "fail" })?;
+    if let Some(message) = &reported.message {
         out.push(' ')?;
         out.push_str(message.as_str())?;
     }
-    if told.expression.as_str() != of.expression.as_str() {
+    if reported.expression.as_str() != of.expression.as_str() {
         return Err(Stop::Differs("the result's expression"));
     }
-    if told.try_clone()? == *told && of.try_clone()? == *of {
+    if reported.try_clone()? == *reported && of.try_clone()? == *of {
         Ok(())
     } else {
         Err(Stop::Differs("try_clone"))
@@ -153,8 +153,8 @@ fn put_results(
     if results.len() != expressions.len() {
         return Err(Stop::Differs("the number of results"));
     }
-    for (told, of) in results.iter().zip(expressions.iter()) {
-        put_result(told, of, out)?;
+    for (reported, of) in results.iter().zip(expressions.iter()) {
+        put_result(reported, of, out)?;
     }
     Ok(())
 }

@@ -54,7 +54,7 @@ fn bind_others(alloc: Global, context: &mut KubeContext<'_>, fields: &[Field]) -
     Ok(())
 }
 
-/// Writes how a value is told: `yes` or `no`, what it prints, or its text.
+/// Writes how a value is reported: `yes` or `no`, what it prints, or its text.
 fn put_value(alloc: Global, value: &Value, out: &mut String) -> Result<(), Stop> {
     match value {
         Value::Bool(holds) => Ok(out.push_str(values::yes_or_no(*holds))?),
@@ -62,7 +62,7 @@ fn put_value(alloc: Global, value: &Value, out: &mut String) -> Result<(), Stop>
     }
 }
 
-/// Writes how an error is told where a field has this key: by its message, or by `no`.
+/// Writes how an error is reported where a field has this key: by its message, or by `no`.
 fn put_error(
     alloc: Global,
     key: &str,
@@ -81,8 +81,8 @@ fn put_error(
     }
 }
 
-/// Writes how an answer to what a field of this key asks is told.
-fn put_told(alloc: Global, key: &str, answer: &Answer, out: &mut String) -> Result<(), Stop> {
+/// Writes how an answer to what a field of this key asks is reported.
+fn put_reported(alloc: Global, key: &str, answer: &Answer, out: &mut String) -> Result<(), Stop> {
     match answer {
         Ok(_) if key == "integer error" => Ok(out.push_str("none")?),
         Ok(value) => put_value(alloc, value, out),
@@ -99,7 +99,7 @@ fn ask(
     out: &mut String,
 ) -> Result<(), Stop> {
     let answer = executed(alloc, context, expression)?;
-    put_told(alloc, key, &answer, out)
+    put_reported(alloc, key, &answer, out)
 }
 
 /// Finds what a field asks of an item that is a value: by the value's own calls, or else by an expression.

@@ -1,39 +1,39 @@
 //! Tokens as lines of text.
 
-use cel_syntax_tokens::lexer::tokens;
-use cel_syntax_tokens::mark::Mark;
-use cel_syntax_tokens::token::Token;
+use cel_syntax_lexer::lexer::tokens;
+use cel_syntax_lexer::punctuator::Punctuator;
+use cel_syntax_lexer::token::Token;
 use conformance_rows::Stop;
 use conformance_rows::texts::push_line;
 use std::alloc::Global;
 
 /// How a symbol is written.
-fn symbol(mark: Mark) -> &'static str {
-    match mark {
-        Mark::OpenRound => "(",
-        Mark::CloseRound => ")",
-        Mark::OpenSquare => "[",
-        Mark::CloseSquare => "]",
-        Mark::OpenBrace => "{",
-        Mark::CloseBrace => "}",
-        Mark::Comma => ",",
-        Mark::Dot => ".",
-        Mark::Colon => ":",
-        Mark::Question => "?",
-        Mark::Not => "!",
-        Mark::Minus => "-",
-        Mark::Plus => "+",
-        Mark::Star => "*",
-        Mark::Slash => "/",
-        Mark::Percent => "%",
-        Mark::Less => "<",
-        Mark::LessOrEqual => "<=",
-        Mark::Greater => ">",
-        Mark::GreaterOrEqual => ">=",
-        Mark::Equal => "==",
-        Mark::NotEqual => "!=",
-        Mark::And => "&&",
-        Mark::Or => "||",
+fn symbol(punctuator: Punctuator) -> &'static str {
+    match punctuator {
+        Punctuator::OpenRound => "(",
+        Punctuator::CloseRound => ")",
+        Punctuator::OpenSquare => "[",
+        Punctuator::CloseSquare => "]",
+        Punctuator::OpenBrace => "{",
+        Punctuator::CloseBrace => "}",
+        Punctuator::Comma => ",",
+        Punctuator::Dot => ".",
+        Punctuator::Colon => ":",
+        Punctuator::Question => "?",
+        Punctuator::Not => "!",
+        Punctuator::Minus => "-",
+        Punctuator::Plus => "+",
+        Punctuator::Star => "*",
+        Punctuator::Slash => "/",
+        Punctuator::Percent => "%",
+        Punctuator::Less => "<",
+        Punctuator::LessOrEqual => "<=",
+        Punctuator::Greater => ">",
+        Punctuator::GreaterOrEqual => ">=",
+        Punctuator::Equal => "==",
+        Punctuator::NotEqual => "!=",
+        Punctuator::And => "&&",
+        Punctuator::Or => "||",
     }
 }
 
@@ -51,7 +51,7 @@ fn put_token(token: &Token<'_>, out: &mut String) -> Result<(), Stop> {
         Token::Word(spelling) => ("word ", spelled(spelling)),
         Token::Number(spelling) => ("number ", spelled(spelling)),
         Token::Quoted(spelling) => ("string ", spelled(spelling)),
-        Token::Mark(mark) => ("symbol ", symbol(*mark)),
+        Token::Punctuator(punctuator) => ("symbol ", symbol(*punctuator)),
     };
     push_line(out, class)?;
     Ok(out.push_str(spelling)?)

@@ -2,7 +2,7 @@
 
 use crate::memory::{Files, MANY, Narrow};
 use conformance_rows::{Field, Found, Stop, given as rows};
-use kubecel_run::{Admit, Check, Command, Form, Output, run};
+use kubecel_cli::{Admit, Check, Command, Output, ReportFormat, run};
 use std::alloc::{AllocError, Global};
 
 /// The status of a run, and what it wrote.
@@ -79,14 +79,14 @@ fn run_paths<'g>(
     paths: &Paths<'g>,
     writes: u64,
 ) -> Result<Ran, Stop> {
-    let form = Form {
+    let form = ReportFormat {
         output: output(given)?,
         progress: rows::text(given, "progress").is_some(),
     };
     Ok(run_command(alloc, command_of(given, paths), form, given, writes))
 }
 
-/// Runs a row's command, whose standard output takes so many writes.
+/// Runs a row's command, whose standard output takes a number of writes.
 fn run_given(alloc: Global, given: &[Field], writes: u64) -> Result<Ran, Stop> {
     let paths = Paths {
         crds: lines(alloc, given, "by")?,
@@ -100,7 +100,7 @@ fn run_given(alloc: Global, given: &[Field], writes: u64) -> Result<Ran, Stop> {
 fn run_command(
     alloc: Global,
     command: Command<'_, '_>,
-    form: Form,
+    form: ReportFormat,
     given: &[Field],
     writes: u64,
 ) -> Ran {

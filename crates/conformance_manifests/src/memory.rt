@@ -1,7 +1,7 @@
 //! Files and writers in memory.
 
 use conformance_rows::{Field, given};
-use kubecel_run::{Refused, Sources};
+use kubecel_cli::{Refused, Sources};
 use std::alloc::Global;
 use std::io;
 
@@ -23,7 +23,7 @@ impl Sources for Files<'_> {
     }
 }
 
-/// A writer that takes so many writes, and refuses each further one.
+/// A writer that takes a number of writes, and refuses each further one.
 #[derive(Drop)]
 pub(crate) struct Narrow {
     room: u64,
@@ -31,7 +31,7 @@ pub(crate) struct Narrow {
 }
 
 impl Narrow {
-    /// A writer that takes so many writes.
+    /// A writer that takes a number of writes.
     pub(crate) fn new(alloc: Global, room: u64) -> Narrow {
         Narrow {
             room,

@@ -1,7 +1,7 @@
 //! The files that a program's arguments name.
 
 use crate::found::Found;
-use crate::judge::{FAILURE, Report, Subject, Tally, judge_text, tell_stop};
+use crate::judge::{FAILURE, Report, Subject, Tally, judge_text, report_stop};
 use crate::row::Stop;
 use std::alloc::Global;
 use std::io::Write;
@@ -19,8 +19,8 @@ fn judge_grammar<S: Subject>(
     match subject.generate(alloc, text, &mut found, &mut report.text) {
         Ok(()) => Ok(Tally::default()),
         Err(stop) => {
-            tell_stop(stop, &mut found)?;
-            report.tell(0, found.text.as_str())?;
+            report_stop(stop, &mut found)?;
+            report.write_report(0, found.text.as_str())?;
             Ok(FAILURE)
         }
     }
@@ -37,7 +37,7 @@ fn judge_file<S: Subject>(
         return judge_grammar(alloc, text, subject, report);
     }
     let tally = judge_text(alloc, text, subject, report)?;
-    tally.tell(report.file, &mut report.text)?;
+    tally.write_report(report.file, &mut report.text)?;
     Ok(tally)
 }
 
@@ -75,7 +75,7 @@ pub fn run_files<S: Subject>(rt: &HostRuntime, subject: &mut S) -> io::Result<Ex
         all = all.with(run_file(rt, file.as_str(), subject, &mut out));
     }
     let mut report = String::new(rt.alloc());
-    let _ = all.tell("all", &mut report);
+    let _ = all.write_report("all", &mut report);
     let _ = out.write_all(report.as_bytes());
     Ok(if all.failures == 0 && all.checks > 0 {
         ExitCode::SUCCESS

@@ -97,7 +97,7 @@ impl Grammar {
         Err(Stop::Unfit("a name of the grammar"))
     }
 
-    /// A text of a name, in which at most so many names, and then as few as can be, become texts that name others.
+    /// A text of a name, in which at most a number of names, and then as few as can be, become texts that name others.
     pub fn made(
         &self,
         alloc: Global,

@@ -23,7 +23,7 @@ pub trait Subject {
         found: &mut Found,
     ) -> Result<(), Stop>;
 
-    /// Judges what a grammar makes, and writes how much of it holds. Where something doesn't, that is told by `found`.
+    /// Judges what a grammar makes, and writes how much of it holds. Where something doesn't, that is reported by `found`.
     fn generate(
         &mut self,
         alloc: Global,
@@ -66,7 +66,7 @@ impl Tally {
     }
 
     /// Writes how many rows there are and how many of their checks hold.
-    pub fn tell(self, what: &str, report: &mut String) -> Result<(), Stop> {
+    pub fn write_report(self, what: &str, report: &mut String) -> Result<(), Stop> {
         let (rows, checks, failures) = (self.rows, self.checks, self.failures);
         if failures == 0 {
             write!(report, "{what}: {rows} rows, {checks} checks hold\n")?;
@@ -89,17 +89,17 @@ pub(crate) struct Report<'f> {
 
 impl Report<'_> {
     /// Writes what is wrong at a line.
-    pub(crate) fn tell(&mut self, line: usize, what: &str) -> Result<(), Stop> {
+    pub(crate) fn write_report(&mut self, line: usize, what: &str) -> Result<(), Stop> {
         let file = self.file;
         write!(self.text, "{file}:{line}: ")?;
         Ok(push_all(&mut self.text, &[what, "\n"])?)
     }
 
     /// Writes what a field expects, and what was found.
-    fn tell_found(&mut self, name: &str, field: &Field, found: &str) -> Result<(), Stop> {
-        self.tell(field.line, name)?;
+    fn report_found(&mut self, name: &str, field: &Field, found: &str) -> Result<(), Stop> {
+        self.write_report(field.line, name)?;
         let (key, expected) = (field.key.as_str(), field.text.as_str());
-        let told = [
+        let reported = [
             "  ",
             key,
             " expected: ",
@@ -110,12 +110,12 @@ impl Report<'_> {
             found,
             "\n",
         ];
-        Ok(push_all(&mut self.text, &told)?)
+        Ok(push_all(&mut self.text, &reported)?)
     }
 }
 
-/// Tells why there is no one answer in place of what was found.
-pub(crate) fn tell_stop(stop: Stop, found: &mut Found) -> Result<(), Stop> {
+/// Reports why there is no one answer in place of what was found.
+pub(crate) fn report_stop(stop: Stop, found: &mut Found) -> Result<(), Stop> {
     match stop {
         Stop::Memory => return Err(Stop::Memory),
         Stop::TooLarge => found.text.push_str(", and too large")?,
@@ -128,7 +128,7 @@ pub(crate) fn tell_stop(stop: Stop, found: &mut Found) -> Result<(), Stop> {
     Ok(())
 }
 
-/// Whether a field holds. Where it doesn't, what was found is told by `found`.
+/// Whether a field holds. Where it doesn't, what was found is reported by `found`.
 fn holds<S: Subject>(
     alloc: Global,
     given: &[Field],
@@ -140,7 +140,7 @@ fn holds<S: Subject>(
     match subject.find(alloc, given, field, found) {
         Ok(()) => Ok(found.text.as_str() == field.text.as_str()),
         Err(stop) => {
-            tell_stop(stop, found)?;
+            report_stop(stop, found)?;
             Ok(false)
         }
     }
@@ -167,13 +167,13 @@ fn judge_row<S: Subject>(
         tally.checks = tally.checks.saturating_add(1);
         if !holds(alloc, given, field, subject, &mut found)? {
             tally.failures = tally.failures.saturating_add(1);
-            report.tell_found(row.text.as_str(), field, found.text.as_str())?;
+            report.report_found(row.text.as_str(), field, found.text.as_str())?;
         }
     }
     Ok(tally)
 }
 
-/// Judges rows in order, tells what fails, and counts.
+/// Judges rows in order, reports what fails, and counts.
 fn judge_rows<S: Subject>(
     alloc: Global,
     fields: &[Field],
@@ -192,14 +192,14 @@ fn judge_rows<S: Subject>(
         let mut tally = judge_row(alloc, row, below, subject, report)?;
         if tally.checks == 0 {
             tally.failures = 1;
-            report.tell(row.line, "nothing is expected")?;
+            report.write_report(row.line, "nothing is expected")?;
         }
         all = all.with(tally);
     }
     Ok(all)
 }
 
-/// Judges the rows of a file's text, tells what fails, and counts.
+/// Judges the rows of a file's text, reports what fails, and counts.
 pub(crate) fn judge_text<S: Subject>(
     alloc: Global,
     text: &str,
@@ -209,7 +209,7 @@ pub(crate) fn judge_text<S: Subject>(
     match read_rows(alloc, text)? {
         Ok(fields) => judge_rows(alloc, fields.as_slice(), subject, report),
         Err(Fault { line, what }) => {
-            report.tell(line, what)?;
+            report.write_report(line, what)?;
             Ok(FAILURE)
         }
     }

@@ -4,7 +4,7 @@ use crate::row::{Field, Stop};
 use serde_json::{Map, Value};
 use std::alloc::{AllocError, Global};
 
-/// So many levels, and the step that leads from one to the next.
+/// A number of levels, and the step that leads from one to the next.
 #[derive(Clone, Copy)]
 pub struct Nesting {
     pub step: &'static str,
@@ -70,7 +70,7 @@ fn value_above(alloc: Global, step: &str, below: Value) -> Result<Value, AllocEr
     }
 }
 
-/// A schema so many levels below another.
+/// A schema that stands a number of levels below another.
 pub fn nested_schema(alloc: Global, nesting: Nesting, inner: Value) -> Result<Value, AllocError> {
     let mut schema = inner;
     for _ in 0..nesting.levels {
@@ -79,7 +79,7 @@ pub fn nested_schema(alloc: Global, nesting: Nesting, inner: Value) -> Result<Va
     Ok(schema)
 }
 
-/// A value so many levels below another.
+/// A value that stands a number of levels below another.
 pub fn nested_value(alloc: Global, nesting: Nesting, inner: Value) -> Result<Value, AllocError> {
     let mut value = inner;
     for _ in 0..nesting.levels {

@@ -20,7 +20,7 @@ impl Random {
         mixed ^ (mixed >> 31)
     }
 
-    /// One of so many numbers from 0 on; 0 where there is none.
+    /// A number from 0 to below the bound; 0 where the bound is 0.
     pub fn below(&mut self, count: usize) -> usize {
         (self.next() as usize).checked_rem(count).unwrap_or(0)
     }

@@ -42,7 +42,7 @@ pub fn push_member(
     push_quoted(alloc, object, text)
 }
 
-/// A text so many times.
+/// A text, repeated.
 pub fn push_times(text: &mut String, part: &str, times: usize) -> Result<(), AllocError> {
     for _ in 0..times {
         text.push_str(part)?;

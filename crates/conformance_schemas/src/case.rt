@@ -6,7 +6,7 @@ use kube_cel::RootContext;
 use serde_json::{Map, Value};
 use std::alloc::{AllocError, Global};
 
-/// A schema, an object and its old state, and what is told of the whole object.
+/// A schema, an object and its old state, and what is known of the whole object.
 #[derive(Drop)]
 pub(crate) struct Case {
     pub(crate) schema: Value,
@@ -45,18 +45,18 @@ fn fill(field: &mut String, value: &Value, key: &str) -> Result<(), AllocError> 
 }
 
 /// A copy of what JSON tells of a whole object. What it leaves out is as by default.
-fn root_of(alloc: Global, told: &Value) -> Result<RootContext, Stop> {
+fn root_of(alloc: Global, reported: &Value) -> Result<RootContext, Stop> {
     let mut root = RootContext::default(alloc);
-    fill(&mut root.api_version, told, "apiVersion")?;
-    fill(&mut root.api_group, told, "apiGroup")?;
-    fill(&mut root.kind, told, "kind")?;
+    fill(&mut root.api_version, reported, "apiVersion")?;
+    fill(&mut root.api_group, reported, "apiGroup")?;
+    fill(&mut root.kind, reported, "kind")?;
     Ok(root.try_clone()?)
 }
 
 /// What a row told last of the whole object.
 fn root_given(alloc: Global, given: &[Field]) -> Result<Option<RootContext>, Stop> {
     match rows::json(alloc, given, "root context")? {
-        Some(told) => Ok(Some(root_of(alloc, &told)?)),
+        Some(reported) => Ok(Some(root_of(alloc, &reported)?)),
         None => Ok(None),
     }
 }

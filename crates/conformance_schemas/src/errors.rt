@@ -60,7 +60,7 @@ fn change(alloc: Global, error: &mut ValidationError, what: &str) -> Result<(), 
     Ok(())
 }
 
-/// Whether `==` tells a list of errors, and its last error, from a copy that is changed in one field, or has one error less.
+/// Whether `==` distinguishes a list of errors, and its last error, from a copy that is changed in one field, or has one error less.
 fn tells_apart(alloc: Global, errors: &ValidationErrors, what: &str) -> Result<bool, Stop> {
     let mut copies = errors.try_clone()?.into_vec();
     if what == "count" {

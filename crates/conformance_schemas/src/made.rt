@@ -260,7 +260,7 @@ fn run_all(
     Ok(())
 }
 
-/// Runs what a grammar makes, and writes how much of it holds. Where something doesn't, the text is told by `found`.
+/// Runs what a grammar makes, and writes how much of it holds. Where something doesn't, the text is reported by `found`.
 pub fn run(
     alloc: Global,
     grammar: &str,

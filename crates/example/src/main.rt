@@ -1,9 +1,9 @@
 //! Asks whether the rules of a schema admit an object, and why they don't.
 #![tactic(auto)]
 
-ghost use Rattle.kube_cel.specs.Answers.{IsToldOf};
+ghost use Rattle.kube_cel.specs.Answers.{IsReportOf};
 ghost use Rattle.kube_cel.specs.Raw.{raw_form};
-ghost use Rattle.kube_cel.specs.Spots.{given_spot};
+ghost use Rattle.kube_cel.specs.Starts.{call_start};
 ghost use Rattle.kube_cel_errors.specs.ErrorLists.{errors_in};
 ghost use Rattle.kube_cel_errors.specs.Texts.{errors_text};
 ghost use Rattle.kube_cel_errors.specs.declared.error.ValidationErrors.{ValidationErrors};
@@ -16,9 +16,9 @@ use std::io;
 
 /// Why an object is denied; `None` where it is admitted. `Refused` is neither: there was no memory.
 fn denial(alloc: Global, schema: &Value, object: &Value) -> Result<Option<String>, Refused>
-    ensures admitted { result ≡ Ok None → IsToldOf raw_form (given_spot schema.now object.now None None) (Ok tt) }
+    ensures admitted { result ≡ Ok None → IsReportOf raw_form (call_start schema.now object.now None None) (Ok tt) }
     ensures denied { IfOk result (λ why. IfSome why (λ text. (errors : ValidationErrors)
-        × IsToldOf raw_form (given_spot schema.now object.now None None) (Err errors)
+        × IsReportOf raw_form (call_start schema.now object.now None None) (Err errors)
         × (string_bytes text ≡ errors_text (errors_in errors)))) }
 {
     match validate(alloc, schema, object, None)? {

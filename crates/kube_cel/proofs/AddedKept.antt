@@ -8,10 +8,10 @@ use Rattle.serde_json.specs.Find.{as_bool, as_object, get}
 use Rattle.kube_cel_places.specs.declared.branches.BranchKind.{BranchKind}
 use Rattle.kube_cel_places.specs.declared.branches.BranchKind.TheVariants.{AllOf, OneOf, AnyOf}
 use Rattle.kube_cel_places.specs.Inside.{count_at, keys_at}
-use Rattle.kube_cel_places.specs.Raw.{undeclared}
+use Rattle.kube_cel_places.specs.Raw.{undeclared_property}
 use Rattle.kube_cel_places.specs.Step as place
 use Rattle.kube_cel_places.specs.Step.{keyword}
-use Rattle.kube_schema_filled.specs.Look.{keys_in as names_in, members_or_none}
+use Rattle.kube_schema_defaults.specs.DefaultsAccessors.{keys_in as names_in, members_or_none}
 use Rattle.kube_cel.specs.Added.{NodeStep, to_property, to_items, to_additional, to_branch, left_after, with_rules}
 use Rattle.kube_cel.proofs.Changed.{where_true}
 use Rattle.kube_cel.proofs.AddedParts.{added, additional_added, at_key, bools_stay, change, changed_key, count_at_stays, if_object, keys_at_stay, names_at_stay, same_option}
@@ -155,9 +155,9 @@ module _ (more : Items) where
   preserves : Data → Bool
   preserves d = unwrap_or (option_and_then as_bool (get (codes "x-kubernetes-preserve-unknown-fields") d)) false
 
-  pub undeclared_added : (k : List ℕ) (r : Option (List NodeStep)) (d : Data) → undeclared (added more r d) ≡ option_map (added more (option_and_then (left_after (place.extra k)) r)) (undeclared d)
-  unfolding undeclared preserves
+  pub undeclared_added : (k : List ℕ) (r : Option (List NodeStep)) (d : Data) → undeclared_property (added more r d) ≡ option_map (added more (option_and_then (left_after (place.additional_property k)) r)) (undeclared_property d)
+  unfolding undeclared_property preserves
   undeclared_added k r d =
       ap (λ o. if unwrap_or (option_and_then as_bool o) false then None else option_and_then if_object (get (codes "additionalProperties") (added more r d))) (preserving_stays r d)
       ∙ ap (λ o. if preserves d then None else o) (additional_added more k r d)
-      ∙ unless (added more (option_and_then (left_after (place.extra k)) r)) (preserves d) (option_and_then if_object (get (codes "additionalProperties") d))
+      ∙ unless (added more (option_and_then (left_after (place.additional_property k)) r)) (preserves d) (option_and_then if_object (get (codes "additionalProperties") d))

@@ -8,7 +8,7 @@ use Rattle.kube_cel_places.specs.declared.branches.BranchKind.TheVariants.{AllOf
 use Rattle.kube_cel_places.specs.Inside.{count_at, keys_at}
 use Rattle.kube_cel_places.specs.Step as place
 use Rattle.kube_cel_places.specs.Step.{keyword}
-use Rattle.kube_schema_filled.specs.Look.{keys_in as names_in, members_or_none}
+use Rattle.kube_schema_defaults.specs.DefaultsAccessors.{keys_in as names_in, members_or_none}
 use Rattle.kube_cel.specs.Added.{NodeStep, to_property, to_items, to_additional, to_branch, keyword_of, left_after, with_items, with_rules, with_key, with_index, within}
 use Rattle.kube_cel.proofs.Changed.{where_true, get_changed, at_changed, keys_stay, names_stay, length_stays}
 
@@ -74,7 +74,7 @@ abbrev pub if_object : Data → Option Data
 if_object d = if is_some (as_object d) then Some d else None
 
 module _ (more : Items) where
-  -- the schema with more rules where so many steps are left, or as it was
+  -- the schema with more rules where these steps are left, or as it was
   abbrev pub added : Option (List NodeStep) → Data → Data
   added None d = d
   added (Some ts) d = with_rules more ts d
@@ -139,7 +139,7 @@ module _ (more : Items) where
   bools_stay (t ∷ ts) d = bool_stays (keyword_of t) (within t (with_rules more ts)) d
 
   pub additional_added : (k : List ℕ) (r : Option (List NodeStep)) (d : Data)
-      → option_and_then if_object (get (codes "additionalProperties") (added r d)) ≡ option_map (added (option_and_then (left_after (place.extra k)) r)) (option_and_then if_object (get (codes "additionalProperties") d))
+      → option_and_then if_object (get (codes "additionalProperties") (added r d)) ≡ option_map (added (option_and_then (left_after (place.additional_property k)) r)) (option_and_then if_object (get (codes "additionalProperties") d))
   additional_added k None d = sym (same_option (option_and_then if_object (get (codes "additionalProperties") d)))
   additional_added k (Some []) d = other (codes "additionalProperties") if_object [] d refl
   additional_added k (Some (to_property l ∷ ts)) d = other (codes "additionalProperties") if_object (to_property l ∷ ts) d refl

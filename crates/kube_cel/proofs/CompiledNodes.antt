@@ -2,10 +2,10 @@
 use Rattle.kube_cel.specs.Named.{named_property}
 use Rattle.kube_cel_places.proofs.Sorted.{key_cmp, ordered_already}
 use Rattle.kube_cel_places.specs.Inside.{in_order}
-use Rattle.kube_cel_verdicts.specs.Verdicts.{listed}
-use Rattle.kube_schema_table.specs.declared.node.SchemaNode.{SchemaNode}
-use Rattle.kube_schema_table.specs.Shown.{shown}
-use Rattle.kube_schema_table.specs.Tree.{Node, Named, no_named, named, names, named_of, nth_named, property_of}
+use Rattle.kube_cel_verdicts.specs.Verdicts.{list_of_option}
+use Rattle.kube_schema_compiled.specs.declared.node.SchemaNode.{SchemaNode}
+use Rattle.kube_schema_compiled.specs.Shown.{node_tree}
+use Rattle.kube_schema_compiled.specs.Tree.{Node, Named, no_named, named, names, named_of, nth_named, property_of}
 use Rattle.std.proofs.Common.{Bor, ◌≡◌, ◌≤◌, ◌+◌, ℕ, zero, suc, List, [], ◌∷◌, ◌++◌, length, map, take, Option, Some, None, refl, sym, ap, ◌∙◌, arith, add-one, append-nil, option_map, IfSome}
 use Rattle.std.proofs.lemmas.List.{map-append, take_all}
 use Rattle.std.specs.List.Sorted.{IsStrictlySortedBy}
@@ -39,11 +39,11 @@ pub none_named : (tree : Node) (i : ℕ) → ◌≡◌ {A = Option (List ℕ × 
     → map (sought tree) (take (i + 1) (names (named_of tree))) ≡ map (sought tree) (take i (names (named_of tree)))
 none_named tree i e = rw add-one (ap (map (sought tree)) (none_taken (named_of tree) i e))
 
-pub next_named : (tree : Node) (i : ℕ) (o : Option (Bor (List ℕ) × SchemaNode)) → ◌≡◌ {A = Option (List ℕ × Node)} (option_map (λ p. (p.0.now, shown p.1)) o) (nth_named i (named_of tree))
-    → IfSome o (λ p. property_of p.0.now tree ≡ Some (shown p.1))
-    → map (sought tree) (take (i + 1) (names (named_of tree))) ≡ map (sought tree) (take i (names (named_of tree))) ++ listed (option_map named_property o)
+pub next_named : (tree : Node) (i : ℕ) (o : Option (Bor (List ℕ) × SchemaNode)) → ◌≡◌ {A = Option (List ℕ × Node)} (option_map (λ p. (p.0.now, node_tree p.1)) o) (nth_named i (named_of tree))
+    → IfSome o (λ p. property_of p.0.now tree ≡ Some (node_tree p.1))
+    → map (sought tree) (take (i + 1) (names (named_of tree))) ≡ map (sought tree) (take i (names (named_of tree))) ++ list_of_option (option_map named_property o)
 next_named tree i None e h = none_named tree i e ∙ sym (append-nil (map (sought tree) (take i (names (named_of tree)))))
-next_named tree i (Some p) e h = one_named tree i p.0.now (shown p.1) e h
+next_named tree i (Some p) e h = one_named tree i p.0.now (node_tree p.1) e h
 
 -- all of them, which are in order
 pub all_named : (tree : Node) (i : ℕ) → length (names (named_of tree)) ≤ i → IsStrictlySortedBy key_cmp (names (named_of tree))

@@ -6,21 +6,21 @@ use Rattle.serde_json.specs.Data.{Data, Items}
 use Rattle.serde_json.specs.Find.{as_bool, as_str, at, get}
 use Rattle.kube_cel_places.specs.Raw as seen
 use Rattle.kube_cel_places.specs.Raw.{raw_shape}
-use Rattle.kube_cel_places.specs.Shape.{Shape}
-use Rattle.kube_cel_places.specs.Spot.{Root, Spot, spot, candidates, goes, further, unless_there, member_path, item_path}
+use Rattle.kube_cel_places.specs.StepAccessors.{StepAccessors}
+use Rattle.kube_cel_places.specs.Visit.{Root, Visit, visit, candidates, goes, further, unless_there, member_path, item_path}
 use Rattle.kube_cel_places.specs.Step as place
 use Rattle.kube_cel_places.specs.Walk.{leads, places}
-use Rattle.kube_schema_bound.specs.Bound as bind
-use Rattle.kube_schema_bound.specs.Bound.{bound}
-use Rattle.kube_schema_bound.specs.declared.format.SchemaFormat.TheVariants as formats
-use Rattle.kube_schema_bound.specs.Formats.{format_named}
-use Rattle.kube_schema_bound.specs.Node as asked
-use Rattle.kube_schema_filled.specs.Filled.{filled}
-use Rattle.kube_schema_filled.specs.Look as fill
+use Rattle.kube_schema_conversion.specs.Conversion as bind
+use Rattle.kube_schema_conversion.specs.Conversion.{to_cel}
+use Rattle.kube_schema_conversion.specs.declared.format.SchemaFormat.TheVariants as formats
+use Rattle.kube_schema_conversion.specs.Formats.{format_named}
+use Rattle.kube_schema_conversion.specs.Node as asked
+use Rattle.kube_schema_defaults.specs.Defaults.{defaulted_value}
+use Rattle.kube_schema_defaults.specs.DefaultsAccessors as fill
 use Rattle.kube_cel.specs.Added.{NodeStep, left_after, left_behind}
-use Rattle.kube_cel_places_table.specs.Moved.{moved}
-use Rattle.kube_cel_places_table.proofs.Alike as walk
-use Rattle.kube_schema_table.proofs.Same as filling
+use Rattle.kube_cel_places_compiled.specs.Visits.{with_node_of}
+use Rattle.kube_cel_places_compiled.proofs.Alike as walk
+use Rattle.kube_schema_compiled.proofs.Same as filling
 use Rattle.kube_schema.proofs.Same as binding
 use Rattle.kube_cel.proofs.AddedKept.{counts_added, default_stays, embedded_stays, format_stays, int_or_string_stays, keys_added, maps_added, names_added, undeclared_added}
 use Rattle.kube_cel.proofs.AddedParts.{added, additional_added, branch_added, items_added, property_added}
@@ -42,31 +42,31 @@ pub was : (r : Option (List NodeStep)) (o : Option Data) → option_map as_was (
 was r None = refl
 was r (Some d) = refl
 
--- ---- how walks and defaults look at them
+-- ---- what walks and defaults see of them
 
-unfoldable pub marked_shape : Shape Marked
+unfoldable pub marked_shape : StepAccessors Marked
 marked_shape = record {
   keys = λ m. raw_shape.keys m.0;
   property = λ k m. option_map (marked (behind (place.property k) m)) (raw_shape.property k m.0);
   items = λ m. option_map (marked (behind (place.item 0) m)) (raw_shape.items m.0);
-  extra = λ m. option_map (marked (behind (place.extra []) m)) (raw_shape.extra m.0);
+  additional_property = λ m. option_map (marked (behind (place.additional_property []) m)) (raw_shape.additional_property m.0);
   branch_count = λ kind m. raw_shape.branch_count kind m.0;
   branch = λ kind i m. option_map (marked (behind (place.branch kind i) m)) (raw_shape.branch kind i m.0);
 }
 
-unfoldable pub marked_fill : fill.Look Marked
+unfoldable pub marked_fill : fill.DefaultsAccessors Marked
 marked_fill = record {
   keys = λ m. fill.raw.keys m.0;
   property = λ k m. option_map (marked (behind (place.property k) m)) (fill.raw.property k m.0);
   items = λ m. option_map (marked (behind (place.item 0) m)) (fill.raw.items m.0);
-  additional = λ m. option_map (marked (behind (place.extra []) m)) (fill.raw.additional m.0);
+  additional = λ m. option_map (marked (behind (place.additional_property []) m)) (fill.raw.additional m.0);
   default = λ m. fill.raw.default m.0;
 }
 
-unfoldable pub marked_bind : bind.Look Marked
+unfoldable pub marked_bind : bind.ConversionAccessors Marked
 marked_bind = record {
   property = λ k m. option_map (marked (behind (place.property k) m)) (bind.raw.property k m.0);
-  additional = λ m. option_map (marked (behind (place.extra []) m)) (bind.raw.additional m.0);
+  additional = λ m. option_map (marked (behind (place.additional_property []) m)) (bind.raw.additional m.0);
   items = λ m. option_map (marked (behind (place.item 0) m)) (bind.raw.items m.0);
   is_map = λ m. bind.raw.is_map m.0;
   is_embedded = λ m. bind.raw.is_embedded m.0;
@@ -81,7 +81,7 @@ walk_was m = record {
   keys = refl;
   property = λ k. was (behind (place.property k) m) (raw_shape.property k m.0);
   items = was (behind (place.item 0) m) (raw_shape.items m.0);
-  extra = was (behind (place.extra []) m) (raw_shape.extra m.0);
+  additional_property = was (behind (place.additional_property []) m) (raw_shape.additional_property m.0);
   branch_count = λ kind. refl;
   branch = λ kind i. was (behind (place.branch kind i) m) (raw_shape.branch kind i m.0);
 }
@@ -92,35 +92,35 @@ fill_was m = record {
   keys = refl;
   property = λ k. was (behind (place.property k) m) (fill.raw.property k m.0);
   items = was (behind (place.item 0) m) (fill.raw.items m.0);
-  additional = was (behind (place.extra []) m) (fill.raw.additional m.0);
+  additional = was (behind (place.additional_property []) m) (fill.raw.additional m.0);
   default = λ p. refl;
 }
 
-filled_was : (n : ℕ) (m : Marked) (d : Data) → filled marked_fill n m d ≡ filled fill.raw n m.0 d
-unfolding filled
+filled_was : (n : ℕ) (m : Marked) (d : Data) → defaulted_value marked_fill n m d ≡ defaulted_value fill.raw n m.0 d
+unfolding defaulted_value
 filled_was zero m d = refl
-filled_was (suc n) m d = filling.filled_by_same marked_fill fill.raw as_was (filled marked_fill n) (filled fill.raw n) (filled_was n) m m.0 (fill_was m) d
+filled_was (suc n) m d = filling.filled_by_same marked_fill fill.raw as_was (defaulted_value marked_fill n) (defaulted_value fill.raw n) (filled_was n) m m.0 (fill_was m) d
 
 bind_was : (m : Marked) → binding.Alike marked_bind bind.raw as_was m m.0
 unfolding marked_bind
 bind_was m = record {
   property = λ k. was (behind (place.property k) m) (bind.raw.property k m.0);
-  additional = was (behind (place.extra []) m) (bind.raw.additional m.0);
+  additional = was (behind (place.additional_property []) m) (bind.raw.additional m.0);
   items = was (behind (place.item 0) m) (bind.raw.items m.0);
   is_map = refl;
   is_embedded = refl;
   format = refl;
 }
 
-bound_was : (n : ℕ) (m : Marked) (d : Data) → bound marked_bind n m d ≡ bound bind.raw n m.0 d
-unfolding bound
+bound_was : (n : ℕ) (m : Marked) (d : Data) → to_cel marked_bind n m d ≡ to_cel bind.raw n m.0 d
+unfolding to_cel
 bound_was zero m d = refl
-bound_was (suc n) m d = binding.bound_by_same marked_bind bind.raw as_was (bound marked_bind n) (bound bind.raw n) (bound_was n) m m.0 (bind_was m) d
+bound_was (suc n) m d = binding.bound_by_same marked_bind bind.raw as_was (to_cel marked_bind n) (to_cel bind.raw n) (bound_was n) m m.0 (bind_was m) d
 
-pub places_were : (n : ℕ) (s : Spot Marked) → places (goes marked_shape) (candidates marked_shape) n s ≡ places (goes raw_shape) (candidates raw_shape) n (moved as_was s)
+pub places_were : (n : ℕ) (s : Visit Marked) → places (goes marked_shape) (candidates marked_shape) n s ≡ places (goes raw_shape) (candidates raw_shape) n (with_node_of as_was s)
 places_were = walk.places_same marked_shape raw_shape (λ n. as_was) (λ n. walk_was)
 
-pub leads_was : (ps : List place.Step) (s : Spot Marked) → option_map (moved as_was) (leads (goes marked_shape) ps s) ≡ leads (goes raw_shape) ps (moved as_was s)
+pub leads_was : (ps : List place.Step) (s : Visit Marked) → option_map (with_node_of as_was) (leads (goes marked_shape) ps s) ≡ leads (goes raw_shape) ps (with_node_of as_was s)
 leads_was ps s = walk.leads_same marked_shape raw_shape (λ n. as_was) (λ n. walk_was) 0 ps s
 
 -- ---- the schema with more rules
@@ -134,22 +134,22 @@ module _ (more : Items) where
   is r (Some d) = refl
 
   walk_is : (m : Marked) → walk.Alike marked_shape raw_shape as_is m (as_is m)
-  unfolding marked_shape raw_shape seen.declared
+  unfolding marked_shape raw_shape seen.declared_property
   walk_is m = record {
     keys = sym (keys_added more m.1 m.0);
     property = λ k. is (behind (place.property k) m) (raw_shape.property k m.0) ∙ sym (property_added more k m.1 m.0);
     items = is (behind (place.item 0) m) (raw_shape.items m.0) ∙ sym (items_added more 0 m.1 m.0);
-    extra = is (behind (place.extra []) m) (raw_shape.extra m.0) ∙ sym (undeclared_added more [] m.1 m.0);
+    additional_property = is (behind (place.additional_property []) m) (raw_shape.additional_property m.0) ∙ sym (undeclared_added more [] m.1 m.0);
     branch_count = λ kind. sym (counts_added more kind m.1 m.0);
     branch = λ kind i. is (behind (place.branch kind i) m) (raw_shape.branch kind i m.0) ∙ sym (branch_added more kind i m.1 m.0);
   }
 
   additional_is : (m : Marked) → option_map as_is (marked_fill.additional m) ≡ fill.raw.additional (as_is m)
-  unfolding marked_fill fill.raw fill.additional fill.preserves seen.undeclared
-  additional_is m = is (behind (place.extra []) m) (fill.raw.additional m.0) ∙ sym (undeclared_added more [] m.1 m.0)
+  unfolding marked_fill fill.raw fill.additional fill.preserves seen.undeclared_property
+  additional_is m = is (behind (place.additional_property []) m) (fill.raw.additional m.0) ∙ sym (undeclared_added more [] m.1 m.0)
 
   fill_is : (m : Marked) → filling.Alike marked_fill fill.raw as_is m (as_is m)
-  unfolding marked_fill fill.raw fill.property fill.declared fill.default_in
+  unfolding marked_fill fill.raw fill.property fill.declared_properties fill.default_in
   fill_is m = record {
     keys = sym (names_added more m.1 m.0);
     property = λ k. is (behind (place.property k) m) (fill.raw.property k m.0) ∙ sym (property_added more k m.1 m.0);
@@ -158,13 +158,13 @@ module _ (more : Items) where
     default = λ p. sym (default_stays more p.1 p.0);
   }
 
-  filled_is : (n : ℕ) (m : Marked) (d : Data) → filled marked_fill n m d ≡ filled fill.raw n (as_is m) d
-  unfolding filled
+  filled_is : (n : ℕ) (m : Marked) (d : Data) → defaulted_value marked_fill n m d ≡ defaulted_value fill.raw n (as_is m) d
+  unfolding defaulted_value
   filled_is zero m d = refl
-  filled_is (suc n) m d = filling.filled_by_same marked_fill fill.raw as_is (filled marked_fill n) (filled fill.raw n) (filled_is n) m (as_is m) (fill_is m) d
+  filled_is (suc n) m d = filling.filled_by_same marked_fill fill.raw as_is (defaulted_value marked_fill n) (defaulted_value fill.raw n) (filled_is n) m (as_is m) (fill_is m) d
 
-  -- defaults look at no rules
-  pub filled_alike : (n : ℕ) (r : Option (List NodeStep)) (s d : Data) → filled fill.raw n (added more r s) d ≡ filled fill.raw n s d
+  -- defaults see no rules
+  pub filled_alike : (n : ℕ) (r : Option (List NodeStep)) (s d : Data) → defaulted_value fill.raw n (added more r s) d ≡ defaulted_value fill.raw n s d
   filled_alike n r s d = sym (filled_is n (s, r) d) ∙ filled_was n (s, r) d
 
   format_is : (m : Marked) → bind.raw.format m.0 ≡ bind.raw.format (as_is m)
@@ -176,26 +176,26 @@ module _ (more : Items) where
   unfolding marked_bind bind.raw asked.property_of asked.additional_of asked.items_of asked.is_map asked.is_embedded
   bind_is m = record {
     property = λ k. is (behind (place.property k) m) (bind.raw.property k m.0) ∙ sym (property_added more k m.1 m.0);
-    additional = is (behind (place.extra []) m) (bind.raw.additional m.0) ∙ sym (additional_added more [] m.1 m.0);
+    additional = is (behind (place.additional_property []) m) (bind.raw.additional m.0) ∙ sym (additional_added more [] m.1 m.0);
     items = is (behind (place.item 0) m) (bind.raw.items m.0) ∙ sym (items_added more 0 m.1 m.0);
     is_map = sym (maps_added more m.1 m.0);
     is_embedded = ap (λ o. unwrap_or (option_and_then as_bool o) false) (sym (embedded_stays more m.1 m.0));
     format = format_is m;
   }
 
-  bound_is : (n : ℕ) (m : Marked) (d : Data) → bound marked_bind n m d ≡ bound bind.raw n (as_is m) d
-  unfolding bound
+  bound_is : (n : ℕ) (m : Marked) (d : Data) → to_cel marked_bind n m d ≡ to_cel bind.raw n (as_is m) d
+  unfolding to_cel
   bound_is zero m d = refl
-  bound_is (suc n) m d = binding.bound_by_same marked_bind bind.raw as_is (bound marked_bind n) (bound bind.raw n) (bound_is n) m (as_is m) (bind_is m) d
+  bound_is (suc n) m d = binding.bound_by_same marked_bind bind.raw as_is (to_cel marked_bind n) (to_cel bind.raw n) (bound_is n) m (as_is m) (bind_is m) d
 
   -- and so does binding
-  pub bound_alike : (n : ℕ) (r : Option (List NodeStep)) (s d : Data) → bound bind.raw n (added more r s) d ≡ bound bind.raw n s d
+  pub bound_alike : (n : ℕ) (r : Option (List NodeStep)) (s d : Data) → to_cel bind.raw n (added more r s) d ≡ to_cel bind.raw n s d
   bound_alike n r s d = sym (bound_is n (s, r) d) ∙ bound_was n (s, r) d
 
-  pub places_are : (n : ℕ) (s : Spot Marked) → places (goes marked_shape) (candidates marked_shape) n s ≡ places (goes raw_shape) (candidates raw_shape) n (moved as_is s)
+  pub places_are : (n : ℕ) (s : Visit Marked) → places (goes marked_shape) (candidates marked_shape) n s ≡ places (goes raw_shape) (candidates raw_shape) n (with_node_of as_is s)
   places_are = walk.places_same marked_shape raw_shape (λ n. as_is) (λ n. walk_is)
 
-  pub leads_is : (ps : List place.Step) (s : Spot Marked) → option_map (moved as_is) (leads (goes marked_shape) ps s) ≡ leads (goes raw_shape) ps (moved as_is s)
+  pub leads_is : (ps : List place.Step) (s : Visit Marked) → option_map (with_node_of as_is) (leads (goes marked_shape) ps s) ≡ leads (goes raw_shape) ps (with_node_of as_is s)
   leads_is ps s = walk.leads_same marked_shape raw_shape (λ n. as_is) (λ n. walk_is) 0 ps s
 
 -- ---- which steps are left at a place
@@ -205,37 +205,37 @@ one_item i j None = refl
 one_item i j (Some []) = refl
 one_item i j (Some (t ∷ ts)) = refl
 
-one_extra : (k l : List ℕ) (r : Option (List NodeStep)) → option_and_then (left_after (place.extra k)) r ≡ option_and_then (left_after (place.extra l)) r
-one_extra k l None = refl
-one_extra k l (Some []) = refl
-one_extra k l (Some (t ∷ ts)) = refl
+one_additional_property : (k l : List ℕ) (r : Option (List NodeStep)) → option_and_then (left_after (place.additional_property k)) r ≡ option_and_then (left_after (place.additional_property l)) r
+one_additional_property k l None = refl
+one_additional_property k l (Some []) = refl
+one_additional_property k l (Some (t ∷ ts)) = refl
 
-further_left : (root : Option Root) (d : ℕ) (path : List ℕ) (r : Option (List NodeStep)) (o value old : Option Data) (u : Spot Marked) → further root d path (option_map (marked r) o) value old ≡ Some u → u.node.1 ≡ r
+further_left : (root : Option Root) (d : ℕ) (path : List ℕ) (r : Option (List NodeStep)) (o value old : Option Data) (u : Visit Marked) → further root d path (option_map (marked r) o) value old ≡ Some u → u.node.1 ≡ r
 further_left root d path r None value old u e = absurd cc
 further_left root d path r (Some n) None old u e = absurd cc
-further_left root d path r (Some n) (Some v) old u e = let same : spot (n, r) v old root path (d + 1) ≡ u = cc in ap (λ s. s.node.1) (sym same)
+further_left root d path r (Some n) (Some v) old u e = let same : visit (n, r) v old root path (d + 1) ≡ u = cc in ap (λ s. s.node.1) (sym same)
 
-extra_left : (d : ℕ) (path : List ℕ) (q r : Option (List NodeStep)) (a o value old : Option Data) (u : Spot Marked)
+additional_left : (d : ℕ) (path : List ℕ) (q r : Option (List NodeStep)) (a o value old : Option Data) (u : Visit Marked)
     → further None d path (unless_there (option_map (marked q) a) (option_map (marked r) o)) value old ≡ Some u → u.node.1 ≡ r
-extra_left d path q r (Some n) o value old u e = absurd cc
-extra_left d path q r None o value old u e = further_left None d path r o value old u e
+additional_left d path q r (Some n) o value old u e = absurd cc
+additional_left d path q r None o value old u e = further_left None d path r o value old u e
 
-goes_left : (p : place.Step) (s u : Spot Marked) → goes marked_shape p s ≡ Some u → u.node.1 ≡ behind p s.node
+goes_left : (p : place.Step) (s u : Visit Marked) → goes marked_shape p s ≡ Some u → u.node.1 ≡ behind p s.node
 unfolding goes marked_shape
 goes_left (place.property k) s u e = further_left None s.depth (member_path s.path k) (behind (place.property k) s.node) (raw_shape.property k s.node.0) (get k s.value) (option_and_then (get k) s.old) u e
 goes_left (place.item i) s u e =
     further_left None s.depth (item_path s.path i) (behind (place.item 0) s.node) (raw_shape.items s.node.0) (at i s.value) (option_and_then (at i) s.old) u e ∙ one_item 0 i s.node.1
-goes_left (place.extra k) s u e =
-    extra_left s.depth (member_path s.path k) (behind (place.property k) s.node) (behind (place.extra []) s.node) (raw_shape.property k s.node.0) (raw_shape.extra s.node.0) (get k s.value) (option_and_then (get k) s.old) u e
-    ∙ one_extra [] k s.node.1
+goes_left (place.additional_property k) s u e =
+    additional_left s.depth (member_path s.path k) (behind (place.property k) s.node) (behind (place.additional_property []) s.node) (raw_shape.property k s.node.0) (raw_shape.additional_property s.node.0) (get k s.value) (option_and_then (get k) s.old) u e
+    ∙ one_additional_property [] k s.node.1
 goes_left (place.branch kind i) s u e = further_left s.root s.depth s.path (behind (place.branch kind i) s.node) (raw_shape.branch kind i s.node.0) (Some s.value) s.old u e
 
-pub leads_left : (ps : List place.Step) (s u : Spot Marked) → leads (goes marked_shape) ps s ≡ Some u → u.node.1 ≡ left_behind ps s.node.1
+pub leads_left : (ps : List place.Step) (s u : Visit Marked) → leads (goes marked_shape) ps s ≡ Some u → u.node.1 ≡ left_behind ps s.node.1
 unfolding leads
 leads_left [] s u e = let same : s ≡ u = cc in ap (λ s. s.node.1) (sym same)
 leads_left (p ∷ ps) s u e = by (λ t h. leads_left ps t u h) (goes marked_shape p s) refl e
   where
-    by : ((t : Spot Marked) → leads (goes marked_shape) ps t ≡ Some u → u.node.1 ≡ left_behind ps t.node.1)
-        → (o : Option (Spot Marked)) → goes marked_shape p s ≡ o → option_and_then (leads (goes marked_shape) ps) o ≡ Some u → u.node.1 ≡ left_behind ps (behind p s.node)
+    by : ((t : Visit Marked) → leads (goes marked_shape) ps t ≡ Some u → u.node.1 ≡ left_behind ps t.node.1)
+        → (o : Option (Visit Marked)) → goes marked_shape p s ≡ o → option_and_then (leads (goes marked_shape) ps) o ≡ Some u → u.node.1 ≡ left_behind ps (behind p s.node)
     by rec None g e = absurd cc
     by rec (Some t) g e = rec t e ∙ ap (left_behind ps) (goes_left p s t g)

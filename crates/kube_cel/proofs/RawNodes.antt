@@ -4,7 +4,7 @@ use Rattle.kube_cel_places.proofs.Candidates.{NamesAll}
 use Rattle.kube_cel_places.proofs.Raw.{raw_names_all}
 use Rattle.kube_cel_places.specs.declared.branches.BranchKind.{BranchKind}
 use Rattle.kube_cel_places.specs.Inside.{keys_in, keys_at, count_at, in_order}
-use Rattle.kube_cel_places.specs.Raw.{declared, raw_shape}
+use Rattle.kube_cel_places.specs.Raw.{declared_property, raw_shape}
 use Rattle.kube_cel_places.specs.Step.{keyword}
 use Rattle.kube_cel_walk.proofs.Entries.{names_of, keys_of_map, member_in_order}
 use Rattle.serde_json.proofs.Views.{Entry, items_len-items_view}
@@ -15,7 +15,7 @@ use Rattle.serde_json.specs.Find.{get, get_member, as_array, as_object}
 use Rattle.serde_json.specs.View.{view, members_view, items_view}
 use Rattle.std.proofs.Common.{◌≡◌, ◌==◌, ℕ, List, [], ◌∷◌, ◌++◌, map, length, Option, Some, None, option_and_then, unwrap_or, codes, string_bytes, string_cmp, refl, sym, ap, subst, ◌∙◌, append_assoc, Result, false, arith}
 use Rattle.std.proofs.lemmas.Bool.Decides.{nat_tests}
-use Rattle.kube_cel_walk.specs.Form.{is_none_of}
+use Rattle.kube_cel_walk.specs.WalkAccessors.{is_none_of}
 use Rattle.kube_schema_rules.specs.Compilation.{Compiled, Malformed, compiled_rule, compiled_rules}
 use Rattle.std.specs.List.{flat_map}
 use Rattle.std.specs.List.Sorted.{IsStrictlySortedBy}
@@ -57,16 +57,16 @@ property_of k (Some (array ds)) = refl
 property_of k (Some (object ms)) = refl
 
 pub declared_named : (node : Data) (ms : Members) (xs : List (List ℕ × Option Data)) → Some ms ≡ option_and_then as_object (get (codes "properties") node)
-    → xs ≡ map (key_sought ms) (in_order (keys_in ms)) → xs ≡ map {B = List ℕ × Option Data} (λ k. (k, declared k node)) (in_order (keys_at (get (codes "properties") node)))
-unfolding declared keys_at
+    → xs ≡ map (key_sought ms) (in_order (keys_in ms)) → xs ≡ map {B = List ℕ × Option Data} (λ k. (k, declared_property k node)) (in_order (keys_at (get (codes "properties") node)))
+unfolding declared_property keys_at
 declared_named node ms xs e q =
     let same : (k : List ℕ) → get_member k ms ≡ option_and_then (get k) (get (codes "properties") node) =
     λ k. ap (option_and_then (get_member k)) e ∙ sym (property_of k (get (codes "properties") node)) in
     q ∙ (λ i. map {B = List ℕ × Option Data} (λ k. (k, same k i)) (in_order (keys_in (unwrap_or (e i) no_members))))
 
-pub none_declared : (node : Data) → None ≡ option_and_then as_object (get (codes "properties") node) → [] ≡ map {B = List ℕ × Option Data} (λ k. (k, declared k node)) (in_order (keys_at (get (codes "properties") node)))
+pub none_declared : (node : Data) → None ≡ option_and_then as_object (get (codes "properties") node) → [] ≡ map {B = List ℕ × Option Data} (λ k. (k, declared_property k node)) (in_order (keys_at (get (codes "properties") node)))
 unfolding keys_at
-none_declared node e = ap (λ (ms : Option Members). map {B = List ℕ × Option Data} (λ k. (k, declared k node)) (in_order (keys_in (unwrap_or ms no_members)))) e
+none_declared node e = ap (λ (ms : Option Members). map {B = List ℕ × Option Data} (λ k. (k, declared_property k node)) (in_order (keys_in (unwrap_or ms no_members)))) e
 
 -- ---- rules
 

@@ -1,22 +1,22 @@
 -- What is reported of the errors that were found.
-use Rattle.cel_book.proofs.Entries.{faithful-IsBook}
-use Rattle.cel_book.specs.Book.{Book, Agrees, IsBook}
-use Rattle.cel_book.specs.declared.book.PatternBook.{PatternBook}
-use Rattle.cel_book.specs.Entries.{entries_of}
-use Rattle.kube_cel.specs.Answers.{found_in, reported, shown}
+use Rattle.cel_patterns.proofs.Entries.{faithful-IsBook}
+use Rattle.cel_patterns.specs.Book.{Book, Extends, IsBook}
+use Rattle.cel_patterns.specs.declared.book.PatternBook.{PatternBook}
+use Rattle.cel_patterns.specs.Entries.{entries_of}
+use Rattle.kube_cel.specs.Answers.{found_in, report_of, answer_view}
 use Rattle.kube_cel_errors.specs.declared.error.ValidationError.{ValidationError}
 use Rattle.kube_cel_errors.specs.declared.error.ValidationErrors.{ValidationErrors}
 use Rattle.kube_cel_errors.specs.ErrorLists.{errors_in}
 use Rattle.kube_cel_errors.specs.Errors.{ErrorData, error_view}
-use Rattle.kube_cel_places.proofs.Candidates.{NamesAll, spot_answers}
-use Rattle.kube_cel_places.specs.Spot.{Spot, Root, root_spot, goes}
+use Rattle.kube_cel_places.proofs.Candidates.{NamesAll, visit_answers}
+use Rattle.kube_cel_places.specs.Visit.{Visit, Root, root_visit, goes}
 use Rattle.kube_cel_places.specs.Walk.{AreFoundAtPlaces}
 use Rattle.kube_cel_walk.specs.Answers.{answer, verdicts, IsAnswer}
-use Rattle.kube_cel_walk.specs.Form.{Form}
+use Rattle.kube_cel_walk.specs.WalkAccessors.{WalkAccessors}
 use Rattle.serde_json.specs.Data.{Data}
 use Rattle.std.proofs.Common.{◌≡◌, ◌<◌, List, [], ◌∷◌, map, length, Option, Result, Ok, Err, IfOk, refl, sym, subst, ap, ◌∙◌, arith}
 
-pub agrees_itself : (b : Book) → Agrees b b
+pub agrees_itself : (b : Book) → Extends b b
 agrees_itself b = record { keeps = λ text built e. e }
 
 -- what a `PatternBook` shows is a book
@@ -24,30 +24,30 @@ pub shown_is_book : (book : PatternBook) → IsBook (entries_of book)
 unfolding entries_of
 shown_is_book book = faithful-IsBook book.answers book.faithful
 
-pub none_reported : (es : List ValidationError) (found : List ErrorData) → length es ≡ 0 → map error_view es ≡ found → Ok tt ≡ reported found
-none_reported [] found h q = ap reported q
+pub none_reported : (es : List ValidationError) (found : List ErrorData) → length es ≡ 0 → map error_view es ≡ found → Ok tt ≡ report_of found
+none_reported [] found h q = ap report_of q
 none_reported (e ∷ es) found h q = absurd (omega arith)
 
-pub some_reported : (es : List ValidationError) (found : List ErrorData) → 0 < length es → map error_view es ≡ found → Err (map error_view es) ≡ reported found
+pub some_reported : (es : List ValidationError) (found : List ErrorData) → 0 < length es → map error_view es ≡ found → Err (map error_view es) ≡ report_of found
 some_reported [] found h q = absurd (omega arith)
-some_reported (e ∷ es) found h q = ap reported q
+some_reported (e ∷ es) found h q = ap report_of q
 
 -- what was reported was found
-pub reported_found : (r : Result (Unit {0}) ValidationErrors) (found : List ErrorData) → shown r ≡ reported found → found_in r ≡ found
+pub reported_found : (r : Result (Unit {0}) ValidationErrors) (found : List ErrorData) → answer_view r ≡ report_of found → found_in r ≡ found
 reported_found (Ok u) [] q = refl
 reported_found (Ok u) (e ∷ es) q = cc
 reported_found (Err x) [] q = cc
 reported_found (Err x) (e ∷ es) q = let same : map error_view (errors_in x) ≡ e ∷ es = cc in same
 
 -- the computed answer is what stands at the places
-pub is_answer : {S : Type 0} (form : Form S) → NamesAll form.shape → (b : Book) (root : Spot S) (found : List ErrorData) → found ≡ answer form b 65 root → IsAnswer form b root found
+pub is_answer : {S : Type 0} (form : WalkAccessors S) → NamesAll form.shape → (b : Book) (root : Visit S) (found : List ErrorData) → found ≡ answer form b 65 root → IsAnswer form b root found
 unfolding IsAnswer answer
-is_answer form all b root found e = subst (λ f. AreFoundAtPlaces (goes form.shape) (verdicts form b) 65 root f) (sym e) (spot_answers form.shape all (verdicts form b) 65 root)
+is_answer form all b root found e = subst (λ f. AreFoundAtPlaces (goes form.shape) (verdicts form b) 65 root f) (sym e) (visit_answers form.shape all (verdicts form b) 65 root)
 
 pub if_ok_both : {T E : Type 0} {P Q R : T → Type 0} (r : Result T E) → ((x : T) → P x → Q x → R x) → IfOk r P → IfOk r Q → IfOk r R
 if_ok_both (Ok x) f p q = f x p q
 if_ok_both (Err e) f p q = tt
 
 -- a walk that begins with equal values begins alike
-pub filled_alike : {d e : Data} {o p : Option Data} (node : Data) (r : Option Root) → d ≡ e → o ≡ p → root_spot node d o r ≡ root_spot node e p r
-filled_alike node r d o = λ i. root_spot node (d i) (o i) r
+pub filled_alike : {d e : Data} {o p : Option Data} (node : Data) (r : Option Root) → d ≡ e → o ≡ p → root_visit node d o r ≡ root_visit node e p r
+filled_alike node r d o = λ i. root_visit node (d i) (o i) r

@@ -82,7 +82,7 @@ with_rules more (t ∷ ts) = with_key (keyword_of t) (within t (with_rules more 
 abbrev pub node_step : place.Step → NodeStep
 node_step (place.property k) = to_property k
 node_step (place.item i) = to_items
-node_step (place.extra k) = to_additional
+node_step (place.additional_property k) = to_additional
 node_step (place.branch kind i) = to_branch kind i
 
 abbrev pub rank : NodeStep → ℕ

@@ -1,30 +1,30 @@
 -- Trusted by the headline.
 -- What a validation answers.
-use Rattle.cel_book.specs.Book.{Book, IsBook}
+use Rattle.cel_patterns.specs.Book.{Book, IsBook}
 use Rattle.kube_cel_errors.specs.declared.error.ValidationErrors.{ValidationErrors}
 use Rattle.kube_cel_errors.specs.ErrorLists.{errors_in}
 use Rattle.kube_cel_errors.specs.Errors.{ErrorData, error_view}
-use Rattle.kube_cel_places.specs.Spot.{Spot}
+use Rattle.kube_cel_places.specs.Visit.{Visit}
 use Rattle.kube_cel_walk.specs.Answers.{answer, IsAnswer}
-use Rattle.kube_cel_walk.specs.Form.{Form}
+use Rattle.kube_cel_walk.specs.WalkAccessors.{WalkAccessors}
 use Rattle.std.specs.Prelude.{◌≡◌, List, [], ◌∷◌, map, Result, Ok, Err}
 
 -- what is reported of the errors that were found: `Ok` exactly where there is none, else all of them
-abbrev pub reported : List ErrorData → Result (Unit {0}) (List ErrorData)
-reported [] = Ok tt
-reported (e ∷ es) = Err (e ∷ es)
+abbrev pub report_of : List ErrorData → Result (Unit {0}) (List ErrorData)
+report_of [] = Ok tt
+report_of (e ∷ es) = Err (e ∷ es)
 
 -- an answer, with its errors as plain data
-abbrev pub shown : Result (Unit {0}) ValidationErrors → Result (Unit {0}) (List ErrorData)
-shown (Ok u) = Ok u
-shown (Err e) = Err (map error_view (errors_in e))
+abbrev pub answer_view : Result (Unit {0}) ValidationErrors → Result (Unit {0}) (List ErrorData)
+answer_view (Ok u) = Ok u
+answer_view (Err e) = Err (map error_view (errors_in e))
 
--- the errors that an answer tells
+-- the errors that an answer reports
 abbrev pub found_in : Result (Unit {0}) ValidationErrors → List ErrorData
 found_in (Ok u) = []
 found_in (Err e) = map error_view (errors_in e)
 
 -- the answer of a call with a book of its own: what is found from the root on under some book, both as it is computed and as the
 -- errors at exactly the places, in order
-abbrev pub IsToldOf : {S : Type 0} → Form S → Spot S → Result (Unit {0}) ValidationErrors → Type 0
-IsToldOf form root r = (b : Book) × IsBook b × (shown r ≡ reported (answer form b 65 root)) × IsAnswer form b root (found_in r)
+abbrev pub IsReportOf : {S : Type 0} → WalkAccessors S → Visit S → Result (Unit {0}) ValidationErrors → Type 0
+IsReportOf form root r = (b : Book) × IsBook b × (answer_view r ≡ report_of (answer form b 65 root)) × IsAnswer form b root (found_in r)

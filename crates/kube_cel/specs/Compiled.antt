@@ -1,14 +1,14 @@
 -- Trusted by the clauses of other library calls.
 -- A schema that was compiled, as its tree of nodes.
-use Rattle.kube_cel_places_table.specs.Compiled.{compiled_shape}
-use Rattle.kube_cel_walk.specs.Form.{Form}
-use Rattle.kube_schema_table.specs.Tree.{Node, own}
-use Rattle.kube_schema.specs.Compiled.{compiled}
+use Rattle.kube_cel_places_compiled.specs.Compiled.{compiled_shape}
+use Rattle.kube_cel_walk.specs.WalkAccessors.{WalkAccessors}
+use Rattle.kube_schema_compiled.specs.Tree.{Node, own}
+use Rattle.kube_schema.specs.Compiled.{tree_accessors}
 
 -- its rules were read when it was compiled
-unfoldable pub compiled_form : Form Node
+unfoldable pub compiled_form : WalkAccessors Node
 compiled_form = record {
   shape = compiled_shape;
-  look = compiled;
+  accessors = tree_accessors;
   rules = λ node. (own node).validations;
 }

@@ -5,4 +5,4 @@ pub mod Compiled
 pub mod Named
 pub mod Raw
 pub mod RuleSets
-pub mod Spots
+pub mod Starts

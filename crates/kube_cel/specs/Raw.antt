@@ -1,16 +1,16 @@
 -- Trusted by the headline.
 -- A schema as JSON.
 use Rattle.kube_cel_places.specs.Raw.{raw_shape}
-use Rattle.kube_cel_walk.specs.Form.{Form}
+use Rattle.kube_cel_walk.specs.WalkAccessors.{WalkAccessors}
 use Rattle.kube_schema_rules.specs.Compilation.{compiled_rules}
 use Rattle.kube_schema_rules.specs.Rules.{rule_items}
-use Rattle.kube_schema_bound.specs.Bound.{raw}
+use Rattle.kube_schema_conversion.specs.Conversion.{raw}
 use Rattle.serde_json.specs.Data.{Data}
 
 -- its rules are read where they stand
-unfoldable pub raw_form : Form Data
+unfoldable pub raw_form : WalkAccessors Data
 raw_form = record {
   shape = raw_shape;
-  look = raw;
+  accessors = raw;
   rules = λ node. compiled_rules (rule_items node);
 }

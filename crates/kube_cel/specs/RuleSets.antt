@@ -4,14 +4,14 @@ use Rattle.std.proofs.Common.{◌≡◌, ℕ, List, [], ◌∷◌, Bool, Option,
 use Rattle.std.proofs.Math.Bool.{Bool-set}
 use Rattle.std.proofs.Math.Nat.{ℕ_set}
 use Rattle.std.specs.Coded.{Coded-set}
-use Rattle.cel_meaning.proofs.Sets.{retract_set, List-set, Data-set}
-use Rattle.cel_syntax_tree.specs.contracts.expr.BinaryOperator as binary_operator
-use Rattle.cel_syntax_tree.specs.contracts.expr.MacroKind as macro_kind
-use Rattle.cel_syntax_tree.specs.contracts.expr.UnaryOperator as unary_operator
-use Rattle.cel_syntax_tree.specs.declared.expr.BinaryOperator.{BinaryOperator}
-use Rattle.cel_syntax_tree.specs.declared.expr.MacroKind.{MacroKind}
-use Rattle.cel_syntax_tree.specs.declared.expr.UnaryOperator.{UnaryOperator}
-use Rattle.cel_syntax_tree.specs.Term.{Term, literal, ident, select, has, index, unary, binary, choice, list_of, map_with, call, qualified, macro, Terms, no_terms, term_and, Pairs, no_pairs, pair_and}
+use Rattle.cel_semantics.proofs.Sets.{retract_set, List-set, Data-set}
+use Rattle.cel_syntax_ast.specs.contracts.expr.BinaryOperator as binary_operator
+use Rattle.cel_syntax_ast.specs.contracts.expr.MacroKind as macro_kind
+use Rattle.cel_syntax_ast.specs.contracts.expr.UnaryOperator as unary_operator
+use Rattle.cel_syntax_ast.specs.declared.expr.BinaryOperator.{BinaryOperator}
+use Rattle.cel_syntax_ast.specs.declared.expr.MacroKind.{MacroKind}
+use Rattle.cel_syntax_ast.specs.declared.expr.UnaryOperator.{UnaryOperator}
+use Rattle.cel_syntax_ast.specs.Term.{Term, literal, ident, select, has, index, unary, binary, conditional, list_of, map_with, call, qualified, macro, Terms, no_terms, term_and, Pairs, no_pairs, pair_and}
 use Rattle.cel_value.specs.Data.{Data}
 use Rattle.kube_schema_rules.specs.Compilation.{Compiled, Malformed, unread, unread_message, invalid, past_depth}
 use Rattle.kube_schema_rules.specs.Rules.{Fields, Fault, not_object, rule_not_string, not_string_or_null, not_bool_or_null}
@@ -45,7 +45,7 @@ abbrev mutual
   to_plain (index t u) = p_index (to_plain t) (to_plain u)
   to_plain (unary o t) = p_unary o (to_plain t)
   to_plain (binary o t u) = p_binary o (to_plain t) (to_plain u)
-  to_plain (choice t u v) = p_choice (to_plain t) (to_plain u) (to_plain v)
+  to_plain (conditional t u v) = p_choice (to_plain t) (to_plain u) (to_plain v)
   to_plain (list_of ts) = p_list (to_terms ts)
   to_plain (map_with ps) = p_map (to_pairs ps)
   to_plain (call ts x us) = p_call (to_terms ts) x (to_terms us)
@@ -69,7 +69,7 @@ back (p_has p x) = (has (back p).0 x, no_terms, no_pairs)
 back (p_index p q) = (index (back p).0 (back q).0, no_terms, no_pairs)
 back (p_unary o p) = (unary o (back p).0, no_terms, no_pairs)
 back (p_binary o p q) = (binary o (back p).0 (back q).0, no_terms, no_pairs)
-back (p_choice p q r) = (choice (back p).0 (back q).0 (back r).0, no_terms, no_pairs)
+back (p_choice p q r) = (conditional (back p).0 (back q).0 (back r).0, no_terms, no_pairs)
 back (p_list p) = (list_of (back p).1, no_terms, no_pairs)
 back (p_map p) = (map_with (back p).2, no_terms, no_pairs)
 back (p_call p x q) = (call (back p).1 x (back q).1, no_terms, no_pairs)
@@ -88,7 +88,7 @@ mutual
   plain_back (index t u) = λ i. index (plain_back t i) (plain_back u i)
   plain_back (unary o t) = ap (unary o) (plain_back t)
   plain_back (binary o t u) = λ i. binary o (plain_back t i) (plain_back u i)
-  plain_back (choice t u v) = λ i. choice (plain_back t i) (plain_back u i) (plain_back v i)
+  plain_back (conditional t u v) = λ i. conditional (plain_back t i) (plain_back u i) (plain_back v i)
   plain_back (list_of ts) = ap list_of (terms_back ts)
   plain_back (map_with ps) = ap map_with (pairs_back ps)
   plain_back (call ts x us) = λ i. call (terms_back ts i) x (terms_back us i)

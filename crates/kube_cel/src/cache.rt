@@ -1,6 +1,6 @@
 //! Rules that are compiled once, at however many places they stand.
 ghost use Rattle.kube_cel.specs.RuleSets.{same_compiled-prop};
-ghost use Rattle.kube_schema_rules.specs.Compilation.{compiled, compiled_rule, compiled_seen};
+ghost use Rattle.kube_schema_rules.specs.Compilation.{compile_result, compiled_rule, compiled_seen};
 ghost use Rattle.kube_schema_rules.specs.Rules.{rule_view};
 ghost use Rattle.serde_json.specs.View.{view};
 ghost use Rattle.std.specs.Prelude.{◌≡◌, IfErr, IfOk, IfSome, IsTrue, option_map, string_bytes};
@@ -18,7 +18,7 @@ use std::rc::Rc;
 struct Entry {
     rule: Rule,
     made: Rc<Result<CompilationResult, CompilationError>>,
-    ghost right: { compiled_seen made.value ≡ compiled (rule_view rule) } by { same_compiled-prop _ _ },
+    ghost right: { compiled_seen made.value ≡ compile_result (rule_view rule) } by { same_compiled-prop _ _ },
 }
 
 /// The rules that were compiled so far, those whose texts aren't read among them.
@@ -83,7 +83,7 @@ impl RuleCache {
         &self,
         rule: &Rule,
     ) -> Result<Option<Rc<Result<CompilationResult, CompilationError>>>, AllocError>
-        ensures { IfOk result (λ found. IfSome found (λ r. compiled_seen r.value ≡ compiled (rule_view rule.now))) }
+        ensures { IfOk result (λ found. IfSome found (λ r. compiled_seen r.value ≡ compile_result (rule_view rule.now))) }
     {
         let Ok(entries) = self.entries.try_borrow() else {
             return Ok(None);

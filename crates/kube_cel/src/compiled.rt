@@ -1,15 +1,15 @@
 //! The nodes of a schema that was compiled.
-ghost use Rattle.cel_book.specs.Book.{Agrees, Book};
-ghost use Rattle.cel_book.specs.Entries.{entries_of};
-ghost use Rattle.cel_meaning.specs.Bindings.{bindings_of};
+ghost use Rattle.cel_patterns.specs.Book.{Extends, Book};
+ghost use Rattle.cel_patterns.specs.Entries.{entries_of};
+ghost use Rattle.cel_semantics.specs.Bindings.{bindings_of};
 ghost use Rattle.kube_cel.specs.Named.{named_node, named_property};
 ghost use Rattle.kube_cel_places.specs.Inside.{in_order};
-ghost use Rattle.kube_cel_places_table.specs.Compiled.{compiled_shape};
-ghost use Rattle.kube_cel_verdicts.specs.Told.{AreAdded};
-ghost use Rattle.kube_cel_verdicts.specs.Verdicts.{listed, verdict};
+ghost use Rattle.kube_cel_places_compiled.specs.Compiled.{compiled_shape};
+ghost use Rattle.kube_cel_verdicts.specs.AddedErrors.{AreAdded};
+ghost use Rattle.kube_cel_verdicts.specs.Verdicts.{list_of_option, verdict};
 ghost use Rattle.kube_schema_rules.specs.Compilation.{compiled_seen};
-ghost use Rattle.kube_schema_table.specs.Shown.{shown};
-ghost use Rattle.kube_schema_table.specs.Tree.{Node as Tree, named_of, names, property_of};
+ghost use Rattle.kube_schema_compiled.specs.Shown.{node_tree};
+ghost use Rattle.kube_schema_compiled.specs.Tree.{Node as Tree, named_of, names, property_of};
 ghost use Rattle.serde_json.specs.View.{view};
 ghost use Rattle.std.specs.List.{flat_map};
 ghost use Rattle.std.specs.Prelude.{◌≡◌, ◌++◌, ℕ, IfErr, IfOk, List, map, OnOk, Option, option_map, Some};
@@ -18,7 +18,7 @@ use cel::PatternBook;
 use cel_value::Value as CelValue;
 use kube_cel_errors::ValidationError;
 use kube_cel_places::BranchKind;
-use kube_cel_places_table::branches::{branch_count, branch_of};
+use kube_cel_places_compiled::branches::{branch_count, branch_of};
 use kube_cel_verdicts::verdict::{Context, add_verdict};
 use kube_cel_walk::Node;
 use kube_schema::{CompilationError, CompilationResult, SchemaNode, bind_node};
@@ -37,7 +37,7 @@ fn push_named<'a>(
     property: Option<(&'a str, SchemaNode<'a>)>,
     nodes: &mut Vec<(&'a str, CompiledNode<'a>)>,
 ) -> Result<(), AllocError>
-    ensures { OnOk result (map named_node nodes.new.items ≡ map named_node nodes.old.items ++ listed (option_map named_property property.entry)) }
+    ensures { OnOk result (map named_node nodes.new.items ≡ map named_node nodes.old.items ++ list_of_option (option_map named_property property.entry)) }
 {
     let Some((name, node)) = property else {
         return Ok(());
@@ -52,7 +52,7 @@ fn named_nodes<'a>(
     node: &SchemaNode<'a>,
 ) -> Result<Vec<(&'a str, CompiledNode<'a>)>, AllocError>
     ensures { IfOk result (λ v. map named_node v.items
-        ≡ map {B = List ℕ × Option Tree} (λ k. (k, property_of k (shown node.now))) (in_order (names (named_of (shown node.now))))) }
+        ≡ map {B = List ℕ × Option Tree} (λ k. (k, property_of k (node_tree node.now))) (in_order (names (named_of (node_tree node.now))))) }
 {
     let count = node.property_count();
     let mut nodes = Vec::with_capacity(alloc, count)?;
@@ -63,9 +63,9 @@ fn named_nodes<'a>(
 }
 
 /// The node of the members whose names aren't declared.
-#[tactic(auto, unfolding(kube_cel_places_table::specs::Compiled::compiled_shape))]
-fn extra<'a>(node: &SchemaNode<'a>) -> Option<SchemaNode<'a>>
-    ensures { option_map shown result ≡ compiled_shape.extra (shown node.now) }
+#[tactic(auto, unfolding(kube_cel_places_compiled::specs::Compiled::compiled_shape))]
+fn additional_property<'a>(node: &SchemaNode<'a>) -> Option<SchemaNode<'a>>
+    ensures { option_map node_tree result ≡ compiled_shape.additional_property (node_tree node.now) }
 {
     if node.preserve_unknown_fields() {
         return None;
@@ -82,9 +82,9 @@ fn add_verdicts(
     book: &mut PatternBook,
     errors: &mut Vec<ValidationError>,
 ) -> Result<(), Refused>
-    ensures keeps { (b : Book) → Agrees b (entries_of book.new) → Agrees b (entries_of book.old) }
+    ensures keeps { (b : Book) → Extends b (entries_of book.new) → Extends b (entries_of book.old) }
     ensures found { OnOk result (AreAdded (entries_of book.new) errors.old.items errors.new.items
-        (λ b. flat_map (λ r. listed (verdict b (bindings_of context.now) (option_map (λ v. view v.now) old.entry) path.now (compiled_seen r))) rules.now)) }
+        (λ b. flat_map (λ r. list_of_option (verdict b (bindings_of context.now) (option_map (λ v. view v.now) old.entry) path.now (compiled_seen r))) rules.now)) }
     ensures memory { IfErr result (λ e. e ≡ Refused.Memory) }
 {
     for rule in rules {
@@ -95,45 +95,45 @@ fn add_verdicts(
 
 impl Node for CompiledNode<'_> {
     ghost use Rattle.kube_cel.specs.Compiled.{compiled_form};
-    ghost use Rattle.kube_schema_table.specs.Shown.{shown};
-    ghost use Rattle.kube_schema_table.specs.Tree.{Node as Tree};
+    ghost use Rattle.kube_schema_compiled.specs.Shown.{node_tree};
+    ghost use Rattle.kube_schema_compiled.specs.Tree.{Node as Tree};
 
     ghost Seen = { Tree };
 
-    ghost seen = { λ n. shown n.node };
+    ghost seen = { λ n. node_tree n.node };
 
     ghost form = { compiled_form };
 
-    #[tactic(auto, unfolding(crate::specs::Compiled::compiled_form, kube_cel_places_table::specs::Compiled::compiled_shape))]
+    #[tactic(auto, unfolding(crate::specs::Compiled::compiled_form, kube_cel_places_compiled::specs::Compiled::compiled_shape))]
     fn properties(&self, alloc: Global) -> Result<Vec<(&str, Self)>, AllocError> {
         let nodes = named_nodes(alloc, &self.node)?;
         Ok(nodes)
     }
 
-    #[tactic(auto, unfolding(crate::specs::Compiled::compiled_form, kube_cel_places_table::specs::Compiled::compiled_shape))]
+    #[tactic(auto, unfolding(crate::specs::Compiled::compiled_form, kube_cel_places_compiled::specs::Compiled::compiled_shape))]
     fn property(&self, name: &str) -> Option<Self> {
         let node = self.node.property_named(name)?;
         Some(CompiledNode { node })
     }
 
-    #[tactic(auto, unfolding(crate::specs::Compiled::compiled_form, kube_cel_places_table::specs::Compiled::compiled_shape))]
+    #[tactic(auto, unfolding(crate::specs::Compiled::compiled_form, kube_cel_places_compiled::specs::Compiled::compiled_shape))]
     fn items(&self) -> Option<Self> {
         let node = self.node.items()?;
         Some(CompiledNode { node })
     }
 
-    #[tactic(auto, unfolding(crate::specs::Compiled::compiled_form, kube_cel_places_table::specs::Compiled::compiled_shape))]
-    fn extra(&self) -> Option<Self> {
-        let node = extra(&self.node)?;
+    #[tactic(auto, unfolding(crate::specs::Compiled::compiled_form, kube_cel_places_compiled::specs::Compiled::compiled_shape))]
+    fn additional_property(&self) -> Option<Self> {
+        let node = additional_property(&self.node)?;
         Some(CompiledNode { node })
     }
 
-    #[tactic(auto, unfolding(crate::specs::Compiled::compiled_form, kube_cel_places_table::specs::Compiled::compiled_shape))]
+    #[tactic(auto, unfolding(crate::specs::Compiled::compiled_form, kube_cel_places_compiled::specs::Compiled::compiled_shape))]
     fn branch_count(&self, kind: BranchKind) -> usize {
         branch_count(&self.node, kind)
     }
 
-    #[tactic(auto, unfolding(crate::specs::Compiled::compiled_form, kube_cel_places_table::specs::Compiled::compiled_shape))]
+    #[tactic(auto, unfolding(crate::specs::Compiled::compiled_form, kube_cel_places_compiled::specs::Compiled::compiled_shape))]
     fn branch(&self, kind: BranchKind, index: usize) -> Option<Self> {
         let node = branch_of(&self.node, kind, index)?;
         Some(CompiledNode { node })

@@ -27,7 +27,7 @@
 
 mod cache;
 mod compiled;
-mod judged;
+mod errors;
 pub mod laws;
 mod raw;
 pub mod validation;
@@ -37,7 +37,7 @@ pub use kube_cel_analysis::{AnalysisWarning, ScopeContext, WarningKind, check_ru
 pub use kube_cel_costs::{analyze_rule, estimate_rule_cost};
 pub use kube_cel_errors::{ErrorKind, ValidationError, ValidationErrors};
 pub use kube_cel_lint::{LintFinding, LintKind, lint_schema};
-pub use kube_cel_policies::{
+pub use kube_cel_vap::{
     AdmissionRequest, CompiledVapExpression, GroupVersionKind, GroupVersionResource, VapError,
     VapEvaluator, VapEvaluatorBuilder, VapExpression, VapResult, laws as policy_laws,
 };

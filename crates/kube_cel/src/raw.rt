@@ -1,12 +1,12 @@
 //! The nodes of a schema as JSON.
-ghost use Rattle.cel_book.specs.Book.{Agrees, Book};
-ghost use Rattle.cel_book.specs.Entries.{entries_of};
-ghost use Rattle.cel_meaning.specs.Bindings.{bindings_of};
+ghost use Rattle.cel_patterns.specs.Book.{Extends, Book};
+ghost use Rattle.cel_patterns.specs.Entries.{entries_of};
+ghost use Rattle.cel_semantics.specs.Bindings.{bindings_of};
 ghost use Rattle.kube_cel_places.specs.Inside.{in_order, keys_in};
-ghost use Rattle.kube_cel_places.specs.Raw.{declared, undeclared};
+ghost use Rattle.kube_cel_places.specs.Raw.{declared_property, undeclared_property};
 ghost use Rattle.kube_cel_places.specs.Step.{keyword};
-ghost use Rattle.kube_cel_verdicts.specs.Told.{AreAdded};
-ghost use Rattle.kube_cel_verdicts.specs.Verdicts.{listed, verdict};
+ghost use Rattle.kube_cel_verdicts.specs.AddedErrors.{AreAdded};
+ghost use Rattle.kube_cel_verdicts.specs.Verdicts.{list_of_option, verdict};
 ghost use Rattle.kube_schema_rules.specs.Compilation.{compiled_rule, compiled_rules};
 ghost use Rattle.serde_json.specs.Data.{Data};
 ghost use Rattle.serde_json.specs.Find.{get, get_member, as_array, as_object};
@@ -28,7 +28,7 @@ use std::alloc::{AllocError, Global};
 
 /// A node of a schema as JSON, with the rules that were compiled so far.
 #[derive(Clone, Copy)]
-pub(crate) struct RawNode<'a> {
+pub(crate) struct JsonNode<'a> {
     pub(crate) schema: &'a Value,
     pub(crate) cache: &'a RuleCache,
 }
@@ -38,13 +38,13 @@ fn named_nodes<'a>(
     alloc: Global,
     members: &'a Map<String, Value>,
     cache: &'a RuleCache,
-) -> Result<Vec<(&'a str, RawNode<'a>)>, AllocError>
+) -> Result<Vec<(&'a str, JsonNode<'a>)>, AllocError>
     ensures { IfOk result (λ v. map {B = List ℕ × Option Data} (λ p. (p.0.now, Some (view p.1.schema.now))) v.items
         ≡ map {B = List ℕ × Option Data} (λ k. (k, get_member k (members_view members.now.entries))) (in_order (keys_in (members_view members.now.entries)))) }
 {
     let mut nodes = Vec::with_capacity(alloc, members.len())?;
     for (key, schema) in members.iter() {
-        nodes.push((key.as_str(), RawNode { schema, cache }))?;
+        nodes.push((key.as_str(), JsonNode { schema, cache }))?;
     }
     Ok(nodes)
 }
@@ -58,17 +58,17 @@ fn properties_of(node: &Value) -> Option<&Map<String, Value>>
 }
 
 /// The schema of a declared name.
-#[tactic(auto, unfolding(kube_cel_places::specs::Raw::declared))]
+#[tactic(auto, unfolding(kube_cel_places::specs::Raw::declared_property))]
 fn declared<'a>(node: &'a Value, key: &str) -> Option<&'a Value>
-    ensures { option_map (λ v. view v.now) result ≡ declared key.now (view node.now) }
+    ensures { option_map (λ v. view v.now) result ≡ declared_property key.now (view node.now) }
 {
     node.get("properties")?.get(key)
 }
 
 /// The schema of all names that aren't declared.
-#[tactic(auto, unfolding(kube_cel_places::specs::Raw::undeclared))]
+#[tactic(auto, unfolding(kube_cel_places::specs::Raw::undeclared_property))]
 fn undeclared(node: &Value) -> Option<&Value>
-    ensures { option_map (λ v. view v.now) result ≡ undeclared (view node.now) }
+    ensures { option_map (λ v. view v.now) result ≡ undeclared_property (view node.now) }
 {
     if node
         .get("x-kubernetes-preserve-unknown-fields")
@@ -103,9 +103,9 @@ fn add_raw_verdict(
     book: &mut PatternBook,
     errors: &mut Vec<ValidationError>,
 ) -> Result<(), Refused>
-    ensures keeps { (b : Book) → Agrees b (entries_of book.new) → Agrees b (entries_of book.old) }
+    ensures keeps { (b : Book) → Extends b (entries_of book.new) → Extends b (entries_of book.old) }
     ensures found { OnOk result (AreAdded (entries_of book.new) errors.old.items errors.new.items
-        (λ b. listed (verdict b (bindings_of context.now) (option_map (λ v. view v.now) old.entry) path.now (compiled_rule (view rule.now))))) }
+        (λ b. list_of_option (verdict b (bindings_of context.now) (option_map (λ v. view v.now) old.entry) path.now (compiled_rule (view rule.now))))) }
     ensures memory { IfErr result (λ e. e ≡ Refused.Memory) }
 {
     let compiled = cache.compiled(rule)?;
@@ -122,9 +122,9 @@ fn add_verdicts(
     book: &mut PatternBook,
     errors: &mut Vec<ValidationError>,
 ) -> Result<(), Refused>
-    ensures keeps { (b : Book) → Agrees b (entries_of book.new) → Agrees b (entries_of book.old) }
+    ensures keeps { (b : Book) → Extends b (entries_of book.new) → Extends b (entries_of book.old) }
     ensures found { OnOk result (AreAdded (entries_of book.new) errors.old.items errors.new.items
-        (λ b. flat_map (λ r. listed (verdict b (bindings_of context.now) (option_map (λ v. view v.now) old.entry) path.now r)) (compiled_rules (items_view rules.now)))) }
+        (λ b. flat_map (λ r. list_of_option (verdict b (bindings_of context.now) (option_map (λ v. view v.now) old.entry) path.now r)) (compiled_rules (items_view rules.now)))) }
     ensures memory { IfErr result (λ e. e ≡ Refused.Memory) }
 {
     for rule in rules {
@@ -133,7 +133,7 @@ fn add_verdicts(
     Ok(())
 }
 
-impl Node for RawNode<'_> {
+impl Node for JsonNode<'_> {
     ghost use Rattle.kube_cel.specs.Raw.{raw_form};
     ghost use Rattle.serde_json.specs.Data.{Data};
     ghost use Rattle.serde_json.specs.View.{view};
@@ -158,7 +158,7 @@ impl Node for RawNode<'_> {
     #[tactic(auto, unfolding(crate::specs::Raw::raw_form, kube_cel_places::specs::Raw::raw_shape))]
     fn property(&self, name: &str) -> Option<Self> {
         let schema = declared(self.schema, name)?;
-        Some(RawNode {
+        Some(JsonNode {
             schema,
             cache: self.cache,
         })
@@ -167,16 +167,16 @@ impl Node for RawNode<'_> {
     #[tactic(auto, unfolding(crate::specs::Raw::raw_form, kube_cel_places::specs::Raw::raw_shape))]
     fn items(&self) -> Option<Self> {
         let schema = self.schema.get("items")?;
-        Some(RawNode {
+        Some(JsonNode {
             schema,
             cache: self.cache,
         })
     }
 
     #[tactic(auto, unfolding(crate::specs::Raw::raw_form, kube_cel_places::specs::Raw::raw_shape))]
-    fn extra(&self) -> Option<Self> {
+    fn additional_property(&self) -> Option<Self> {
         let schema = undeclared(self.schema)?;
-        Some(RawNode {
+        Some(JsonNode {
             schema,
             cache: self.cache,
         })
@@ -193,7 +193,7 @@ impl Node for RawNode<'_> {
     #[tactic(auto, unfolding(crate::specs::Raw::raw_form, kube_cel_places::specs::Raw::raw_shape))]
     fn branch(&self, kind: BranchKind, index: usize) -> Option<Self> {
         let schema = self.schema.get(kind.keyword())?.get(index)?;
-        Some(RawNode {
+        Some(JsonNode {
             schema,
             cache: self.cache,
         })

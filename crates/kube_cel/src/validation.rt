@@ -1,20 +1,20 @@
 //! The validation of an object by the rules of its schema.
-ghost use Rattle.cel_book.specs.Book.{Agrees, Book};
-ghost use Rattle.cel_book.specs.Entries.{entries_of};
-ghost use Rattle.kube_cel.specs.Answers.{found_in, reported, shown, IsToldOf};
+ghost use Rattle.cel_patterns.specs.Book.{Extends, Book};
+ghost use Rattle.cel_patterns.specs.Entries.{entries_of};
+ghost use Rattle.kube_cel.specs.Answers.{found_in, report_of, answer_view, IsReportOf};
 ghost use Rattle.kube_cel.specs.Raw.{raw_form};
 ghost use Rattle.kube_cel.specs.Compiled.{compiled_form};
-ghost use Rattle.kube_cel.specs.Spots.{compiled_spot, given_spot, source_spot};
+ghost use Rattle.kube_cel.specs.Starts.{compiled_start, call_start, source_start};
 ghost use Rattle.kube_cel_walk.specs.Answers.{answer, IsAnswer};
-ghost use Rattle.kube_schema_table.specs.Shown.{whole};
-ghost use Rattle.kube_schema_table.specs.View.{view_of};
+ghost use Rattle.kube_schema_compiled.specs.Shown.{whole};
+ghost use Rattle.kube_schema_compiled.specs.View.{view_of};
 ghost use Rattle.serde_json.specs.Data.{Data};
 ghost use Rattle.std.specs.Prelude.{◌≡◌, IfErr, IfOk, None};
 
 use crate::cache::RuleCache;
 use crate::compiled::CompiledNode;
-use crate::judged::judged;
-use crate::raw::RawNode;
+use crate::errors::validation_of;
+use crate::raw::JsonNode;
 use cel::PatternBook;
 use kube_cel_errors::ValidationErrors;
 use kube_cel_verdicts::RootContext;
@@ -28,7 +28,7 @@ use std::alloc::Global;
 pub struct Validator;
 
 impl Validator {
-    /// A validator. There is one such value alone, so that no contract tells it from another. It takes no memory.
+    /// A validator. There is one such value alone, so that no contract distinguishes it from another. It takes no memory.
     pub fn new() -> Validator {
         Validator
     }
@@ -45,13 +45,13 @@ impl Validator {
         object: &Value,
         old: Option<&Value>,
     ) -> Result<Result<(), ValidationErrors>, Refused>
-        ensures answer { IfOk result (IsToldOf raw_form (given_spot schema.now object.now old.entry None)) }
+        ensures answer { IfOk result (IsReportOf raw_form (call_start schema.now object.now old.entry None)) }
         ensures memory { IfErr result (λ e. e ≡ Refused.Memory) }
     {
         self.validate_with_context(alloc, schema, object, old, None)
     }
 
-    /// As `validate`, with what is told of the whole object, which its rules at the root may ask.
+    /// As `validate`, with what is known of the whole object, which its rules at the root may ask.
     ///
     /// # Errors
     ///
@@ -64,7 +64,7 @@ impl Validator {
         old: Option<&Value>,
         root: Option<&RootContext>,
     ) -> Result<Result<(), ValidationErrors>, Refused>
-        ensures answer { IfOk result (IsToldOf raw_form (given_spot schema.now object.now old.entry root.entry)) }
+        ensures answer { IfOk result (IsReportOf raw_form (call_start schema.now object.now old.entry root.entry)) }
         ensures memory { IfErr result (λ e. e ≡ Refused.Memory) }
     {
         let mut book = PatternBook::new(alloc);
@@ -85,25 +85,25 @@ impl Validator {
         root: Option<&RootContext>,
         book: &mut PatternBook,
     ) -> Result<Result<(), ValidationErrors>, Refused>
-        ensures kept { Agrees (entries_of book.new) (entries_of book.old) }
+        ensures kept { Extends (entries_of book.new) (entries_of book.old) }
         ensures memory { IfErr result (λ e. e ≡ Refused.Memory) }
-        ensures answer { IfOk result (λ r. (b : Book) → Agrees b (entries_of book.new)
-            → shown r ≡ reported (answer raw_form b 65 (given_spot schema.now object.now old.entry root.entry))) }
-        ensures places { IfOk result (λ r. (b : Book) → Agrees b (entries_of book.new)
-            → IsAnswer raw_form b (given_spot schema.now object.now old.entry root.entry) (found_in r)) }
+        ensures answer { IfOk result (λ r. (b : Book) → Extends b (entries_of book.new)
+            → answer_view r ≡ report_of (answer raw_form b 65 (call_start schema.now object.now old.entry root.entry))) }
+        ensures places { IfOk result (λ r. (b : Book) → Extends b (entries_of book.new)
+            → IsAnswer raw_form b (call_start schema.now object.now old.entry root.entry) (found_in r)) }
     {
         let object = filled_value(alloc, schema, object)?;
         let cache = RuleCache::new(alloc);
-        let node = RawNode {
+        let node = JsonNode {
             schema,
             cache: &cache,
         };
         let Some(old) = old else {
-            let answer = judged(alloc, node, &object, None, root, book)?;
+            let answer = validation_of(alloc, node, &object, None, root, book)?;
             return Ok(answer);
         };
         let old = filled_value(alloc, schema, old)?;
-        let answer = judged(alloc, node, &object, Some(&old), root, book)?;
+        let answer = validation_of(alloc, node, &object, Some(&old), root, book)?;
         Ok(answer)
     }
 
@@ -119,7 +119,7 @@ impl Validator {
         object: &Value,
         old: Option<&Value>,
     ) -> Result<Result<(), ValidationErrors>, Refused>
-        ensures answer { IfOk result (λ r. (s : Data) → whole compiled.now ≡ view_of 65 s → IsToldOf raw_form (source_spot s object.now old.entry None) r) }
+        ensures answer { IfOk result (λ r. (s : Data) → whole compiled.now ≡ view_of 65 s → IsReportOf raw_form (source_start s object.now old.entry None) r) }
         ensures memory { IfErr result (λ e. e ≡ Refused.Memory) }
     {
         self.validate_compiled_with_context(alloc, compiled, object, old, None)
@@ -138,7 +138,7 @@ impl Validator {
         old: Option<&Value>,
         root: Option<&RootContext>,
     ) -> Result<Result<(), ValidationErrors>, Refused>
-        ensures answer { IfOk result (λ r. (s : Data) → whole compiled.now ≡ view_of 65 s → IsToldOf raw_form (source_spot s object.now old.entry root.entry) r) }
+        ensures answer { IfOk result (λ r. (s : Data) → whole compiled.now ≡ view_of 65 s → IsReportOf raw_form (source_start s object.now old.entry root.entry) r) }
         ensures memory { IfErr result (λ e. e ≡ Refused.Memory) }
     {
         let mut book = PatternBook::new(alloc);
@@ -159,24 +159,25 @@ impl Validator {
         root: Option<&RootContext>,
         book: &mut PatternBook,
     ) -> Result<Result<(), ValidationErrors>, Refused>
-        ensures kept { Agrees (entries_of book.new) (entries_of book.old) }
+        ensures kept { Extends (entries_of book.new) (entries_of book.old) }
         ensures memory { IfErr result (λ e. e ≡ Refused.Memory) }
-        ensures tree { IfOk result (λ r. (b : Book) → Agrees b (entries_of book.new)
-            → shown r ≡ reported (answer compiled_form b 65 (compiled_spot compiled.now object.now old.entry root.entry))) }
-        ensures answer { IfOk result (λ r. (b : Book) → Agrees b (entries_of book.new) → (s : Data) → whole compiled.now ≡ view_of 65 s
-            → shown r ≡ reported (answer raw_form b 65 (source_spot s object.now old.entry root.entry))) }
-        ensures places { IfOk result (λ r. (b : Book) → Agrees b (entries_of book.new) → (s : Data) → whole compiled.now ≡ view_of 65 s
-            → IsAnswer raw_form b (source_spot s object.now old.entry root.entry) (found_in r)) }
+        ensures tree { IfOk result (λ r. (b : Book) → Extends b (entries_of book.new)
+            → answer_view r ≡ report_of (answer compiled_form b 65 (compiled_start compiled.now object.now old.entry root.entry))) }
+        ensures answer { IfOk result (λ r. (b : Book) → Extends b (entries_of book.new) → (s : Data) → whole compiled.now ≡ view_of 65 s
+            → answer_view r ≡ report_of (answer raw_form b 65
+            (source_start s object.now old.entry root.entry))) }
+        ensures places { IfOk result (λ r. (b : Book) → Extends b (entries_of book.new) → (s : Data) → whole compiled.now ≡ view_of 65 s
+            → IsAnswer raw_form b (source_start s object.now old.entry root.entry) (found_in r)) }
     {
         let root_node = compiled.root();
         let object = filled_by_node(alloc, &root_node, object)?;
         let node = CompiledNode { node: root_node };
         let Some(old) = old else {
-            let answer = judged(alloc, node, &object, None, root, book)?;
+            let answer = validation_of(alloc, node, &object, None, root, book)?;
             return Ok(answer);
         };
         let old = filled_by_node(alloc, &root_node, old)?;
-        let answer = judged(alloc, node, &object, Some(&old), root, book)?;
+        let answer = validation_of(alloc, node, &object, Some(&old), root, book)?;
         Ok(answer)
     }
 
@@ -192,7 +193,7 @@ impl Validator {
         object: &Value,
         old: Option<&Value>,
     ) -> Result<Result<(), ValidationErrors>, Refused>
-        ensures answer { IfOk result (IsToldOf raw_form (given_spot schema.now object.now old.entry None)) }
+        ensures answer { IfOk result (IsReportOf raw_form (call_start schema.now object.now old.entry None)) }
         ensures memory { IfErr result (λ e. e ≡ Refused.Memory) }
     {
         self.validate(alloc, schema, object, old)
@@ -211,7 +212,7 @@ impl Validator {
         old: Option<&Value>,
         root: Option<&RootContext>,
     ) -> Result<Result<(), ValidationErrors>, Refused>
-        ensures answer { IfOk result (IsToldOf raw_form (given_spot schema.now object.now old.entry root.entry)) }
+        ensures answer { IfOk result (IsReportOf raw_form (call_start schema.now object.now old.entry root.entry)) }
         ensures memory { IfErr result (λ e. e ≡ Refused.Memory) }
     {
         self.validate_with_context(alloc, schema, object, old, root)
@@ -230,7 +231,7 @@ pub fn validate(
     old: Option<&Value>,
 ) -> Result<Result<(), ValidationErrors>, Refused>
     ensures memory { IfErr result (λ e. e ≡ Refused.Memory) }
-    ensures answer { IfOk result (IsToldOf raw_form (given_spot schema.now object.now old.entry None)) }
+    ensures answer { IfOk result (IsReportOf raw_form (call_start schema.now object.now old.entry None)) }
 {
     Validator::new().validate(alloc, schema, object, old)
 }
@@ -247,7 +248,7 @@ pub fn validate_compiled(
     old: Option<&Value>,
 ) -> Result<Result<(), ValidationErrors>, Refused>
     ensures memory { IfErr result (λ e. e ≡ Refused.Memory) }
-    ensures answer { IfOk result (λ r. (s : Data) → whole compiled.now ≡ view_of 65 s → IsToldOf raw_form (source_spot s object.now old.entry None) r) }
+    ensures answer { IfOk result (λ r. (s : Data) → whole compiled.now ≡ view_of 65 s → IsReportOf raw_form (source_start s object.now old.entry None) r) }
 {
     Validator::new().validate_compiled(alloc, compiled, object, old)
 }

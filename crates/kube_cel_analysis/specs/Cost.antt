@@ -4,9 +4,9 @@
 use Rattle.std.specs.Prelude.{ℕ, ◌+◌, ◌*◌, ◌-◌, ◌^◌, ◌/◌, min, max, List, [], ◌∷◌, codes, Bool, true, false, if◌then◌else◌}
 use Rattle.std.specs.List.{list_any}
 use Rattle.std.specs.Str.{bytes_eq}
-use Rattle.cel_syntax_tree.specs.declared.expr.MacroKind.{MacroKind}
-use Rattle.cel_syntax_tree.specs.declared.expr.MacroKind.TheVariants.{All, Exists, ExistsOne, Map, Filter}
-use Rattle.cel_syntax_tree.specs.Term.{Term, literal, ident, select, has, index, unary, binary, choice, list_of, map_with, call, qualified, macro, Terms, no_terms, term_and}
+use Rattle.cel_syntax_ast.specs.declared.expr.MacroKind.{MacroKind}
+use Rattle.cel_syntax_ast.specs.declared.expr.MacroKind.TheVariants.{All, Exists, ExistsOne, Map, Filter}
+use Rattle.cel_syntax_ast.specs.Term.{Term, literal, ident, select, has, index, unary, binary, conditional, list_of, map_with, call, qualified, macro, Terms, no_terms, term_and}
 
 -- the greatest sizes that a schema allows
 pub record Sizes : Type 0 where
@@ -66,7 +66,7 @@ abbrev mutual
   cost s (index a b) = sum 1 (sum (cost s a) (cost s b))
   cost s (unary o a) = sum 1 (cost s a)
   cost s (binary o a b) = sum 1 (sum (cost s a) (cost s b))
-  cost s (choice a b c) = sum 1 (sum (cost s a) (sum (cost s b) (cost s c)))
+  cost s (conditional a b c) = sum 1 (sum (cost s a) (sum (cost s b) (cost s c)))
   cost s (list_of ts) = max 1 (cost_of_all s ts)
   cost s (map_with ps) = 1
   cost s (call target name ts) = sum (call_cost s name) (sum (cost_of_all s target) (cost_of_all s ts))

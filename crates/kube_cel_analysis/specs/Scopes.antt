@@ -3,9 +3,9 @@
 use Rattle.std.specs.Prelude.{◌≡◌, ℕ, List, [], ◌∷◌, ◌++◌, codes, Bool, Option, Some, None, if◌then◌else◌}
 use Rattle.std.specs.List.{list_any}
 use Rattle.std.specs.Str.{bytes_eq}
-use Rattle.cel_syntax_names.specs.Names.{AreNames}
-use Rattle.cel_syntax_tree.specs.FreeNames.{is_free}
-use Rattle.cel_syntax_tree.specs.Term.{Term}
+use Rattle.cel_syntax_references.specs.Names.{AreNames}
+use Rattle.cel_syntax_ast.specs.FreeNames.{is_free}
+use Rattle.cel_syntax_ast.specs.Term.{Term}
 use Rattle.kube_cel_analysis.specs.declared.scope.ScopeContext.{ScopeContext}
 use Rattle.kube_cel_analysis.specs.declared.scope.ScopeContext.TheVariants.{CrdValidation, AdmissionPolicy}
 use Rattle.kube_cel_analysis.specs.declared.warning.WarningKind.TheVariants.{WrongScope}

@@ -2,14 +2,14 @@
 -- What is said of a rule's cost at a node of a schema (Kubernetes documentation, "Resource use by validation functions"), and all that is said
 -- of it.
 use Rattle.std.specs.Prelude.{◌≡◌, ℕ, List, [], ◌∷◌, ◌++◌, Bool, true, false, ◌&&◌, Option, Some, None, if◌then◌else◌, codes, decimal, nat_lt}
-use Rattle.cel_syntax_tree.specs.Term.{Term, literal, ident, select, has, index, unary, binary, choice, list_of, map_with, call, qualified, macro}
+use Rattle.cel_syntax_ast.specs.Term.{Term, literal, ident, select, has, index, unary, binary, conditional, list_of, map_with, call, qualified, macro}
 use Rattle.kube_cel_analysis.specs.Cost.{cost}
 use Rattle.kube_cel_analysis.specs.Scopes.{AreScopeWarnings}
 use Rattle.kube_cel_analysis.specs.Warnings.{Warning}
 use Rattle.kube_cel_analysis.specs.declared.scope.ScopeContext.{ScopeContext}
 use Rattle.kube_cel_analysis.specs.declared.warning.WarningKind.TheVariants.{CostExceeded, MissingBounds}
 use Rattle.kube_cel_costs.specs.Bounds.{sizes_of, has_unbounded}
-use Rattle.kube_schema_table.specs.Tree.{Node, named_of}
+use Rattle.kube_schema_compiled.specs.Tree.{Node, named_of}
 
 abbrev pub cost_warning : List ℕ → ℕ → Warning
 cost_warning rule c = record {
@@ -38,7 +38,7 @@ is_macro (has a x) = false
 is_macro (index a b) = false
 is_macro (unary o a) = false
 is_macro (binary o a b) = false
-is_macro (choice a b c) = false
+is_macro (conditional a b c) = false
 is_macro (list_of ts) = false
 is_macro (map_with ps) = false
 is_macro (call target name ts) = false
@@ -59,4 +59,4 @@ text_estimates rule n (Some t) = estimates rule n t
 
 -- exactly all warnings: of the names, then of the cost, then of the bounds
 abbrev pub AreWarnings : ScopeContext → List ℕ → Node → Option Term → List Warning → Type 0
-AreWarnings scope rule n tree found = (told : List Warning) × AreScopeWarnings scope rule tree told × (found ≡ told ++ text_estimates rule n tree)
+AreWarnings scope rule n tree found = (reported : List Warning) × AreScopeWarnings scope rule tree reported × (found ≡ reported ++ text_estimates rule n tree)

@@ -1,20 +1,20 @@
 //! What an analysis says of a rule at a schema.
 ghost use Rattle.std.specs.Prelude.{◌≡◌, ◌++◌, IfErr, IfOk, OnOk, Some, map};
 ghost use Rattle.cel_syntax.specs.Reading.{tree_of};
-ghost use Rattle.cel_syntax_tree.specs.Term.{term};
+ghost use Rattle.cel_syntax_ast.specs.Term.{term};
 ghost use Rattle.kube_cel_analysis.specs.Cost.{cost};
 ghost use Rattle.kube_cel_analysis.specs.Warnings.{warning_view};
 ghost use Rattle.kube_cel_costs.specs.Bounds.{sizes_of};
 ghost use Rattle.kube_cel_costs.specs.Estimates.{AreWarnings, bounds_warning, bounds_warnings, cost_warning, cost_warnings, estimates, is_macro, text_estimates};
-ghost use Rattle.kube_schema_table.specs.Shown.{shown, whole};
+ghost use Rattle.kube_schema_compiled.specs.Shown.{node_tree, whole};
 
 use crate::sizes::{has_unbounded, sizes_of};
 use cel_syntax::parse;
-use cel_syntax_tree::Expr;
+use cel_syntax_ast::Expr;
 use kube_cel_analysis::{
     AnalysisWarning, ScopeContext, WarningKind, check_expression_scope, estimated_cost,
 };
-use kube_schema_table::{CompiledSchema, SchemaNode};
+use kube_schema_compiled::{CompiledSchema, SchemaNode};
 use kube_types_refused::Refused;
 use std::alloc::{AllocError, Global};
 
@@ -92,7 +92,7 @@ fn add_bounds(
     node: &SchemaNode<'_>,
     warnings: &mut Vec<AnalysisWarning>,
 ) -> Result<(), AllocError>
-    ensures { OnOk result (map warning_view warnings.new.items ≡ map warning_view warnings.old.items ++ bounds_warnings rule.now (shown node.now) (term expression.now)) }
+    ensures { OnOk result (map warning_view warnings.new.items ≡ map warning_view warnings.old.items ++ bounds_warnings rule.now (node_tree node.now) (term expression.now)) }
 {
     if is_macro(expression) && has_unbounded(node) {
         warnings.push(bounds_warning(alloc, rule)?)?;
@@ -109,7 +109,7 @@ fn add_estimates(
     node: &SchemaNode<'_>,
     warnings: &mut Vec<AnalysisWarning>,
 ) -> Result<(), AllocError>
-    ensures { OnOk result (map warning_view warnings.new.items ≡ map warning_view warnings.old.items ++ estimates rule.now (shown node.now) (term expression.now)) }
+    ensures { OnOk result (map warning_view warnings.new.items ≡ map warning_view warnings.old.items ++ estimates rule.now (node_tree node.now) (term expression.now)) }
 {
     let cost = estimated_cost(expression, sizes_of(node));
     add_cost(alloc, rule, cost, warnings)?;
@@ -124,7 +124,7 @@ fn estimated(
     expression: &Expr,
     node: &SchemaNode<'_>,
 ) -> Result<Vec<AnalysisWarning>, AllocError>
-    ensures { IfOk result (λ v. map warning_view v.items ≡ estimates rule.now (shown node.now) (term expression.now)) }
+    ensures { IfOk result (λ v. map warning_view v.items ≡ estimates rule.now (node_tree node.now) (term expression.now)) }
 {
     let mut warnings = Vec::new(alloc);
     add_estimates(alloc, rule, expression, node, &mut warnings)?;
@@ -151,7 +151,7 @@ pub fn estimate_rule_cost(
     }
 }
 
-/// All warnings of an expression at a node of a schema: of its names, then of its cost, then of its bounds. The text of the rule is told with
+/// All warnings of an expression at a node of a schema: of its names, then of its cost, then of its bounds. The text of the rule is reported with
 /// each warning.
 ///
 /// # Errors
@@ -164,7 +164,7 @@ pub fn analyze_expression(
     node: &SchemaNode<'_>,
     scope: ScopeContext,
 ) -> Result<Vec<AnalysisWarning>, Refused>
-    ensures warnings { IfOk result (λ v. AreWarnings scope rule.now (shown node.now) (Some (term expression.now)) (map warning_view v.items)) }
+    ensures warnings { IfOk result (λ v. AreWarnings scope rule.now (node_tree node.now) (Some (term expression.now)) (map warning_view v.items)) }
     ensures memory { IfErr result (λ e. e ≡ Refused.Memory) }
 {
     let mut warnings = check_expression_scope(alloc, rule, expression, scope)?;

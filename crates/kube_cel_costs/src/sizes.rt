@@ -2,11 +2,11 @@
 ghost use Rattle.std.specs.Prelude.{◌≡◌};
 ghost use Rattle.kube_cel_analysis.specs.Sizes.{sizes_view};
 ghost use Rattle.kube_cel_costs.specs.Bounds.{first_bound, has_unbounded, is_unbounded, list_bound, sizes_of, text_bound};
-ghost use Rattle.kube_schema_table.specs.Shown.{shown};
-ghost use Rattle.kube_schema_table.specs.Tree.{named_of};
+ghost use Rattle.kube_schema_compiled.specs.Shown.{node_tree};
+ghost use Rattle.kube_schema_compiled.specs.Tree.{named_of};
 
 use kube_cel_analysis::Sizes;
-use kube_schema_table::SchemaNode;
+use kube_schema_compiled::SchemaNode;
 
 /// The size that is taken where a schema says none.
 const USUAL_SIZE: u64 = 1000;
@@ -15,7 +15,7 @@ const USUAL_SIZE: u64 = 1000;
 /// name order that has items counts for lists, also where it says no size, and the first that says a length counts for texts.
 #[tactic(auto, unfolding(crate::specs::Bounds::sizes_of))]
 pub fn sizes_of(node: &SchemaNode<'_>) -> Sizes
-    ensures { sizes_view result ≡ sizes_of (shown node.now) }
+    ensures { sizes_view result ≡ sizes_of (node_tree node.now) }
 {
     Sizes {
         items: node.max_items().unwrap_or(list_size(node)),
@@ -25,7 +25,7 @@ pub fn sizes_of(node: &SchemaNode<'_>) -> Sizes
 
 /// How many items a node's list may have, where the node has items.
 fn list_bound(node: &SchemaNode<'_>) -> Option<u64>
-    ensures { result ≡ list_bound (shown node.now) }
+    ensures { result ≡ list_bound (node_tree node.now) }
 {
     match node.items() {
         Some(_items) => Some(node.max_items().unwrap_or(USUAL_SIZE)),
@@ -35,7 +35,7 @@ fn list_bound(node: &SchemaNode<'_>) -> Option<u64>
 
 /// How many items the first property that has items allows.
 fn list_size(node: &SchemaNode<'_>) -> u64
-    ensures { result ≡ first_bound list_bound (named_of (shown node.now)) }
+    ensures { result ≡ first_bound list_bound (named_of (node_tree node.now)) }
 {
     for index in 0..node.property_count() {
         let Some((_name, property)) = node.property(index) else {
@@ -50,7 +50,7 @@ fn list_size(node: &SchemaNode<'_>) -> u64
 
 /// How long the first property that says a length lets a text be.
 fn text_size(node: &SchemaNode<'_>) -> u64
-    ensures { result ≡ first_bound text_bound (named_of (shown node.now)) }
+    ensures { result ≡ first_bound text_bound (named_of (node_tree node.now)) }
 {
     for index in 0..node.property_count() {
         let Some((_name, property)) = node.property(index) else {
@@ -65,7 +65,7 @@ fn text_size(node: &SchemaNode<'_>) -> u64
 
 /// Whether a node has items, but says no size.
 fn is_unbounded(node: &SchemaNode<'_>) -> bool
-    ensures { result ≡ is_unbounded (shown node.now) }
+    ensures { result ≡ is_unbounded (node_tree node.now) }
 {
     match node.items() {
         Some(_items) => node.max_items().is_none(),
@@ -75,7 +75,7 @@ fn is_unbounded(node: &SchemaNode<'_>) -> bool
 
 /// Whether a property has items, but says no size.
 pub(crate) fn has_unbounded(node: &SchemaNode<'_>) -> bool
-    ensures { result ≡ has_unbounded (named_of (shown node.now)) }
+    ensures { result ≡ has_unbounded (named_of (node_tree node.now)) }
 {
     for index in 0..node.property_count() {
         let Some((_name, property)) = node.property(index) else {

@@ -1,5 +1,5 @@
 -- Trusted by the headline.
--- What an error of a validation tells, as plain data.
+-- What an error of a validation says, as plain data.
 use Rattle.cel_value.specs.Faults.{Fault, fault_view}
 use Rattle.kube_cel_errors.specs.declared.error.ErrorKind.{ErrorKind}
 use Rattle.kube_cel_errors.specs.declared.error.ValidationError.{ValidationError}

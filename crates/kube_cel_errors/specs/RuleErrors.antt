@@ -4,7 +4,7 @@ use Rattle.cel_value.specs.Faults.{Fault, undeclared}
 use Rattle.cel_value.specs.Texts.{fault_text}
 use Rattle.kube_cel_errors.specs.declared.error.ErrorKind.TheVariants.{CompilationFailure, InvalidRule, ValidationFailure, InvalidResult, EvaluationError, UnsupportedReference, SchemaTooDeep}
 use Rattle.kube_cel_errors.specs.Errors.{ErrorData}
-use Rattle.kube_cel_places.specs.Spot.{member_path}
+use Rattle.kube_cel_places.specs.Visit.{member_path}
 use Rattle.kube_schema_rules.specs.Compilation.{Malformed, unread, unread_message, invalid, past_depth}
 use Rattle.kube_schema_rules.specs.Rules as schema
 use Rattle.std.specs.Prelude.{ℕ, ◌==◌, List, [], ◌++◌, if◌then◌else◌, Option, Some, None, codes, slice_index}
@@ -31,7 +31,7 @@ unread_message_rule path rule m = not_compiled path rule (codes "failed to compi
 abbrev pub joined_path : List ℕ → List ℕ → List ℕ
 joined_path place own = if slice_index own 0 == 46 then place ++ own else member_path place own
 
--- the path that the error of a rule tells
+-- the path that the error of a rule has
 abbrev pub rule_path : List ℕ → Option (List ℕ) → List ℕ
 rule_path place None = place
 rule_path place (Some own) = joined_path place own
@@ -43,8 +43,8 @@ failed_rule place r message = record { rule = r.rule; message = message; field_p
 abbrev pub no_bool : List ℕ → schema.Fields → ErrorData
 no_bool place r = record { rule = r.rule; message = codes "rule \"" ++ (r.rule ++ codes "\" did not evaluate to bool"); field_path = rule_path place r.field_path; reason = None; kind = InvalidResult; cause = None }
 
-abbrev pub unsupported : List ℕ → schema.Fields → List ℕ → Fault → ErrorData
-unsupported place r name fault = record {
+abbrev pub unsupported_reference : List ℕ → schema.Fields → List ℕ → Fault → ErrorData
+unsupported_reference place r name fault = record {
   rule = r.rule;
   message = codes "rule references '" ++ (name ++ codes "', which this kube-cel build does not support (an unsupported CEL macro, or a feature disabled at compile time); it cannot be evaluated client-side");
   field_path = rule_path place r.field_path;
@@ -53,8 +53,8 @@ unsupported place r name fault = record {
   cause = Some fault;
 }
 
-abbrev pub unevaluated : List ℕ → schema.Fields → Fault → ErrorData
-unevaluated place r fault = record { rule = r.rule; message = codes "rule evaluation error: " ++ fault_text fault; field_path = rule_path place r.field_path; reason = None; kind = EvaluationError; cause = Some fault }
+abbrev pub evaluation_error : List ℕ → schema.Fields → Fault → ErrorData
+evaluation_error place r fault = record { rule = r.rule; message = codes "rule evaluation error: " ++ fault_text fault; field_path = rule_path place r.field_path; reason = None; kind = EvaluationError; cause = Some fault }
 
 -- the name that nothing declares
 abbrev pub undeclared_name : Fault → Option (List ℕ)
@@ -62,8 +62,8 @@ undeclared_name (undeclared n) = Some n
 undeclared_name _ = None
 
 abbrev pub fault_error : List ℕ → schema.Fields → Fault → Option (List ℕ) → ErrorData
-fault_error place r fault (Some name) = unsupported place r name fault
-fault_error place r fault None = unevaluated place r fault
+fault_error place r fault (Some name) = unsupported_reference place r name fault
+fault_error place r fault None = evaluation_error place r fault
 
 -- why a rule is malformed
 abbrev pub malformed_error : List ℕ → Malformed → ErrorData

@@ -103,7 +103,7 @@ fn unread_error(
     rule_error(alloc, kind, rule, message, place, None)
 }
 
-/// The error of a rule that is false, with what is told of it.
+/// The error of a rule that is false, with what is reported of it.
 pub fn failed_rule_error(
     alloc: Global,
     rule: &Rule,

@@ -6,10 +6,10 @@ use Rattle.std.proofs.lemmas.Slice.Eq.{bytes_eq-Decides}
 use Rattle.std.specs.List.{filter, list_any}
 use Rattle.std.specs.Ordering.{match_ordering}
 use Rattle.std.specs.Str.{bytes_eq}
-use Rattle.cel_syntax_names.specs.Calls.{is_called, is_called_in_any, is_called_in_pairs}
-use Rattle.cel_syntax_names.specs.Names.{AreNames}
-use Rattle.cel_syntax_tree.specs.FreeNames.{is_free, is_free_in_any, is_free_in_pairs}
-use Rattle.cel_syntax_tree.specs.Term.{Term, literal, ident, select, has, index, unary, binary, choice, list_of, map_with, call, qualified, macro, Terms, no_terms, term_and, Pairs, no_pairs, pair_and}
+use Rattle.cel_syntax_references.specs.Calls.{is_called, is_called_in_any, is_called_in_pairs}
+use Rattle.cel_syntax_references.specs.Names.{AreNames}
+use Rattle.cel_syntax_ast.specs.FreeNames.{is_free, is_free_in_any, is_free_in_pairs}
+use Rattle.cel_syntax_ast.specs.Term.{Term, literal, ident, select, has, index, unary, binary, conditional, list_of, map_with, call, qualified, macro, Terms, no_terms, term_and, Pairs, no_pairs, pair_and}
 use Rattle.kube_cel_places.proofs.Sorted.{key_cmp, keys_sorted, same_key}
 use Rattle.kube_cel_places.specs.Inside.{in_order, insert_key}
 
@@ -66,7 +66,7 @@ abbrev mutual
   calls (index a b) = ((calls a) ++ (calls b))
   calls (unary o a) = (calls a)
   calls (binary o a b) = ((calls a) ++ (calls b))
-  calls (choice a b c) = ((calls a) ++ ((calls b) ++ (calls c)))
+  calls (conditional a b c) = ((calls a) ++ ((calls b) ++ (calls c)))
   calls (list_of ts) = (calls_in ts)
   calls (map_with ps) = (calls_in_pairs ps)
   calls (call target y ts) = y ∷ ((calls_in target) ++ (calls_in ts))
@@ -90,7 +90,7 @@ mutual
   called_here x (index a b) = (both x (calls a) (calls b) (is_called x a) (is_called x b) (called_here x a) (called_here x b))
   called_here x (unary o a) = (called_here x a)
   called_here x (binary o a b) = (both x (calls a) (calls b) (is_called x a) (is_called x b) (called_here x a) (called_here x b))
-  called_here x (choice a b c) = (both x (calls a) ((calls b) ++ (calls c)) (is_called x a) ((is_called x b) || (is_called x c)) (called_here x a) (both x (calls b) (calls c) (is_called x b) (is_called x c) (called_here x b) (called_here x c)))
+  called_here x (conditional a b c) = (both x (calls a) ((calls b) ++ (calls c)) (is_called x a) ((is_called x b) || (is_called x c)) (called_here x a) (both x (calls b) (calls c) (is_called x b) (is_called x c) (called_here x b) (called_here x c)))
   called_here x (list_of ts) = (called_in_terms x ts)
   called_here x (map_with ps) = (called_in_pairs x ps)
   called_here x (call target y ts) = ap (λ b. bytes_eq x y || b) (both x (calls_in target) (calls_in ts) (is_called_in_any x target) (is_called_in_any x ts) (called_in_terms x target) (called_in_terms x ts))
@@ -119,7 +119,7 @@ abbrev mutual
   frees (index a b) = ((frees a) ++ (frees b))
   frees (unary o a) = (frees a)
   frees (binary o a b) = ((frees a) ++ (frees b))
-  frees (choice a b c) = ((frees a) ++ ((frees b) ++ (frees c)))
+  frees (conditional a b c) = ((frees a) ++ ((frees b) ++ (frees c)))
   frees (list_of ts) = (frees_in ts)
   frees (map_with ps) = (frees_in_pairs ps)
   frees (call target y ts) = ((frees_in target) ++ (frees_in ts))
@@ -143,7 +143,7 @@ mutual
   free_here x (index a b) = (both x (frees a) (frees b) (is_free x a) (is_free x b) (free_here x a) (free_here x b))
   free_here x (unary o a) = (free_here x a)
   free_here x (binary o a b) = (both x (frees a) (frees b) (is_free x a) (is_free x b) (free_here x a) (free_here x b))
-  free_here x (choice a b c) = (both x (frees a) ((frees b) ++ (frees c)) (is_free x a) ((is_free x b) || (is_free x c)) (free_here x a) (both x (frees b) (frees c) (is_free x b) (is_free x c) (free_here x b) (free_here x c)))
+  free_here x (conditional a b c) = (both x (frees a) ((frees b) ++ (frees c)) (is_free x a) ((is_free x b) || (is_free x c)) (free_here x a) (both x (frees b) (frees c) (is_free x b) (is_free x c) (free_here x b) (free_here x c)))
   free_here x (list_of ts) = (free_in_terms x ts)
   free_here x (map_with ps) = (free_in_pairs x ps)
   free_here x (call target y ts) = (both x (frees_in target) (frees_in ts) (is_free_in_any x target) (is_free_in_any x ts) (free_in_terms x target) (free_in_terms x ts))

@@ -1,4 +1,4 @@
--- Names in order are told by which they are.
+-- Names in order are determined by which they are.
 use Rattle.std.proofs.Common.{◌≡◌, ℕ, List, [], ◌∷◌, Bool, true, false, ◌||◌, Ordering, Less, Equal, Greater, nat_cmp, is_eq, refl, sym, ap, ◌∙◌, subst}
 use Rattle.std.proofs.lemmas.Cmp.{nat_list_cmp_total}
 use Rattle.std.proofs.lemmas.Map.Text.{is_eq-slice_cmp}
@@ -8,7 +8,7 @@ use Rattle.std.specs.List.{AllByRecursion, list_any}
 use Rattle.std.specs.List.Sorted.{IsStrictlySortedBy}
 use Rattle.std.specs.Ordering.{ordering_reverse}
 use Rattle.std.specs.Str.{bytes_eq}
-use Rattle.cel_syntax_names.specs.Names.{AreNames}
+use Rattle.cel_syntax_references.specs.Names.{AreNames}
 
 abbrev name_cmp : List ℕ → List ℕ → Ordering
 name_cmp = slice_cmp nat_cmp

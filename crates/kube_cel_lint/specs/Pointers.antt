@@ -7,12 +7,12 @@ use Rattle.kube_cel_places.specs.declared.branches.BranchKind.{BranchKind}
 use Rattle.kube_cel_places.specs.Step.{keyword}
 
 -- a character of a name, in UTF-8: `~` and `/` have other meanings in a pointer
-abbrev pub escaped : ℕ → List ℕ
-escaped c = if c == 126 then codes "~0" else (if c == 47 then codes "~1" else encode_utf8 c)
+abbrev pub escaped_character : ℕ → List ℕ
+escaped_character c = if c == 126 then codes "~0" else (if c == 47 then codes "~1" else encode_utf8 c)
 
 -- a name as one step
 unfoldable pub token : List ℕ → List ℕ
-token name = flat_map escaped (chars name)
+token name = flat_map escaped_character (chars name)
 
 abbrev pub property_pointer : List ℕ → List ℕ → List ℕ
 property_pointer p k = (p ++ codes "/properties/") ++ token k

@@ -1,13 +1,13 @@
 //! JSON Pointers of the nodes of a schema (RFC 6901).
 ghost use Rattle.std.specs.Prelude.{◌≡◌, ◌++◌, IfOk, OnOk, string_bytes};
-ghost use Rattle.kube_cel_lint.specs.Pointers.{additional_pointer, branch_pointer, escaped, items_pointer, property_pointer, token};
+ghost use Rattle.kube_cel_lint.specs.Pointers.{additional_pointer, branch_pointer, escaped_character, items_pointer, property_pointer, token};
 
 use kube_cel_places::BranchKind;
 use std::alloc::{AllocError, Global};
 
 /// Adds a character of a name.
 fn push_escaped(out: &mut String, character: char) -> Result<(), AllocError>
-    ensures { OnOk result (string_bytes out.new ≡ string_bytes out.old ++ escaped character) }
+    ensures { OnOk result (string_bytes out.new ≡ string_bytes out.old ++ escaped_character character) }
 {
     match character {
         '~' => out.push_str("~0"),

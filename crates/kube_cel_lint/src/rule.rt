@@ -1,19 +1,19 @@
 //! What is wrong with the rules of one node.
 ghost use Rattle.std.specs.Prelude.{◌≡◌, ◌++◌, [], ◌∷◌, IfErr, IfOk, OnOk, map};
-ghost use Rattle.cel_syntax_names.specs.Names.{names_of};
+ghost use Rattle.cel_syntax_references.specs.Names.{names_of};
 ghost use Rattle.kube_cel_analysis.specs.Warnings.{warning_view};
 ghost use Rattle.kube_cel_lint.specs.Findings.{Naming, compiled_findings, error_finding, finding_view, is_unknown, kind_of_error, kind_of_warning, name_findings, names_findings, rule_findings, rule_of_error, rules_findings, unknown_finding, warning_finding};
 ghost use Rattle.kube_schema_rules.specs.Compilation.{compiled_seen, error_view, result_view};
-ghost use Rattle.kube_schema_table.specs.Shown.{shown};
-ghost use Rattle.kube_schema_table.specs.Tree.{own};
+ghost use Rattle.kube_schema_compiled.specs.Shown.{node_tree};
+ghost use Rattle.kube_schema_compiled.specs.Tree.{own};
 
 use crate::finding::{LintFinding, LintKind};
-use cel_meaning::{Form, Functions};
+use cel_semantics::{Form, Functions};
 use kube_cel_analysis::{AnalysisWarning, ScopeContext, WarningKind};
 use kube_cel_costs::analyze_expression;
 use kube_functions::AllFunctions;
+use kube_schema_compiled::SchemaNode;
 use kube_schema_rules::{CompilationError, CompilationResult};
-use kube_schema_table::SchemaNode;
 use kube_types_refused::Refused;
 use std::alloc::{AllocError, Global};
 
@@ -173,7 +173,7 @@ fn add_compiled(
     found: &mut Vec<LintFinding>,
 ) -> Result<(), Refused>
     ensures found { OnOk result ((names : Naming) → map finding_view found.new.items
-        ≡ map finding_view found.old.items ++ compiled_findings names pointer.now (shown node.now) (result_view rule.now)) }
+        ≡ map finding_view found.old.items ++ compiled_findings names pointer.now (node_tree node.now) (result_view rule.now)) }
     ensures memory { IfErr result (λ e. e ≡ Refused.Memory) }
 {
     let text = rule.rule.rule.as_str();
@@ -194,7 +194,7 @@ fn add_rule(
     found: &mut Vec<LintFinding>,
 ) -> Result<(), Refused>
     ensures found { OnOk result ((names : Naming) → map finding_view found.new.items
-        ≡ map finding_view found.old.items ++ rule_findings names pointer.now (shown node.now) (compiled_seen rule.now)) }
+        ≡ map finding_view found.old.items ++ rule_findings names pointer.now (node_tree node.now) (compiled_seen rule.now)) }
     ensures memory { IfErr result (λ e. e ≡ Refused.Memory) }
 {
     match rule {
@@ -211,7 +211,7 @@ pub(crate) fn add_rules(
     found: &mut Vec<LintFinding>,
 ) -> Result<(), Refused>
     ensures found { OnOk result ((names : Naming) → map finding_view found.new.items
-        ≡ map finding_view found.old.items ++ rules_findings names pointer.now (shown node.now) (own (shown node.now)).validations) }
+        ≡ map finding_view found.old.items ++ rules_findings names pointer.now (node_tree node.now) (own (node_tree node.now)).validations) }
     ensures memory { IfErr result (λ e. e ≡ Refused.Memory) }
 {
     for rule in node.validations() {

@@ -3,14 +3,14 @@ ghost use Rattle.std.specs.Prelude.{◌≡◌, ◌++◌, [], IfErr, IfOk, OnOk, 
 ghost use Rattle.kube_cel_lint.specs.Findings.{Naming, finding_view};
 ghost use Rattle.kube_cel_lint.specs.Lint.{branch_findings, branches_of, findings, named_findings, findings_at};
 ghost use Rattle.kube_cel_lint.specs.Pointers.{additional_pointer, items_pointer};
-ghost use Rattle.kube_schema_table.specs.Shown.{shown, whole};
-ghost use Rattle.kube_schema_table.specs.Tree.{additional_of, items_of, named_of, nodes_length, nth_node};
+ghost use Rattle.kube_schema_compiled.specs.Shown.{node_tree, whole};
+ghost use Rattle.kube_schema_compiled.specs.Tree.{additional_of, items_of, named_of, nodes_length, nth_node};
 
 use crate::finding::LintFinding;
 use crate::pointer::{additional_pointer, branch_pointer, items_pointer, property_pointer};
 use crate::rule::add_rules;
 use kube_cel_places::BranchKind;
-use kube_schema_table::{CompiledSchema, SchemaNode};
+use kube_schema_compiled::{CompiledSchema, SchemaNode};
 use kube_types_refused::Refused;
 use std::alloc::Global;
 
@@ -37,7 +37,7 @@ fn lint_node(
     node: &SchemaNode<'_>,
     found: &mut Vec<LintFinding>,
 ) -> Result<(), Refused>
-    ensures found { OnOk result ((names : Naming) → map finding_view found.new.items ≡ map finding_view found.old.items ++ findings names pointer.now (shown node.now)) }
+    ensures found { OnOk result ((names : Naming) → map finding_view found.new.items ≡ map finding_view found.old.items ++ findings names pointer.now (node_tree node.now)) }
     ensures memory { IfErr result (λ e. e ≡ Refused.Memory) }
 {
     add_rules(alloc, pointer, node, found)?;
@@ -58,7 +58,7 @@ fn lint_properties(
     node: &SchemaNode<'_>,
     found: &mut Vec<LintFinding>,
 ) -> Result<(), Refused>
-    ensures found { OnOk result ((names : Naming) → map finding_view found.new.items ≡ map finding_view found.old.items ++ named_findings names pointer.now (named_of (shown node.now))) }
+    ensures found { OnOk result ((names : Naming) → map finding_view found.new.items ≡ map finding_view found.old.items ++ named_findings names pointer.now (named_of (node_tree node.now))) }
     ensures memory { IfErr result (λ e. e ≡ Refused.Memory) }
 {
     for index in 0..node.property_count() {
@@ -79,7 +79,7 @@ fn lint_items(
     node: &SchemaNode<'_>,
     found: &mut Vec<LintFinding>,
 ) -> Result<(), Refused>
-    ensures found { OnOk result ((names : Naming) → map finding_view found.new.items ≡ map finding_view found.old.items ++ findings_at names (items_pointer pointer.now) (items_of (shown node.now))) }
+    ensures found { OnOk result ((names : Naming) → map finding_view found.new.items ≡ map finding_view found.old.items ++ findings_at names (items_pointer pointer.now) (items_of (node_tree node.now))) }
     ensures memory { IfErr result (λ e. e ≡ Refused.Memory) }
 {
     let Some(items) = node.items() else {
@@ -98,7 +98,7 @@ fn lint_additional(
     node: &SchemaNode<'_>,
     found: &mut Vec<LintFinding>,
 ) -> Result<(), Refused>
-    ensures found { OnOk result ((names : Naming) → map finding_view found.new.items ≡ map finding_view found.old.items ++ findings_at names (additional_pointer pointer.now) (additional_of (shown node.now))) }
+    ensures found { OnOk result ((names : Naming) → map finding_view found.new.items ≡ map finding_view found.old.items ++ findings_at names (additional_pointer pointer.now) (additional_of (node_tree node.now))) }
     ensures memory { IfErr result (λ e. e ≡ Refused.Memory) }
 {
     let Some(additional) = node.additional_properties() else {
@@ -118,7 +118,7 @@ fn lint_branches(
     node: &SchemaNode<'_>,
     found: &mut Vec<LintFinding>,
 ) -> Result<(), Refused>
-    ensures found { OnOk result ((names : Naming) → map finding_view found.new.items ≡ map finding_view found.old.items ++ branch_findings names kind pointer.now 0 (branches_of kind (shown node.now))) }
+    ensures found { OnOk result ((names : Naming) → map finding_view found.new.items ≡ map finding_view found.old.items ++ branch_findings names kind pointer.now 0 (branches_of kind (node_tree node.now))) }
     ensures memory { IfErr result (λ e. e ≡ Refused.Memory) }
 {
     for index in 0..branch_count(kind, node) {
@@ -133,7 +133,7 @@ fn lint_branches(
 
 /// The number of branches of a keyword.
 fn branch_count(kind: BranchKind, node: &SchemaNode<'_>) -> usize
-    ensures { result ≡ nodes_length (branches_of kind (shown node.now)) }
+    ensures { result ≡ nodes_length (branches_of kind (node_tree node.now)) }
 {
     match kind {
         BranchKind::AllOf => node.all_of_count(),
@@ -144,7 +144,7 @@ fn branch_count(kind: BranchKind, node: &SchemaNode<'_>) -> usize
 
 /// A branch of a keyword.
 fn branch<'a>(kind: BranchKind, node: &SchemaNode<'a>, index: usize) -> Option<SchemaNode<'a>>
-    ensures { option_map shown result ≡ nth_node index (branches_of kind (shown node.now)) }
+    ensures { option_map node_tree result ≡ nth_node index (branches_of kind (node_tree node.now)) }
 {
     match kind {
         BranchKind::AllOf => node.all_of(index),

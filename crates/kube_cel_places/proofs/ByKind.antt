@@ -3,7 +3,7 @@ use Rattle.kube_cel_places.proofs.Ordered.{all_append, all_map, sorted_append}
 use Rattle.kube_cel_places.proofs.Sorted.{less_than, key_cmp, keys_sorted, sorted_map, up_sorted}
 use Rattle.kube_cel_places.specs.declared.branches.BranchKind.{BranchKind}
 use Rattle.kube_cel_places.specs.Inside.{in_order, up_to}
-use Rattle.kube_cel_places.specs.Step.{Step, property, item, extra, branch, branch_rank, step_rank, step_content, step_cmp}
+use Rattle.kube_cel_places.specs.Step.{Step, property, item, additional_property, branch, branch_rank, step_rank, step_content, step_cmp}
 use Rattle.std.proofs.Common.{◌≡◌, ◌<◌, ◌≤◌, ℕ, suc, List, [], ◌∷◌, ◌++◌, map, Ordering, Less, Equal, nat_cmp, refl, ap, ◌∙◌, arith}
 use Rattle.std.proofs.lemmas.Cmp.{nat_cmp_total, tied_itself}
 use Rattle.std.specs.Cmp.Lexicographic.{slice_cmp}
@@ -49,8 +49,8 @@ kind_before r ps qs h g = record {
 pub properties_in_order : (ks : List (List ℕ)) → AreOfRank 0 (map property (in_order ks))
 properties_in_order ks = record { sorted = sorted_map key_cmp step_cmp property (λ k l e. e) (in_order ks) (keys_sorted ks); of_rank = all_of_map (λ p. step_rank p ≡ 0) property (λ k. refl) (in_order ks) }
 
-pub extras_in_order : (ks : List (List ℕ)) → AreOfRank 2 (map extra (in_order ks))
-extras_in_order ks = record { sorted = sorted_map key_cmp step_cmp extra (λ k l e. e) (in_order ks) (keys_sorted ks); of_rank = all_of_map (λ p. step_rank p ≡ 2) extra (λ k. refl) (in_order ks) }
+pub extras_in_order : (ks : List (List ℕ)) → AreOfRank 2 (map additional_property (in_order ks))
+extras_in_order ks = record { sorted = sorted_map key_cmp step_cmp additional_property (λ k l e. e) (in_order ks) (keys_sorted ks); of_rank = all_of_map (λ p. step_rank p ≡ 2) additional_property (λ k. refl) (in_order ks) }
 
 pub items_in_order : (n : ℕ) → AreOfRank 1 (map item (up_to n))
 items_in_order n = record { sorted = sorted_map nat_cmp step_cmp item (λ i j e. ap (λ o. ordering_then o Equal) e) (up_to n) (up_sorted n); of_rank = all_of_map (λ p. step_rank p ≡ 1) item (λ i. refl) (up_to n) }

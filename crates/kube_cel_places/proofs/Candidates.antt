@@ -5,9 +5,9 @@ use Rattle.kube_cel_places.proofs.Sorted.{same_key, key_cmp, in_ordered, in_up}
 use Rattle.kube_cel_places.specs.declared.branches.BranchKind.{BranchKind}
 use Rattle.kube_cel_places.specs.declared.branches.BranchKind.TheVariants.{AllOf, OneOf, AnyOf}
 use Rattle.kube_cel_places.specs.Inside.{keys_in, keys_at, count_at, in_order, up_to}
-use Rattle.kube_cel_places.specs.Shape.{Shape}
-use Rattle.kube_cel_places.specs.Spot.{Root, Spot, further, unless_there, member_path, item_path, goes, candidates, property_steps, item_steps, extra_steps, branch_steps}
-use Rattle.kube_cel_places.specs.Step.{Step, property, item, extra, branch, step_cmp}
+use Rattle.kube_cel_places.specs.StepAccessors.{StepAccessors}
+use Rattle.kube_cel_places.specs.Visit.{Root, Visit, further, unless_there, member_path, item_path, goes, candidates, property_steps, item_steps, additional_steps, branch_steps}
+use Rattle.kube_cel_places.specs.Step.{Step, property, item, additional_property, branch, step_cmp}
 use Rattle.kube_cel_places.specs.Walk.{ArePlaces, AreFoundAtPlaces, places, answers}
 use Rattle.serde_json.specs.Data.{Data, null, boolean, number, string, array, object, Items, no_items, item as one_item, Members, no_members, member}
 use Rattle.serde_json.specs.Events.{items_len}
@@ -64,55 +64,55 @@ value_there r d t (Some n) None c h = h
 value_there r d t (Some n) (Some v) c h = refl
 
 -- a shape whose names and counts leave nothing out
-pub record NamesAll {S : Type 0} (shape : Shape S) : Type 0 where
+pub record NamesAll {S : Type 0} (shape : StepAccessors S) : Type 0 where
   pub keys : (k : List ℕ) (node : S) → IsSome (shape.property k node) → IsIn k (shape.keys node)
   pub branches : (kind : BranchKind) (j : ℕ) (node : S) → IsSome (shape.branch kind j node) → j < shape.branch_count kind node
 
-module _ {S : Type 0} (shape : Shape S) where
-  pub candidates_sorted : (s : Spot S) → IsStrictlySortedBy step_cmp (candidates shape s)
-  unfolding candidates property_steps item_steps extra_steps branch_steps
+module _ {S : Type 0} (shape : StepAccessors S) where
+  pub candidates_sorted : (s : Visit S) → IsStrictlySortedBy step_cmp (candidates shape s)
+  unfolding candidates property_steps item_steps additional_steps branch_steps
   candidates_sorted s =
       (kind_before 0 (property_steps shape s) _ (properties_in_order (shape.keys s.node))
       (kind_before 1 (item_steps shape s) _ (items_in_order (count_at (Some s.value)))
-      (kind_before 2 (extra_steps shape s) _ (extras_in_order (keys_at (Some s.value)))
+      (kind_before 2 (additional_steps shape s) _ (extras_in_order (keys_at (Some s.value)))
       (kind_before 3 (branch_steps shape AllOf s) _ (branches_in_order AllOf (shape.branch_count AllOf s.node))
       (kind_before 4 (branch_steps shape OneOf s) _ (branches_in_order OneOf (shape.branch_count OneOf s.node))
       (last_kind 5 (branch_steps shape AnyOf s) (branches_in_order AnyOf (shape.branch_count AnyOf s.node)))))))).sorted
 
   -- ---- all of them
 
-  in_branches : (kind : BranchKind) (j : ℕ) (s : Spot S) → j < shape.branch_count kind s.node → IsIn (branch kind j) (branch_steps shape kind s)
+  in_branches : (kind : BranchKind) (j : ℕ) (s : Visit S) → j < shape.branch_count kind s.node → IsIn (branch kind j) (branch_steps shape kind s)
   unfolding branch_steps
   in_branches kind j s h = in_map (branch kind) j (up_to (shape.branch_count kind s.node)) (in_up j (shape.branch_count kind s.node) h)
 
   in_rest : (p : Step) (xs ys zs ws : List Step) → IsIn p ws → IsIn p (xs ++ (ys ++ (zs ++ ws)))
   in_rest p xs ys zs ws h = in_right p xs (ys ++ (zs ++ ws)) (in_right p ys (zs ++ ws) (in_right p zs ws h))
 
-  branch_named : (kind : BranchKind) (p : Step) (s : Spot S) → IsIn p (branch_steps shape kind s) → IsIn p (branch_steps shape AllOf s ++ (branch_steps shape OneOf s ++ branch_steps shape AnyOf s))
+  branch_named : (kind : BranchKind) (p : Step) (s : Visit S) → IsIn p (branch_steps shape kind s) → IsIn p (branch_steps shape AllOf s ++ (branch_steps shape OneOf s ++ branch_steps shape AnyOf s))
   branch_named AllOf p s h = in_left p (branch_steps shape AllOf s) _ h
   branch_named OneOf p s h = in_right p (branch_steps shape AllOf s) _ (in_left p (branch_steps shape OneOf s) (branch_steps shape AnyOf s) h)
   branch_named AnyOf p s h = in_right p (branch_steps shape AllOf s) _ (in_right p (branch_steps shape OneOf s) (branch_steps shape AnyOf s) h)
 
-  pub candidates_all : NamesAll shape → (p : Step) (s : Spot S) → IsSome (goes shape p s) → IsIn p (candidates shape s)
-  unfolding candidates property_steps item_steps extra_steps goes
+  pub candidates_all : NamesAll shape → (p : Step) (s : Visit S) → IsSome (goes shape p s) → IsIn p (candidates shape s)
+  unfolding candidates property_steps item_steps additional_steps goes
   candidates_all all (property k) s h =
       in_left (property k) (property_steps shape s) _ (in_map property k (in_order (shape.keys s.node))
       (in_ordered k (shape.keys s.node) (all.keys k s.node (node_there None s.depth (member_path s.path k) _ _ _ h))))
   candidates_all all (item i) s h =
       in_right (item i) (property_steps shape s) _ (in_left (item i) (item_steps shape s) _ (in_map item i (up_to (count_at (Some s.value)))
       (in_up i (count_at (Some s.value)) (counted i (Some s.value) (value_there None s.depth (item_path s.path i) (shape.items s.node) _ _ h)))))
-  candidates_all all (extra k) s h =
-      in_right (extra k) (property_steps shape s) _ (in_right (extra k) (item_steps shape s) _ (in_left (extra k) (extra_steps shape s) _ (in_map extra k (in_order (keys_at (Some s.value)))
-      (in_ordered k (keys_at (Some s.value)) (named k (Some s.value) (value_there None s.depth (member_path s.path k) (unless_there (shape.property k s.node) (shape.extra s.node)) _ _ h))))))
+  candidates_all all (additional_property k) s h =
+      in_right (additional_property k) (property_steps shape s) _ (in_right (additional_property k) (item_steps shape s) _ (in_left (additional_property k) (additional_steps shape s) _ (in_map additional_property k (in_order (keys_at (Some s.value)))
+      (in_ordered k (keys_at (Some s.value)) (named k (Some s.value) (value_there None s.depth (member_path s.path k) (unless_there (shape.property k s.node) (shape.additional_property s.node)) _ _ h))))))
   candidates_all all (branch kind j) s h =
-      in_rest (branch kind j) (property_steps shape s) (item_steps shape s) (extra_steps shape s) _
+      in_rest (branch kind j) (property_steps shape s) (item_steps shape s) (additional_steps shape s) _
       (branch_named kind (branch kind j) s (in_branches kind j s (all.branches kind j s.node (node_there s.root s.depth s.path (shape.branch kind j s.node) (Some s.value) s.old h))))
 
   -- the computed places are the places
-  pub spot_places : NamesAll shape → (n : ℕ) (s : Spot S) → ArePlaces (goes shape) n s (places (goes shape) (candidates shape) n s)
-  spot_places all n s = are_places (goes shape) (candidates shape) candidates_sorted (candidates_all all) n s
+  pub visit_places : NamesAll shape → (n : ℕ) (s : Visit S) → ArePlaces (goes shape) n s (places (goes shape) (candidates shape) n s)
+  visit_places all n s = are_places (goes shape) (candidates shape) candidates_sorted (candidates_all all) n s
 
   -- the computed answers are what stands at the places
-  pub spot_answers : NamesAll shape → {E : Type 0} (found_at : Spot S → List E) (n : ℕ) (s : Spot S) → AreFoundAtPlaces (goes shape) found_at n s (answers (goes shape) (candidates shape) found_at n s)
+  pub visit_answers : NamesAll shape → {E : Type 0} (found_at : Visit S → List E) (n : ℕ) (s : Visit S) → AreFoundAtPlaces (goes shape) found_at n s (answers (goes shape) (candidates shape) found_at n s)
   unfolding answers
-  spot_answers all found_at n s = record { all_places = places (goes shape) (candidates shape) n s; are_all = spot_places all n s; joined = refl }
+  visit_answers all found_at n s = record { all_places = places (goes shape) (candidates shape) n s; are_all = visit_places all n s; joined = refl }

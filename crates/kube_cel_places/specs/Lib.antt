@@ -1,6 +1,6 @@
 pub mod Inside
 pub mod Raw
-pub mod Shape
-pub mod Spot
+pub mod StepAccessors
+pub mod Visit
 pub mod Step
 pub mod Walk

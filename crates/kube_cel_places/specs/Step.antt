@@ -14,7 +14,7 @@ pub data Step : Type 0 where
   -- to an item of a list
   item : ℕ → Step
   -- to the member of a name that isn't declared
-  extra : List ℕ → Step
+  additional_property : List ℕ → Step
   -- to a branch, while the value stays
   branch : BranchKind → ℕ → Step
 
@@ -32,14 +32,14 @@ branch_rank AnyOf = 5
 abbrev pub step_rank : Step → ℕ
 step_rank (property key) = 0
 step_rank (item index) = 1
-step_rank (extra key) = 2
+step_rank (additional_property key) = 2
 step_rank (branch kind index) = branch_rank kind
 
--- what tells it from others of its kind: the bytes of a key, or an index
+-- what distinguishes it from others of its kind: the bytes of a key, or an index
 abbrev pub step_content : Step → List ℕ
 step_content (property key) = key
 step_content (item index) = index ∷ []
-step_content (extra key) = key
+step_content (additional_property key) = key
 step_content (branch kind index) = index ∷ []
 
 -- the kind decides; among steps of one kind the bytes of the key or the index

@@ -1,4 +1,4 @@
-//! The keywords of a schema whose branches a value goes by as a whole.
+//! The keywords of a schema whose branches apply to a value as a whole.
 ghost use Rattle.kube_cel_places.specs.Step.{keyword};
 ghost use Rattle.std.specs.Prelude.{◌≡◌};
 

@@ -1,21 +1,21 @@
 -- A meaning depends only on what the names are bound to, and what they are bound to at a place.
-use Rattle.cel_book.specs.Book.{Book}
-use Rattle.cel_meaning.specs.Bindings.{Bindings, binding}
-use Rattle.cel_meaning.specs.Decisions.{truth, chosen}
-use Rattle.cel_meaning.specs.Library.{Library}
-use Rattle.cel_meaning.specs.Calls.{receiver_of, is_there, by_form, called}
-use Rattle.cel_meaning.specs.Macros.{macro_name, macro_of, gift_of}
-use Rattle.cel_meaning.specs.Meaning.{meaning, meanings, map_meaning, binary_of, strictly, entry_of}
-use Rattle.cel_meaning.specs.Members.{selected, has_member, indexed}
-use Rattle.cel_meaning.specs.Operators.{operated_on_one}
-use Rattle.cel_meaning.specs.Outcome.{and_then, all_values}
-use Rattle.cel_meaning.specs.Ranges.{range_of}
-use Rattle.cel_syntax_tree.specs.Term.{Term, literal, ident, select, has, index, unary, binary, choice, list_of, map_with, call, qualified, macro, Terms, no_terms, term_and, count_of, Pairs, no_pairs, pair_and}
+use Rattle.cel_patterns.specs.Book.{Book}
+use Rattle.cel_semantics.specs.Bindings.{Bindings, binding}
+use Rattle.cel_semantics.specs.Decisions.{truth, branch_outcome}
+use Rattle.cel_semantics.specs.Library.{Library}
+use Rattle.cel_semantics.specs.Calls.{receiver_of, is_there, by_form, call_outcome}
+use Rattle.cel_semantics.specs.Macros.{macro_name, macro_of, iteration_result_of}
+use Rattle.cel_semantics.specs.Meaning.{meaning, meanings, map_meaning, binary_of, strictly, entry_of}
+use Rattle.cel_semantics.specs.Members.{selection, has_member, index_outcome}
+use Rattle.cel_semantics.specs.Operators.{unary_outcome}
+use Rattle.cel_semantics.specs.Outcome.{and_then, all_values}
+use Rattle.cel_semantics.specs.Ranges.{range_of}
+use Rattle.cel_syntax_ast.specs.Term.{Term, literal, ident, select, has, index, unary, binary, conditional, list_of, map_with, call, qualified, macro, Terms, no_terms, term_and, count_of, Pairs, no_pairs, pair_and}
 use Rattle.cel_value.specs.Data.{Data, text, text_key, list, map_of, no_entries}
 use Rattle.cel_value.specs.View.{items_of}
 use Rattle.cel_value.specs.Faults.{undeclared}
 use Rattle.kube_cel_verdicts.specs.Verdicts.{with_old, with_root}
-use Rattle.kube_cel_places.specs.Spot.{Root}
+use Rattle.kube_cel_places.specs.Visit.{Root}
 use Rattle.std.proofs.Common.{◌≡◌, ℕ, List, [], ◌∷◌, map, Bool, true, false, Option, Some, None, option_map, Ok, Err, codes, if◌then◌else◌, refl, sym, ap, ◌∙◌}
 use Rattle.std.proofs.lemmas.Slice.Eq.{bytes_eq-Decides}
 use Rattle.std.specs.Option.{option_map_or}
@@ -30,21 +30,21 @@ mutual
   pub meaning_same : (library : Library) (book : Book) (t : Term) (e f : Bindings) → ((x : List ℕ) → binding x e ≡ binding x f) → meaning library book t e ≡ meaning library book t f
   meaning_same library book (literal v) e f h = refl
   meaning_same library book (ident x) e f h = ap (λ o. option_map_or Ok o (Err (undeclared x))) (h x)
-  meaning_same library book (select a x) e f h = ap (λ r. and_then r (λ v. selected (text_key x) v)) (meaning_same library book a e f h)
+  meaning_same library book (select a x) e f h = ap (λ r. and_then r (λ v. selection (text_key x) v)) (meaning_same library book a e f h)
   meaning_same library book (has a x) e f h = ap (λ r. and_then r (λ v. has_member (text_key x) v)) (meaning_same library book a e f h)
-  meaning_same library book (index a b) e f h = λ i. strictly indexed (meaning_same library book a e f h i) (meaning_same library book b e f h i)
-  meaning_same library book (unary op a) e f h = ap (λ r. and_then r (λ v. operated_on_one op v)) (meaning_same library book a e f h)
+  meaning_same library book (index a b) e f h = λ i. strictly index_outcome (meaning_same library book a e f h i) (meaning_same library book b e f h i)
+  meaning_same library book (unary op a) e f h = ap (λ r. and_then r (λ v. unary_outcome op v)) (meaning_same library book a e f h)
   meaning_same library book (binary op a b) e f h = λ i. binary_of op (meaning_same library book a e f h i) (meaning_same library book b e f h i)
-  meaning_same library book (choice a b c) e f h = λ i. chosen (truth (codes "?:") (meaning_same library book a e f h i)) (meaning_same library book b e f h i) (meaning_same library book c e f h i)
+  meaning_same library book (conditional a b c) e f h = λ i. branch_outcome (truth (codes "?:") (meaning_same library book a e f h i)) (meaning_same library book b e f h i) (meaning_same library book c e f h i)
   meaning_same library book (list_of ts) e f h = λ i. and_then (all_values (meanings_same library book ts e f h i)) (λ vs. Ok (list (items_of vs)))
   meaning_same library book (map_with ps) e f h = map_meaning_same library book ps e f h (map_of no_entries)
   meaning_same library book (call target name args) e f h = λ i. by_form (library.form_of name (is_there target) (count_of args)) name
-      (and_then (all_values (meanings_same library book target e f h i)) (λ rs. and_then (all_values (meanings_same library book args e f h i)) (λ vs. called library book name (receiver_of rs) vs)))
+      (and_then (all_values (meanings_same library book target e f h i)) (λ rs. and_then (all_values (meanings_same library book args e f h i)) (λ vs. call_outcome library book name (receiver_of rs) vs)))
   meaning_same library book (qualified name args) e f h = λ i. by_form (library.form_of name false (count_of args)) name
-      (and_then (all_values (meanings_same library book args e f h i)) (λ vs. called library book name None vs))
+      (and_then (all_values (meanings_same library book args e f h i)) (λ vs. call_outcome library book name None vs))
   meaning_same library book (macro kind range x filter body) e f h = λ i. and_then (meaning_same library book range e f h i) (λ v. and_then (range_of (macro_name kind) v)
       (λ items. macro_of kind (map (λ d. meaning_same library book body ((x, d) ∷ e) ((x, d) ∷ f) (under x d e f h) i) items)
-      (map (λ d. gift_of kind d (meanings_same library book filter ((x, d) ∷ e) ((x, d) ∷ f) (under x d e f h) i) (meaning_same library book body ((x, d) ∷ e) ((x, d) ∷ f) (under x d e f h) i)) items)))
+      (map (λ d. iteration_result_of kind d (meanings_same library book filter ((x, d) ∷ e) ((x, d) ∷ f) (under x d e f h) i) (meaning_same library book body ((x, d) ∷ e) ((x, d) ∷ f) (under x d e f h) i)) items)))
 
   meanings_same : (library : Library) (book : Book) (ts : Terms) (e f : Bindings) → ((x : List ℕ) → binding x e ≡ binding x f) → meanings library book ts e ≡ meanings library book ts f
   meanings_same library book no_terms e f h = refl

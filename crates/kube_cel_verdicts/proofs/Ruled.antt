@@ -1,16 +1,16 @@
 -- The verdict of one rule, way by way.
-use Rattle.cel_book.specs.Book.{Book}
-use Rattle.cel_meaning.specs.Bindings.{Bindings, binding}
-use Rattle.cel_meaning.specs.Outcome.{Outcome}
+use Rattle.cel_patterns.specs.Book.{Book}
+use Rattle.cel_semantics.specs.Bindings.{Bindings, binding}
+use Rattle.cel_semantics.specs.Outcome.{Outcome}
 use Rattle.kube_functions.specs.Kube.{all_library}
-use Rattle.cel_syntax_tree.specs.Term.{Term}
+use Rattle.cel_syntax_ast.specs.Term.{Term}
 use Rattle.cel_value.specs.Data.{Data, null}
 use Rattle.cel_value.specs.Faults.{Fault}
 use Rattle.cel_value.specs.Parts.{bool_in}
 use Rattle.kube_cel_errors.specs.Errors.{ErrorData}
 use Rattle.kube_cel_errors.specs.RuleErrors.{fault_error, malformed_error, undeclared_name}
 use Rattle.kube_cel_verdicts.proofs.Bound.{meaning_same, under}
-use Rattle.kube_cel_verdicts.specs.Verdicts.{is_applicable, is_old_null, outcome_in, told_text, own_message, failed_message, value_error, outcome_error, bound_verdict, rule_bindings, compiled_verdict, verdict}
+use Rattle.kube_cel_verdicts.specs.Verdicts.{is_applicable, is_old_null, outcome_in, message_text, own_message, failed_message, value_error, outcome_error, bound_verdict, rule_bindings, compiled_verdict, verdict}
 use Rattle.kube_schema_rules.specs.Compilation.{Compiled, Malformed}
 use Rattle.kube_schema_rules.specs.Rules.{Fields}
 use Rattle.serde_json.specs.Data.{Data as Json}
@@ -32,23 +32,23 @@ pub outcome_same : (b : Book) (t : Term) (e f : Bindings) → ((x : List ℕ) �
 unfolding outcome_in
 outcome_same b t e f h = meaning_same all_library b t e f h
 
-told_same : (b : Book) (o : Option Term) (e f : Bindings) → ((x : List ℕ) → binding x e ≡ binding x f) → option_map (outcome_in b e) o ≡ option_map (outcome_in b f) o
-told_same b None e f h = refl
-told_same b (Some t) e f h = ap Some (outcome_same b t e f h)
+reported_same : (b : Book) (o : Option Term) (e f : Bindings) → ((x : List ℕ) → binding x e ≡ binding x f) → option_map (outcome_in b e) o ≡ option_map (outcome_in b f) o
+reported_same b None e f h = refl
+reported_same b (Some t) e f h = ap Some (outcome_same b t e f h)
 
 pub verdict_same : (b : Book) (path : List ℕ) (c : Compiled) (e f : Bindings) → ((x : List ℕ) → binding x e ≡ binding x f) → bound_verdict b e path c ≡ bound_verdict b f path c
 unfolding bound_verdict
-verdict_same b path c e f h = λ i. outcome_error path c.fields (failed_message c.fields (told_same b c.message_tree e f h i)) (outcome_same b c.tree e f h i)
+verdict_same b path c e f h = λ i. outcome_error path c.fields (failed_message c.fields (reported_same b c.message_tree e f h i)) (outcome_same b c.tree e f h i)
 
--- ---- what is told of a rule that is false
+-- ---- what is reported of a rule that is false
 
-pub told_found : (b : Book) (e : Bindings) (r : Fields) (o : Option Term) (t : Term) (s : List ℕ) (outcome : Outcome) → o ≡ Some t → outcome ≡ outcome_in b e t
-    → Some s ≡ told_text outcome → s ≡ failed_message r (option_map (outcome_in b e) o)
-told_found b e r o t s outcome k q p = ap (λ o. unwrap_or o (own_message r)) (p ∙ ap told_text q) ∙ sym (ap (λ o. failed_message r (option_map (outcome_in b e) o)) k)
+pub message_found : (b : Book) (e : Bindings) (r : Fields) (o : Option Term) (t : Term) (s : List ℕ) (outcome : Outcome) → o ≡ Some t → outcome ≡ outcome_in b e t
+    → Some s ≡ message_text outcome → s ≡ failed_message r (option_map (outcome_in b e) o)
+message_found b e r o t s outcome k q p = ap (λ o. unwrap_or o (own_message r)) (p ∙ ap message_text q) ∙ sym (ap (λ o. failed_message r (option_map (outcome_in b e) o)) k)
 
-pub untold_found : (b : Book) (e : Bindings) (r : Fields) (o : Option Term) (t : Term) (s : List ℕ) (outcome : Outcome) → o ≡ Some t → outcome ≡ outcome_in b e t
-    → None ≡ told_text outcome → s ≡ own_message r → s ≡ failed_message r (option_map (outcome_in b e) o)
-untold_found b e r o t s outcome k q p m = m ∙ ap (λ o. unwrap_or o (own_message r)) (p ∙ ap told_text q) ∙ sym (ap (λ o. failed_message r (option_map (outcome_in b e) o)) k)
+pub no_message_found : (b : Book) (e : Bindings) (r : Fields) (o : Option Term) (t : Term) (s : List ℕ) (outcome : Outcome) → o ≡ Some t → outcome ≡ outcome_in b e t
+    → None ≡ message_text outcome → s ≡ own_message r → s ≡ failed_message r (option_map (outcome_in b e) o)
+no_message_found b e r o t s outcome k q p m = m ∙ ap (λ o. unwrap_or o (own_message r)) (p ∙ ap message_text q) ∙ sym (ap (λ o. failed_message r (option_map (outcome_in b e) o)) k)
 
 -- ---- a rule whose names are bound
 
@@ -70,9 +70,9 @@ judged b e path c applicable null_old = if applicable then bound_verdict b (if n
 pub skipped_found : (b : Book) (e : Bindings) (old : Option Json) (path : List ℕ) (c : Compiled) → is_applicable old c ≡ false → None ≡ compiled_verdict b e old path c
 skipped_found b e old path c a = sym (ap (λ a. judged b e path c a (is_old_null old c.fields)) a)
 
-pub judged_found : (b : Book) (e : Bindings) (old : Option Json) (path : List ℕ) (c : Compiled) (o : Option ErrorData) → is_applicable old c ≡ true → is_old_null old c.fields ≡ false
+pub verdict_found : (b : Book) (e : Bindings) (old : Option Json) (path : List ℕ) (c : Compiled) (o : Option ErrorData) → is_applicable old c ≡ true → is_old_null old c.fields ≡ false
     → o ≡ bound_verdict b e path c → o ≡ compiled_verdict b e old path c
-judged_found b e old path c o a n q = q ∙ sym (λ i. judged b e path c (a i) (n i))
+verdict_found b e old path c o a n q = q ∙ sym (λ i. judged b e path c (a i) (n i))
 
 pub null_found : (b : Book) (e f : Bindings) (old : Option Json) (path : List ℕ) (c : Compiled) (o : Option ErrorData) → is_applicable old c ≡ true → is_old_null old c.fields ≡ true
     → ((x : List ℕ) → binding x f ≡ binding x ((codes "oldSelf", null) ∷ e)) → o ≡ bound_verdict b f path c → o ≡ compiled_verdict b e old path c

@@ -1,3 +1,3 @@
 pub mod Roots
-pub mod Told
+pub mod AddedErrors
 pub mod Verdicts

@@ -1,15 +1,15 @@
 -- Trusted by the headline.
 -- The verdict of a rule whose names are bound (Kubernetes documentation, "Validation rules").
-use Rattle.cel_book.specs.Book.{Book}
-use Rattle.cel_meaning.specs.Bindings.{Bindings}
-use Rattle.cel_meaning.specs.Meaning.{meaning}
-use Rattle.cel_meaning.specs.Outcome.{Outcome}
-use Rattle.cel_syntax_tree.specs.Term.{Term}
+use Rattle.cel_patterns.specs.Book.{Book}
+use Rattle.cel_semantics.specs.Bindings.{Bindings}
+use Rattle.cel_semantics.specs.Meaning.{meaning}
+use Rattle.cel_semantics.specs.Outcome.{Outcome}
+use Rattle.cel_syntax_ast.specs.Term.{Term}
 use Rattle.cel_value.specs.Data.{Data, null, text}
 use Rattle.cel_value.specs.Parts.{bool_in, text_in}
 use Rattle.kube_cel_errors.specs.Errors.{ErrorData}
 use Rattle.kube_cel_errors.specs.RuleErrors.{failed_rule, no_bool, fault_error, undeclared_name, malformed_error}
-use Rattle.kube_cel_places.specs.Spot.{Root}
+use Rattle.kube_cel_places.specs.Visit.{Root}
 use Rattle.kube_functions.specs.Kube.{all_library}
 use Rattle.kube_schema_rules.specs.Compilation.{Compiled, Malformed}
 use Rattle.kube_schema_rules.specs.Rules as schema
@@ -17,22 +17,22 @@ use Rattle.serde_json.specs.Data.{Data as Json}
 use Rattle.std.specs.Prelude.{ℕ, List, [], ◌∷◌, ◌++◌, Bool, true, false, not, ◌&&◌, ◌||◌, if◌then◌else◌, Option, Some, None, is_some, option_map, option_and_then, unwrap_or, Result, Ok, Err, codes}
 
 -- at most one
-abbrev pub listed : {A : Type 0} → Option A → List A
-listed None = []
-listed (Some a) = a ∷ []
+abbrev pub list_of_option : {A : Type 0} → Option A → List A
+list_of_option None = []
+list_of_option (Some a) = a ∷ []
 
--- the string that a messageExpression came to; another value and an error tell nothing
-abbrev pub told_text : Outcome → Option (List ℕ)
-told_text (Ok v) = text_in v
-told_text (Err e) = None
+-- the string that a messageExpression came to; another value and an error give none
+abbrev pub message_text : Outcome → Option (List ℕ)
+message_text (Ok v) = text_in v
+message_text (Err e) = None
 
 -- the rule's own message, else its text
 abbrev pub own_message : schema.Fields → List ℕ
 own_message r = unwrap_or r.message (codes "failed rule: " ++ r.rule)
 
--- what is told of a rule that is false: the string that its messageExpression came to, if it did, else what it says itself
+-- what is reported of a rule that is false: the string that its messageExpression came to, if it did, else what it says itself
 abbrev pub failed_message : schema.Fields → Option Outcome → List ℕ
-failed_message r told = unwrap_or (option_and_then told_text told) (own_message r)
+failed_message r reported = unwrap_or (option_and_then message_text reported) (own_message r)
 
 abbrev pub value_error : List ℕ → schema.Fields → List ℕ → Option Bool → Option ErrorData
 value_error path r message (Some true) = None
@@ -49,7 +49,7 @@ abbrev pub with_old : Option Data → Bindings → Bindings
 with_old None e = e
 with_old (Some old) e = (codes "oldSelf", old) ∷ e
 
--- what is told of the whole object
+-- what is known of the whole object
 abbrev pub with_root : Option Root → Bindings → Bindings
 with_root None e = e
 with_root (Some r) e = (codes "kind", text r.kind) ∷ (codes "apiGroup", text r.api_group) ∷ (codes "apiVersion", text r.api_version) ∷ e

@@ -1,4 +1,4 @@
-//! What is told of a whole object.
+//! What is known of a whole object.
 use kube_types::Refused;
 use std::alloc::Global;
 

@@ -1,16 +1,16 @@
 //! The verdicts of rules whose names are bound.
-ghost use Rattle.cel_book.specs.Book.{Agrees, Book};
-ghost use Rattle.cel_book.specs.Entries.{entries_of};
-ghost use Rattle.cel_book.specs.Settled.{Settles};
-ghost use Rattle.cel_meaning.specs.Bindings.{binding, bindings_of};
-ghost use Rattle.cel_meaning.specs.Outcome.{outcome_view};
+ghost use Rattle.cel_patterns.specs.Book.{Extends, Book};
+ghost use Rattle.cel_patterns.specs.Entries.{entries_of};
+ghost use Rattle.cel_patterns.specs.Extensions.{HoldsForExtensions};
+ghost use Rattle.cel_semantics.specs.Bindings.{binding, bindings_of};
+ghost use Rattle.cel_semantics.specs.Outcome.{outcome_view};
 ghost use Rattle.cel_value.specs.Data.{null};
 ghost use Rattle.cel_value.specs.Parts.{bool_in};
 ghost use Rattle.cel_value.specs.View.{view as cel_view};
 ghost use Rattle.kube_cel_errors.specs.Errors.{error_view};
 ghost use Rattle.kube_cel_verdicts.specs.Roots.{root_view};
-ghost use Rattle.kube_cel_verdicts.specs.Told.{AreAdded, IsVerdict};
-ghost use Rattle.kube_cel_verdicts.specs.Verdicts.{bound_verdict, compiled_verdict, failed_message, is_applicable, is_old_null, is_old_optional, listed, outcome_in, own_message, told_text, value_error, verdict, with_root};
+ghost use Rattle.kube_cel_verdicts.specs.AddedErrors.{AreAdded, IsVerdict};
+ghost use Rattle.kube_cel_verdicts.specs.Verdicts.{bound_verdict, compiled_verdict, failed_message, is_applicable, is_old_null, is_old_optional, list_of_option, outcome_in, own_message, message_text, value_error, verdict, with_root};
 ghost use Rattle.kube_schema_rules.specs.Compilation.{compiled_seen, result_view};
 ghost use Rattle.kube_schema_rules.specs.Rules.{rule_view};
 ghost use Rattle.serde_json.specs.View.{view};
@@ -31,7 +31,7 @@ use std::alloc::{AllocError, Global};
 /// What the rules of a schema are evaluated in.
 pub type Context<'a> = cel::Context<'a, AllFunctions>;
 
-/// Binds `apiVersion`, `apiGroup` and `kind`, where something is told of the whole object.
+/// Binds `apiVersion`, `apiGroup` and `kind`, where something is known of the whole object.
 ///
 /// # Errors
 ///
@@ -83,8 +83,8 @@ fn is_old_optional(rule: &Rule) -> bool
 }
 
 /// The string that a messageExpression came to.
-fn told_text(outcome: &Answer) -> Option<&str>
-    ensures { option_map (λ s. s.now) result ≡ told_text (outcome_view outcome.now) }
+fn message_text(outcome: &Answer) -> Option<&str>
+    ensures { option_map (λ s. s.now) result ≡ message_text (outcome_view outcome.now) }
 {
     match outcome {
         Ok(value) => value.as_str(),
@@ -103,15 +103,15 @@ fn own_message(alloc: Global, rule: &Rule) -> Result<String, AllocError>
     format!(in alloc; "failed rule: {text}")
 }
 
-/// What is told of a rule that is false: the string that its messageExpression comes to, if it does, else what it says itself.
+/// What is reported of a rule that is false: the string that its messageExpression comes to, if it does, else what it says itself.
 fn failed_message(
     alloc: Global,
     rule: &CompilationResult,
     context: &Context<'_>,
     book: &mut PatternBook,
 ) -> Result<String, Refused>
-    ensures keeps { (b : Book) → Agrees b (entries_of book.new) → Agrees b (entries_of book.old) }
-    ensures told { IfOk result (λ s. Settles (entries_of book.new) (string_bytes s) (λ b. failed_message (rule_view rule.now.rule)
+    ensures keeps { (b : Book) → Extends b (entries_of book.new) → Extends b (entries_of book.old) }
+    ensures reported { IfOk result (λ s. HoldsForExtensions (entries_of book.new) (string_bytes s) (λ b. failed_message (rule_view rule.now.rule)
         (option_map (outcome_in b (bindings_of context.now)) (result_view rule.now).message_tree))) }
     ensures memory { IfErr result (λ e. e ≡ Refused.Memory) }
 {
@@ -119,14 +119,14 @@ fn failed_message(
         return Ok(own_message(alloc, &rule.rule)?);
     };
     let outcome = program.execute_with(alloc, context, book)?;
-    let Some(text) = told_text(&outcome) else {
+    let Some(text) = message_text(&outcome) else {
         return Ok(own_message(alloc, &rule.rule)?);
     };
     Ok(String::from_str(alloc, text)?)
 }
 
 /// The error of a rule with this value, unless it is true.
-fn judge_value(
+fn verdict_of_value(
     alloc: Global,
     rule: &CompilationResult,
     value: &CelValue,
@@ -134,7 +134,7 @@ fn judge_value(
     path: &str,
     book: &mut PatternBook,
 ) -> Result<Option<ValidationError>, Refused>
-    ensures keeps { (b : Book) → Agrees b (entries_of book.new) → Agrees b (entries_of book.old) }
+    ensures keeps { (b : Book) → Extends b (entries_of book.new) → Extends b (entries_of book.old) }
     ensures found { IfOk result (λ o. IsVerdict (entries_of book.new) o (λ b. value_error path.now (rule_view rule.now.rule)
         (failed_message (rule_view rule.now.rule) (option_map (outcome_in b (bindings_of context.now)) (result_view rule.now).message_tree))
         (bool_in (cel_view value.now)))) }
@@ -152,14 +152,14 @@ fn judge_value(
 }
 
 /// The error of a rule whose names are bound, unless it is true.
-fn judge_bound(
+fn verdict_where_bound(
     alloc: Global,
     rule: &CompilationResult,
     context: &Context<'_>,
     path: &str,
     book: &mut PatternBook,
 ) -> Result<Option<ValidationError>, Refused>
-    ensures keeps { (b : Book) → Agrees b (entries_of book.new) → Agrees b (entries_of book.old) }
+    ensures keeps { (b : Book) → Extends b (entries_of book.new) → Extends b (entries_of book.old) }
     ensures found { IfOk result (λ o. IsVerdict (entries_of book.new) o
         (λ b. bound_verdict b (bindings_of context.now) path.now (result_view rule.now))) }
     ensures memory { IfErr result (λ e. e ≡ Refused.Memory) }
@@ -167,14 +167,14 @@ fn judge_bound(
     match rule.program.execute_with(alloc, context, book)? {
         Err(fault) => Ok(Some(fault_error(alloc, &rule.rule, fault, path)?)),
         Ok(value) => {
-            let error = judge_value(alloc, rule, &value, context, path, book)?;
+            let error = verdict_of_value(alloc, rule, &value, context, path, book)?;
             Ok(error)
         }
     }
 }
 
 /// The verdict of a compiled rule where these names are bound, if it has one.
-fn judge_compiled(
+fn verdict_of_compiled(
     alloc: Global,
     rule: &CompilationResult,
     context: &Context<'_>,
@@ -182,7 +182,7 @@ fn judge_compiled(
     path: &str,
     book: &mut PatternBook,
 ) -> Result<Option<ValidationError>, Refused>
-    ensures keeps { (b : Book) → Agrees b (entries_of book.new) → Agrees b (entries_of book.old) }
+    ensures keeps { (b : Book) → Extends b (entries_of book.new) → Extends b (entries_of book.old) }
     ensures found { IfOk result (λ o. IsVerdict (entries_of book.new) o
         (λ b. compiled_verdict b (bindings_of context.now) (option_map (λ v. view v.now) old.entry) path.now (result_view rule.now))) }
     ensures memory { IfErr result (λ e. e ≡ Refused.Memory) }
@@ -191,17 +191,17 @@ fn judge_compiled(
         return Ok(None);
     }
     if !is_old_null(&rule.rule, old) {
-        let error = judge_bound(alloc, rule, context, path, book)?;
+        let error = verdict_where_bound(alloc, rule, context, path, book)?;
         return Ok(error);
     }
     let mut inner = context.new_inner_scope();
     inner.add_variable("oldSelf", null_old_self())?;
-    let with_null = judge_bound(alloc, rule, &inner, path, book)?;
+    let with_null = verdict_where_bound(alloc, rule, &inner, path, book)?;
     Ok(with_null)
 }
 
 /// The verdict of a rule where these names are bound, if it has one. There may be an old counterpart.
-fn judge_rule(
+fn verdict_of_rule(
     alloc: Global,
     rule: &Result<CompilationResult, CompilationError>,
     context: &Context<'_>,
@@ -209,7 +209,7 @@ fn judge_rule(
     path: &str,
     book: &mut PatternBook,
 ) -> Result<Option<ValidationError>, Refused>
-    ensures keeps { (b : Book) → Agrees b (entries_of book.new) → Agrees b (entries_of book.old) }
+    ensures keeps { (b : Book) → Extends b (entries_of book.new) → Extends b (entries_of book.old) }
     ensures found { IfOk result (λ o. IsVerdict (entries_of book.new) o
         (λ b. verdict b (bindings_of context.now) (option_map (λ v. view v.now) old.entry) path.now (compiled_seen rule.now))) }
     ensures memory { IfErr result (λ e. e ≡ Refused.Memory) }
@@ -217,7 +217,7 @@ fn judge_rule(
     match rule {
         Err(error) => Ok(Some(malformed_error(alloc, error, path)?)),
         Ok(rule) => {
-            let error = judge_compiled(alloc, rule, context, old, path, book)?;
+            let error = verdict_of_compiled(alloc, rule, context, old, path, book)?;
             Ok(error)
         }
     }
@@ -228,7 +228,7 @@ fn push_listed(
     error: Option<ValidationError>,
     errors: &mut Vec<ValidationError>,
 ) -> Result<(), AllocError>
-    ensures { OnOk result (map error_view errors.new.items ≡ map error_view errors.old.items ++ listed (option_map error_view error)) }
+    ensures { OnOk result (map error_view errors.new.items ≡ map error_view errors.old.items ++ list_of_option (option_map error_view error)) }
 {
     let Some(error) = error else {
         return Ok(());
@@ -250,12 +250,12 @@ pub fn add_verdict(
     book: &mut PatternBook,
     errors: &mut Vec<ValidationError>,
 ) -> Result<(), Refused>
-    ensures keeps { (b : Book) → Agrees b (entries_of book.new) → Agrees b (entries_of book.old) }
+    ensures keeps { (b : Book) → Extends b (entries_of book.new) → Extends b (entries_of book.old) }
     ensures found { OnOk result (AreAdded (entries_of book.new) errors.old.items errors.new.items
-        (λ b. listed (verdict b (bindings_of context.now) (option_map (λ v. view v.now) old.entry) path.now (compiled_seen rule.now)))) }
+        (λ b. list_of_option (verdict b (bindings_of context.now) (option_map (λ v. view v.now) old.entry) path.now (compiled_seen rule.now)))) }
     ensures memory { IfErr result (λ e. e ≡ Refused.Memory) }
 {
-    let error = judge_rule(*errors.allocator(), rule, context, old, path, book)?;
+    let error = verdict_of_rule(*errors.allocator(), rule, context, old, path, book)?;
     push_listed(error, errors)?;
     Ok(())
 }

@@ -1,17 +1,17 @@
 -- What a walk finds through the steps of each kind, and that it is the answer when joined.
-use Rattle.cel_book.specs.Book.{Book}
+use Rattle.cel_patterns.specs.Book.{Book}
 use Rattle.kube_cel_errors.specs.Errors.{ErrorData}
 use Rattle.kube_cel_places.proofs.Found.{flat_map-map, flat_map_none, answers_end, answers_more}
 use Rattle.kube_cel_places.specs.declared.branches.BranchKind.{BranchKind}
 use Rattle.kube_cel_places.specs.declared.branches.BranchKind.TheVariants.{AllOf, OneOf, AnyOf}
 use Rattle.kube_cel_places.specs.Inside.{keys_at, count_at, in_order, up_to}
-use Rattle.kube_cel_places.specs.Shape.{Shape}
-use Rattle.kube_cel_places.specs.Spot.{Spot, further, unless_there, member_path, item_path, goes, candidates, property_steps, item_steps, extra_steps, branch_steps}
-use Rattle.kube_cel_places.specs.Step.{Step, property, item, extra, branch}
+use Rattle.kube_cel_places.specs.StepAccessors.{StepAccessors}
+use Rattle.kube_cel_places.specs.Visit.{Visit, further, unless_there, member_path, item_path, goes, candidates, property_steps, item_steps, additional_steps, branch_steps}
+use Rattle.kube_cel_places.specs.Step.{Step, property, item, additional_property, branch}
 use Rattle.kube_cel_places.specs.Walk.{if_some, answers}
 use Rattle.kube_cel_walk.proofs.Entries.{names_of, keys_of_map, keys_of_none}
-use Rattle.kube_cel_walk.specs.Answers.{verdicts, answer, reached, found_through}
-use Rattle.kube_cel_walk.specs.Form.{Form}
+use Rattle.kube_cel_walk.specs.Answers.{verdicts, answer, answer_if_reached, found_through}
+use Rattle.kube_cel_walk.specs.WalkAccessors.{WalkAccessors}
 use Rattle.serde_json.proofs.Views.{Entry, items_len-items_view}
 use Rattle.serde_json.specs.Data.{Data, null, boolean, number, string, array, object, Items, no_items}
 use Rattle.serde_json.specs.declared.value.Value.{Value}
@@ -54,122 +54,122 @@ regroup a v p i x l o n = simp append_assoc
 
 -- ---- the steps of each kind
 
-module _ {S : Type 0} (shape : Shape S) where
-  pub extra_steps_none : (s : Spot S) → None ≡ as_object s.value → extra_steps shape s ≡ []
-  unfolding extra_steps
-  extra_steps_none s e = ap (map extra) (keys_of_none (Some s.value) e)
+module _ {S : Type 0} (shape : StepAccessors S) where
+  pub additional_steps_none : (s : Visit S) → None ≡ as_object s.value → additional_steps shape s ≡ []
+  unfolding additional_steps
+  additional_steps_none s e = ap (map additional_property) (keys_of_none (Some s.value) e)
 
-  pub extra_steps_are : (s : Spot S) (es : List Entry) → Some (members_view es) ≡ as_object s.value → IsStrictlySortedBy string_cmp (keys_of es) → extra_steps shape s ≡ map extra (names_of es)
-  unfolding extra_steps
-  extra_steps_are s es e h = ap (map extra) (keys_of_map (Some s.value) es e h)
+  pub additional_steps_are : (s : Visit S) (es : List Entry) → Some (members_view es) ≡ as_object s.value → IsStrictlySortedBy string_cmp (keys_of es) → additional_steps shape s ≡ map additional_property (names_of es)
+  unfolding additional_steps
+  additional_steps_are s es e h = ap (map additional_property) (keys_of_map (Some s.value) es e h)
 
-  pub item_steps_none : (s : Spot S) → None ≡ as_array s.value → item_steps shape s ≡ []
+  pub item_steps_none : (s : Visit S) → None ≡ as_array s.value → item_steps shape s ≡ []
   unfolding item_steps
   item_steps_none s e = ap (λ n. map item (up_to n)) (counted_none (Some s.value) e) ∙ up_to_none item
 
-  pub item_steps_are : (s : Spot S) (vs : List Value) → Some (items_view vs) ≡ as_array s.value → item_steps shape s ≡ map item (up_to (length vs))
+  pub item_steps_are : (s : Visit S) (vs : List Value) → Some (items_view vs) ≡ as_array s.value → item_steps shape s ≡ map item (up_to (length vs))
   unfolding item_steps
   item_steps_are s vs e = ap (λ n. map item (up_to n)) (counted_items (Some s.value) vs e)
 
-  pub property_steps_are : (s : Spot S) → property_steps shape s ≡ map property (in_order (shape.keys s.node))
+  pub property_steps_are : (s : Visit S) → property_steps shape s ≡ map property (in_order (shape.keys s.node))
   unfolding property_steps
   property_steps_are s = refl
 
-  pub branch_steps_are : (kind : BranchKind) (s : Spot S) → branch_steps shape kind s ≡ map (branch kind) (up_to (shape.branch_count kind s.node))
+  pub branch_steps_are : (kind : BranchKind) (s : Visit S) → branch_steps shape kind s ≡ map (branch kind) (up_to (shape.branch_count kind s.node))
   unfolding branch_steps
   branch_steps_are kind s = refl
 
   -- ---- where they lead
 
-  pub property_goes : (s : Spot S) (k : List ℕ) (o : Option S) → shape.property k s.node ≡ o
+  pub property_goes : (s : Visit S) (k : List ℕ) (o : Option S) → shape.property k s.node ≡ o
       → goes shape (property k) s ≡ further None s.depth (member_path s.path k) o (get k s.value) (option_and_then (get k) s.old)
   unfolding goes
   property_goes s k o e = ap (λ o. further None s.depth (member_path s.path k) o (get k s.value) (option_and_then (get k) s.old)) e
 
-  pub extra_goes : (s : Spot S) (k : List ℕ) (node : S) → Some node ≡ shape.extra s.node
-      → goes shape (extra k) s ≡ further None s.depth (member_path s.path k) (unless_there (shape.property k s.node) (Some node)) (get k s.value) (option_and_then (get k) s.old)
+  pub additional_goes : (s : Visit S) (k : List ℕ) (node : S) → Some node ≡ shape.additional_property s.node
+      → goes shape (additional_property k) s ≡ further None s.depth (member_path s.path k) (unless_there (shape.property k s.node) (Some node)) (get k s.value) (option_and_then (get k) s.old)
   unfolding goes
-  extra_goes s k node e = ap (λ o. further None s.depth (member_path s.path k) (unless_there (shape.property k s.node) o) (get k s.value) (option_and_then (get k) s.old)) (sym e)
+  additional_goes s k node e = ap (λ o. further None s.depth (member_path s.path k) (unless_there (shape.property k s.node) o) (get k s.value) (option_and_then (get k) s.old)) (sym e)
 
-  pub item_goes : (s : Spot S) (i : ℕ) (node : S) (v : Data) (ds : Items) → Some node ≡ shape.items s.node → Some ds ≡ as_array s.value → Some v ≡ get_item i ds
+  pub item_goes : (s : Visit S) (i : ℕ) (node : S) (v : Data) (ds : Items) → Some node ≡ shape.items s.node → Some ds ≡ as_array s.value → Some v ≡ get_item i ds
       → goes shape (item i) s ≡ further None s.depth (item_path s.path i) (Some node) (Some v) (option_and_then (at i) s.old)
   unfolding goes
   item_goes s i node v ds e a here =
       ap (λ o. further None s.depth (item_path s.path i) o (at i s.value) (option_and_then (at i) s.old)) (sym e)
       ∙ ap (λ o. further None s.depth (item_path s.path i) (Some node) o (option_and_then (at i) s.old)) (item_of i s.value ds a ∙ sym here)
 
-  pub branch_goes : (kind : BranchKind) (s : Spot S) (j : ℕ) (o : Option S) → o ≡ shape.branch kind j s.node
+  pub branch_goes : (kind : BranchKind) (s : Visit S) (j : ℕ) (o : Option S) → o ≡ shape.branch kind j s.node
       → goes shape (branch kind j) s ≡ further s.root s.depth s.path o (Some s.value) s.old
   unfolding goes
   branch_goes kind s j o e = ap (λ o. further s.root s.depth s.path o (Some s.value) s.old) (sym e)
 
-  no_item_goes : (s : Spot S) (i : ℕ) → None ≡ shape.items s.node → goes shape (item i) s ≡ None
+  no_item_goes : (s : Visit S) (i : ℕ) → None ≡ shape.items s.node → goes shape (item i) s ≡ None
   unfolding goes
   no_item_goes s i e = ap (λ o. further None s.depth (item_path s.path i) o (at i s.value) (option_and_then (at i) s.old)) (sym e)
 
-  no_extra_goes : (s : Spot S) (k : List ℕ) → None ≡ shape.extra s.node → goes shape (extra k) s ≡ None
+  no_additional_goes : (s : Visit S) (k : List ℕ) → None ≡ shape.additional_property s.node → goes shape (additional_property k) s ≡ None
   unfolding goes
-  no_extra_goes s k e =
+  no_additional_goes s k e =
       ap (λ o. further None s.depth (member_path s.path k) o (get k s.value) (option_and_then (get k) s.old)) (ap (unless_there (shape.property k s.node)) (sym e) ∙ unless_none (shape.property k s.node))
 
-module _ {S : Type 0} (form : Form S) where
+module _ {S : Type 0} (form : WalkAccessors S) where
   -- ---- nothing is found
 
-  pub through_none : (b : Book) (n : ℕ) (s : Spot S) (old : List ErrorData) (steps : List Step) → steps ≡ [] → old ≡ old ++ found_through form b n s steps
+  pub through_none : (b : Book) (n : ℕ) (s : Visit S) (old : List ErrorData) (steps : List Step) → steps ≡ [] → old ≡ old ++ found_through form b n s steps
   unfolding found_through
   through_none b n s old steps e = sym (ap (λ ps. old ++ found_through form b n s ps) e ∙ append-nil old)
 
-  none_goes : (b : Book) (n : ℕ) (s : Spot S) (old : List ErrorData) {X : Type 0} (f : X → Step) (xs : List X) → ((x : X) → goes form.shape (f x) s ≡ None) → old ≡ old ++ found_through form b n s (map f xs)
-  unfolding found_through reached
+  none_goes : (b : Book) (n : ℕ) (s : Visit S) (old : List ErrorData) {X : Type 0} (f : X → Step) (xs : List X) → ((x : X) → goes form.shape (f x) s ≡ None) → old ≡ old ++ found_through form b n s (map f xs)
+  unfolding found_through answer_if_reached
   none_goes b n s old f xs h =
-      let g = λ (p : Step). reached form b n (goes form.shape p s) in
+      let g = λ (p : Step). answer_if_reached form b n (goes form.shape p s) in
       sym (ap (λ r. old ++ r) (flat_map-map g f xs ∙ flat_map_none (λ x. g (f x)) (λ x. ap (if_some (answer form b n)) (h x)) xs) ∙ append-nil old)
 
-  pub no_item : (b : Book) (n : ℕ) (s : Spot S) (old : List ErrorData) → None ≡ form.shape.items s.node → old ≡ old ++ found_through form b n s (item_steps form.shape s)
+  pub no_item : (b : Book) (n : ℕ) (s : Visit S) (old : List ErrorData) → None ≡ form.shape.items s.node → old ≡ old ++ found_through form b n s (item_steps form.shape s)
   unfolding item_steps
   no_item b n s old e = none_goes b n s old item (up_to (count_at (Some s.value))) (λ i. no_item_goes form.shape s i e)
 
-  pub no_extra : (b : Book) (n : ℕ) (s : Spot S) (old : List ErrorData) → None ≡ form.shape.extra s.node → old ≡ old ++ found_through form b n s (extra_steps form.shape s)
-  unfolding extra_steps
-  no_extra b n s old e = none_goes b n s old extra (in_order (keys_at (Some s.value))) (λ k. no_extra_goes form.shape s k e)
+  pub no_additional_property : (b : Book) (n : ℕ) (s : Visit S) (old : List ErrorData) → None ≡ form.shape.additional_property s.node → old ≡ old ++ found_through form b n s (additional_steps form.shape s)
+  unfolding additional_steps
+  no_additional_property b n s old e = none_goes b n s old additional_property (in_order (keys_at (Some s.value))) (λ k. no_additional_goes form.shape s k e)
 
   -- ---- a loop that gathers
 
-  pub one_more : (b : Book) (n : ℕ) (s : Spot S) {X : Type 0} (f : X → Step) (xs : List X) (x : X) (old had new : List ErrorData) → had ≡ old ++ found_through form b n s (map f xs)
-      → new ≡ had ++ reached form b n (goes form.shape (f x) s) → new ≡ old ++ found_through form b n s (map f (xs ++ x ∷ []))
+  pub one_more : (b : Book) (n : ℕ) (s : Visit S) {X : Type 0} (f : X → Step) (xs : List X) (x : X) (old had new : List ErrorData) → had ≡ old ++ found_through form b n s (map f xs)
+      → new ≡ had ++ answer_if_reached form b n (goes form.shape (f x) s) → new ≡ old ++ found_through form b n s (map f (xs ++ x ∷ []))
   unfolding found_through
   one_more b n s f xs x old had new before here =
-      let h = λ (p : Step). reached form b n (goes form.shape p s) in
+      let h = λ (p : Step). answer_if_reached form b n (goes form.shape p s) in
       here ∙ ap (λ r. r ++ h (f x)) before ∙ flat_map_more h old (map f xs) (f x) ∙ ap (λ ps. old ++ flat_map h ps) (sym (map-append f xs (x ∷ [])))
 
-  pub none_up : (b : Book) (n : ℕ) (s : Spot S) (f : ℕ → Step) (old : List ErrorData) → old ≡ old ++ found_through form b n s (map f (up_to 0))
+  pub none_up : (b : Book) (n : ℕ) (s : Visit S) (f : ℕ → Step) (old : List ErrorData) → old ≡ old ++ found_through form b n s (map f (up_to 0))
   none_up b n s f old = through_none b n s old (map f (up_to 0)) (up_to_none f)
 
-  pub one_more_up : (b : Book) (n : ℕ) (s : Spot S) (f : ℕ → Step) (i : ℕ) (old had new : List ErrorData) → had ≡ old ++ found_through form b n s (map f (up_to i))
-      → new ≡ had ++ reached form b n (goes form.shape (f i) s) → new ≡ old ++ found_through form b n s (map f (up_to (i + 1)))
+  pub one_more_up : (b : Book) (n : ℕ) (s : Visit S) (f : ℕ → Step) (i : ℕ) (old had new : List ErrorData) → had ≡ old ++ found_through form b n s (map f (up_to i))
+      → new ≡ had ++ answer_if_reached form b n (goes form.shape (f i) s) → new ≡ old ++ found_through form b n s (map f (up_to (i + 1)))
   unfolding up_to
   one_more_up b n s f i old had new before here = rw add-one (one_more b n s f (up_to i) i old had new before here)
 
   -- ---- the answer
 
-  pub answer_last : (b : Book) (m : ℕ) (s : Spot S) → m ≡ 0 → answer form b m s ≡ verdicts form b s
+  pub answer_last : (b : Book) (m : ℕ) (s : Visit S) → m ≡ 0 → answer form b m s ≡ verdicts form b s
   unfolding answer
   answer_last b m s e = ap (λ m. answers (goes form.shape) (candidates form.shape) (verdicts form b) m s) e ∙ answers_end (goes form.shape) (candidates form.shape) (verdicts form b) s
 
-  answer_more : (b : Book) (n : ℕ) (s : Spot S) → answer form b (suc n) s ≡ verdicts form b s ++ found_through form b n s (candidates form.shape s)
-  unfolding answer reached found_through
+  answer_more : (b : Book) (n : ℕ) (s : Visit S) → answer form b (suc n) s ≡ verdicts form b s ++ found_through form b n s (candidates form.shape s)
+  unfolding answer answer_if_reached found_through
   answer_more b n s = answers_more (goes form.shape) (candidates form.shape) (verdicts form b) n s
 
-  through_both : (b : Book) (n : ℕ) (s : Spot S) (ps qs : List Step) (rest : List ErrorData) → found_through form b n s qs ≡ rest → found_through form b n s (ps ++ qs) ≡ found_through form b n s ps ++ rest
+  through_both : (b : Book) (n : ℕ) (s : Visit S) (ps qs : List Step) (rest : List ErrorData) → found_through form b n s qs ≡ rest → found_through form b n s (ps ++ qs) ≡ found_through form b n s ps ++ rest
   unfolding found_through
-  through_both b n s ps qs rest e = flat_map-append (λ p. reached form b n (goes form.shape p s)) ps qs ∙ ap (λ r. found_through form b n s ps ++ r) e
+  through_both b n s ps qs rest e = flat_map-append (λ p. answer_if_reached form b n (goes form.shape p s)) ps qs ∙ ap (λ r. found_through form b n s ps ++ r) e
 
   -- what the calls at one place find, in turn, is the answer there
-  pub gathered : (b : Book) (fuel n : ℕ) (s : Spot S) (e0 e1 e2 e3 e4 e5 e6 e7 : List ErrorData) → fuel ≡ suc n
+  pub gathered : (b : Book) (fuel n : ℕ) (s : Visit S) (e0 e1 e2 e3 e4 e5 e6 e7 : List ErrorData) → fuel ≡ suc n
       → e1 ≡ e0 ++ verdicts form b s
       → e2 ≡ e1 ++ found_through form b n s (property_steps form.shape s)
       → e3 ≡ e2 ++ found_through form b n s (item_steps form.shape s)
-      → e4 ≡ e3 ++ found_through form b n s (extra_steps form.shape s)
+      → e4 ≡ e3 ++ found_through form b n s (additional_steps form.shape s)
       → e5 ≡ e4 ++ found_through form b n s (branch_steps form.shape AllOf s)
       → e6 ≡ e5 ++ found_through form b n s (branch_steps form.shape OneOf s)
       → e7 ≡ e6 ++ found_through form b n s (branch_steps form.shape AnyOf s)
@@ -180,7 +180,7 @@ module _ {S : Type 0} (form : Form S) where
       let V = verdicts form b s in
       let P = property_steps form.shape s in
       let I = item_steps form.shape s in
-      let X = extra_steps form.shape s in
+      let X = additional_steps form.shape s in
       let L = branch_steps form.shape AllOf s in
       let O = branch_steps form.shape OneOf s in
       let N = branch_steps form.shape AnyOf s in

@@ -1,14 +1,14 @@
 -- What is found at one place.
-use Rattle.cel_book.specs.Book.{Book}
-use Rattle.cel_meaning.specs.Bindings.{Bindings, binding}
+use Rattle.cel_patterns.specs.Book.{Book}
+use Rattle.cel_semantics.specs.Bindings.{Bindings, binding}
 use Rattle.kube_cel_errors.specs.Errors.{ErrorData}
 use Rattle.kube_cel_errors.specs.RuleErrors.{too_deep}
-use Rattle.kube_cel_places.specs.Spot.{Spot}
+use Rattle.kube_cel_places.specs.Visit.{Visit}
 use Rattle.kube_cel_verdicts.proofs.Bound.{old_under, root_under}
 use Rattle.kube_cel_verdicts.proofs.Ruled.{verdict_alike}
-use Rattle.kube_cel_verdicts.specs.Verdicts.{listed, verdict, with_old, with_root}
+use Rattle.kube_cel_verdicts.specs.Verdicts.{list_of_option, verdict, with_old, with_root}
 use Rattle.kube_cel_walk.specs.Answers.{bound_at, place_bindings, rule_verdicts, verdicts}
-use Rattle.kube_cel_walk.specs.Form.{Form, is_none_of}
+use Rattle.kube_cel_walk.specs.WalkAccessors.{WalkAccessors, is_none_of}
 use Rattle.kube_schema_rules.specs.Compilation.{Compiled, Malformed}
 use Rattle.std.proofs.Common.{◌≡◌, ◌==◌, ℕ, List, [], ◌∷◌, Bool, true, false, Option, option_map, Result, codes, if◌then◌else◌, refl, ap, ◌∙◌, arith}
 use Rattle.std.proofs.lemmas.Bool.Decides.{nat_tests}
@@ -18,9 +18,9 @@ none_in : {A E : Type 0} (f : A → List E) (xs : List A) → is_none_of xs ≡ 
 none_in f [] h = refl
 none_in f (x ∷ xs) h = cc
 
-module _ {S : Type 0} (form : Form S) where
+module _ {S : Type 0} (form : WalkAccessors S) where
   -- `self`, then `oldSelf`, then the names of the whole object
-  pub placed : (s : Spot S) (e0 e1 e2 : Bindings) → ((y : List ℕ) → binding y e0 ≡ binding y ((codes "self", bound_at form s s.value) ∷ []))
+  pub placed : (s : Visit S) (e0 e1 e2 : Bindings) → ((y : List ℕ) → binding y e0 ≡ binding y ((codes "self", bound_at form s s.value) ∷ []))
       → ((y : List ℕ) → binding y e1 ≡ binding y (with_old (option_map (bound_at form s) s.old) e0)) → ((y : List ℕ) → binding y e2 ≡ binding y (with_root s.root e1))
       → (y : List ℕ) → binding y e2 ≡ binding y (place_bindings form s)
   unfolding place_bindings
@@ -29,21 +29,21 @@ module _ {S : Type 0} (form : Form S) where
       let e : Bindings = (codes "self", bound_at form s s.value) ∷ [] in
       h2 y ∙ root_under s.root e1 (with_old old e0) h1 y ∙ root_under s.root (with_old old e0) (with_old old e) (old_under old e0 e h0) y
 
-  at_depth : Book → Spot S → Bool → List ErrorData
+  at_depth : Book → Visit S → Bool → List ErrorData
   at_depth b s t = if t then too_deep s.path ∷ [] else rule_verdicts form b (place_bindings form s) s
 
-  pub deep_found : (b : Book) (s : Spot S) → s.depth ≡ 65 → verdicts form b s ≡ too_deep s.path ∷ []
+  pub deep_found : (b : Book) (s : Visit S) → s.depth ≡ 65 → verdicts form b s ≡ too_deep s.path ∷ []
   unfolding verdicts at_depth
   deep_found b s e =
       let t : (s.depth == 65) ≡ true = grind (arith, nat_tests, e) in
       ap (at_depth b s) t
 
-  pub none_found : (b : Book) (s : Spot S) → (s.depth == 65) ≡ false → is_none_of (form.rules s.node) ≡ true → verdicts form b s ≡ []
+  pub none_found : (b : Book) (s : Visit S) → (s.depth == 65) ≡ false → is_none_of (form.rules s.node) ≡ true → verdicts form b s ≡ []
   unfolding verdicts at_depth rule_verdicts
-  none_found b s t n = ap (at_depth b s) t ∙ none_in (λ r. listed (verdict b (place_bindings form s) s.old s.path r)) (form.rules s.node) n
+  none_found b s t n = ap (at_depth b s) t ∙ none_in (λ r. list_of_option (verdict b (place_bindings form s) s.old s.path r)) (form.rules s.node) n
 
-  pub rules_found : (b : Book) (s : Spot S) (e : Bindings) → (s.depth == 65) ≡ false → ((y : List ℕ) → binding y (place_bindings form s) ≡ binding y e)
-      → verdicts form b s ≡ flat_map (λ r. listed (verdict b e s.old s.path r)) (form.rules s.node)
+  pub rules_found : (b : Book) (s : Visit S) (e : Bindings) → (s.depth == 65) ≡ false → ((y : List ℕ) → binding y (place_bindings form s) ≡ binding y e)
+      → verdicts form b s ≡ flat_map (λ r. list_of_option (verdict b e s.old s.path r)) (form.rules s.node)
   unfolding verdicts at_depth rule_verdicts
   rules_found b s e t h =
-      ap (at_depth b s) t ∙ (λ i. flat_map (λ r. listed (verdict_alike b (place_bindings form s) e s.old s.path r h i)) (form.rules s.node))
+      ap (at_depth b s) t ∙ (λ i. flat_map (λ r. list_of_option (verdict_alike b (place_bindings form s) e s.old s.path r h i)) (form.rules s.node))

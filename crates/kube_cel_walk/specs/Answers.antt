@@ -1,53 +1,53 @@
 -- Trusted by the headline.
 -- What is found at all places that a schema and a value share (Kubernetes documentation, "Validation rules": a rule is scoped to the
 -- part of the object where its `x-kubernetes-validations` stands).
-use Rattle.cel_book.specs.Book.{Book}
-use Rattle.cel_meaning.specs.Bindings.{Bindings}
+use Rattle.cel_patterns.specs.Book.{Book}
+use Rattle.cel_semantics.specs.Bindings.{Bindings}
 use Rattle.cel_value.specs.Data.{Data}
 use Rattle.kube_cel_errors.specs.Errors.{ErrorData}
 use Rattle.kube_cel_errors.specs.RuleErrors.{too_deep}
-use Rattle.kube_cel_places.specs.Spot.{Spot, goes, candidates}
+use Rattle.kube_cel_places.specs.Visit.{Visit, goes, candidates}
 use Rattle.kube_cel_places.specs.Step.{Step}
 use Rattle.kube_cel_places.specs.Walk.{answers, AreFoundAtPlaces, if_some}
-use Rattle.kube_cel_verdicts.specs.Verdicts.{listed, verdict, with_old, with_root}
-use Rattle.kube_cel_walk.specs.Form.{Form}
-use Rattle.kube_schema_bound.specs.Bound.{bound, levels}
+use Rattle.kube_cel_verdicts.specs.Verdicts.{list_of_option, verdict, with_old, with_root}
+use Rattle.kube_cel_walk.specs.WalkAccessors.{WalkAccessors}
+use Rattle.kube_schema_conversion.specs.Conversion.{to_cel, levels}
 use Rattle.serde_json.specs.Data.{Data as Json}
 use Rattle.std.specs.List.{flat_map}
 use Rattle.std.specs.Prelude.{ℕ, ◌==◌, List, [], ◌∷◌, if◌then◌else◌, Option, option_map, codes}
 
-module _ {S : Type 0} (form : Form S) where
+module _ {S : Type 0} (form : WalkAccessors S) where
   -- a value at a place as its node has it bound
-  abbrev pub bound_at : Spot S → Json → Data
-  bound_at s value = bound form.look (levels s.depth) s.node value
+  abbrev pub bound_at : Visit S → Json → Data
+  bound_at s value = to_cel form.accessors (levels s.depth) s.node value
 
   -- what all rules at a place have: `self` is the value there
-  unfoldable pub place_bindings : Spot S → Bindings
+  unfoldable pub place_bindings : Visit S → Bindings
   place_bindings s = with_root s.root (with_old (option_map (bound_at s) s.old) ((codes "self", bound_at s s.value) ∷ []))
 
   -- the verdicts of the node's rules, in order, where names are bound so
-  unfoldable pub rule_verdicts : Book → Bindings → Spot S → List ErrorData
-  rule_verdicts b e s = flat_map (λ r. listed (verdict b e s.old s.path r)) (form.rules s.node)
+  unfoldable pub rule_verdicts : Book → Bindings → Visit S → List ErrorData
+  rule_verdicts b e s = flat_map (λ r. list_of_option (verdict b e s.old s.path r)) (form.rules s.node)
 
   -- the errors at a place; past depth 64 one error in the place of all verdicts
-  unfoldable pub verdicts : Book → Spot S → List ErrorData
+  unfoldable pub verdicts : Book → Visit S → List ErrorData
   verdicts b s = if s.depth == 65 then too_deep s.path ∷ [] else rule_verdicts b (place_bindings s) s
 
-  -- what is found from a spot on, within n steps
-  unfoldable pub answer : Book → ℕ → Spot S → List ErrorData
+  -- what is found from a visit on, within n steps
+  unfoldable pub answer : Book → ℕ → Visit S → List ErrorData
   answer b n s = answers (goes form.shape) (candidates form.shape) (verdicts b) n s
 
-  unfoldable pub reached : Book → ℕ → Option (Spot S) → List ErrorData
-  reached b n o = if_some (answer b n) o
+  unfoldable pub answer_if_reached : Book → ℕ → Option (Visit S) → List ErrorData
+  answer_if_reached b n o = if_some (answer b n) o
 
   -- what is found through these steps, with n more at most behind each
-  unfoldable pub found_through : Book → ℕ → Spot S → List Step → List ErrorData
-  found_through b n s steps = flat_map (λ p. reached b n (goes form.shape p s)) steps
+  unfoldable pub found_through : Book → ℕ → Visit S → List Step → List ErrorData
+  found_through b n s steps = flat_map (λ p. answer_if_reached b n (goes form.shape p s)) steps
 
   -- through the steps of one kind
-  abbrev pub found_by : (Spot S → List Step) → Book → ℕ → Spot S → List ErrorData
+  abbrev pub found_by : (Visit S → List Step) → Book → ℕ → Visit S → List ErrorData
   found_by steps b n s = found_through b n s (steps s)
 
   -- all places of at most 65 steps, in order, each replaced by the errors at it, all joined
-  unfoldable pub IsAnswer : Book → Spot S → List ErrorData → Type 0
+  unfoldable pub IsAnswer : Book → Visit S → List ErrorData → Type 0
   IsAnswer b root found = AreFoundAtPlaces (goes form.shape) (verdicts b) 65 root found

@@ -1,3 +1,3 @@
 pub mod Answers
-pub mod Form
-pub mod Places
+pub mod WalkAccessors
+pub mod Visits

@@ -3,9 +3,9 @@
 
 pub mod judge;
 pub mod node;
-pub mod place;
+pub mod state;
 pub mod walk;
 
 pub use node::Node;
-pub use place::Place;
+pub use state::WalkState;
 pub use walk::walk_node;

@@ -1,13 +1,13 @@
 //! A node of a schema, as a walk asks of it.
-ghost use Rattle.cel_book.specs.Book.{Agrees, Book};
-ghost use Rattle.cel_book.specs.Entries.{entries_of};
-ghost use Rattle.cel_meaning.specs.Bindings.{bindings_of};
+ghost use Rattle.cel_patterns.specs.Book.{Extends, Book};
+ghost use Rattle.cel_patterns.specs.Entries.{entries_of};
+ghost use Rattle.cel_semantics.specs.Bindings.{bindings_of};
 ghost use Rattle.cel_value.specs.View.{view as cel_view};
 ghost use Rattle.kube_cel_places.specs.Inside.{in_order};
-ghost use Rattle.kube_cel_verdicts.specs.Told.{AreAdded};
-ghost use Rattle.kube_cel_verdicts.specs.Verdicts.{listed, verdict};
-ghost use Rattle.kube_cel_walk.specs.Form.{Form, is_none_of};
-ghost use Rattle.kube_schema_bound.specs.Bound.{bound, levels};
+ghost use Rattle.kube_cel_verdicts.specs.AddedErrors.{AreAdded};
+ghost use Rattle.kube_cel_verdicts.specs.Verdicts.{list_of_option, verdict};
+ghost use Rattle.kube_cel_walk.specs.WalkAccessors.{WalkAccessors, is_none_of};
+ghost use Rattle.kube_schema_conversion.specs.Conversion.{to_cel, levels};
 ghost use Rattle.serde_json.specs.View.{view};
 ghost use Rattle.std.specs.List.{flat_map};
 ghost use Rattle.std.specs.Prelude.{◌≡◌, ℕ, IfErr, IfOk, List, map, OnOk, Option, option_map, Some};
@@ -27,7 +27,7 @@ pub trait Node: Copy {
 
     ghost seen: { Self → Seen };
 
-    ghost form: { Form Seen };
+    ghost form: { WalkAccessors Seen };
 
     /// The declared names with their nodes, in the order of the names.
     fn properties(&self, alloc: Global) -> Result<Vec<(&str, Self)>, AllocError>
@@ -43,8 +43,8 @@ pub trait Node: Copy {
         ensures { option_map seen result ≡ form.shape.items (seen self.now) };
 
     /// The node of all members whose names aren't declared.
-    fn extra(&self) -> Option<Self>
-        ensures { option_map seen result ≡ form.shape.extra (seen self.now) };
+    fn additional_property(&self) -> Option<Self>
+        ensures { option_map seen result ≡ form.shape.additional_property (seen self.now) };
 
     /// The number of branches of a keyword.
     fn branch_count(&self, kind: BranchKind) -> usize
@@ -54,9 +54,9 @@ pub trait Node: Copy {
     fn branch(&self, kind: BranchKind, index: usize) -> Option<Self>
         ensures { option_map seen result ≡ form.shape.branch kind index (seen self.now) };
 
-    /// A value as a node of so many steps from the root has it bound.
+    /// The CEL value of a value at a node that stands `depth` steps from the root.
     fn bind(&self, alloc: Global, value: &Value, depth: usize) -> Result<CelValue, Refused>
-        ensures value { IfOk result (λ v. cel_view v ≡ bound form.look (levels depth) (seen self.now) (view value.now)) }
+        ensures value { IfOk result (λ v. cel_view v ≡ to_cel form.accessors (levels depth) (seen self.now) (view value.now)) }
         ensures memory { IfErr result (λ e. e ≡ Refused.Memory) };
 
     /// Whether the node has no rules.
@@ -72,8 +72,8 @@ pub trait Node: Copy {
         book: &mut PatternBook,
         errors: &mut Vec<ValidationError>,
     ) -> Result<(), Refused>
-        ensures keeps { (b : Book) → Agrees b (entries_of book.new) → Agrees b (entries_of book.old) }
+        ensures keeps { (b : Book) → Extends b (entries_of book.new) → Extends b (entries_of book.old) }
         ensures found { OnOk result (AreAdded (entries_of book.new) errors.old.items errors.new.items
-            (λ b. flat_map (λ r. listed (verdict b (bindings_of context.now) (option_map (λ v. view v.now) old.entry) path.now r)) (form.rules (seen self.now)))) }
+            (λ b. flat_map (λ r. list_of_option (verdict b (bindings_of context.now) (option_map (λ v. view v.now) old.entry) path.now r)) (form.rules (seen self.now)))) }
         ensures memory { IfErr result (λ e. e ≡ Refused.Memory) };
 }

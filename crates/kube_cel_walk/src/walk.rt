@@ -1,18 +1,18 @@
 //! The walk over the places that a schema and a value share.
-ghost use Rattle.cel_book.specs.Book.{Agrees, Book};
-ghost use Rattle.cel_book.specs.Entries.{entries_of};
-ghost use Rattle.kube_cel_verdicts.specs.Told.{AreAdded};
-ghost use Rattle.kube_cel_walk.specs.Answers.{answer, found_by, reached};
-ghost use Rattle.kube_cel_walk.specs.Places.{spot_at};
-ghost use Rattle.kube_cel_places.specs.Spot.{branch_steps, extra_steps, further, goes, item_path, item_steps, member_path, property_steps, unless_there};
+ghost use Rattle.cel_patterns.specs.Book.{Extends, Book};
+ghost use Rattle.cel_patterns.specs.Entries.{entries_of};
+ghost use Rattle.kube_cel_verdicts.specs.AddedErrors.{AreAdded};
+ghost use Rattle.kube_cel_walk.specs.Answers.{answer, found_by, answer_if_reached};
+ghost use Rattle.kube_cel_walk.specs.Visits.{visit_at};
+ghost use Rattle.kube_cel_places.specs.Visit.{branch_steps, additional_steps, further, goes, item_path, item_steps, member_path, property_steps, unless_there};
 ghost use Rattle.kube_cel_places.specs.Step.{branch};
 ghost use Rattle.serde_json.specs.Find.{at, get};
 ghost use Rattle.serde_json.specs.View.{view};
 ghost use Rattle.std.specs.Prelude.{◌≡◌, ◌≤◌, ◌-◌, IfErr, None, OnOk, option_and_then, option_map, Some, string_bytes};
 
-use crate::judge::{TOO_DEEP, judge};
+use crate::judge::{TOO_DEEP, validate_at};
 use crate::node::Node;
-use crate::place::{Place, old_item, old_member};
+use crate::state::{WalkState, old_item, old_member};
 use cel::PatternBook;
 use kube_cel_errors::ValidationError;
 use kube_cel_errors::path::{push_item, push_member};
@@ -23,49 +23,49 @@ use serde_json::Value;
 /// Adds the errors at a place and beyond it. The path is afterwards as it was.
 #[cycle(walk)]
 pub fn walk_node<N: Node>(
-    place: &Place<'_, N>,
+    state: &WalkState<'_, N>,
     path: &mut String,
     book: &mut PatternBook,
     errors: &mut Vec<ValidationError>,
 ) -> Result<(), Refused>
-    requires { place.now.depth ≤ 65 }
+    requires { state.now.depth ≤ 65 }
     ensures found { OnOk result (AreAdded (entries_of book.new) errors.old.items errors.new.items
-        (λ b. answer N.form b (65 - place.now.depth) (spot_at N.seen place.now (string_bytes path.old)))) }
+        (λ b. answer N.form b (65 - state.now.depth) (visit_at N.seen state.now (string_bytes path.old)))) }
     ensures path { OnOk result (string_bytes path.new ≡ string_bytes path.old) }
-    ensures keeps { (b : Book) → Agrees b (entries_of book.new) → Agrees b (entries_of book.old) }
+    ensures keeps { (b : Book) → Extends b (entries_of book.new) → Extends b (entries_of book.old) }
     ensures memory { IfErr result (λ e. e ≡ Refused.Memory) }
 {
-    judge(place, path.as_str(), book, errors)?;
-    if place.depth == TOO_DEEP {
+    validate_at(state, path.as_str(), book, errors)?;
+    if state.depth == TOO_DEEP {
         return Ok(());
     }
-    walk_properties(place, path, book, errors)?;
-    walk_items(place, path, book, errors)?;
-    walk_extras(place, path, book, errors)?;
-    walk_branches(BranchKind::AllOf, place, path, book, errors)?;
-    walk_branches(BranchKind::OneOf, place, path, book, errors)?;
-    walk_branches(BranchKind::AnyOf, place, path, book, errors)?;
+    walk_properties(state, path, book, errors)?;
+    walk_items(state, path, book, errors)?;
+    walk_extras(state, path, book, errors)?;
+    walk_branches(BranchKind::AllOf, state, path, book, errors)?;
+    walk_branches(BranchKind::OneOf, state, path, book, errors)?;
+    walk_branches(BranchKind::AnyOf, state, path, book, errors)?;
     Ok(())
 }
 
 /// Adds what is found through the declared members, in the order of their names.
 #[cycle(walk)]
 fn walk_properties<N: Node>(
-    place: &Place<'_, N>,
+    state: &WalkState<'_, N>,
     path: &mut String,
     book: &mut PatternBook,
     errors: &mut Vec<ValidationError>,
 ) -> Result<(), Refused>
-    requires { place.now.depth ≤ 64 }
+    requires { state.now.depth ≤ 64 }
     ensures found { OnOk result (AreAdded (entries_of book.new) errors.old.items errors.new.items
-        (λ b. found_by N.form (property_steps N.form.shape) b (64 - place.now.depth) (spot_at N.seen place.now (string_bytes path.old)))) }
+        (λ b. found_by N.form (property_steps N.form.shape) b (64 - state.now.depth) (visit_at N.seen state.now (string_bytes path.old)))) }
     ensures path { OnOk result (string_bytes path.new ≡ string_bytes path.old) }
-    ensures keeps { (b : Book) → Agrees b (entries_of book.new) → Agrees b (entries_of book.old) }
+    ensures keeps { (b : Book) → Extends b (entries_of book.new) → Extends b (entries_of book.old) }
     ensures memory { IfErr result (λ e. e ≡ Refused.Memory) }
 {
-    let properties = place.node.properties(*errors.allocator())?;
+    let properties = state.node.properties(*errors.allocator())?;
     for property in &properties {
-        walk_member(place, Some(property.1), property.0, path, book, errors)?;
+        walk_member(state, Some(property.1), property.0, path, book, errors)?;
     }
     Ok(())
 }
@@ -73,28 +73,28 @@ fn walk_properties<N: Node>(
 /// Adds what is found through the members whose names aren't declared, in the order of their names.
 #[cycle(walk)]
 fn walk_extras<N: Node>(
-    place: &Place<'_, N>,
+    state: &WalkState<'_, N>,
     path: &mut String,
     book: &mut PatternBook,
     errors: &mut Vec<ValidationError>,
 ) -> Result<(), Refused>
-    requires { place.now.depth ≤ 64 }
+    requires { state.now.depth ≤ 64 }
     ensures found { OnOk result (AreAdded (entries_of book.new) errors.old.items errors.new.items
-        (λ b. found_by N.form (extra_steps N.form.shape) b (64 - place.now.depth) (spot_at N.seen place.now (string_bytes path.old)))) }
+        (λ b. found_by N.form (additional_steps N.form.shape) b (64 - state.now.depth) (visit_at N.seen state.now (string_bytes path.old)))) }
     ensures path { OnOk result (string_bytes path.new ≡ string_bytes path.old) }
-    ensures keeps { (b : Book) → Agrees b (entries_of book.new) → Agrees b (entries_of book.old) }
+    ensures keeps { (b : Book) → Extends b (entries_of book.new) → Extends b (entries_of book.old) }
     ensures memory { IfErr result (λ e. e ≡ Refused.Memory) }
 {
-    let Some(other) = place.node.extra() else {
+    let Some(other) = state.node.additional_property() else {
         return Ok(());
     };
-    let Some(members) = place.value.as_object() else {
+    let Some(members) = state.value.as_object() else {
         return Ok(());
     };
     for (key, _member) in members.iter() {
         let name = key.as_str();
-        let node = unless_declared(&place.node, name, other);
-        walk_member(place, node, name, path, book, errors)?;
+        let node = unless_declared(&state.node, name, other);
+        walk_member(state, node, name, path, book, errors)?;
     }
     Ok(())
 }
@@ -102,34 +102,34 @@ fn walk_extras<N: Node>(
 /// Adds what is found through one member, if it has a node and the value has it.
 #[cycle(walk)]
 fn walk_member<N: Node>(
-    place: &Place<'_, N>,
+    state: &WalkState<'_, N>,
     node: Option<N>,
     key: &str,
     path: &mut String,
     book: &mut PatternBook,
     errors: &mut Vec<ValidationError>,
 ) -> Result<(), Refused>
-    requires { place.now.depth ≤ 64 }
+    requires { state.now.depth ≤ 64 }
     ensures found { OnOk result (AreAdded (entries_of book.new) errors.old.items errors.new.items
-        (λ b. reached N.form b (64 - place.now.depth) (further None place.now.depth (member_path (string_bytes path.old) key.now)
-        (option_map N.seen node) (get key.now (view place.now.value.now))
-        (option_and_then (get key.now) (option_map (λ v. view v.now) place.now.old))))) }
+        (λ b. answer_if_reached N.form b (64 - state.now.depth) (further None state.now.depth (member_path (string_bytes path.old) key.now)
+        (option_map N.seen node) (get key.now (view state.now.value.now))
+        (option_and_then (get key.now) (option_map (λ v. view v.now) state.now.old))))) }
     ensures path { OnOk result (string_bytes path.new ≡ string_bytes path.old) }
-    ensures keeps { (b : Book) → Agrees b (entries_of book.new) → Agrees b (entries_of book.old) }
+    ensures keeps { (b : Book) → Extends b (entries_of book.new) → Extends b (entries_of book.old) }
     ensures memory { IfErr result (λ e. e ≡ Refused.Memory) }
 {
     let Some(node) = node else {
         return Ok(());
     };
-    let Some(value) = place.value.get(key) else {
+    let Some(value) = state.value.get(key) else {
         return Ok(());
     };
-    let member = Place {
+    let member = WalkState {
         node,
         value,
-        old: old_member(place.old, key),
+        old: old_member(state.old, key),
         root: None,
-        depth: place.depth + 1,
+        depth: state.depth + 1,
     };
     let len = path.len();
     push_member(path, key)?;
@@ -141,26 +141,26 @@ fn walk_member<N: Node>(
 /// Adds what is found through the items of a list, in their order.
 #[cycle(walk)]
 fn walk_items<N: Node>(
-    place: &Place<'_, N>,
+    state: &WalkState<'_, N>,
     path: &mut String,
     book: &mut PatternBook,
     errors: &mut Vec<ValidationError>,
 ) -> Result<(), Refused>
-    requires { place.now.depth ≤ 64 }
+    requires { state.now.depth ≤ 64 }
     ensures found { OnOk result (AreAdded (entries_of book.new) errors.old.items errors.new.items
-        (λ b. found_by N.form (item_steps N.form.shape) b (64 - place.now.depth) (spot_at N.seen place.now (string_bytes path.old)))) }
+        (λ b. found_by N.form (item_steps N.form.shape) b (64 - state.now.depth) (visit_at N.seen state.now (string_bytes path.old)))) }
     ensures path { OnOk result (string_bytes path.new ≡ string_bytes path.old) }
-    ensures keeps { (b : Book) → Agrees b (entries_of book.new) → Agrees b (entries_of book.old) }
+    ensures keeps { (b : Book) → Extends b (entries_of book.new) → Extends b (entries_of book.old) }
     ensures memory { IfErr result (λ e. e ≡ Refused.Memory) }
 {
-    let Some(node) = place.node.items() else {
+    let Some(node) = state.node.items() else {
         return Ok(());
     };
-    let Some(items) = place.value.as_array() else {
+    let Some(items) = state.value.as_array() else {
         return Ok(());
     };
     for index in 0..items.len() {
-        walk_item(place, node, index, &items[index], path, book, errors)?;
+        walk_item(state, node, index, &items[index], path, book, errors)?;
     }
     Ok(())
 }
@@ -168,7 +168,7 @@ fn walk_items<N: Node>(
 /// Adds what is found through one item.
 #[cycle(walk)]
 fn walk_item<'a, N: Node>(
-    place: &Place<'a, N>,
+    state: &WalkState<'a, N>,
     node: N,
     index: usize,
     value: &'a Value,
@@ -176,21 +176,21 @@ fn walk_item<'a, N: Node>(
     book: &mut PatternBook,
     errors: &mut Vec<ValidationError>,
 ) -> Result<(), Refused>
-    requires { place.now.depth ≤ 64 }
+    requires { state.now.depth ≤ 64 }
     ensures found { OnOk result (AreAdded (entries_of book.new) errors.old.items errors.new.items
-        (λ b. reached N.form b (64 - place.now.depth) (further None place.now.depth (item_path (string_bytes path.old) index)
+        (λ b. answer_if_reached N.form b (64 - state.now.depth) (further None state.now.depth (item_path (string_bytes path.old) index)
         (Some (N.seen node)) (Some (view value.now))
-        (option_and_then (at index) (option_map (λ v. view v.now) place.now.old))))) }
+        (option_and_then (at index) (option_map (λ v. view v.now) state.now.old))))) }
     ensures path { OnOk result (string_bytes path.new ≡ string_bytes path.old) }
-    ensures keeps { (b : Book) → Agrees b (entries_of book.new) → Agrees b (entries_of book.old) }
+    ensures keeps { (b : Book) → Extends b (entries_of book.new) → Extends b (entries_of book.old) }
     ensures memory { IfErr result (λ e. e ≡ Refused.Memory) }
 {
-    let item = Place {
+    let item = WalkState {
         node,
         value,
-        old: old_item(place.old, index),
+        old: old_item(state.old, index),
         root: None,
-        depth: place.depth + 1,
+        depth: state.depth + 1,
     };
     let len = path.len();
     push_item(path, index)?;
@@ -199,24 +199,24 @@ fn walk_item<'a, N: Node>(
     Ok(())
 }
 
-/// Adds what is found through the branches of one keyword, in their order. The value stays, and so does what is told at the root.
+/// Adds what is found through the branches of one keyword, in their order. The value stays, and so does what is known at the root.
 #[cycle(walk)]
 fn walk_branches<N: Node>(
     kind: BranchKind,
-    place: &Place<'_, N>,
+    state: &WalkState<'_, N>,
     path: &mut String,
     book: &mut PatternBook,
     errors: &mut Vec<ValidationError>,
 ) -> Result<(), Refused>
-    requires { place.now.depth ≤ 64 }
+    requires { state.now.depth ≤ 64 }
     ensures found { OnOk result (AreAdded (entries_of book.new) errors.old.items errors.new.items
-        (λ b. found_by N.form (branch_steps N.form.shape kind) b (64 - place.now.depth) (spot_at N.seen place.now (string_bytes path.old)))) }
+        (λ b. found_by N.form (branch_steps N.form.shape kind) b (64 - state.now.depth) (visit_at N.seen state.now (string_bytes path.old)))) }
     ensures path { OnOk result (string_bytes path.new ≡ string_bytes path.old) }
-    ensures keeps { (b : Book) → Agrees b (entries_of book.new) → Agrees b (entries_of book.old) }
+    ensures keeps { (b : Book) → Extends b (entries_of book.new) → Extends b (entries_of book.old) }
     ensures memory { IfErr result (λ e. e ≡ Refused.Memory) }
 {
-    for index in 0..place.node.branch_count(kind) {
-        walk_branch(kind, place, index, path, book, errors)?;
+    for index in 0..state.node.branch_count(kind) {
+        walk_branch(kind, state, index, path, book, errors)?;
     }
     Ok(())
 }
@@ -225,28 +225,28 @@ fn walk_branches<N: Node>(
 #[cycle(walk)]
 fn walk_branch<N: Node>(
     kind: BranchKind,
-    place: &Place<'_, N>,
+    state: &WalkState<'_, N>,
     index: usize,
     path: &mut String,
     book: &mut PatternBook,
     errors: &mut Vec<ValidationError>,
 ) -> Result<(), Refused>
-    requires { place.now.depth ≤ 64 }
+    requires { state.now.depth ≤ 64 }
     ensures found { OnOk result (AreAdded (entries_of book.new) errors.old.items errors.new.items
-        (λ b. reached N.form b (64 - place.now.depth) (goes N.form.shape (branch kind index) (spot_at N.seen place.now (string_bytes path.old))))) }
+        (λ b. answer_if_reached N.form b (64 - state.now.depth) (goes N.form.shape (branch kind index) (visit_at N.seen state.now (string_bytes path.old))))) }
     ensures path { OnOk result (string_bytes path.new ≡ string_bytes path.old) }
-    ensures keeps { (b : Book) → Agrees b (entries_of book.new) → Agrees b (entries_of book.old) }
+    ensures keeps { (b : Book) → Extends b (entries_of book.new) → Extends b (entries_of book.old) }
     ensures memory { IfErr result (λ e. e ≡ Refused.Memory) }
 {
-    let Some(node) = place.node.branch(kind, index) else {
+    let Some(node) = state.node.branch(kind, index) else {
         return Ok(());
     };
-    let branch = Place {
+    let branch = WalkState {
         node,
-        value: place.value,
-        old: place.old,
-        root: place.root,
-        depth: place.depth + 1,
+        value: state.value,
+        old: state.old,
+        root: state.root,
+        depth: state.depth + 1,
     };
     walk_node(&branch, path, book, errors)?;
     Ok(())

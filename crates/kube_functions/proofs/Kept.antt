@@ -2,11 +2,11 @@
 use Rattle.std.proofs.Common.{◌≡◌, ℕ, Bool, true, List, [], ◌∷◌, length, Option, Some, None, ap, ◌∙◌}
 use Rattle.std.specs.Prelude.{codes, is_some, if◌then◌else◌}
 use Rattle.std.specs.Option.{option_map_or}
-use Rattle.cel_book.specs.Book.{Book}
+use Rattle.cel_patterns.specs.Book.{Book}
 use Rattle.cel_value.specs.Data.{Data}
-use Rattle.cel_meaning.specs.declared.functions.Form.TheVariants.{Known}
-use Rattle.cel_standard.specs.Standard.{standard_form, standard_answer}
-use Rattle.kube_functions_types.specs.Texts.{string_of}
+use Rattle.cel_semantics.specs.declared.functions.Form.TheVariants.{Known}
+use Rattle.cel_stdlib.specs.Standard.{standard_form, standard_answer}
+use Rattle.kube_functions_types.specs.Strings.{string_of}
 use Rattle.kube_functions.specs.Kube.{added_form, either_form, kube_form, answer_by, kube_answer}
 use Rattle.kube_functions.specs.Overloads.{address_operand, is_address}
 

@@ -2,24 +2,24 @@
 -- What the functions without receivers answer: each by the definition of its call.
 use Rattle.std.specs.Prelude.{ℕ, List, Option, Ok}
 use Rattle.std.specs.Option.{option_zip}
-use Rattle.cel_standard.specs.declared.extremes.Extreme.{Extreme}
-use Rattle.cel_standard.specs.declared.extremes.Extreme.TheVariants.{Least, Greatest}
+use Rattle.cel_stdlib.specs.declared.extremes.Extreme.{Extreme}
+use Rattle.cel_stdlib.specs.declared.extremes.Extreme.TheVariants.{Least, Greatest}
 use Rattle.cel_value.specs.Data as plain
 use Rattle.cel_value.specs.Data.{Data}
-use Rattle.cel_meaning.specs.Outcome.{Outcome}
+use Rattle.cel_semantics.specs.Outcome.{Outcome}
 use Rattle.kube_functions_lists.specs.Bits as bits
 use Rattle.kube_functions_lists.specs.Lists as lists
 use Rattle.kube_functions_lists.specs.Math as math
 use Rattle.kube_functions_lists.specs.Sets as sets
-use Rattle.kube_functions_texts.specs.Encodings as encodings
-use Rattle.kube_functions_texts.specs.Escapes as escapes
-use Rattle.kube_functions_texts.specs.Operands.{answer_with}
-use Rattle.kube_functions_types.specs.Addresses as addresses
-use Rattle.kube_functions_types.specs.Cidrs as cidrs
-use Rattle.kube_functions_types.specs.Formats as formats
-use Rattle.kube_functions_types.specs.Quantities as quantities
-use Rattle.kube_functions_types.specs.Urls as urls
-use Rattle.kube_functions_types.specs.Versions as versions
+use Rattle.kube_functions_strings.specs.Encoders as encodings
+use Rattle.kube_functions_strings.specs.Escapes as escapes
+use Rattle.kube_functions_strings.specs.Operands.{answer_with}
+use Rattle.kube_functions_types.specs.Ip as addresses
+use Rattle.kube_functions_types.specs.Cidr as cidrs
+use Rattle.kube_functions_types.specs.NamedFormat as formats
+use Rattle.kube_functions_types.specs.Quantity as quantities
+use Rattle.kube_functions_types.specs.Url as urls
+use Rattle.kube_functions_types.specs.Semver as versions
 use Rattle.kube_functions.specs.MethodCalls.{nth}
 use Rattle.kube_functions.specs.declared.globals.OfSpelling.{OfSpelling}
 use Rattle.kube_functions.specs.declared.globals.OfSpelling.TheVariants as spelling
@@ -41,9 +41,9 @@ use Rattle.kube_functions.specs.declared.globals.GlobalFunction.TheVariants as g
 -- ---- of one value
 
 abbrev pub answer_of_spelling : OfSpelling → Data → Outcome
-answer_of_spelling spelling.Quote v = escapes.quoted v
-answer_of_spelling spelling.Encode v = encodings.encoded v
-answer_of_spelling spelling.Decode v = encodings.decoded v
+answer_of_spelling spelling.Quote v = escapes.quote v
+answer_of_spelling spelling.Encode v = encodings.base64_encode v
+answer_of_spelling spelling.Decode v = encodings.base64_decode v
 answer_of_spelling spelling.EscapeKey v = escapes.escaped_key v
 
 abbrev pub answer_of_number : OfNumber → Data → Outcome
@@ -68,7 +68,7 @@ answer_of_text text.Url v = urls.url_from v
 answer_of_text text.IsUrl v = urls.is_url v
 answer_of_text text.Quantity v = quantities.quantity_of v
 answer_of_text text.IsQuantity v = quantities.is_quantity v
-answer_of_text text.FormatNamed v = formats.named v
+answer_of_text text.FormatNamed v = formats.named_format v
 
 abbrev pub answer_of_one : OfOne → Data → Outcome
 answer_of_one (one.Spelling f) v = answer_of_spelling f v

@@ -6,7 +6,7 @@ use Rattle.std.specs.Prelude.{ℕ, ◌==◌, nat_lt, ◌||◌, List, [], ◌∷�
 use Rattle.std.specs.Map.{lookup}
 use Rattle.std.specs.Str.{bytes_eq}
 use Rattle.kube_types_formats.specs.declared.kind.FormatKind.TheVariants as format
-use Rattle.cel_standard.specs.declared.extremes.Extreme.TheVariants as extreme
+use Rattle.cel_stdlib.specs.declared.extremes.Extreme.TheVariants as extreme
 use Rattle.kube_functions.specs.declared.globals.OfSpelling.TheVariants as spelling
 use Rattle.kube_functions.specs.declared.globals.OfNumber.TheVariants as number
 use Rattle.kube_functions.specs.declared.globals.OfAddressText.TheVariants as address
@@ -79,7 +79,7 @@ globals =
 abbrev pub global_named : List ℕ → Option GlobalFunction
 global_named name = lookup (bytes_eq name) globals
 
--- whether one is called with so many arguments
+-- whether one is called with this number of arguments
 abbrev pub takes : GlobalFunction → ℕ → Bool
 takes (global.Format kind) count = count == 0
 takes (global.One f) count = count == 1

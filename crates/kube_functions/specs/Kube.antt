@@ -3,15 +3,15 @@
 -- Kubernetes"). A call that is a standard one is answered as it is there, but for the strings of addresses.
 use Rattle.std.specs.Prelude.{ℕ, ◌||◌, List, length, Bool, true, false, Option, Some, None, is_some, Err, if◌then◌else◌}
 use Rattle.std.specs.Option.{option_map_or}
-use Rattle.cel_book.specs.Book.{Book}
+use Rattle.cel_patterns.specs.Book.{Book}
 use Rattle.cel_value.specs.Data.{Data}
 use Rattle.cel_value.specs.Faults.{no_overload}
-use Rattle.cel_meaning.specs.Library.{Library}
-use Rattle.cel_meaning.specs.Outcome.{Outcome}
-use Rattle.cel_meaning.specs.declared.functions.Form.{Form}
-use Rattle.cel_meaning.specs.declared.functions.Form.TheVariants.{Unknown, Wrong, Known}
-use Rattle.cel_standard.specs.Standard.{standard_form, standard_answer, standard_library}
-use Rattle.kube_functions_types.specs.Texts as address_texts
+use Rattle.cel_semantics.specs.Library.{Library}
+use Rattle.cel_semantics.specs.Outcome.{Outcome}
+use Rattle.cel_semantics.specs.declared.functions.Form.{Form}
+use Rattle.cel_semantics.specs.declared.functions.Form.TheVariants.{Unknown, Wrong, Known}
+use Rattle.cel_stdlib.specs.Standard.{standard_form, standard_answer, standard_library}
+use Rattle.kube_functions_types.specs.Strings as address_texts
 use Rattle.kube_functions.specs.GlobalCalls as globals
 use Rattle.kube_functions.specs.Globals.{global_named}
 use Rattle.kube_functions.specs.Globals as global_table

@@ -2,28 +2,28 @@
 -- What the functions on receivers answer: each by the definition of its call. Operands are the receiver and the arguments.
 use Rattle.std.specs.Prelude.{ℕ, List, codes, Option}
 use Rattle.std.specs.Option.{option_zip}
-use Rattle.cel_book.specs.Book.{Book}
+use Rattle.cel_patterns.specs.Book.{Book}
 use Rattle.cel_value.specs.Data.{Data}
 use Rattle.cel_value.specs.View.{items_of}
-use Rattle.cel_meaning.specs.Members.{nth_item}
-use Rattle.cel_meaning.specs.Outcome.{Outcome}
+use Rattle.cel_semantics.specs.Members.{nth_item}
+use Rattle.cel_semantics.specs.Outcome.{Outcome}
 use Rattle.kube_functions_format.specs.Formatted as formatted
 use Rattle.kube_functions_lists.specs.Lists as lists
 use Rattle.kube_functions_lists.specs.Orders as orders
 use Rattle.kube_functions_lists.specs.Sums as sums
-use Rattle.kube_functions_texts.specs.Found as found
-use Rattle.kube_functions_texts.specs.Joins as joins
-use Rattle.kube_functions_texts.specs.Letters as letters
-use Rattle.kube_functions_texts.specs.Operands.{answer_with}
-use Rattle.kube_functions_texts.specs.Pieces as pieces
-use Rattle.kube_functions_texts.specs.Places as places
-use Rattle.kube_functions_types.specs.Addresses as addresses
-use Rattle.kube_functions_types.specs.Cidrs as cidrs
-use Rattle.kube_functions_types.specs.Formats as formats
+use Rattle.kube_functions_strings.specs.Regex as found
+use Rattle.kube_functions_strings.specs.Joins as joins
+use Rattle.kube_functions_strings.specs.Letters as letters
+use Rattle.kube_functions_strings.specs.Operands.{answer_with}
+use Rattle.kube_functions_strings.specs.Pieces as pieces
+use Rattle.kube_functions_strings.specs.Offsets as places
+use Rattle.kube_functions_types.specs.Ip as addresses
+use Rattle.kube_functions_types.specs.Cidr as cidrs
+use Rattle.kube_functions_types.specs.NamedFormat as formats
 use Rattle.kube_functions_types.specs.Order as order
-use Rattle.kube_functions_types.specs.Quantities as quantities
-use Rattle.kube_functions_types.specs.Urls as urls
-use Rattle.kube_functions_types.specs.Versions as versions
+use Rattle.kube_functions_types.specs.Quantity as quantities
+use Rattle.kube_functions_types.specs.Url as urls
+use Rattle.kube_functions_types.specs.Semver as versions
 use Rattle.kube_functions.specs.Overloads as overloads
 use Rattle.kube_functions.specs.declared.methods.OfText.{OfText}
 use Rattle.kube_functions.specs.declared.methods.OfText.TheVariants as text
@@ -49,10 +49,10 @@ use Rattle.kube_functions.specs.declared.methods.Method.TheVariants as method
 -- ---- of the receiver alone
 
 abbrev pub answer_of_text : OfText → Data → Outcome
-answer_of_text text.LowerAscii v = letters.lowered v
-answer_of_text text.UpperAscii v = letters.uppered v
-answer_of_text text.Trim v = letters.trimmed v
-answer_of_text text.Reverse v = overloads.reversed v
+answer_of_text text.LowerAscii v = letters.lower_ascii v
+answer_of_text text.UpperAscii v = letters.upper_ascii v
+answer_of_text text.Trim v = letters.trim_outcome v
+answer_of_text text.Reverse v = overloads.reverse_overload v
 
 abbrev pub answer_of_list : OfList → Data → Outcome
 answer_of_list list.IsSorted v = orders.is_sorted v
@@ -72,7 +72,7 @@ answer_of_address address.IsLinkLocalMulticast v = addresses.is_link_local_multi
 answer_of_address address.IsLinkLocalUnicast v = addresses.is_link_local_unicast v
 answer_of_address address.IsGlobalUnicast v = addresses.is_global_unicast v
 answer_of_address address.PrefixLength v = cidrs.prefix_length v
-answer_of_address address.Masked v = cidrs.masked v
+answer_of_address address.Masked v = cidrs.masked_cidr v
 answer_of_address address.Ip v = cidrs.written_ip v
 
 abbrev pub answer_of_amount : OfAmount → Data → Outcome
@@ -111,15 +111,15 @@ answer_of_two two.ContainsCidr v w = cidrs.contains_cidr v w
 answer_of_two two.IsGreaterThan v w = order.is_greater_than v w
 answer_of_two two.IsLessThan v w = order.is_less_than v w
 answer_of_two two.CompareTo v w = order.compare_to v w
-answer_of_two two.Add v w = quantities.added v w
-answer_of_two two.Sub v w = quantities.subtracted v w
+answer_of_two two.Add v w = quantities.quantity_sum v w
+answer_of_two two.Sub v w = quantities.quantity_difference v w
 answer_of_two two.Validate v w = formats.validate v w
 answer_of_two two.Format v w = formatted.format_of v w
 
 abbrev pub answer_of_two_or_three : OfTwoOrThree → Data → Data → Option Data → Outcome
 answer_of_two_or_three two_or_three.IndexOf v w x = overloads.index_of v w x
 answer_of_two_or_three two_or_three.LastIndexOf v w x = overloads.last_index_of v w x
-answer_of_two_or_three two_or_three.Split v w x = pieces.split v w x
+answer_of_two_or_three two_or_three.Split v w x = pieces.split_outcome v w x
 answer_of_two_or_three two_or_three.Substring v w x = places.substring v w x
 
 -- ---- all of them
@@ -132,14 +132,14 @@ abbrev pub answer_of_slice : Data → List Data → Outcome
 answer_of_slice v args = answer_with (codes "slice") (λ p. lists.slice v p.0 p.1) (option_zip (nth 0 args) (nth 1 args))
 
 abbrev pub answer_of_replace : Data → List Data → Outcome
-answer_of_replace v args = answer_with (codes "replace") (λ p. pieces.replaced v p.0 p.1 (nth 2 args)) (option_zip (nth 0 args) (nth 1 args))
+answer_of_replace v args = answer_with (codes "replace") (λ p. pieces.replace_outcome v p.0 p.1 (nth 2 args)) (option_zip (nth 0 args) (nth 1 args))
 
 abbrev pub answer_of : Method → List ℕ → Data → List Data → Book → Outcome
 answer_of (method.One f) name v args book = answer_of_one f v
 answer_of (method.OneOrTwo f) name v args book = answer_of_one_or_two f v (nth 0 args)
 answer_of (method.Two f) name v args book = answer_with name (answer_of_two f v) (nth 0 args)
 answer_of (method.TwoOrThree f) name v args book = answer_with name (λ w. answer_of_two_or_three f v w (nth 1 args)) (nth 0 args)
-answer_of method.Find name v args book = answer_with name (λ w. found.found v w book) (nth 0 args)
-answer_of method.FindAll name v args book = answer_with name (λ w. found.all_found v w (nth 1 args) book) (nth 0 args)
+answer_of method.Find name v args book = answer_with name (λ w. found.find_outcome v w book) (nth 0 args)
+answer_of method.FindAll name v args book = answer_with name (λ w. found.find_all_outcome v w (nth 1 args) book) (nth 0 args)
 answer_of method.Slice name v args book = answer_of_slice v args
 answer_of method.Replace name v args book = answer_of_replace v args

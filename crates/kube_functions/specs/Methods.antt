@@ -85,7 +85,7 @@ methods =
 abbrev pub method_named : List ℕ → Option Method
 method_named name = lookup (bytes_eq name) methods
 
--- whether one is called with so many arguments
+-- whether one is called with this number of arguments
 abbrev pub takes : Method → ℕ → Bool
 takes (method.One f) count = count == 0
 takes (method.OneOrTwo f) count = (count == 0) || (count == 1)

@@ -7,18 +7,18 @@ use Rattle.std.specs.Str.{bytes_eq}
 use Rattle.cel_value.specs.Data.{Data, ip, cidr}
 use Rattle.cel_value.specs.Faults.{no_overload}
 use Rattle.cel_value.specs.Parts.{items_in}
-use Rattle.cel_meaning.specs.Outcome.{Outcome}
-use Rattle.cel_standard.specs.Standard.{first_operand}
+use Rattle.cel_semantics.specs.Outcome.{Outcome}
+use Rattle.cel_stdlib.specs.Standard.{first_operand}
 use Rattle.kube_functions_lists.specs.Lists as lists
-use Rattle.kube_functions_lists.specs.Places as list_places
-use Rattle.kube_functions_texts.specs.Letters as letters
-use Rattle.kube_functions_texts.specs.Places as text_places
+use Rattle.kube_functions_lists.specs.Indices as list_places
+use Rattle.kube_functions_strings.specs.Letters as letters
+use Rattle.kube_functions_strings.specs.Offsets as text_places
 
 abbrev pub is_list : Data → Bool
 is_list v = is_some (items_in v)
 
-abbrev pub reversed : Data → Outcome
-reversed v = if is_list v then lists.reverse v else letters.reversed v
+abbrev pub reverse_overload : Data → Outcome
+reverse_overload v = if is_list v then lists.reverse v else letters.reverse_outcome v
 
 -- on a list, with no place to start from
 abbrev pub unless_started : List ℕ → Outcome → Option Data → Outcome

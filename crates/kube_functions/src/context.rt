@@ -1,13 +1,13 @@
 //! The contexts of rules.
 ghost use Rattle.std.specs.Prelude.{◌≡◌};
-ghost use Rattle.cel_meaning.specs.Bindings.{Bindings, bindings_of, functions_of};
+ghost use Rattle.cel_semantics.specs.Bindings.{Bindings, bindings_of, functions_of};
 ghost use Rattle.kube_functions.specs.declared.sets.KubeFunctions.{KubeFunctions};
 ghost use Rattle.kube_functions.specs.declared.sets.KubeFunctions.TheVariants.{All};
 
 use crate::sets::KubeFunctions;
 
 /// What the names of a rule are bound to, and which functions it may call: at first those of the CEL standard.
-pub type Context<'a> = cel_meaning::Context<'a, KubeFunctions>;
+pub type Context<'a> = cel_semantics::Context<'a, KubeFunctions>;
 
 mod sealed {
     /// The contexts of rules alone have it.

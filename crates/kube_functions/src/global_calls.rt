@@ -1,19 +1,19 @@
 //! The answers of functions without receivers.
 ghost use Rattle.std.specs.Prelude.{◌≡◌, IfOk, IfErr, map, option_map};
 ghost use Rattle.cel_value.specs.View.{view};
-ghost use Rattle.cel_meaning.specs.Outcome.{outcome_view};
+ghost use Rattle.cel_semantics.specs.Outcome.{outcome_view};
 ghost use Rattle.kube_functions.specs.GlobalCalls as spec;
 
 use crate::globals::{
     GlobalFunction, OfAddressText, OfNumber, OfOne, OfOneOrTwo, OfSpelling, OfText, OfTwo,
 };
 use crate::operands::nth;
-use cel_meaning::operators::{Answer, no_such_overload};
-use cel_standard::extremes::Extreme;
+use cel_semantics::operators::{Answer, no_such_overload};
+use cel_stdlib::extremes::Extreme;
 use cel_value::{Refused, Value};
 use kube_functions_lists::{bits, math, ranges, sets};
-use kube_functions_texts as texts;
-use kube_functions_types::{addresses, cidrs, formats, quantities, urls, versions};
+use kube_functions_strings as texts;
+use kube_functions_types::{cidr, ip, named_format, quantity, semver_functions, url_functions};
 use std::alloc::Global;
 
 fn answer_of_spelling(alloc: Global, function: OfSpelling, value: &Value) -> Result<Answer, Refused>
@@ -49,15 +49,15 @@ fn answer_of_address_text(
     ensures memory { IfErr result (λ e. e ≡ Refused.Memory) }
 {
     match function {
-        OfAddressText::Ip => addresses::ip(alloc, value),
-        OfAddressText::IsIp => addresses::is_ip(alloc, value),
-        OfAddressText::IsIpv4 => addresses::is_ipv4(alloc, value),
-        OfAddressText::IsIpv6 => addresses::is_ipv6(alloc, value),
-        OfAddressText::IsCanonical => addresses::is_canonical(alloc, value),
-        OfAddressText::Cidr => cidrs::cidr(alloc, value),
-        OfAddressText::IsCidr => cidrs::is_cidr(alloc, value),
-        OfAddressText::IsCidrV4 => cidrs::is_cidr_v4(alloc, value),
-        OfAddressText::IsCidrV6 => cidrs::is_cidr_v6(alloc, value),
+        OfAddressText::Ip => ip::ip(alloc, value),
+        OfAddressText::IsIp => ip::is_ip(alloc, value),
+        OfAddressText::IsIpv4 => ip::is_ipv4(alloc, value),
+        OfAddressText::IsIpv6 => ip::is_ipv6(alloc, value),
+        OfAddressText::IsCanonical => ip::is_canonical(alloc, value),
+        OfAddressText::Cidr => cidr::cidr(alloc, value),
+        OfAddressText::IsCidr => cidr::is_cidr(alloc, value),
+        OfAddressText::IsCidrV4 => cidr::is_cidr_v4(alloc, value),
+        OfAddressText::IsCidrV6 => cidr::is_cidr_v6(alloc, value),
     }
 }
 
@@ -66,11 +66,11 @@ fn answer_of_text(alloc: Global, function: OfText, value: &Value) -> Result<Answ
     ensures memory { IfErr result (λ e. e ≡ Refused.Memory) }
 {
     match function {
-        OfText::Url => urls::url(alloc, value),
-        OfText::IsUrl => urls::is_url(alloc, value),
-        OfText::Quantity => quantities::quantity(alloc, value),
-        OfText::IsQuantity => quantities::is_quantity(alloc, value),
-        OfText::FormatNamed => formats::named(alloc, value),
+        OfText::Url => url_functions::url(alloc, value),
+        OfText::IsUrl => url_functions::is_url(alloc, value),
+        OfText::Quantity => quantity::quantity(alloc, value),
+        OfText::IsQuantity => quantity::is_quantity(alloc, value),
+        OfText::FormatNamed => named_format::named(alloc, value),
     }
 }
 
@@ -97,8 +97,8 @@ fn answer_of_one_or_two(
     ensures memory { IfErr result (λ e. e ≡ Refused.Memory) }
 {
     match function {
-        OfOneOrTwo::Semver => versions::semver(alloc, value, other),
-        OfOneOrTwo::IsSemver => versions::is_semver(alloc, value, other),
+        OfOneOrTwo::Semver => semver_functions::semver(alloc, value, other),
+        OfOneOrTwo::IsSemver => semver_functions::is_semver(alloc, value, other),
     }
 }
 
@@ -167,7 +167,7 @@ pub(crate) fn answer_of_global(
     ensures memory { IfErr result (λ e. e ≡ Refused.Memory) }
 {
     match global {
-        GlobalFunction::Format(kind) => Ok(formats::format(kind)),
+        GlobalFunction::Format(kind) => Ok(named_format::format(kind)),
         GlobalFunction::One(function) => match nth(args, 0) {
             Some(value) => answer_of_one(alloc, function, value),
             None => Ok(Err(no_such_overload(alloc, name)?)),

@@ -2,10 +2,10 @@
 ghost use Rattle.std.specs.Prelude.{◌≡◌};
 ghost use Rattle.std.specs.Map.{lookup};
 ghost use Rattle.std.specs.Str.{bytes_eq};
-ghost use Rattle.cel_standard.specs.Table.{of_length};
+ghost use Rattle.cel_stdlib.specs.Table.{of_length};
 ghost use Rattle.kube_functions.specs.Globals as spec;
 
-use cel_standard::extremes::Extreme;
+use cel_stdlib::extremes::Extreme;
 use kube_types::FormatKind;
 
 /// A function of a string or of bytes, to another spelling.
@@ -327,7 +327,7 @@ pub(crate) fn global_named(name: &str) -> Option<GlobalFunction>
     }
 }
 
-/// Whether the function is called with so many arguments.
+/// Whether the function is called with this number of arguments.
 pub(crate) fn global_takes(global: GlobalFunction, count: usize) -> bool
     ensures { result ≡ spec.takes global count }
 {

@@ -1,13 +1,13 @@
 //! Laws of the sets of functions, each the contract of a call that does nothing.
 ghost use Rattle.std.specs.Prelude.{◌≡◌, ℕ, Bool, true, List, [], ◌∷◌, length, codes, is_some, Option, Some, None};
-ghost use Rattle.cel_book.specs.Book.{Book};
-ghost use Rattle.cel_meaning.specs.declared.functions.Form.TheVariants.{Known};
-ghost use Rattle.cel_standard.specs.Standard.{standard_library};
+ghost use Rattle.cel_patterns.specs.Book.{Book};
+ghost use Rattle.cel_semantics.specs.declared.functions.Form.TheVariants.{Known};
+ghost use Rattle.cel_stdlib.specs.Standard.{standard_library};
 ghost use Rattle.cel_value.specs.Data.{Data};
 ghost use Rattle.kube_functions.specs.Kube.{all_library, kube_library};
 ghost use Rattle.kube_functions.specs.Overloads.{address_operand, is_address};
 ghost use Rattle.kube_functions.specs.declared.sets.KubeFunctions.TheVariants.{Standard};
-ghost use Rattle.kube_functions_types.specs.Texts.{string_of};
+ghost use Rattle.kube_functions_types.specs.Strings.{string_of};
 
 /// The set that a context begins with is that of the CEL standard.
 pub fn the_first_set_is_the_standard_one()

@@ -1,10 +1,10 @@
 //! The answers of functions on receivers.
 ghost use Rattle.std.specs.Prelude.{◌≡◌, IfOk, IfErr, map, option_map};
-ghost use Rattle.cel_book.specs.Book.{Agrees};
-ghost use Rattle.cel_book.specs.Entries.{entries_of};
-ghost use Rattle.cel_book.specs.Settled.{Settles};
+ghost use Rattle.cel_patterns.specs.Book.{Extends};
+ghost use Rattle.cel_patterns.specs.Entries.{entries_of};
+ghost use Rattle.cel_patterns.specs.Extensions.{HoldsForExtensions};
 ghost use Rattle.cel_value.specs.View.{view};
-ghost use Rattle.cel_meaning.specs.Outcome.{outcome_view};
+ghost use Rattle.cel_semantics.specs.Outcome.{outcome_view};
 ghost use Rattle.kube_functions.specs.MethodCalls as spec;
 
 use crate::methods::{
@@ -12,12 +12,14 @@ use crate::methods::{
 };
 use crate::operands::nth;
 use crate::overloads;
-use cel_book::PatternBook;
-use cel_meaning::operators::{Answer, no_such_overload};
+use cel_patterns::PatternBook;
+use cel_semantics::operators::{Answer, no_such_overload};
 use cel_value::{Refused, Value};
 use kube_functions_lists::{levels, lists, orders, sums};
-use kube_functions_texts as texts;
-use kube_functions_types::{addresses, cidrs, formats, order, quantities, urls, versions};
+use kube_functions_strings as texts;
+use kube_functions_types::{
+    cidr, ip, named_format, order, quantity, semver_functions, url_functions,
+};
 use std::alloc::Global;
 
 fn answer_of_text(alloc: Global, function: OfText, value: &Value) -> Result<Answer, Refused>
@@ -53,15 +55,15 @@ fn answer_of_address(alloc: Global, function: OfAddress, value: &Value) -> Resul
     ensures memory { IfErr result (λ e. e ≡ Refused.Memory) }
 {
     match function {
-        OfAddress::Family => addresses::family(alloc, value),
-        OfAddress::IsLoopback => addresses::is_loopback(alloc, value),
-        OfAddress::IsUnspecified => addresses::is_unspecified(alloc, value),
-        OfAddress::IsLinkLocalMulticast => addresses::is_link_local_multicast(alloc, value),
-        OfAddress::IsLinkLocalUnicast => addresses::is_link_local_unicast(alloc, value),
-        OfAddress::IsGlobalUnicast => addresses::is_global_unicast(alloc, value),
-        OfAddress::PrefixLength => cidrs::prefix_length(alloc, value),
-        OfAddress::Masked => cidrs::masked(alloc, value),
-        OfAddress::Ip => cidrs::written_ip(alloc, value),
+        OfAddress::Family => ip::family(alloc, value),
+        OfAddress::IsLoopback => ip::is_loopback(alloc, value),
+        OfAddress::IsUnspecified => ip::is_unspecified(alloc, value),
+        OfAddress::IsLinkLocalMulticast => ip::is_link_local_multicast(alloc, value),
+        OfAddress::IsLinkLocalUnicast => ip::is_link_local_unicast(alloc, value),
+        OfAddress::IsGlobalUnicast => ip::is_global_unicast(alloc, value),
+        OfAddress::PrefixLength => cidr::prefix_length(alloc, value),
+        OfAddress::Masked => cidr::masked(alloc, value),
+        OfAddress::Ip => cidr::written_ip(alloc, value),
     }
 }
 
@@ -70,12 +72,12 @@ fn answer_of_amount(alloc: Global, function: OfAmount, value: &Value) -> Result<
     ensures memory { IfErr result (λ e. e ≡ Refused.Memory) }
 {
     match function {
-        OfAmount::Major => versions::major(alloc, value),
-        OfAmount::Minor => versions::minor(alloc, value),
-        OfAmount::Patch => versions::patch(alloc, value),
-        OfAmount::IsInteger => quantities::is_integer(alloc, value),
-        OfAmount::AsInteger => quantities::as_integer(alloc, value),
-        OfAmount::Sign => quantities::sign(alloc, value),
+        OfAmount::Major => semver_functions::major(alloc, value),
+        OfAmount::Minor => semver_functions::minor(alloc, value),
+        OfAmount::Patch => semver_functions::patch(alloc, value),
+        OfAmount::IsInteger => quantity::is_integer(alloc, value),
+        OfAmount::AsInteger => quantity::as_integer(alloc, value),
+        OfAmount::Sign => quantity::sign(alloc, value),
     }
 }
 
@@ -84,12 +86,12 @@ fn answer_of_url(alloc: Global, function: OfUrl, value: &Value) -> Result<Answer
     ensures memory { IfErr result (λ e. e ≡ Refused.Memory) }
 {
     match function {
-        OfUrl::Scheme => urls::scheme(alloc, value),
-        OfUrl::Host => urls::host(alloc, value),
-        OfUrl::Hostname => urls::hostname(alloc, value),
-        OfUrl::Port => urls::port(alloc, value),
-        OfUrl::EscapedPath => urls::escaped_path(alloc, value),
-        OfUrl::Query => urls::query(alloc, value),
+        OfUrl::Scheme => url_functions::scheme(alloc, value),
+        OfUrl::Host => url_functions::host(alloc, value),
+        OfUrl::Hostname => url_functions::hostname(alloc, value),
+        OfUrl::Port => url_functions::port(alloc, value),
+        OfUrl::EscapedPath => url_functions::escaped_path(alloc, value),
+        OfUrl::Query => url_functions::query(alloc, value),
     }
 }
 
@@ -134,14 +136,14 @@ fn answer_of_two(
 {
     match function {
         OfTwo::CharAt => texts::char_at(alloc, value, other),
-        OfTwo::ContainsIp => cidrs::contains_ip(alloc, value, other),
-        OfTwo::ContainsCidr => cidrs::contains_cidr(alloc, value, other),
+        OfTwo::ContainsIp => cidr::contains_ip(alloc, value, other),
+        OfTwo::ContainsCidr => cidr::contains_cidr(alloc, value, other),
         OfTwo::IsGreaterThan => order::is_greater_than(alloc, value, other),
         OfTwo::IsLessThan => order::is_less_than(alloc, value, other),
         OfTwo::CompareTo => order::compare_to(alloc, value, other),
-        OfTwo::Add => quantities::add(alloc, value, other),
-        OfTwo::Sub => quantities::sub(alloc, value, other),
-        OfTwo::Validate => formats::validate(alloc, value, other),
+        OfTwo::Add => quantity::add(alloc, value, other),
+        OfTwo::Sub => quantity::sub(alloc, value, other),
+        OfTwo::Validate => named_format::validate(alloc, value, other),
         OfTwo::Format => kube_functions_format::format(alloc, value, other),
     }
 }
@@ -203,8 +205,8 @@ pub(crate) fn answer_of_method(
     args: &[Value],
     book: &mut PatternBook,
 ) -> Result<Answer, Refused>
-    ensures keeps { Agrees (entries_of book.new) (entries_of book.old) }
-    ensures value { IfOk result (λ r. Settles (entries_of book.new) (outcome_view r)
+    ensures keeps { Extends (entries_of book.new) (entries_of book.old) }
+    ensures value { IfOk result (λ r. HoldsForExtensions (entries_of book.new) (outcome_view r)
         (λ b. spec.answer_of method name.now (view value.now) (map view args.now) b)) }
     ensures memory { IfErr result (λ e. e ≡ Refused.Memory) }
 {

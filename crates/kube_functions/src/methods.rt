@@ -2,7 +2,7 @@
 ghost use Rattle.std.specs.Prelude.{◌≡◌};
 ghost use Rattle.std.specs.Map.{lookup};
 ghost use Rattle.std.specs.Str.{bytes_eq};
-ghost use Rattle.cel_standard.specs.Table.{of_length};
+ghost use Rattle.cel_stdlib.specs.Table.{of_length};
 ghost use Rattle.kube_functions.specs.Methods as spec;
 
 /// A function of a string. `Reverse` is one of a list, too.
@@ -325,7 +325,7 @@ pub(crate) fn method_named(name: &str) -> Option<Method>
     }
 }
 
-/// Whether the function is called with so many arguments.
+/// Whether the function is called with this number of arguments.
 pub(crate) fn method_takes(method: Method, count: usize) -> bool
     ensures { result ≡ spec.takes method count }
 {

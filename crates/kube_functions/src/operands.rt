@@ -1,8 +1,8 @@
 //! The operands of a call.
 ghost use Rattle.std.specs.Prelude.{◌≡◌, map, option_map};
 ghost use Rattle.cel_value.specs.View.{view, items_view};
-ghost use Rattle.cel_meaning.specs.Members.{nth_item};
-ghost use Rattle.cel_standard.specs.Standard as standard;
+ghost use Rattle.cel_semantics.specs.Members.{nth_item};
+ghost use Rattle.cel_stdlib.specs.Standard as standard;
 
 use cel_value::Value;
 

@@ -1,14 +1,14 @@
 //! Functions of one name on operands of different kinds.
 ghost use Rattle.std.specs.Prelude.{◌≡◌, IfOk, IfErr, Some, map, option_map};
 ghost use Rattle.cel_value.specs.View.{view};
-ghost use Rattle.cel_meaning.specs.Outcome.{outcome_view};
+ghost use Rattle.cel_semantics.specs.Outcome.{outcome_view};
 ghost use Rattle.kube_functions.specs.Overloads as spec;
 
 use crate::operands::first_operand;
-use cel_meaning::operators::{Answer, no_such_overload};
+use cel_semantics::operators::{Answer, no_such_overload};
 use cel_value::{Refused, Value};
-use kube_functions_lists::{lists, places};
-use kube_functions_texts as texts;
+use kube_functions_lists::{indices, lists};
+use kube_functions_strings as texts;
 use std::alloc::Global;
 
 fn is_list(value: &Value) -> bool
@@ -19,7 +19,7 @@ fn is_list(value: &Value) -> bool
 
 /// `reverse`: a string's characters, or a list's items, backwards.
 pub(crate) fn reverse(alloc: Global, value: &Value) -> Result<Answer, Refused>
-    ensures value { IfOk result (λ r. outcome_view r ≡ spec.reversed (view value.now)) }
+    ensures value { IfOk result (λ r. outcome_view r ≡ spec.reverse_overload (view value.now)) }
     ensures memory { IfErr result (λ e. e ≡ Refused.Memory) }
 {
     if is_list(value) {
@@ -45,7 +45,7 @@ pub(crate) fn index_of(
     }
     match start {
         Some(_) => Ok(Err(no_such_overload(alloc, "indexOf")?)),
-        None => places::index_of(alloc, value, item),
+        None => indices::index_of(alloc, value, item),
     }
 }
 
@@ -65,7 +65,7 @@ pub(crate) fn last_index_of(
     }
     match start {
         Some(_) => Ok(Err(no_such_overload(alloc, "lastIndexOf")?)),
-        None => places::last_index_of(alloc, value, item),
+        None => indices::last_index_of(alloc, value, item),
     }
 }
 

@@ -1,11 +1,11 @@
 //! The sets of functions.
 ghost use Rattle.std.specs.Prelude.{◌≡◌, Some, map, option_map, IfOk, IfErr};
-ghost use Rattle.cel_book.specs.Book.{Agrees};
-ghost use Rattle.cel_book.specs.Entries.{entries_of};
-ghost use Rattle.cel_book.specs.Settled.{Settles};
+ghost use Rattle.cel_patterns.specs.Book.{Extends};
+ghost use Rattle.cel_patterns.specs.Entries.{entries_of};
+ghost use Rattle.cel_patterns.specs.Extensions.{HoldsForExtensions};
 ghost use Rattle.cel_value.specs.View.{view};
-ghost use Rattle.cel_meaning.specs.Outcome.{outcome_view};
-ghost use Rattle.cel_standard.specs.Table.{function_named};
+ghost use Rattle.cel_semantics.specs.Outcome.{outcome_view};
+ghost use Rattle.cel_stdlib.specs.Table.{function_named};
 ghost use Rattle.kube_functions.specs.Kube as spec;
 
 use crate::global_calls::answer_of_global;
@@ -13,12 +13,12 @@ use crate::globals::{global_named, global_takes};
 use crate::method_calls::answer_of_method;
 use crate::methods::{method_named, method_takes};
 use crate::overloads::address_operand;
-use cel_book::PatternBook;
-use cel_meaning::operators::{Answer, no_such_overload};
-use cel_meaning::{Form, Functions};
-use cel_standard::{Function, StandardFunctions, answer_of_function, known_function};
+use cel_patterns::PatternBook;
+use cel_semantics::operators::{Answer, no_such_overload};
+use cel_semantics::{Form, Functions};
+use cel_stdlib::{Function, StandardFunctions, answer_of_function, known_function};
 use cel_value::{Refused, Value};
-use kube_functions_types::texts;
+use kube_functions_types::strings;
 use std::alloc::Global;
 
 /// The functions of the CEL standard and all those of Kubernetes.
@@ -89,8 +89,8 @@ fn added_answer(
     args: &[Value],
     book: &mut PatternBook,
 ) -> Result<Answer, Refused>
-    ensures keeps { Agrees (entries_of book.new) (entries_of book.old) }
-    ensures value { IfOk result (λ r. Settles (entries_of book.new) (outcome_view r)
+    ensures keeps { Extends (entries_of book.new) (entries_of book.old) }
+    ensures value { IfOk result (λ r. HoldsForExtensions (entries_of book.new) (outcome_view r)
         (λ b. spec.added_answer name.now (option_map (λ v. view v.now) receiver.entry) (map view args.now) b)) }
     ensures memory { IfErr result (λ e. e ≡ Refused.Memory) }
 {
@@ -116,13 +116,13 @@ fn kept_answer(
     book: &mut PatternBook,
 ) -> Result<Answer, Refused>
     requires { function_named name.now ≡ Some function }
-    ensures keeps { Agrees (entries_of book.new) (entries_of book.old) }
-    ensures value { IfOk result (λ r. Settles (entries_of book.new) (outcome_view r)
+    ensures keeps { Extends (entries_of book.new) (entries_of book.old) }
+    ensures value { IfOk result (λ r. HoldsForExtensions (entries_of book.new) (outcome_view r)
         (λ b. spec.kept_answer name.now (option_map (λ v. view v.now) receiver.entry) (map view args.now) b)) }
     ensures memory { IfErr result (λ e. e ≡ Refused.Memory) }
 {
     match address_operand(name, receiver, args) {
-        Some(address) => texts::string(alloc, address),
+        Some(address) => strings::string(alloc, address),
         None => answer_of_function(alloc, function, name, receiver, args, book),
     }
 }

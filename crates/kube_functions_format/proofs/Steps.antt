@@ -8,10 +8,10 @@ use Rattle.cel_value.specs.Parts.{items_in}
 use Rattle.cel_value.specs.View.{view, items_view}
 use Rattle.cel_value.specs.declared.error.ExecutionError.{ExecutionError}
 use Rattle.cel_value.specs.declared.value.Value.{Value}
-use Rattle.cel_meaning.specs.Ranges.{items_list}
-use Rattle.cel_meaning.proofs.Lookups.{items_list-items_of}
+use Rattle.cel_semantics.specs.Ranges.{items_list}
+use Rattle.cel_semantics.proofs.Lookups.{items_list-items_of}
 use Rattle.kube_types_refused.specs.declared.Refused.{Refused}
-use Rattle.kube_functions_format.specs.Formatted.{before, filled}
+use Rattle.kube_functions_format.specs.Formatted.{before, text_of_pieces}
 use Rattle.kube_functions_format.specs.Pieces.{pieces}
 use Rattle.kube_functions_format.specs.Progress.{written_on, unless_fault, shown_view}
 use Rattle.kube_functions_format.specs.Verbs.{Shown}
@@ -26,8 +26,8 @@ before_nothing (Ok t) = refl
 before_nothing (Err e) = refl
 
 -- nothing has been read
-pub begun : (items : List Data) (cs none : List ℕ) → none ≡ [] → filled items 0 (pieces cs) ≡ written_on items none 0 Outside cs
-begun items cs none e = before_nothing (filled items 0 (pieces cs)) ∙ ap (λ t. written_on items t 0 Outside cs) (sym e)
+pub begun : (items : List Data) (cs none : List ℕ) → none ≡ [] → text_of_pieces items 0 (pieces cs) ≡ written_on items none 0 Outside cs
+begun items cs none e = before_nothing (text_of_pieces items 0 (pieces cs)) ∙ ap (λ t. written_on items t 0 Outside cs) (sym e)
 
 -- one more character of those that are left
 pub next : (cs yielded : List ℕ) (c : ℕ) → length yielded < length cs → c ≡ get_or cs (length yielded) c → drop (length yielded) cs ≡ c ∷ drop (length (yielded ++ c ∷ [])) cs

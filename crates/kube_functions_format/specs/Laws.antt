@@ -5,7 +5,7 @@ use Rattle.std.specs.Char.{digit_value}
 use Rattle.std.specs.Str.{chars, IsUtf8}
 use Rattle.std.specs.Str.Parse.{IsNumeral, digits_value}
 use Rattle.cel_value.specs.Data.{Data, text, list, Items, item, no_items}
-use Rattle.cel_value.specs.Texts.{printed}
+use Rattle.cel_value.specs.Texts.{printed_text}
 use Rattle.kube_functions_format.specs.Formatted.{as_string, format_of}
 use Rattle.kube_functions_format.specs.Pieces.{Piece, literal, verb, pieces}
 use Rattle.kube_functions_format.specs.Verbs.{or_refused}
@@ -29,6 +29,6 @@ SpelledPiecesAreRead = (p : Piece) (s cs : List ℕ) → Spells p s → pieces (
 abbrev pub PlainTextStands : Type 0
 PlainTextStands = (s : List ℕ) (ds : Items) → IsUtf8 s → ¬ Contains (chars s) 37 → format_of (text s) (list ds) ≡ Ok (text s)
 
--- `%s` alone gives what is printed of one value, or tells the kind that is not
+-- `%s` alone gives what is printed of one value, or names the kind that is not
 abbrev pub OneValueIsPrinted : Type 0
-OneValueIsPrinted = (d : Data) → format_of (text (codes "%s")) (list (item d no_items)) ≡ as_string (or_refused (codes "%s does not support ") (printed d))
+OneValueIsPrinted = (d : Data) → format_of (text (codes "%s")) (list (item d no_items)) ≡ as_string (or_refused (codes "%s does not support ") (printed_text d))

@@ -5,7 +5,7 @@ use Rattle.std.specs.declared.alloc.Global.{Global}
 use Rattle.cel_value.specs.Data.{Data}
 use Rattle.cel_value.specs.Faults.{Fault, fault_view}
 use Rattle.cel_value.specs.declared.error.ExecutionError.{ExecutionError}
-use Rattle.kube_functions_format.specs.Formatted.{before, filled}
+use Rattle.kube_functions_format.specs.Formatted.{before, text_of_pieces}
 use Rattle.kube_functions_format.specs.Pieces.{Piece, literal, verb, broken, no_precision, pieces, behind_percent, behind_digits}
 use Rattle.kube_functions_format.specs.Verbs.{Shown}
 use Rattle.kube_functions_format.specs.declared.reading.Mark.{Mark}
@@ -27,13 +27,13 @@ read_on (step.More m) cs = pieces_behind m cs
 read_on step.Invalid cs = no_precision ∷ []
 
 -- the pieces of no more characters
-abbrev pub ended : Option (List ℕ) → List Piece
-ended None = []
-ended (Some message) = broken message ∷ []
+abbrev pub pieces_at_end : Option (List ℕ) → List Piece
+pieces_at_end None = []
+pieces_at_end (Some message) = broken message ∷ []
 
--- what a text comes to whose end is still to be read, where so much is written and so many items are taken
+-- what a text comes to whose end is still to be read, by what is written so far and how many items are taken
 abbrev pub written_on : List Data → List ℕ → ℕ → Mark → List ℕ → Shown
-written_on items done k m cs = before done (filled items k (pieces_behind m cs))
+written_on items done k m cs = before done (text_of_pieces items k (pieces_behind m cs))
 
 -- a fault, or else what is still to come
 abbrev pub unless_fault : Option Fault → Shown → Shown

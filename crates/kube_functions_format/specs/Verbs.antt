@@ -12,10 +12,10 @@ use Rattle.std.specs.Option.{option_map_or}
 use Rattle.cel_value.specs.Data.{Data, bool, int, uint, text, bytes}
 use Rattle.cel_value.specs.Faults.{Fault, function_error}
 use Rattle.cel_value.specs.Kinds.{kind_name}
-use Rattle.cel_value.specs.Texts.{printed}
+use Rattle.cel_value.specs.Texts.{printed_text}
 use Rattle.cel_value.specs.View.{kind_of}
 use Rattle.cel_value.specs.declared.kind.Kind.{Kind}
-use Rattle.cel_meaning.specs.Outcome.{no_doubles}
+use Rattle.cel_semantics.specs.Outcome.{no_doubles}
 use Rattle.kube_functions_format.specs.declared.verbs.Verb.{Verb}
 use Rattle.kube_functions_format.specs.declared.verbs.Verb.TheVariants.{Text, Decimal, Octal, Binary, LowerHex, UpperHex, Double}
 
@@ -84,7 +84,7 @@ or_refused refusal (Ok t) = Ok t
 or_refused refusal (Err k) = Err (format_fault (refusal ++ kind_name k))
 
 abbrev pub shown_by : Verb → Data → Shown
-shown_by Text d = or_refused (codes "%s does not support ") (printed d)
+shown_by Text d = or_refused (codes "%s does not support ") (printed_text d)
 shown_by Decimal d = or_refused (codes "%d requires int or uint, got ") (decimal_form d)
 shown_by Octal d = or_refused (codes "%o requires int or uint, got ") (octal_form d)
 shown_by Binary d = or_refused (codes "%b requires int, uint, or bool, got ") (binary_form d)

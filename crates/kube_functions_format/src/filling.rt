@@ -67,7 +67,7 @@ fn write_verb(
     letter: char,
 ) -> Result<Option<ExecutionError>, Refused>
     requires { writing.old.taken ≤ length items.now }
-    ensures value { IfOk result (λ r. (cs : List ℕ) → spec.before (string_bytes writing.old.out) (spec.filled (map view items.now) writing.old.taken (verb letter ∷ pieces cs))
+    ensures value { IfOk result (λ r. (cs : List ℕ) → spec.before (string_bytes writing.old.out) (spec.text_of_pieces (map view items.now) writing.old.taken (verb letter ∷ pieces cs))
         ≡ unless_fault (option_map fault_view r) (written_on (map view items.now) (string_bytes writing.new.out) writing.new.taken writing.new.mark cs)) }
     ensures taken { IfOk result (λ _. writing.new.taken ≤ length items.now) }
     ensures memory { IfErr result (λ e. e ≡ Refused.Memory) }

@@ -2,14 +2,14 @@
 ghost use Rattle.std.specs.Prelude.{◌≡◌, IfOk, IfErr, map, option_map};
 ghost use Rattle.cel_value.specs.Texts as texts;
 ghost use Rattle.cel_value.specs.View.{view};
-ghost use Rattle.cel_meaning.specs.Outcome.{outcome_view};
-ghost use Rattle.cel_meaning.specs.Ranges.{items_list};
+ghost use Rattle.cel_semantics.specs.Outcome.{outcome_view};
+ghost use Rattle.cel_semantics.specs.Ranges.{items_list};
 ghost use Rattle.cel_value.specs.Parts.{items_in};
 ghost use Rattle.kube_functions_format.specs.Formatted as spec;
 ghost use Rattle.kube_functions_format.specs.Progress.{shown_view};
 
 use crate::filling::filled_text;
-use cel_meaning::operators::{Answer, no_such_overload};
+use cel_semantics::operators::{Answer, no_such_overload};
 use cel_value::{ExecutionError, Kind, Refused, Value};
 use std::alloc::Global;
 
@@ -57,7 +57,7 @@ pub fn format(alloc: Global, text: &Value, list: &Value) -> Result<Answer, Refus
 /// # Errors
 /// `Memory` alone.
 pub fn printed(alloc: Global, value: &Value) -> Result<Result<String, Kind>, Refused>
-    ensures value { IfOk result (λ r. texts.shown r ≡ texts.printed (view value.now)) }
+    ensures value { IfOk result (λ r. texts.printed_view r ≡ texts.printed_text (view value.now)) }
     ensures memory { IfErr result (λ e. e ≡ Refused.Memory) }
 {
     value.text(alloc)

@@ -11,7 +11,7 @@ pub fn plain_text_stands()
     ensures { PlainTextStands }
 {}
 
-/// `%s` alone gives what is printed of one value, or tells the kind that is not.
+/// `%s` alone gives what is printed of one value, or names the kind that is not.
 pub fn one_value_is_printed()
     ensures { OneValueIsPrinted }
 {}

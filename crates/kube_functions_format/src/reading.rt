@@ -72,7 +72,7 @@ pub(crate) fn read(mark: Mark, character: char) -> Step
 
 /// What is wrong with a text that ends behind a mark, if anything is.
 pub(crate) fn unfinished(mark: Mark) -> Option<&'static str>
-    ensures { spec.pieces_behind mark [] ≡ spec.ended (option_map (λ s. s.now) result) }
+    ensures { spec.pieces_behind mark [] ≡ spec.pieces_at_end (option_map (λ s. s.now) result) }
 {
     match mark {
         Mark::Outside => None,

@@ -2,9 +2,9 @@
 ghost use Rattle.std.specs.Prelude.{◌≡◌, ◌++◌, IfOk, IfErr, OnOk, string_bytes};
 ghost use Rattle.std.specs.Fmt.{digits};
 ghost use Rattle.cel_value.specs.Faults.{fault_view};
-ghost use Rattle.cel_value.specs.Texts.{shown};
+ghost use Rattle.cel_value.specs.Texts.{printed_view};
 ghost use Rattle.cel_value.specs.View.{view};
-ghost use Rattle.cel_meaning.specs.Outcome.{no_doubles};
+ghost use Rattle.cel_semantics.specs.Outcome.{no_doubles};
 ghost use Rattle.kube_functions_format.specs.Progress.{shown_view};
 ghost use Rattle.kube_functions_format.specs.Verbs as spec;
 
@@ -75,7 +75,7 @@ fn unknown_verb(alloc: Global, letter: char) -> Result<ExecutionError, Refused>
 }
 
 fn decimal_form(alloc: Global, item: &Value) -> Result<Result<String, Kind>, AllocError>
-    ensures { IfOk result (λ r. shown r ≡ spec.decimal_form (view item.now)) }
+    ensures { IfOk result (λ r. printed_view r ≡ spec.decimal_form (view item.now)) }
 {
     match item {
         Value::Int(n) => Ok(Ok(n.to_string(alloc)?)),
@@ -85,7 +85,7 @@ fn decimal_form(alloc: Global, item: &Value) -> Result<Result<String, Kind>, All
 }
 
 fn octal_form(alloc: Global, item: &Value) -> Result<Result<String, Kind>, AllocError>
-    ensures { IfOk result (λ r. shown r ≡ spec.octal_form (view item.now)) }
+    ensures { IfOk result (λ r. printed_view r ≡ spec.octal_form (view item.now)) }
 {
     match item {
         Value::Int(n) => Ok(Ok(format!(in alloc; "{n:o}")?)),
@@ -101,7 +101,7 @@ fn bit_text(bit: bool) -> &'static str
 }
 
 fn binary_form(alloc: Global, item: &Value) -> Result<Result<String, Kind>, AllocError>
-    ensures { IfOk result (λ r. shown r ≡ spec.binary_form (view item.now)) }
+    ensures { IfOk result (λ r. printed_view r ≡ spec.binary_form (view item.now)) }
 {
     match item {
         Value::Bool(bit) => Ok(Ok(String::from_str(alloc, bit_text(*bit))?)),
@@ -142,7 +142,7 @@ fn hex_bytes(alloc: Global, upper: bool, bytes: &[u8]) -> Result<String, AllocEr
 }
 
 fn hex_form(alloc: Global, upper: bool, item: &Value) -> Result<Result<String, Kind>, AllocError>
-    ensures { IfOk result (λ r. shown r ≡ spec.hex_form upper (view item.now)) }
+    ensures { IfOk result (λ r. printed_view r ≡ spec.hex_form upper (view item.now)) }
 {
     match item {
         Value::Int(n) => Ok(Ok(hex_number(alloc, upper, n.cast_unsigned())?)),
@@ -159,7 +159,7 @@ fn or_refused(
     refusal: &str,
     form: Result<String, Kind>,
 ) -> Result<Result<String, ExecutionError>, Refused>
-    ensures value { IfOk result (λ r. shown_view r ≡ spec.or_refused refusal.now (shown form)) }
+    ensures value { IfOk result (λ r. shown_view r ≡ spec.or_refused refusal.now (printed_view form)) }
     ensures memory { IfErr result (λ e. e ≡ Refused.Memory) }
 {
     match form {

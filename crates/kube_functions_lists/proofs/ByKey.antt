@@ -15,7 +15,7 @@ use Rattle.cel_value.specs.SameLaws.{same-equiv}
 use Rattle.cel_value.specs.View.{view}
 use Rattle.cel_value.specs.declared.key.Key.{Key}
 use Rattle.cel_value.specs.declared.value.Value.{Value}
-use Rattle.cel_meaning.specs.Members.{key_of}
+use Rattle.cel_semantics.specs.Members.{key_of}
 use Rattle.kube_functions_lists.specs.Keyed.{key_data, key_cmp, has_key, HasKeysOf, AddsKeyOf}
 use Rattle.kube_functions_lists.specs.Lists.{with_new}
 use Rattle.kube_functions_lists.specs.Sets.{is_in}

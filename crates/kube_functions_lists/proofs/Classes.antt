@@ -14,8 +14,8 @@ use Rattle.std.proofs.lemmas.List.Sorted.{ranks_by}
 use Rattle.cel_value.specs.Data.{Data}
 use Rattle.cel_value.specs.View.{view}
 use Rattle.cel_value.specs.declared.value.Value.{Value}
-use Rattle.cel_value.specs.Same.{Shape, shape_of, leaf, shape, class_of, is_ordered, has_order, shape_order, compared}
-use Rattle.cel_standard.specs.Extremes.{all_compare}
+use Rattle.cel_value.specs.Same.{Shape, shape_of, leaf, shape, class_of, is_ordered, has_order, shape_order, comparison}
+use Rattle.cel_stdlib.specs.Extremes.{all_compare}
 use Rattle.kube_functions_lists.specs.Orders.{sorted_by, comes_first, ascending, have_order, class_number, order_of_all, goes_before}
 use Rattle.kube_functions_lists.proofs.Stable.{both, and_true, pass, stable_order, stable_sorted, rises_sorted, sorted_from, map_sorted, sorted_agree}
 
@@ -40,7 +40,7 @@ is_some_cond : (b : Bool) (o : Ordering) → is_some (cond b (Some o) None) ≡ 
 is_some_cond true o = refl
 is_some_cond false o = refl
 
-some_compared : (d e : Data) → is_some (compared d e) ≡ ((class d == class e) && is_ordered (class d))
+some_compared : (d e : Data) → is_some (comparison d e) ≡ ((class d == class e) && is_ordered (class d))
 some_compared d e = ap is_some (shape_compares (shape d) (shape e)) ∙ is_some_cond _ _
 
 same_trans : (k l m : ℕ) → (k == l) ≡ true → (k == m) ≡ true → (l == m) ≡ true
@@ -50,13 +50,13 @@ ordered_at : (k l : ℕ) → (k == l) ≡ true → is_ordered k ≡ true → is_
 ordered_at k l h g = subst (λ n. is_ordered n ≡ true) (eqb-true k l h) g
 
 -- two values that compare with a third one compare
-pub third : (d x y : Data) → is_some (compared d x) ≡ true → is_some (compared d y) ≡ true → is_some (compared x y) ≡ true
+pub third : (d x y : Data) → is_some (comparison d x) ≡ true → is_some (comparison d y) ≡ true → is_some (comparison x y) ≡ true
 third d x y h k =
     let a = both (class d == class x) (is_ordered (class d)) (sym (some_compared d x) ∙ h) in
     let b = both (class d == class y) (is_ordered (class d)) (sym (some_compared d y) ∙ k) in
     some_compared x y ∙ and_true _ _ (same_trans (class d) (class x) (class y) a.0 b.0) (ordered_at (class d) (class x) a.0 a.1)
 
-itself : (d x : Data) → is_some (compared d x) ≡ true → is_some (compared d d) ≡ true
+itself : (d x : Data) → is_some (comparison d x) ≡ true → is_some (comparison d d) ≡ true
 itself d x h =
     let a = both (class d == class x) (is_ordered (class d)) (sym (some_compared d x) ∙ h) in
     some_compared d d ∙ and_true _ _ (nat_eq_equiv.refl (class d)) a.1
@@ -68,19 +68,19 @@ two_ways true t f g = sym (f refl)
 two_ways false true f g = g refl
 two_ways false false f g = refl
 
-pub one_for_all : (d : Data) (ds : List Data) → list_all (λ w. is_some (compared d w)) ds ≡ have_order (d ∷ ds)
+pub one_for_all : (d : Data) (ds : List Data) → list_all (λ w. is_some (comparison d w)) ds ≡ have_order (d ∷ ds)
 one_for_all d [] = refl
 one_for_all d (e ∷ ds) = two_ways _ _ to from
   where
-    to : list_all (λ w. is_some (compared d w)) (e ∷ ds) ≡ true → all_compare (d ∷ e ∷ ds) ≡ true
+    to : list_all (λ w. is_some (comparison d w)) (e ∷ ds) ≡ true → all_compare (d ∷ e ∷ ds) ≡ true
     to h =
-        let near = both (is_some (compared d e)) (list_all (λ w. is_some (compared d w)) ds) h in
-        let all = and_true (is_some (compared d d)) (list_all (λ w. is_some (compared d w)) (e ∷ ds)) (itself d e near.0) h in
-        pass (λ w. is_some (compared d w)) (λ v. list_all (λ w. is_some (compared v w)) (d ∷ e ∷ ds))
-        (λ v k. pass (λ w. is_some (compared d w)) (λ w. is_some (compared v w)) (λ w l. third d v w k l) (d ∷ e ∷ ds) all) (d ∷ e ∷ ds) all
+        let near = both (is_some (comparison d e)) (list_all (λ w. is_some (comparison d w)) ds) h in
+        let all = and_true (is_some (comparison d d)) (list_all (λ w. is_some (comparison d w)) (e ∷ ds)) (itself d e near.0) h in
+        pass (λ w. is_some (comparison d w)) (λ v. list_all (λ w. is_some (comparison v w)) (d ∷ e ∷ ds))
+        (λ v k. pass (λ w. is_some (comparison d w)) (λ w. is_some (comparison v w)) (λ w l. third d v w k l) (d ∷ e ∷ ds) all) (d ∷ e ∷ ds) all
 
-    from : all_compare (d ∷ e ∷ ds) ≡ true → list_all (λ w. is_some (compared d w)) (e ∷ ds) ≡ true
-    from h = (both (is_some (compared d d)) _ (both (list_all (λ w. is_some (compared d w)) (d ∷ e ∷ ds)) _ h).0).1
+    from : all_compare (d ∷ e ∷ ds) ≡ true → list_all (λ w. is_some (comparison d w)) (e ∷ ds) ≡ true
+    from h = (both (is_some (comparison d d)) _ (both (list_all (λ w. is_some (comparison d w)) (d ∷ e ∷ ds)) _ h).0).1
 
 -- ---- an order of all values
 
@@ -158,9 +158,9 @@ ascending_alike : (ds : List Data) → have_order ds ≡ true → sorted_by (λ 
 ascending_alike [] h = refl
 ascending_alike (d ∷ []) h = refl
 ascending_alike (d ∷ e ∷ ds) h =
-    sorted_agree (λ x y. is_lt (order_of_all x y)) comes_first (λ w. is_some (compared d w))
-    (λ x y a b. some_case (compared x y) (nat_cmp (class_number x) (class_number y)) (third d x y a b))
-    (d ∷ e ∷ ds) (both (list_all (λ w. is_some (compared d w)) (d ∷ e ∷ ds)) _ h).0
+    sorted_agree (λ x y. is_lt (order_of_all x y)) comes_first (λ w. is_some (comparison d w))
+    (λ x y a b. some_case (comparison x y) (nat_cmp (class_number x) (class_number y)) (third d x y a b))
+    (d ∷ e ∷ ds) (both (list_all (λ w. is_some (comparison d w)) (d ∷ e ∷ ds)) _ h).0
 
 -- what a stable sort leaves of copies
 pub sorted_values : (vs copied ws : List Value) → have_order (map view vs) ≡ true → map view copied ≡ map view vs → IsSortedBy earlier ws → IsStableBy earlier copied ws → map view ws ≡ ascending (map view vs)

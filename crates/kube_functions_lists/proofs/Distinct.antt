@@ -90,11 +90,11 @@ one_more ks x ds = at (is_in ks x) refl
 pub started : (ks xs : List Value) → ks ≡ [] → distinct_items (map view xs) ≡ gathered (map view ks) (map view xs)
 started ks xs h = subst (λ zs. distinct_items (map view xs) ≡ gathered (map view zs) (map view xs)) (sym h) (sym (new_to_none (distinct_items (map view xs))))
 
-next_place : (i : ℕ) → suc i ≡ i + 1
-next_place i = omega arith
+next_index : (i : ℕ) → suc i ≡ i + 1
+next_index i = omega arith
 
 pub rest_is : (xs : List Value) (i : ℕ) (x : Value) → i < length xs → x ≡ get_or xs i x → drop i xs ≡ x ∷ drop (i + 1) xs
-rest_is xs i x lt is = drop-cons xs i x lt ∙ (λ k. sym is k ∷ drop (next_place i k) xs)
+rest_is xs i x lt is = drop-cons xs i x lt ∙ (λ k. sym is k ∷ drop (next_index i k) xs)
 
 pub continued : (all ls : List Data) (xs : List Value) (ks : List Data) (i : ℕ) (x : Value) → i < length xs → x ≡ get_or xs i x → ls ≡ with_new ks (view x)
     → all ≡ gathered ks (map view (drop i xs)) → all ≡ gathered ls (map view (drop (i + 1) xs))

@@ -7,8 +7,8 @@ use Rattle.std.specs.Int.{w64, int_bit_and, int_bit_or, int_bit_xor, int_bit_not
 use Rattle.std.specs.Option.{option_map_or}
 use Rattle.cel_value.specs.Data.{Data, int}
 use Rattle.cel_value.specs.Faults.{Fault, no_overload, function_error}
-use Rattle.cel_meaning.specs.Arithmetic.{int_in}
-use Rattle.cel_meaning.specs.Outcome.{Outcome}
+use Rattle.cel_semantics.specs.Arithmetic.{int_in}
+use Rattle.cel_semantics.specs.Outcome.{Outcome}
 use Rattle.kube_functions_lists.specs.Lists.{ints_in}
 
 -- what a function of this name answers to two ints; it takes nothing else
@@ -36,11 +36,11 @@ places_in (pos n) = if nat_lt n 64 then Some n else None
 places_in (negsuc n) = None
 
 -- a shift as the function of this name does it
-abbrev pub shifted : List ℕ → (ℕ → ℤ) → ℤ → Outcome
-shifted name f n = option_map_or (λ k. Ok (int (f k))) (places_in n) (Err (shift_fault name))
+abbrev pub shift_outcome : List ℕ → (ℕ → ℤ) → ℤ → Outcome
+shift_outcome name f n = option_map_or (λ k. Ok (int (f k))) (places_in n) (Err (shift_fault name))
 
 abbrev pub bit_shift_left : Data → Data → Outcome
-bit_shift_left v w = of_ints (codes "math.bitShiftLeft") (λ m n. shifted (codes "math.bitShiftLeft") (int_shl w64 m) n) v w
+bit_shift_left v w = of_ints (codes "math.bitShiftLeft") (λ m n. shift_outcome (codes "math.bitShiftLeft") (int_shl w64 m) n) v w
 
 abbrev pub bit_shift_right : Data → Data → Outcome
-bit_shift_right v w = of_ints (codes "math.bitShiftRight") (λ m n. shifted (codes "math.bitShiftRight") (int_shr m) n) v w
+bit_shift_right v w = of_ints (codes "math.bitShiftRight") (λ m n. shift_outcome (codes "math.bitShiftRight") (int_shr m) n) v w

@@ -1,5 +1,5 @@
 pub mod Lists
-pub mod Places
+pub mod Indices
 pub mod Sums
 pub mod Sets
 pub mod Orders

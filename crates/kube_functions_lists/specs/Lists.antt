@@ -10,13 +10,13 @@ use Rattle.cel_value.specs.Faults.{Fault, no_overload, function_error}
 use Rattle.cel_value.specs.Parts.{items_in}
 use Rattle.cel_value.specs.Same.{same}
 use Rattle.cel_value.specs.View.{items_of}
-use Rattle.cel_meaning.specs.Arithmetic.{int_in}
-use Rattle.cel_meaning.specs.Outcome.{Outcome}
-use Rattle.cel_meaning.specs.Ranges.{items_list}
+use Rattle.cel_semantics.specs.Arithmetic.{int_in}
+use Rattle.cel_semantics.specs.Outcome.{Outcome}
+use Rattle.cel_semantics.specs.Ranges.{items_list}
 
 -- the items of a list
-abbrev pub listed : Data → Option (List Data)
-listed v = option_map items_list (items_in v)
+abbrev pub items_if_list : Data → Option (List Data)
+items_if_list v = option_map items_list (items_in v)
 
 -- the list of these items
 abbrev pub as_list : List Data → Data
@@ -24,7 +24,7 @@ as_list ds = list (items_of ds)
 
 -- what a function of this name answers to a list, by its items; it takes nothing else
 abbrev pub of_list : List ℕ → (List Data → Outcome) → Data → Outcome
-of_list name f v = option_map_or f (listed v) (Err (no_overload name))
+of_list name f v = option_map_or f (items_if_list v) (Err (no_overload name))
 
 -- ---- parts
 
@@ -39,15 +39,15 @@ abbrev pub part_between : List Data → ℤ → ℤ → Option (List Data)
 part_between ds (pos a) (pos b) = if nat_le a b && nat_le b (length ds) then Some (drop a (take b ds)) else None
 part_between ds a b = None
 
-abbrev pub sliced : List Data → ℤ → ℤ → Outcome
-sliced ds a b = option_map_or (λ es. Ok (as_list es)) (part_between ds a b) (Err (slice_fault a b (length ds)))
+abbrev pub slice_outcome : List Data → ℤ → ℤ → Outcome
+slice_outcome ds a b = option_map_or (λ es. Ok (as_list es)) (part_between ds a b) (Err (slice_fault a b (length ds)))
 
 -- two ints
 abbrev pub ints_in : Data → Data → Option (ℤ × ℤ)
 ints_in a b = option_map_or (λ m. option_map (λ n. (m, n)) (int_in b)) (int_in a) None
 
 abbrev pub slice : Data → Data → Data → Outcome
-slice v a b = of_list (codes "slice") (λ ds. option_map_or (λ p. sliced ds p.0 p.1) (ints_in a b) (Err (no_overload (codes "slice")))) v
+slice v a b = of_list (codes "slice") (λ ds. option_map_or (λ p. slice_outcome ds p.0 p.1) (ints_in a b) (Err (no_overload (codes "slice")))) v
 
 -- an optional of the item, if there is one
 abbrev pub as_optional : Option Data → Data
@@ -88,7 +88,7 @@ distinct v = of_list (codes "distinct") (λ ds. Ok (as_list (distinct_items ds))
 
 -- ---- levels
 
--- lists inside are replaced by their items, so many levels deep
+-- lists inside are replaced by their items, to this depth
 abbrev mutual
   pub flat_item : Data → ℕ → List Data
   flat_item (list ds) (suc n) = flat_items ds n
@@ -101,9 +101,9 @@ abbrev mutual
 abbrev pub depth_fault : Fault
 depth_fault = function_error (codes "flatten") (codes "depth must be non-negative")
 
-abbrev pub flattened : Items → ℤ → Outcome
-flattened ds (pos n) = Ok (as_list (flat_items ds n))
-flattened ds (negsuc n) = Err depth_fault
+abbrev pub flatten_outcome : Items → ℤ → Outcome
+flatten_outcome ds (pos n) = Ok (as_list (flat_items ds n))
+flatten_outcome ds (negsuc n) = Err depth_fault
 
 -- one level where no number is given
 abbrev pub depth_in : Option Data → Option ℤ
@@ -111,14 +111,14 @@ depth_in None = Some (pos 1)
 depth_in (Some d) = int_in d
 
 abbrev pub flatten : Data → Option Data → Outcome
-flatten v d = option_map_or (λ ds. option_map_or (flattened ds) (depth_in d) (Err (no_overload (codes "flatten")))) (items_in v) (Err (no_overload (codes "flatten")))
+flatten v d = option_map_or (λ ds. option_map_or (flatten_outcome ds) (depth_in d) (Err (no_overload (codes "flatten")))) (items_in v) (Err (no_overload (codes "flatten")))
 
 -- ---- numbers
 
 abbrev pub range_fault : Fault
 range_fault = function_error (codes "lists.range") (codes "range argument must be non-negative")
 
--- the ints from 0 on, so many
+-- the ints from 0 to below a count
 abbrev pub first_ints : ℕ → List Data
 first_ints n = map (λ k. int (pos k)) (range_with_len 0 n)
 

@@ -6,11 +6,11 @@ use Rattle.std.specs.List.{list_all}
 use Rattle.cel_value.specs.Data.{Data, int, uint}
 use Rattle.cel_value.specs.Faults.{Fault, no_overload, function_error}
 use Rattle.cel_value.specs.Parts.{number_in}
-use Rattle.cel_meaning.specs.Arithmetic.{is_int}
-use Rattle.cel_meaning.specs.Outcome.{Outcome}
-use Rattle.cel_standard.specs.Extremes.{extreme_of, values_among}
-use Rattle.cel_standard.specs.declared.extremes.Extreme.{Extreme}
-use Rattle.cel_standard.specs.declared.extremes.Extreme.TheVariants.{Least, Greatest}
+use Rattle.cel_semantics.specs.Arithmetic.{is_int}
+use Rattle.cel_semantics.specs.Outcome.{Outcome}
+use Rattle.cel_stdlib.specs.Extremes.{extreme_of, values_among}
+use Rattle.cel_stdlib.specs.declared.extremes.Extreme.{Extreme}
+use Rattle.cel_stdlib.specs.declared.extremes.Extreme.TheVariants.{Least, Greatest}
 use Rattle.std.specs.Int.RustNames.{unsigned_abs}
 
 -- the size of a number is an int, but that of the least int is none

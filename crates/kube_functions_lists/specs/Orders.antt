@@ -7,10 +7,10 @@ use Rattle.std.specs.Option.{option_map_or, unwrap_or}
 use Rattle.std.specs.Ordering.{is_some_and, is_lt, is_le, nat_cmp}
 use Rattle.std.specs.declared.cmp.Ordering.{Ordering}
 use Rattle.cel_value.specs.Data.{Data, bool}
-use Rattle.cel_value.specs.Same.{shape, class_of, has_order, compared}
-use Rattle.cel_meaning.specs.Outcome.{Outcome}
-use Rattle.cel_standard.specs.Extremes.{extreme_of, different_types, all_compare}
-use Rattle.cel_standard.specs.declared.extremes.Extreme.TheVariants.{Least, Greatest}
+use Rattle.cel_value.specs.Same.{shape, class_of, has_order, comparison}
+use Rattle.cel_semantics.specs.Outcome.{Outcome}
+use Rattle.cel_stdlib.specs.Extremes.{extreme_of, different_types, all_compare}
+use Rattle.cel_stdlib.specs.declared.extremes.Extreme.TheVariants.{Least, Greatest}
 use Rattle.kube_functions_lists.specs.Lists.{of_list, as_list}
 
 abbrev pub min : Data → Outcome
@@ -28,11 +28,11 @@ neighbours (d ∷ []) = []
 neighbours (d ∷ e ∷ ds) = (d, e) ∷ neighbours (e ∷ ds)
 
 abbrev pub ascend : Data → Data → Bool
-ascend d e = is_some_and is_le (compared d e)
+ascend d e = is_some_and is_le (comparison d e)
 
 -- what two neighbours that do not ascend say: that the list is not in order, or that they have no order
 abbrev pub not_ascending : Data → Data → Outcome
-not_ascending d e = if is_some (compared d e) then Ok (bool false) else Err different_types
+not_ascending d e = if is_some (comparison d e) then Ok (bool false) else Err different_types
 
 -- the first neighbours that do not ascend decide
 abbrev pub order_of : List Data → Outcome
@@ -53,7 +53,7 @@ sorted_by before [] = []
 sorted_by before (x ∷ xs) = put_by before x (sorted_by before xs)
 
 abbrev pub comes_first : Data → Data → Bool
-comes_first d e = is_some_and is_lt (compared d e)
+comes_first d e = is_some_and is_lt (comparison d e)
 
 -- equal values stay in the order that they had
 abbrev pub ascending : List Data → List Data
@@ -77,7 +77,7 @@ class_number d = if has_order d then class_of (shape d) else 0
 
 -- an order of all values: by class, and within a class as they compare
 abbrev pub order_of_all : Data → Data → Ordering
-order_of_all d e = unwrap_or (compared d e) (nat_cmp (class_number d) (class_number e))
+order_of_all d e = unwrap_or (comparison d e) (nat_cmp (class_number d) (class_number e))
 
 -- whether a value stands before another one in that order: of two that have an order, where it is the lesser one
 abbrev pub goes_before : Data → Data → Bool

@@ -7,8 +7,8 @@ use Rattle.std.specs.Option.{option_map_or}
 use Rattle.cel_value.specs.Data.{Data, bool}
 use Rattle.cel_value.specs.Faults.{no_overload}
 use Rattle.cel_value.specs.Same.{same}
-use Rattle.cel_meaning.specs.Outcome.{Outcome}
-use Rattle.kube_functions_lists.specs.Lists.{listed}
+use Rattle.cel_semantics.specs.Outcome.{Outcome}
+use Rattle.kube_functions_lists.specs.Lists.{items_if_list}
 
 abbrev pub is_in : List Data → Data → Bool
 is_in ds d = list_any (same d) ds
@@ -27,7 +27,7 @@ have_common ds es = list_any (is_in ds) es
 
 -- what a function of this name answers to two lists, by their items; it takes nothing else
 abbrev pub of_lists : List ℕ → (List Data → List Data → Bool) → Data → Data → Outcome
-of_lists name f v w = option_map_or (λ ds. option_map_or (λ es. Ok (bool (f ds es))) (listed w) (Err (no_overload name))) (listed v) (Err (no_overload name))
+of_lists name f v w = option_map_or (λ ds. option_map_or (λ es. Ok (bool (f ds es))) (items_if_list w) (Err (no_overload name))) (items_if_list v) (Err (no_overload name))
 
 abbrev pub contains : Data → Data → Outcome
 contains v w = of_lists (codes "sets.contains") has_all v w

@@ -4,22 +4,22 @@
 use Rattle.std.specs.Prelude.{◌+◌, pos, ◌+ℤ◌, List, [], ◌∷◌, codes, Ok, Err}
 use Rattle.cel_value.specs.Data.{Data, int, uint}
 use Rattle.cel_value.specs.Faults.{Fault, function_error}
-use Rattle.cel_meaning.specs.Arithmetic.{int_or_overflow, uint_or_overflow}
-use Rattle.cel_meaning.specs.Outcome.{Outcome, and_then}
+use Rattle.cel_semantics.specs.Arithmetic.{int_or_overflow, uint_or_overflow}
+use Rattle.cel_semantics.specs.Outcome.{Outcome, and_then}
 use Rattle.kube_functions_lists.specs.Lists.{of_list}
 
 abbrev pub no_sum : Fault
 no_sum = function_error (codes "sum") (codes "cannot sum values of this type")
 
-abbrev pub added : Data → Data → Outcome
-added (int m) (int n) = int_or_overflow (m +ℤ n)
-added (uint m) (uint n) = uint_or_overflow (m + n)
-added _ _ = Err no_sum
+abbrev pub sum_of_two : Data → Data → Outcome
+sum_of_two (int m) (int n) = int_or_overflow (m +ℤ n)
+sum_of_two (uint m) (uint n) = uint_or_overflow (m + n)
+sum_of_two _ _ = Err no_sum
 
 -- the value and these, or the first fault from the left
 abbrev pub sum_from : Data → List Data → Outcome
 sum_from s [] = Ok s
-sum_from s (d ∷ ds) = and_then (added s d) (λ t. sum_from t ds)
+sum_from s (d ∷ ds) = and_then (sum_of_two s d) (λ t. sum_from t ds)
 
 abbrev pub sum_of_items : List Data → Outcome
 sum_of_items [] = Ok (int (pos 0))

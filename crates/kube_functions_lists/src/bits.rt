@@ -2,12 +2,12 @@
 ghost use Rattle.std.specs.Prelude.{◌≡◌, IfOk, IfErr};
 ghost use Rattle.cel_value.specs.Faults as fault;
 ghost use Rattle.cel_value.specs.View.{view};
-ghost use Rattle.cel_meaning.specs.Outcome.{outcome_view};
+ghost use Rattle.cel_semantics.specs.Outcome.{outcome_view};
 ghost use Rattle.kube_functions_lists.specs.Bits as spec;
 
 use crate::items::{as_int, as_ints};
-use cel_meaning::operators::{Answer, no_such_overload};
-use cel_standard::faults::function_error;
+use cel_semantics::operators::{Answer, no_such_overload};
+use cel_stdlib::faults::function_error;
 use cel_value::{ExecutionError, Refused, Value};
 use std::alloc::Global;
 

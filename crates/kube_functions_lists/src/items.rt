@@ -1,17 +1,17 @@
 //! The items of lists, and lists of items.
 ghost use Rattle.std.specs.Prelude.{◌≡◌, IfOk, IfErr, Ok, map, option_map};
 ghost use Rattle.cel_value.specs.View.{view};
-ghost use Rattle.cel_meaning.specs.Arithmetic.{int_in};
-ghost use Rattle.cel_meaning.specs.Outcome.{outcome_view};
-ghost use Rattle.kube_functions_lists.specs.Lists.{listed, as_list, ints_in};
+ghost use Rattle.cel_semantics.specs.Arithmetic.{int_in};
+ghost use Rattle.cel_semantics.specs.Outcome.{outcome_view};
+ghost use Rattle.kube_functions_lists.specs.Lists.{items_if_list, as_list, ints_in};
 
-use cel_meaning::operators::Answer;
+use cel_semantics::operators::Answer;
 use cel_value::{Refused, Value};
 use std::alloc::Global;
 
 /// The items of a list.
 pub(crate) fn items_of(value: &Value) -> Option<&[Value]>
-    ensures { option_map (λ s. map view s.now) result ≡ listed (view value.now) }
+    ensures { option_map (λ s. map view s.now) result ≡ items_if_list (view value.now) }
 {
     match value.as_list() {
         Some(items) => Some(items.as_slice()),

@@ -1,8 +1,8 @@
-//! The keys among items: bools, numbers and strings are found by them, with no look at all items.
+//! The keys among items: bools, numbers and strings are found by them, without reading all items.
 ghost use Rattle.std.specs.Prelude.{◌≡◌, IfOk, IfErr, OnOk, map, not, option_map};
 ghost use Rattle.cel_value.specs.Keys.{key_view};
 ghost use Rattle.cel_value.specs.View.{view};
-ghost use Rattle.cel_meaning.specs.Members.{key_of};
+ghost use Rattle.cel_semantics.specs.Members.{key_of};
 ghost use Rattle.kube_functions_lists.specs.Keyed.{HasKeysOf, AddsKeyOf};
 ghost use Rattle.kube_functions_lists.specs.Lists.{with_new};
 ghost use Rattle.kube_functions_lists.specs.Sets as spec;

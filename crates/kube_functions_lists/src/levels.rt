@@ -1,12 +1,12 @@
 //! `flatten`: lists inside a list, replaced by their items.
 ghost use Rattle.std.specs.Prelude.{◌≡◌, ◌++◌, ◌∷◌, [], IfOk, IfErr, OnOk, Ok, map, option_map};
 ghost use Rattle.cel_value.specs.View.{view};
-ghost use Rattle.cel_meaning.specs.Outcome.{outcome_view};
+ghost use Rattle.cel_semantics.specs.Outcome.{outcome_view};
 ghost use Rattle.kube_functions_lists.specs.Lists as spec;
 
 use crate::items::{as_int, list_of};
-use cel_meaning::operators::{Answer, no_such_overload};
-use cel_standard::faults::function_error;
+use cel_semantics::operators::{Answer, no_such_overload};
+use cel_stdlib::faults::function_error;
 use cel_value::{List, Refused, Value};
 use std::alloc::Global;
 
@@ -56,8 +56,8 @@ fn flat_items(alloc: Global, items: &List, depth: u64) -> Result<Vec<Value>, Ref
     Ok(flat)
 }
 
-fn flattened(alloc: Global, items: &List, depth: i64) -> Result<Answer, Refused>
-    ensures value { IfOk result (λ r. outcome_view r ≡ spec.flattened items.now depth) }
+fn flatten_outcome(alloc: Global, items: &List, depth: i64) -> Result<Answer, Refused>
+    ensures value { IfOk result (λ r. outcome_view r ≡ spec.flatten_outcome items.now depth) }
     ensures memory { IfErr result (λ e. e ≡ Refused.Memory) }
 {
     if depth < 0 {
@@ -77,7 +77,7 @@ fn depth_of(depth: Option<&Value>) -> Option<i64>
     }
 }
 
-/// The items of a list, with the lists among them replaced by their items, so many levels deep.
+/// The items of a list, with the lists among them replaced by their items, to this depth.
 ///
 /// # Errors
 /// `Memory` alone.
@@ -88,7 +88,7 @@ pub fn flatten(alloc: Global, value: &Value, depth: Option<&Value>) -> Result<An
 {
     match value.as_list() {
         Some(items) => match depth_of(depth) {
-            Some(depth) => flattened(alloc, items, depth),
+            Some(depth) => flatten_outcome(alloc, items, depth),
             None => Ok(Err(no_such_overload(alloc, "flatten")?)),
         },
         None => Ok(Err(no_such_overload(alloc, "flatten")?)),

@@ -2,6 +2,7 @@
 #![tactic(auto)]
 
 pub mod bits;
+pub mod indices;
 mod items;
 mod keyed;
 pub mod laws;
@@ -10,7 +11,6 @@ pub mod lists;
 pub mod math;
 mod members;
 pub mod orders;
-pub mod places;
 pub mod ranges;
 pub mod sets;
 pub mod sums;

@@ -2,14 +2,14 @@
 ghost use Rattle.std.specs.Prelude.{◌≡◌, pos, length, IfOk, IfErr, OnOk, Ok, Err, Some, None, map, reverse, option_map, string_bytes};
 ghost use Rattle.cel_value.specs.Faults.{fault_view};
 ghost use Rattle.cel_value.specs.View.{view};
-ghost use Rattle.cel_meaning.specs.Outcome.{outcome_view};
+ghost use Rattle.cel_semantics.specs.Outcome.{outcome_view};
 ghost use Rattle.kube_functions_lists.specs.Keyed.{HasKeysOf};
 ghost use Rattle.kube_functions_lists.specs.Lists as spec;
 
 use crate::items::{as_ints, copies, items_of, list_of};
 use crate::keyed::add_new;
-use cel_meaning::operators::{Answer, no_such_overload};
-use cel_standard::faults::function_error;
+use cel_semantics::operators::{Answer, no_such_overload};
+use cel_stdlib::faults::function_error;
 use cel_value::{ExecutionError, Key, OptionalValue, Refused, Value};
 use std::alloc::{AllocError, Global};
 use std::collections::BTreeSet;
@@ -56,8 +56,8 @@ fn part(items: &[Value], start: i64, end: i64) -> Option<&[Value]>
     }
 }
 
-fn sliced(alloc: Global, items: &[Value], start: i64, end: i64) -> Result<Answer, Refused>
-    ensures value { IfOk result (λ r. outcome_view r ≡ spec.sliced (map view items.now) start end) }
+fn slice_outcome(alloc: Global, items: &[Value], start: i64, end: i64) -> Result<Answer, Refused>
+    ensures value { IfOk result (λ r. outcome_view r ≡ spec.slice_outcome (map view items.now) start end) }
     ensures memory { IfErr result (λ e. e ≡ Refused.Memory) }
 {
     match part(items, start, end) {
@@ -76,7 +76,7 @@ pub fn slice(alloc: Global, value: &Value, start: &Value, end: &Value) -> Result
 {
     match items_of(value) {
         Some(items) => match as_ints(start, end) {
-            Some((start, end)) => sliced(alloc, items, start, end),
+            Some((start, end)) => slice_outcome(alloc, items, start, end),
             None => Ok(Err(no_such_overload(alloc, "slice")?)),
         },
         None => Ok(Err(no_such_overload(alloc, "slice")?)),

@@ -4,14 +4,14 @@ ghost use Rattle.std.specs.List.{list_all};
 ghost use Rattle.cel_value.specs.Faults.{fault_view};
 ghost use Rattle.cel_value.specs.Parts.{number_in};
 ghost use Rattle.cel_value.specs.View.{view};
-ghost use Rattle.cel_meaning.specs.Outcome.{outcome_view};
-ghost use Rattle.cel_standard.specs.Extremes.{values_among};
+ghost use Rattle.cel_semantics.specs.Outcome.{outcome_view};
+ghost use Rattle.cel_stdlib.specs.Extremes.{values_among};
 ghost use Rattle.kube_functions_lists.specs.Math as spec;
 
 use crate::items::items_of;
-use cel_meaning::operators::{Answer, no_such_overload};
-use cel_standard::extremes::{Extreme, extreme_of};
-use cel_standard::faults::function_error;
+use cel_semantics::operators::{Answer, no_such_overload};
+use cel_stdlib::extremes::{Extreme, extreme_of};
+use cel_stdlib::faults::function_error;
 use cel_value::{ExecutionError, Refused, Value};
 use std::alloc::Global;
 

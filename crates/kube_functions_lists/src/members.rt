@@ -23,7 +23,7 @@ pub(crate) struct Members<'a> {
 }
 
 impl<'a> Members<'a> {
-    /// These items, for so many look-ups.
+    /// These items, for a number of look-ups.
     ///
     /// # Errors
     /// `Memory` alone.

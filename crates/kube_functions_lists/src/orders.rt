@@ -1,17 +1,17 @@
 //! `min`, `max`, `isSorted` and `sort`: lists in ascending order.
 ghost use Rattle.std.specs.Prelude.{◌≡◌, ◌∷◌, true, is_some, IfOk, IfErr, map};
 ghost use Rattle.std.specs.List.{list_all};
-ghost use Rattle.cel_value.specs.Same.{compared};
+ghost use Rattle.cel_value.specs.Same.{comparison};
 ghost use Rattle.cel_value.specs.Faults.{fault_view};
 ghost use Rattle.cel_value.specs.View.{view};
-ghost use Rattle.cel_meaning.specs.Outcome.{outcome_view};
-ghost use Rattle.cel_standard.specs.Extremes.{different_types};
+ghost use Rattle.cel_semantics.specs.Outcome.{outcome_view};
+ghost use Rattle.cel_stdlib.specs.Extremes.{different_types};
 ghost use Rattle.kube_functions_lists.specs.Orders as spec;
 
 use crate::items::{copies, items_of, list_of};
-use cel_meaning::operators::{Answer, no_such_overload};
-use cel_standard::extremes::{Extreme, extreme_of};
-use cel_standard::faults::function_error;
+use cel_semantics::operators::{Answer, no_such_overload};
+use cel_stdlib::extremes::{Extreme, extreme_of};
+use cel_stdlib::faults::function_error;
 use cel_value::{ExecutionError, Refused, Value};
 use std::alloc::Global;
 use std::cmp::Ordering;
@@ -131,7 +131,7 @@ fn order_of_all(value: &Value, other: &Value) -> Ordering
 }
 
 fn compares_with_all(value: &Value, others: &[Value]) -> bool
-    ensures { result ≡ list_all (λ d. is_some (compared (view value.now) d)) (map view others.now) }
+    ensures { result ≡ list_all (λ d. is_some (comparison (view value.now) d)) (map view others.now) }
 {
     for other in others {
         if value.compare(other).is_none() {

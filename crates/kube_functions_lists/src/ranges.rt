@@ -2,12 +2,12 @@
 ghost use Rattle.std.specs.Prelude.{◌≡◌, ◌^◌, ◌<◌, pos, IfOk, IfErr, map};
 ghost use Rattle.cel_value.specs.Data.{int};
 ghost use Rattle.cel_value.specs.View.{view};
-ghost use Rattle.cel_meaning.specs.Outcome.{outcome_view};
+ghost use Rattle.cel_semantics.specs.Outcome.{outcome_view};
 ghost use Rattle.kube_functions_lists.specs.Lists as spec;
 
 use crate::items::{as_int, list_of};
-use cel_meaning::operators::{Answer, no_such_overload};
-use cel_standard::faults::function_error;
+use cel_semantics::operators::{Answer, no_such_overload};
+use cel_stdlib::faults::function_error;
 use cel_value::{Refused, Value};
 use std::alloc::Global;
 
@@ -42,7 +42,7 @@ fn range_below(alloc: Global, count: i64) -> Result<Answer, Refused>
     }
 }
 
-/// The list of the ints from 0 on, so many.
+/// The list of the ints from 0 to below a count.
 ///
 /// # Errors
 /// `Memory` alone.

@@ -1,12 +1,12 @@
 //! Lists as sets of their items.
 ghost use Rattle.std.specs.Prelude.{◌≡◌, IfOk, IfErr, map};
 ghost use Rattle.cel_value.specs.View.{view};
-ghost use Rattle.cel_meaning.specs.Outcome.{outcome_view};
+ghost use Rattle.cel_semantics.specs.Outcome.{outcome_view};
 ghost use Rattle.kube_functions_lists.specs.Sets as spec;
 
 use crate::items::items_of;
 use crate::members::Members;
-use cel_meaning::operators::{Answer, no_such_overload};
+use cel_semantics::operators::{Answer, no_such_overload};
 use cel_value::{Refused, Value};
 use std::alloc::Global;
 

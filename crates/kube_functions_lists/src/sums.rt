@@ -2,13 +2,13 @@
 ghost use Rattle.std.specs.Prelude.{◌≡◌, ◌+◌, ◌+ℤ◌, IfOk, IfErr, map};
 ghost use Rattle.cel_value.specs.Faults.{fault_view};
 ghost use Rattle.cel_value.specs.View.{view};
-ghost use Rattle.cel_meaning.specs.Arithmetic.{uint_in, int_or_overflow, uint_or_overflow};
-ghost use Rattle.cel_meaning.specs.Outcome.{outcome_view};
+ghost use Rattle.cel_semantics.specs.Arithmetic.{uint_in, int_or_overflow, uint_or_overflow};
+ghost use Rattle.cel_semantics.specs.Outcome.{outcome_view};
 ghost use Rattle.kube_functions_lists.specs.Sums as spec;
 
 use crate::items::{as_int, items_of};
-use cel_meaning::operators::{Answer, no_such_overload};
-use cel_standard::faults::function_error;
+use cel_semantics::operators::{Answer, no_such_overload};
+use cel_stdlib::faults::function_error;
 use cel_value::{ExecutionError, Refused, Value};
 use std::alloc::Global;
 
@@ -46,8 +46,8 @@ fn add_uints(m: u64, n: u64) -> Answer
     }
 }
 
-fn added(alloc: Global, sum: &Value, value: &Value) -> Result<Answer, Refused>
-    ensures value { IfOk result (λ r. outcome_view r ≡ spec.added (view sum.now) (view value.now)) }
+fn sum_of_two(alloc: Global, sum: &Value, value: &Value) -> Result<Answer, Refused>
+    ensures value { IfOk result (λ r. outcome_view r ≡ spec.sum_of_two (view sum.now) (view value.now)) }
     ensures memory { IfErr result (λ e. e ≡ Refused.Memory) }
 {
     match sum {
@@ -69,7 +69,7 @@ fn sum_from(alloc: Global, first: &Value, rest: &[Value]) -> Result<Answer, Refu
 {
     let mut sum = first.try_clone()?;
     for value in rest {
-        match added(alloc, &sum, value)? {
+        match sum_of_two(alloc, &sum, value)? {
             Ok(next) => sum = next,
             Err(fault) => return Ok(Err(fault)),
         }

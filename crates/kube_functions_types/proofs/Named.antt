@@ -7,7 +7,7 @@ use Rattle.kube_types_formats.specs.Formats.{name_of, kind_of}
 use Rattle.kube_types_formats.specs.declared.format.KubeFormat.{KubeFormat}
 use Rattle.kube_types_formats.specs.declared.kind.FormatKind.{FormatKind}
 use Rattle.kube_types_formats.specs.declared.kind.FormatKind.TheVariants.{Dns1123Label, Dns1035Label, Dns1035LabelPrefix, Dns1123LabelPrefix, Dns1123Subdomain, Dns1123SubdomainPrefix, QualifiedName, LabelValue, Uri, Uuid, Byte, Date, DateTime}
-use Rattle.kube_functions_types.specs.Formats.{all_kinds, kind_named}
+use Rattle.kube_functions_types.specs.NamedFormat.{all_kinds, kind_named}
 
 abbrev has_name : List ℕ → FormatKind → Bool
 has_name name kind = bytes_eq (name_of kind) name

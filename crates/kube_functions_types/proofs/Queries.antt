@@ -19,7 +19,7 @@ use Rattle.kube_types_url.specs.Shown.{texts}
 use Rattle.cel_value.specs.Data.{Entries, no_entries, entry, text_key}
 use Rattle.cel_value.specs.Keys.{put}
 use Rattle.kube_functions_types.specs.Lists.{text_list}
-use Rattle.kube_functions_types.specs.Urls.{entries_among}
+use Rattle.kube_functions_types.specs.Url.{entries_among}
 use Rattle.kube_functions_types.proofs.Sorted.{inserted_sorted, inserted_found, same_found, nil_sorted, cons_sorted}
 
 -- a name with its values, and the same as a program holds them

@@ -4,7 +4,7 @@ use Rattle.std.specs.Prelude.{ℕ, List, Bool, Option, Result, Ok, Err}
 use Rattle.std.specs.Option.{option_map_or}
 use Rattle.cel_value.specs.Data.{Data, bool}
 use Rattle.cel_value.specs.Faults.{no_overload, function_error}
-use Rattle.cel_meaning.specs.Outcome.{Outcome}
+use Rattle.cel_semantics.specs.Outcome.{Outcome}
 
 -- the fault of a function that refuses its arguments: its name, then its message
 abbrev pub refusal : List ℕ → List ℕ → Outcome
@@ -15,8 +15,8 @@ abbrev pub wrong_kind : List ℕ → Outcome
 wrong_kind name = Err (no_overload name)
 
 -- a bool as an answer
-abbrev pub told : Bool → Outcome
-told b = Ok (bool b)
+abbrev pub bool_answer : Bool → Outcome
+bool_answer b = Ok (bool b)
 
 -- the value of what is there, and else this fault
 abbrev pub value_or : {A : Type 0} → Outcome → (A → Data) → Option A → Outcome

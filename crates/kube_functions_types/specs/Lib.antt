@@ -1,10 +1,10 @@
 pub mod Answers
 pub mod Lists
-pub mod Quantities
-pub mod Addresses
-pub mod Cidrs
-pub mod Texts
-pub mod Versions
+pub mod Quantity
+pub mod Ip
+pub mod Cidr
+pub mod Strings
+pub mod Semver
 pub mod Order
-pub mod Urls
-pub mod Formats
+pub mod Url
+pub mod NamedFormat

@@ -8,7 +8,7 @@ use Rattle.std.specs.declared.cmp.Ordering.TheVariants.{Less, Equal, Greater}
 use Rattle.kube_types_quantity.specs.Decimal.{decimal_cmp}
 use Rattle.kube_types_semver.specs.Order.{parts_cmp}
 use Rattle.cel_value.specs.Data.{Data, bool, int, quantity, semver}
-use Rattle.cel_meaning.specs.Outcome.{Outcome}
+use Rattle.cel_semantics.specs.Outcome.{Outcome}
 use Rattle.kube_functions_types.specs.Answers.{wrong_kind, value_or}
 
 -- how two quantities, or two versions, compare
@@ -17,17 +17,17 @@ order_of (quantity q) (quantity r) = Some (decimal_cmp q r)
 order_of (semver v) (semver w) = Some (parts_cmp v w)
 order_of _ _ = None
 
--- what is told of an order, under the name of its function
-abbrev pub ordered : List ℕ → (Ordering → Data) → Data → Data → Outcome
-ordered name f v w = value_or (wrong_kind name) f (order_of v w)
+-- what is reported of an order, under the name of its function
+abbrev pub order_outcome : List ℕ → (Ordering → Data) → Data → Data → Outcome
+order_outcome name f v w = value_or (wrong_kind name) f (order_of v w)
 
 -- `isGreaterThan`
 abbrev pub is_greater_than : Data → Data → Outcome
-is_greater_than = ordered (codes "isGreaterThan") (λ o. bool (is_gt o))
+is_greater_than = order_outcome (codes "isGreaterThan") (λ o. bool (is_gt o))
 
 -- `isLessThan`
 abbrev pub is_less_than : Data → Data → Outcome
-is_less_than = ordered (codes "isLessThan") (λ o. bool (is_lt o))
+is_less_than = order_outcome (codes "isLessThan") (λ o. bool (is_lt o))
 
 abbrev pub number_of : Ordering → ℤ
 number_of Less = negsuc 0
@@ -36,4 +36,4 @@ number_of Greater = pos 1
 
 -- `compareTo`: -1, 0 or 1
 abbrev pub compare_to : Data → Data → Outcome
-compare_to = ordered (codes "compareTo") (λ o. int (number_of o))
+compare_to = order_outcome (codes "compareTo") (λ o. int (number_of o))

@@ -3,12 +3,12 @@ ghost use Rattle.std.specs.Prelude.{◌≡◌, IfOk, IfErr, Ok, map, string_byte
 ghost use Rattle.cel_value.specs.Data as plain;
 ghost use Rattle.cel_value.specs.Faults as fault;
 ghost use Rattle.cel_value.specs.View.{items_view};
-ghost use Rattle.cel_meaning.specs.Outcome.{outcome_view};
+ghost use Rattle.cel_semantics.specs.Outcome.{outcome_view};
 ghost use Rattle.kube_functions_types.specs.Answers as spec;
 ghost use Rattle.kube_functions_types.specs.Lists.{text_items};
 
-use cel_meaning::Answer;
-use cel_meaning::operators::no_such_overload;
+use cel_semantics::Answer;
+use cel_semantics::operators::no_such_overload;
 use cel_value::{ExecutionError, Refused, Value};
 use std::alloc::Global;
 

@@ -3,12 +3,12 @@
 //! Source: the CEL libraries in `k8s.io/apiserver/pkg/cel/library`.
 #![tactic(auto)]
 
-pub mod addresses;
 mod answers;
-pub mod cidrs;
-pub mod formats;
+pub mod cidr;
+pub mod ip;
+pub mod named_format;
 pub mod order;
-pub mod quantities;
-pub mod texts;
-pub mod urls;
-pub mod versions;
+pub mod quantity;
+pub mod semver_functions;
+pub mod strings;
+pub mod url_functions;

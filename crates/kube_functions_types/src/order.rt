@@ -2,13 +2,13 @@
 ghost use Rattle.std.specs.Prelude.{◌≡◌, IfOk, IfErr};
 ghost use Rattle.cel_value.specs.Data as plain;
 ghost use Rattle.cel_value.specs.View.{view};
-ghost use Rattle.cel_meaning.specs.Outcome.{outcome_view};
+ghost use Rattle.cel_semantics.specs.Outcome.{outcome_view};
 ghost use Rattle.kube_types_quantity.specs.Shown.{number};
 ghost use Rattle.kube_types_semver.specs.Shown.{parts};
 ghost use Rattle.kube_functions_types.specs.Order as spec;
 
 use crate::answers::wrong_kind;
-use cel_meaning::Answer;
+use cel_semantics::Answer;
 use cel_value::{Refused, Value};
 use kube_types::{KubeQuantity, KubeSemver};
 use std::alloc::Global;

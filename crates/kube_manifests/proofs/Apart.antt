@@ -8,7 +8,7 @@ use Rattle.std.specs.Option.{option_or}
 use Rattle.std.specs.Prelude.{codes}
 use Rattle.std.specs.Str.{bytes_eq}
 use Rattle.kube_manifests.specs.declared.judgement.NotJudged.TheVariants as reason
-use Rattle.kube_manifests.specs.Versions.{Version, api_version, chosen, chosen_by, if_served, is_of_kind, is_of_version, needed, text_at}
+use Rattle.kube_manifests.specs.Versions.{Version, api_version, chosen_version, chosen_by, if_served, is_of_kind, is_of_version, or_reason, text_at}
 use Rattle.kube_schema_rules.specs.Rules.{◌>>=◌}
 use Rattle.serde_json.specs.Data.{Data}
 use Rattle.serde_json.specs.Find.{as_object}
@@ -109,9 +109,9 @@ module _ {S : Type 0} where
       find-append own xs ys ∙ options_alike (find own xs) (find own ys) (either text kind xs ys apart) ∙ sym (find-append own ys xs) in
       ap (λ b. if_served b (find own (xs ++ ys))) same_known ∙ ap (if_served (list_any known (ys ++ xs))) same_found
 
-  pub swapped : (xs ys : List (Version S)) → IsApart (xs ++ ys) → (value : Data) → chosen (xs ++ ys) value ≡ chosen (ys ++ xs) value
-  unfolding chosen
+  pub swapped : (xs ys : List (Version S)) → IsApart (xs ++ ys) → (value : Data) → chosen_version (xs ++ ys) value ≡ chosen_version (ys ++ xs) value
+  unfolding chosen_version
   swapped xs ys apart value =
-      go_on (needed reason.NotAnObject (as_object value)) _ _ (λ ms.
-      go_on (needed reason.NoApiVersion (text_at (codes "apiVersion") value)) _ _ (λ text.
-      go_on (needed reason.NoKind (text_at (codes "kind") value)) _ _ (λ kind. by_alike text kind xs ys apart)))
+      go_on (or_reason reason.NotAnObject (as_object value)) _ _ (λ ms.
+      go_on (or_reason reason.NoApiVersion (text_at (codes "apiVersion") value)) _ _ (λ text.
+      go_on (or_reason reason.NoKind (text_at (codes "kind") value)) _ _ (λ kind. by_alike text kind xs ys apart)))

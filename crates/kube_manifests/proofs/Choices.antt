@@ -4,7 +4,7 @@ use Rattle.std.specs.List.{find, list_any}
 use Rattle.std.specs.Prelude.{codes}
 use Rattle.kube_manifests.proofs.Formed.{any_map, formed, mapped}
 use Rattle.kube_manifests.specs.declared.judgement.NotJudged.TheVariants as reason
-use Rattle.kube_manifests.specs.Versions.{Version, chosen, chosen_by, if_served, is_of_kind, is_of_version, needed, text_at}
+use Rattle.kube_manifests.specs.Versions.{Version, chosen_version, chosen_by, if_served, is_of_kind, is_of_version, or_reason, text_at}
 use Rattle.kube_schema_rules.specs.Rules.{◌>>=◌}
 use Rattle.serde_json.specs.Data.{Data}
 use Rattle.serde_json.specs.Find.{as_object}
@@ -39,9 +39,9 @@ module _ {S : Type 0} (form : Data → S) where
   go_on g (Ok a) k k' h = h a
   go_on g (Err e) k k' h = refl
 
-  pub chosen_alike : (vs : List (Version Data)) (value : Data) → chosen (map (formed form) vs) value ≡ mapped (formed form) (chosen vs value)
-  unfolding chosen
+  pub chosen_alike : (vs : List (Version Data)) (value : Data) → chosen_version (map (formed form) vs) value ≡ mapped (formed form) (chosen_version vs value)
+  unfolding chosen_version
   chosen_alike vs value =
-      go_on (formed form) (needed reason.NotAnObject (as_object value)) _ _ (λ members.
-      go_on (formed form) (needed reason.NoApiVersion (text_at (codes "apiVersion") value)) _ _ (λ text.
-      go_on (formed form) (needed reason.NoKind (text_at (codes "kind") value)) _ _ (λ kind. by_alike vs text kind)))
+      go_on (formed form) (or_reason reason.NotAnObject (as_object value)) _ _ (λ members.
+      go_on (formed form) (or_reason reason.NoApiVersion (text_at (codes "apiVersion") value)) _ _ (λ text.
+      go_on (formed form) (or_reason reason.NoKind (text_at (codes "kind") value)) _ _ (λ kind. by_alike vs text kind)))

@@ -4,7 +4,7 @@ use Rattle.std.proofs.lemmas.List.{map-append}
 use Rattle.std.specs.List.{list_any}
 use Rattle.kube_manifests.specs.declared.fault.CrdFault.{CrdFault}
 use Rattle.kube_manifests.specs.declared.fault.CrdFault.TheVariants as fault
-use Rattle.kube_manifests.specs.Documents.{Crd, Entry, Fault, Place, add_crd, add_document, add_version, crd_of, each, entry_of, fault_at, is_defined, list_of, version_of, versions_in, with_crd, with_entry, with_list, with_version}
+use Rattle.kube_manifests.specs.Documents.{Crd, Entry, Fault, Location, add_crd, add_document, add_version, crd_of, each, entry_of, fault_at, is_defined, list_of, version_of, versions_in, with_crd, with_entry, with_list, with_version}
 use Rattle.kube_manifests.specs.Versions.{Version, api_version, is_of_version}
 use Rattle.kube_schema_rules.specs.Rules.{◌>>=◌}
 use Rattle.serde_json.specs.Data.{Data, Items, no_items, item}
@@ -49,37 +49,37 @@ module _ {S : Type 0} (form : Data → S) where
   choice true f r r' h = refl
   choice false f r r' h = h
 
-  one_alike : (place : Place) (i : ℕ) (had : List (Version Data)) (v : Version Data)
-      → with_version form place i (map formed had) (formed v) ≡ mapped (map formed) (with_version plain place i had v)
-  one_alike place i had v =
-      ap (λ b. if b then Err (fault_at place (Some i) fault.RepeatedVersion) else Ok (map formed had ++ formed v ∷ []))
+  one_alike : (location : Location) (i : ℕ) (had : List (Version Data)) (v : Version Data)
+      → with_version form location i (map formed had) (formed v) ≡ mapped (map formed) (with_version plain location i had v)
+  one_alike location i had v =
+      ap (λ b. if b then Err (fault_at location (Some i) fault.RepeatedVersion) else Ok (map formed had ++ formed v ∷ []))
       (any_map formed (is_of_version (api_version v) v.kind) had)
-      ∙ choice (list_any (is_of_version (api_version v) v.kind) had) (fault_at place (Some i) fault.RepeatedVersion)
+      ∙ choice (list_any (is_of_version (api_version v) v.kind) had) (fault_at location (Some i) fault.RepeatedVersion)
       (Ok (had ++ v ∷ [])) (Ok (map formed had ++ formed v ∷ [])) (ap Ok (sym (map-append formed had (v ∷ []))))
 
-  entry_alike : (place : Place) (crd : Crd) (i : ℕ) (had : List (Version Data)) (r : Result Entry CrdFault)
-      → with_entry form place crd i (map formed had) r ≡ mapped (map formed) (with_entry plain place crd i had r)
-  entry_alike place crd i had (Err f) = refl
-  entry_alike place crd i had (Ok e) = one_alike place i had (version_of plain crd e)
+  entry_alike : (location : Location) (crd : Crd) (i : ℕ) (had : List (Version Data)) (r : Result Entry CrdFault)
+      → with_entry form location crd i (map formed had) r ≡ mapped (map formed) (with_entry plain location crd i had r)
+  entry_alike location crd i had (Err f) = refl
+  entry_alike location crd i had (Ok e) = one_alike location i had (version_of plain crd e)
 
-  version_alike : (place : Place) (crd : Crd) (i : ℕ) (d : Data) (had : List (Version Data))
-      → add_version form place crd i d (map formed had) ≡ mapped (map formed) (add_version plain place crd i d had)
+  version_alike : (location : Location) (crd : Crd) (i : ℕ) (d : Data) (had : List (Version Data))
+      → add_version form location crd i d (map formed had) ≡ mapped (map formed) (add_version plain location crd i d had)
   unfolding add_version
-  version_alike place crd i d had = entry_alike place crd i had (entry_of d)
+  version_alike location crd i d had = entry_alike location crd i had (entry_of d)
 
-  crd_parts_alike : (place : Place) (had : List (Version Data)) (r : Result Crd CrdFault)
-      → with_crd form place (map formed had) r ≡ mapped (map formed) (with_crd plain place had r)
-  crd_parts_alike place had (Err f) = refl
-  crd_parts_alike place had (Ok crd) =
-      ap (λ b. if b then Err (fault_at place None fault.RepeatedKind) else each (add_version form place crd) 0 crd.versions (map formed had))
+  crd_parts_alike : (location : Location) (had : List (Version Data)) (r : Result Crd CrdFault)
+      → with_crd form location (map formed had) r ≡ mapped (map formed) (with_crd plain location had r)
+  crd_parts_alike location had (Err f) = refl
+  crd_parts_alike location had (Ok crd) =
+      ap (λ b. if b then Err (fault_at location None fault.RepeatedKind) else each (add_version form location crd) 0 crd.versions (map formed had))
       (any_map formed (is_defined crd.group crd.kind) had)
-      ∙ choice (list_any (is_defined crd.group crd.kind) had) (fault_at place None fault.RepeatedKind)
-      (each (add_version plain place crd) 0 crd.versions had) (each (add_version form place crd) 0 crd.versions (map formed had))
-      (each_alike (map formed) (add_version plain place crd) (add_version form place crd) (version_alike place crd) 0 crd.versions had)
+      ∙ choice (list_any (is_defined crd.group crd.kind) had) (fault_at location None fault.RepeatedKind)
+      (each (add_version plain location crd) 0 crd.versions had) (each (add_version form location crd) 0 crd.versions (map formed had))
+      (each_alike (map formed) (add_version plain location crd) (add_version form location crd) (version_alike location crd) 0 crd.versions had)
 
-  crd_alike : (place : Place) (d : Data) (had : List (Version Data)) → add_crd form place d (map formed had) ≡ mapped (map formed) (add_crd plain place d had)
+  crd_alike : (location : Location) (d : Data) (had : List (Version Data)) → add_crd form location d (map formed had) ≡ mapped (map formed) (add_crd plain location d had)
   unfolding add_crd
-  crd_alike place d had = crd_parts_alike place had (crd_of d)
+  crd_alike location d had = crd_parts_alike location had (crd_of d)
 
   list_alike : (document : ℕ) (d : Data) (had : List (Version Data)) (o : Option Items)
       → with_list form document d (map formed had) o ≡ mapped (map formed) (with_list plain document d had o)

@@ -4,14 +4,14 @@ use Rattle.std.proofs.lemmas.Slice.Eq.{bytes_eq-Decides}
 use Rattle.std.specs.List.{Contains, find, list_any}
 use Rattle.std.specs.Str.{bytes_eq}
 use Rattle.std.specs.Prelude.{codes}
-use Rattle.kube_cel.specs.Answers.{reported}
+use Rattle.kube_cel.specs.Answers.{report_of}
 use Rattle.kube_cel_errors.specs.Errors.{ErrorData}
 use Rattle.kube_manifests.specs.declared.judgement.Judgement.TheVariants.{Judged}
 use Rattle.kube_manifests.specs.declared.judgement.NotJudged.{NotJudged}
 use Rattle.kube_manifests.specs.declared.judgement.NotJudged.TheVariants as reason
 use Rattle.kube_manifests.specs.Laws.{FindsNothing, IsOwn}
 use Rattle.kube_manifests.specs.Sets.{IsJudgement}
-use Rattle.kube_manifests.specs.Versions.{Version, api_version, chosen, chosen_by, if_served, is_of_kind, is_of_version, needed, text_at}
+use Rattle.kube_manifests.specs.Versions.{Version, api_version, chosen_version, chosen_by, if_served, is_of_kind, is_of_version, or_reason, text_at}
 use Rattle.kube_schema_rules.specs.Rules.{◌>>=◌}
 use Rattle.serde_json.specs.Data.{Data, Members}
 use Rattle.serde_json.specs.Find.{as_object}
@@ -65,31 +65,31 @@ module _ {S : Type 0} (versions : List (Version S)) (value : Data) (v : Version 
       (found.1, served.1, is_text ∙ ap Some own.0, is_kind ∙ ap Some own.1)
 
   by_kind : (text : List ℕ) (kind : Option (List ℕ)) → text_at (codes "apiVersion") value ≡ Some text → text_at (codes "kind") value ≡ kind
-      → (needed reason.NoKind kind >>= chosen_by versions text) ≡ Ok v → IsOwn versions value v
+      → (or_reason reason.NoKind kind >>= chosen_by versions text) ≡ Ok v → IsOwn versions value v
   by_kind text None is_text is_kind e = cc
   by_kind text (Some kind) is_text is_kind e = by_texts text kind is_text is_kind e
 
   by_version : (text : Option (List ℕ)) → text_at (codes "apiVersion") value ≡ text
-      → (needed reason.NoApiVersion text >>= λ t. needed reason.NoKind (text_at (codes "kind") value) >>= chosen_by versions t) ≡ Ok v → IsOwn versions value v
+      → (or_reason reason.NoApiVersion text >>= λ t. or_reason reason.NoKind (text_at (codes "kind") value) >>= chosen_by versions t) ≡ Ok v → IsOwn versions value v
   by_version None is_text e = cc
   by_version (Some text) is_text e = by_kind text (text_at (codes "kind") value) is_text refl e
 
   by_object : (members : Option Members)
-      → (needed reason.NotAnObject members >>= λ _. needed reason.NoApiVersion (text_at (codes "apiVersion") value)
-      >>= λ t. needed reason.NoKind (text_at (codes "kind") value) >>= chosen_by versions t) ≡ Ok v → IsOwn versions value v
+      → (or_reason reason.NotAnObject members >>= λ _. or_reason reason.NoApiVersion (text_at (codes "apiVersion") value)
+      >>= λ t. or_reason reason.NoKind (text_at (codes "kind") value) >>= chosen_by versions t) ≡ Ok v → IsOwn versions value v
   by_object None e = cc
   by_object (Some ms) e = by_version (text_at (codes "apiVersion") value) refl e
 
-  pub own_version : chosen versions value ≡ Ok v → IsOwn versions value v
-  unfolding chosen
+  pub own_version : chosen_version versions value ≡ Ok v → IsOwn versions value v
+  unfolding chosen_version
   own_version e = by_object (as_object value) e
 
 -- ---- no errors
 
-nothing_reported : (es : List ErrorData) → Ok tt ≡ reported es → es ≡ []
+nothing_reported : (es : List ErrorData) → Ok tt ≡ report_of es → es ≡ []
 nothing_reported [] e = refl
 nothing_reported (x ∷ es) e = cc
 
 pub finds_nothing : (versions : List (Version Data)) (value : Data) (old : Option Data) → IsJudgement versions value old (Judged (Ok tt))
-    → (v : Version Data) × (chosen versions value ≡ Ok v) × FindsNothing v value old
-finds_nothing versions value old (v, is, (b, book, told, places)) = (v, is, (b, book, nothing_reported _ told))
+    → (v : Version Data) × (chosen_version versions value ≡ Ok v) × FindsNothing v value old
+finds_nothing versions value old (v, is, (b, book, the_report, places)) = (v, is, (b, book, nothing_reported _ the_report))

@@ -1,8 +1,8 @@
--- What the code's own version tells is what the version of the documents tells.
+-- What the code's own version answers is what the version of the documents answers.
 use Rattle.std.proofs.Common.{◌≡◌, ℕ, List, [], map, Option, Some, Result, Ok, Err, refl, sym, ap, ◌∙◌, subst, string_bytes}
-use Rattle.kube_cel.specs.Answers.{IsToldOf}
+use Rattle.kube_cel.specs.Answers.{IsReportOf}
 use Rattle.kube_cel.specs.Raw.{raw_form}
-use Rattle.kube_cel.specs.Spots.{judged_spot}
+use Rattle.kube_cel.specs.Starts.{defaulted_start}
 use Rattle.kube_cel_errors.specs.declared.error.ValidationErrors.{ValidationErrors}
 use Rattle.kube_cel_verdicts.specs.Roots.{root_view}
 use Rattle.kube_manifests.proofs.Choices.{chosen_alike}
@@ -11,11 +11,11 @@ use Rattle.kube_manifests.specs.declared.judgement.NotJudged.{NotJudged}
 use Rattle.kube_manifests.specs.declared.judgement.Judgement.TheVariants as judgement
 use Rattle.kube_manifests.specs.declared.version.CrdVersion.{CrdVersion}
 use Rattle.kube_manifests.specs.Documents.{Fault, add_document, each}
-use Rattle.kube_manifests.specs.Sets.{IsJudgement, all_compiled, compiled, version_view, versions_of}
-use Rattle.kube_manifests.specs.Versions.{Version, chosen, root_of}
-use Rattle.kube_schema_table.specs.Shown.{whole}
-use Rattle.kube_schema_table.specs.Tree.{Node}
-use Rattle.kube_schema_table.specs.View.{view_of}
+use Rattle.kube_manifests.specs.Sets.{IsJudgement, all_compiled, with_tree, version_view, versions_of}
+use Rattle.kube_manifests.specs.Versions.{Version, chosen_version, root_of}
+use Rattle.kube_schema_compiled.specs.Shown.{whole}
+use Rattle.kube_schema_compiled.specs.Tree.{Node}
+use Rattle.kube_schema_compiled.specs.View.{view_of}
 use Rattle.serde_json.specs.Data.{Data, Items}
 
 -- a choice among versions with trees is one among versions with schemas
@@ -31,22 +31,22 @@ err_before f (Err y) x e = let same : y ≡ x = cc in ap Err same
 root_is : (v : CrdVersion) → root_view v.root ≡ root_of (version_view v)
 root_is v = ap (λ (t : List ℕ). record { api_version = t; api_group = string_bytes v.root.api_group; kind = string_bytes v.root.kind }) v.named
 
-module _ (set : List (Version Node)) (versions : List (Version Data)) (same : set ≡ map compiled versions) (value : Data) (old : Option Data) where
-  chosen_is : mapped compiled (chosen versions value) ≡ chosen set value
-  chosen_is = sym (ap (λ vs. chosen vs value) same ∙ chosen_alike (view_of 65) versions value)
+module _ (set : List (Version Node)) (versions : List (Version Data)) (same : set ≡ map with_tree versions) (value : Data) (old : Option Data) where
+  chosen_is : mapped with_tree (chosen_version versions value) ≡ chosen_version set value
+  chosen_is = sym (ap (λ vs. chosen_version vs value) same ∙ chosen_alike (view_of 65) versions value)
 
-  pub not_judged : (x : NotJudged) → Err x ≡ chosen set value → IsJudgement versions value old (judgement.NotJudged x)
-  not_judged x e = err_before compiled (chosen versions value) x (chosen_is ∙ sym e)
+  pub not_judged : (x : NotJudged) → Err x ≡ chosen_version set value → IsJudgement versions value old (judgement.NotJudged x)
+  not_judged x e = err_before with_tree (chosen_version versions value) x (chosen_is ∙ sym e)
 
-  pub judged : (v : CrdVersion) (answer : Result (Unit {0}) ValidationErrors) → Ok (version_view v) ≡ chosen set value
-      → ((s : Data) → whole v.schema ≡ view_of 65 s → IsToldOf raw_form (judged_spot s value old (Some (root_view v.root))) answer)
+  pub judged : (v : CrdVersion) (answer : Result (Unit {0}) ValidationErrors) → Ok (version_view v) ≡ chosen_version set value
+      → ((s : Data) → whole v.schema ≡ view_of 65 s → IsReportOf raw_form (defaulted_start s value old (Some (root_view v.root))) answer)
       → IsJudgement versions value old (judgement.Judged answer)
-  judged v answer e told =
-      let before = ok_before compiled (chosen versions value) (version_view v) (chosen_is ∙ sym e) in
+  judged v answer e the_report =
+      let before = ok_before with_tree (chosen_version versions value) (version_view v) (chosen_is ∙ sym e) in
       let w = before.0 in
       let root : root_view v.root ≡ root_of w = root_is v ∙ ap root_of (sym before.2) in
       let tree : whole v.schema ≡ view_of 65 w.schema = ap (λ (x : Version Node). x.schema) (sym before.2) in
-      (w, before.1, subst (λ r. IsToldOf raw_form (judged_spot w.schema value old (Some r)) answer) root (told w.schema tree))
+      (w, before.1, subst (λ r. IsReportOf raw_form (defaulted_start w.schema value old (Some r)) answer) root (the_report w.schema tree))
 
 -- ---- documents
 

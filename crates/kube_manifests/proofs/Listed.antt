@@ -4,9 +4,9 @@ use Rattle.std.specs.List.{list_any}
 use Rattle.kube_manifests.proofs.Apart.{IsApart, apart_more, swapped}
 use Rattle.kube_manifests.specs.declared.fault.CrdFault.{CrdFault}
 use Rattle.kube_manifests.specs.declared.fault.CrdFault.TheVariants as fault
-use Rattle.kube_manifests.specs.Documents.{Crd, Entry, Fault, Place, add_crd, add_document, add_item, add_version, crd_of, each, entry_of, fault_at, is_defined, list_of, version_of, versions_in, with_crd, with_entry, with_list, with_version}
-use Rattle.kube_manifests.specs.Listed.{crd_versions, document_versions, entry_versions, joined, list_versions}
-use Rattle.kube_manifests.specs.Versions.{Version, api_version, chosen, is_of_version}
+use Rattle.kube_manifests.specs.Documents.{Crd, Entry, Fault, Location, add_crd, add_document, add_item, add_version, crd_of, each, entry_of, fault_at, is_defined, list_of, version_of, versions_in, with_crd, with_entry, with_list, with_version}
+use Rattle.kube_manifests.specs.DocumentVersions.{crd_versions, document_versions, entry_versions, from_each_item, list_versions}
+use Rattle.kube_manifests.specs.Versions.{Version, api_version, chosen_version, is_of_version}
 use Rattle.kube_schema_rules.specs.Rules.{◌>>=◌}
 use Rattle.serde_json.specs.Data.{Data, Items, no_items, item}
 use Rattle.serde_json.specs.View.{items_of}
@@ -17,14 +17,14 @@ Adds had new r = (all : List (Version Data)) → r ≡ Ok all → (all ≡ had +
 
 module _ {E : Type 0} (step : ℕ → Data → List (Version Data) → Result (List (Version Data)) E) (f : Data → List (Version Data)) (adds : (i : ℕ) (d : Data) (had : List (Version Data)) → Adds had (f d) (step i d had)) where
   behind : (i : ℕ) (d : Data) (ds : Items) (had : List (Version Data)) (r : Result (List (Version Data)) E) → step i d had ≡ r
-      → ((mid : List (Version Data)) → Adds mid (joined f ds) (each step (suc i) ds mid)) → Adds had (f d ++ joined f ds) (r >>= each step (suc i) ds)
+      → ((mid : List (Version Data)) → Adds mid (from_each_item f ds) (each step (suc i) ds mid)) → Adds had (f d ++ from_each_item f ds) (r >>= each step (suc i) ds)
   behind i d ds had (Ok mid) is rest = λ all e.
       let one = adds i d had mid is in
       let others = rest mid all e in
-      (others.0 ∙ ap (λ vs. vs ++ joined f ds) one.0 ∙ append_assoc had (f d) (joined f ds), λ apart. others.1 (one.1 apart))
+      (others.0 ∙ ap (λ vs. vs ++ from_each_item f ds) one.0 ∙ append_assoc had (f d) (from_each_item f ds), λ apart. others.1 (one.1 apart))
   behind i d ds had (Err x) is rest = λ all e. cc
 
-  pub each_adds : (i : ℕ) (ds : Items) (had : List (Version Data)) → Adds had (joined f ds) (each step i ds had)
+  pub each_adds : (i : ℕ) (ds : Items) (had : List (Version Data)) → Adds had (from_each_item f ds) (each step i ds had)
   unfolding each
   each_adds i no_items had = λ all e. let same : had ≡ all = cc in (sym same ∙ sym (append-nil had), λ apart. subst IsApart same apart)
   each_adds i (item d ds) had = behind i d ds had (step i d had) refl (λ mid. each_adds (suc i) ds mid)
@@ -34,30 +34,30 @@ unless : (b : Bool) (f : Fault) (r : Result (List (Version Data)) Fault) (had ne
 unless true f r had new adds = λ all e. cc
 unless false f r had new adds = adds refl
 
-one_adds : (place : Place) (i : ℕ) (had : List (Version Data)) (v : Version Data) → Adds had (v ∷ []) (with_version (λ s. s) place i had v)
-one_adds place i had v =
-    unless (list_any (is_of_version (api_version v) v.kind) had) (fault_at place (Some i) fault.RepeatedVersion) (Ok (had ++ v ∷ [])) had (v ∷ []) (λ new all e.
+one_adds : (location : Location) (i : ℕ) (had : List (Version Data)) (v : Version Data) → Adds had (v ∷ []) (with_version (λ s. s) location i had v)
+one_adds location i had v =
+    unless (list_any (is_of_version (api_version v) v.kind) had) (fault_at location (Some i) fault.RepeatedVersion) (Ok (had ++ v ∷ [])) had (v ∷ []) (λ new all e.
     let same : had ++ v ∷ [] ≡ all = cc in
     (sym same, λ apart. subst IsApart same (apart_more had v apart new)))
 
-entry_adds : (place : Place) (crd : Crd) (i : ℕ) (had : List (Version Data)) (r : Result Entry CrdFault) → Adds had (entry_versions crd r) (with_entry (λ s. s) place crd i had r)
-entry_adds place crd i had (Err f) = λ all e. cc
-entry_adds place crd i had (Ok x) = one_adds place i had (version_of (λ s. s) crd x)
+entry_adds : (location : Location) (crd : Crd) (i : ℕ) (had : List (Version Data)) (r : Result Entry CrdFault) → Adds had (entry_versions crd r) (with_entry (λ s. s) location crd i had r)
+entry_adds location crd i had (Err f) = λ all e. cc
+entry_adds location crd i had (Ok x) = one_adds location i had (version_of (λ s. s) crd x)
 
-version_adds : (place : Place) (crd : Crd) (i : ℕ) (d : Data) (had : List (Version Data)) → Adds had (entry_versions crd (entry_of d)) (add_version (λ s. s) place crd i d had)
+version_adds : (location : Location) (crd : Crd) (i : ℕ) (d : Data) (had : List (Version Data)) → Adds had (entry_versions crd (entry_of d)) (add_version (λ s. s) location crd i d had)
 unfolding add_version
-version_adds place crd i d had = entry_adds place crd i had (entry_of d)
+version_adds location crd i d had = entry_adds location crd i had (entry_of d)
 
-parts_add : (place : Place) (had : List (Version Data)) (r : Result Crd CrdFault) → Adds had (crd_versions r) (with_crd (λ s. s) place had r)
-parts_add place had (Err f) = λ all e. cc
-parts_add place had (Ok crd) =
-    unless (list_any (is_defined crd.group crd.kind) had) (fault_at place None fault.RepeatedKind) (each (add_version (λ s. s) place crd) 0 crd.versions had) had
-    (joined (λ d. entry_versions crd (entry_of d)) crd.versions)
-    (λ new. each_adds (add_version (λ s. s) place crd) (λ d. entry_versions crd (entry_of d)) (version_adds place crd) 0 crd.versions had)
+parts_add : (location : Location) (had : List (Version Data)) (r : Result Crd CrdFault) → Adds had (crd_versions r) (with_crd (λ s. s) location had r)
+parts_add location had (Err f) = λ all e. cc
+parts_add location had (Ok crd) =
+    unless (list_any (is_defined crd.group crd.kind) had) (fault_at location None fault.RepeatedKind) (each (add_version (λ s. s) location crd) 0 crd.versions had) had
+    (from_each_item (λ d. entry_versions crd (entry_of d)) crd.versions)
+    (λ new. each_adds (add_version (λ s. s) location crd) (λ d. entry_versions crd (entry_of d)) (version_adds location crd) 0 crd.versions had)
 
-crd_adds : (place : Place) (d : Data) (had : List (Version Data)) → Adds had (crd_versions (crd_of d)) (add_crd (λ s. s) place d had)
+crd_adds : (location : Location) (d : Data) (had : List (Version Data)) → Adds had (crd_versions (crd_of d)) (add_crd (λ s. s) location d had)
 unfolding add_crd
-crd_adds place d had = parts_add place had (crd_of d)
+crd_adds location d had = parts_add location had (crd_of d)
 
 list_adds : (document : ℕ) (d : Data) (had : List (Version Data)) (o : Option Items) → Adds had (list_versions d o) (with_list (λ s. s) document d had o)
 list_adds document d had None = crd_adds (record { document = document; item = None }) d had
@@ -68,27 +68,27 @@ document_adds : (document : ℕ) (d : Data) (had : List (Version Data)) → Adds
 unfolding add_document
 document_adds document d had = list_adds document d had (list_of d)
 
-all_adds : (ds : Items) → Adds [] (joined document_versions ds) (versions_in (λ s. s) ds)
+all_adds : (ds : Items) → Adds [] (from_each_item document_versions ds) (versions_in (λ s. s) ds)
 unfolding versions_in
 all_adds ds = each_adds (add_document (λ s. s)) document_versions document_adds 0 ds []
 
-pub versions_listed : (ds : Items) (versions : List (Version Data)) → versions_in (λ s. s) ds ≡ Ok versions → versions ≡ joined document_versions ds
+pub versions_listed : (ds : Items) (versions : List (Version Data)) → versions_in (λ s. s) ds ≡ Ok versions → versions ≡ from_each_item document_versions ds
 versions_listed ds versions e = (all_adds ds versions e).0
 
 -- ---- two groups of documents in either order
 
-joined_append : (ds es : List Data) → joined document_versions (items_of (ds ++ es)) ≡ joined document_versions (items_of ds) ++ joined document_versions (items_of es)
+joined_append : (ds es : List Data) → from_each_item document_versions (items_of (ds ++ es)) ≡ from_each_item document_versions (items_of ds) ++ from_each_item document_versions (items_of es)
 joined_append [] es = refl
 joined_append (d ∷ ds) es =
     ap (λ vs. document_versions d ++ vs) (joined_append ds es)
-    ∙ sym (append_assoc (document_versions d) (joined document_versions (items_of ds)) (joined document_versions (items_of es)))
+    ∙ sym (append_assoc (document_versions d) (from_each_item document_versions (items_of ds)) (from_each_item document_versions (items_of es)))
 
 pub either_order : (ds es : List Data) (versions others : List (Version Data)) → versions_in (λ s. s) (items_of (ds ++ es)) ≡ Ok versions
-    → versions_in (λ s. s) (items_of (es ++ ds)) ≡ Ok others → (value : Data) → chosen versions value ≡ chosen others value
+    → versions_in (λ s. s) (items_of (es ++ ds)) ≡ Ok others → (value : Data) → chosen_version versions value ≡ chosen_version others value
 either_order ds es versions others e f value =
-    let first = joined document_versions (items_of ds) in
-    let second = joined document_versions (items_of es) in
+    let first = from_each_item document_versions (items_of ds) in
+    let second = from_each_item document_versions (items_of es) in
     let these : versions ≡ first ++ second = versions_listed (items_of (ds ++ es)) versions e ∙ joined_append ds es in
     let those : others ≡ second ++ first = versions_listed (items_of (es ++ ds)) others f ∙ joined_append es ds in
     let apart : IsApart (first ++ second) = subst IsApart these ((all_adds (items_of (ds ++ es)) versions e).1 tt) in
-    ap (λ vs. chosen vs value) these ∙ swapped first second apart value ∙ ap (λ vs. chosen vs value) (sym those)
+    ap (λ vs. chosen_version vs value) these ∙ swapped first second apart value ∙ ap (λ vs. chosen_version vs value) (sym those)

@@ -11,12 +11,12 @@ use Rattle.serde_json.specs.Find.{get, as_bool, as_array, as_object}
 use Rattle.kube_schema_rules.specs.Rules.{◌>>=◌}
 use Rattle.kube_manifests.specs.declared.fault.CrdFault.{CrdFault}
 use Rattle.kube_manifests.specs.declared.fault.CrdFault.TheVariants as fault
-use Rattle.kube_manifests.specs.Versions.{Version, api_version, is_of_version, needed, text_at}
+use Rattle.kube_manifests.specs.Versions.{Version, api_version, is_of_version, or_reason, text_at}
 
 -- ---- where faults are
 
 -- a definition stands in a document, or is an item of the list that a document is
-pub record Place : Type 0 where
+pub record Location : Type 0 where
   pub document : ℕ
   pub item : Option ℕ
 
@@ -49,10 +49,10 @@ version_pointer None = []
 version_pointer (Some i) = codes "/spec/versions/" ++ decimal i
 
 -- a fault of the definition at a place, or of one of its versions
-abbrev pub fault_at : Place → Option ℕ → CrdFault → Fault
-fault_at place version f = record {
-  document = place.document;
-  pointer = item_pointer place.item ++ (version_pointer version ++ field_pointer f);
+abbrev pub fault_at : Location → Option ℕ → CrdFault → Fault
+fault_at location version f = record {
+  document = location.document;
+  pointer = item_pointer location.item ++ (version_pointer version ++ field_pointer f);
   fault = f;
 }
 
@@ -103,10 +103,10 @@ pub record Crd : Type 0 where
 -- what a value says that says that it is a definition, or its first fault
 abbrev pub crd_fields : Data → Result Crd CrdFault
 crd_fields d = do
-  name ← needed fault.NoName (name_of d)
-  group ← needed fault.NoGroup (group_of d)
-  kind ← needed fault.NoKind (kind_of d)
-  versions ← needed fault.NoVersions (entries_of d)
+  name ← or_reason fault.NoName (name_of d)
+  group ← or_reason fault.NoGroup (group_of d)
+  kind ← or_reason fault.NoKind (kind_of d)
+  versions ← or_reason fault.NoVersions (entries_of d)
   Ok (record { group = group; kind = kind; versions = versions })
 
 -- the definition that a value is, or its first fault
@@ -125,10 +125,10 @@ pub record Entry : Type 0 where
 
 unfoldable pub entry_of : Data → Result Entry CrdFault
 entry_of d = do
-  name ← needed fault.NoVersionName (full_text_at (codes "name") d)
-  served ← needed fault.NoServed (option_and_then as_bool (get (codes "served") d))
-  schema ← needed fault.NoSchema (schema_of d)
-  members ← needed fault.SchemaNotAnObject (as_object schema)
+  name ← or_reason fault.NoVersionName (full_text_at (codes "name") d)
+  served ← or_reason fault.NoServed (option_and_then as_bool (get (codes "served") d))
+  schema ← or_reason fault.NoSchema (schema_of d)
+  members ← or_reason fault.SchemaNotAnObject (as_object schema)
   Ok (record { name = name; served = served; schema = schema })
 
 -- ---- documents one after another
@@ -148,25 +148,25 @@ module _ {S : Type 0} (form : Data → S) where
   version_of crd e = record { group = crd.group; kind = crd.kind; name = e.name; served = e.served; schema = form e.schema }
 
   -- with one version more, unless another one has its apiVersion and kind: two of one definition must not have one name
-  abbrev pub with_version : Place → ℕ → List (Version S) → Version S → Result (List (Version S)) Fault
-  with_version place i had v =
-      if list_any (is_of_version (api_version v) v.kind) had then Err (fault_at place (Some i) fault.RepeatedVersion) else Ok (had ++ v ∷ [])
+  abbrev pub with_version : Location → ℕ → List (Version S) → Version S → Result (List (Version S)) Fault
+  with_version location i had v =
+      if list_any (is_of_version (api_version v) v.kind) had then Err (fault_at location (Some i) fault.RepeatedVersion) else Ok (had ++ v ∷ [])
 
-  abbrev pub with_entry : Place → Crd → ℕ → List (Version S) → Result Entry CrdFault → Result (List (Version S)) Fault
-  with_entry place crd i had (Err f) = Err (fault_at place (Some i) f)
-  with_entry place crd i had (Ok e) = with_version place i had (version_of crd e)
+  abbrev pub with_entry : Location → Crd → ℕ → List (Version S) → Result Entry CrdFault → Result (List (Version S)) Fault
+  with_entry location crd i had (Err f) = Err (fault_at location (Some i) f)
+  with_entry location crd i had (Ok e) = with_version location i had (version_of crd e)
 
-  unfoldable pub add_version : Place → Crd → ℕ → Data → List (Version S) → Result (List (Version S)) Fault
-  add_version place crd i d had = with_entry place crd i had (entry_of d)
+  unfoldable pub add_version : Location → Crd → ℕ → Data → List (Version S) → Result (List (Version S)) Fault
+  add_version location crd i d had = with_entry location crd i had (entry_of d)
 
   -- with the versions of one definition more, unless another one has its group and kind
-  abbrev pub with_crd : Place → List (Version S) → Result Crd CrdFault → Result (List (Version S)) Fault
-  with_crd place had (Err f) = Err (fault_at place None f)
-  with_crd place had (Ok crd) =
-      if list_any (is_defined crd.group crd.kind) had then Err (fault_at place None fault.RepeatedKind) else each (add_version place crd) 0 crd.versions had
+  abbrev pub with_crd : Location → List (Version S) → Result Crd CrdFault → Result (List (Version S)) Fault
+  with_crd location had (Err f) = Err (fault_at location None f)
+  with_crd location had (Ok crd) =
+      if list_any (is_defined crd.group crd.kind) had then Err (fault_at location None fault.RepeatedKind) else each (add_version location crd) 0 crd.versions had
 
-  unfoldable pub add_crd : Place → Data → List (Version S) → Result (List (Version S)) Fault
-  add_crd place d had = with_crd place had (crd_of d)
+  unfoldable pub add_crd : Location → Data → List (Version S) → Result (List (Version S)) Fault
+  add_crd location d had = with_crd location had (crd_of d)
 
   abbrev pub add_item : ℕ → ℕ → Data → List (Version S) → Result (List (Version S)) Fault
   add_item document i d had = add_crd (record { document = document; item = Some i }) d had

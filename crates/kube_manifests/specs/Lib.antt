@@ -5,4 +5,4 @@ pub mod Texts
 pub mod Sets
 pub mod Parts
 pub mod Laws
-pub mod Listed
+pub mod DocumentVersions

@@ -5,13 +5,13 @@ use Rattle.serde_json.specs.View.{view, items_view}
 use Rattle.kube_manifests.specs.declared.definition.CrdParts.{CrdParts}
 use Rattle.kube_manifests.specs.declared.definition.EntryParts.{EntryParts}
 use Rattle.kube_manifests.specs.declared.fault.CrdFault.{CrdFault}
-use Rattle.kube_manifests.specs.declared.fault.Place as code
+use Rattle.kube_manifests.specs.declared.fault.Location as code
 use Rattle.kube_manifests.specs.declared.judgement.NotJudged.{NotJudged}
 use Rattle.kube_manifests.specs.declared.version.CrdVersion.{CrdVersion}
-use Rattle.kube_manifests.specs.Documents.{Crd, Entry, Place}
+use Rattle.kube_manifests.specs.Documents.{Crd, Entry, Location}
 use Rattle.kube_manifests.specs.Sets.{version_view}
 use Rattle.kube_manifests.specs.Versions.{Version}
-use Rattle.kube_schema_table.specs.Tree.{Node}
+use Rattle.kube_schema_compiled.specs.Tree.{Node}
 use Rattle.std.specs.Borrow.{Bor}
 
 abbrev pub crd_view : CrdParts → Crd
@@ -20,15 +20,15 @@ crd_view p = record { group = p.group.now; kind = p.kind.now; versions = items_v
 abbrev pub entry_view : EntryParts → Entry
 entry_view p = record { name = p.name.now; served = p.served; schema = view p.schema.now }
 
-abbrev pub place_view : code.Place → Place
-place_view p = record { document = p.document; item = p.item }
+abbrev pub location_view : code.Location → Location
+location_view p = record { document = p.document; item = p.item }
 
 -- what was read, or the fault
-abbrev pub read : {A B : Type 0} → (A → B) → Result A CrdFault → Result B CrdFault
-read f (Ok a) = Ok (f a)
-read f (Err e) = Err e
+abbrev pub reading_view : {A B : Type 0} → (A → B) → Result A CrdFault → Result B CrdFault
+reading_view f (Ok a) = Ok (f a)
+reading_view f (Err e) = Err e
 
 -- the version that was chosen, or the reason
-abbrev pub found : Result (Bor CrdVersion) NotJudged → Result (Version Node) NotJudged
-found (Ok v) = Ok (version_view v.now)
-found (Err r) = Err r
+abbrev pub choice_view : Result (Bor CrdVersion) NotJudged → Result (Version Node) NotJudged
+choice_view (Ok v) = Ok (version_view v.now)
+choice_view (Err r) = Err r

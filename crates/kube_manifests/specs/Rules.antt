@@ -1,7 +1,7 @@
 -- Trusted by the clauses of other library calls.
 -- How many rules a schema has: Kubernetes API reference, JSONSchemaProps (x-kubernetes-validations).
 use Rattle.std.specs.Prelude.{ℕ, ◌+◌, ◌-◌, ◌^◌, length, min, Option, Some, None}
-use Rattle.kube_schema_table.specs.Tree.{Node, node, Maybe, nothing, just, Named, no_named, named, Nodes, no_nodes, more}
+use Rattle.kube_schema_compiled.specs.Tree.{Node, node, Maybe, nothing, just, Named, no_named, named, Nodes, no_nodes, more}
 
 unfoldable mutual
   -- those of a node and of all nodes within it; a node past the greatest depth has one error in place of its rules, which counts as one
@@ -22,8 +22,8 @@ unfoldable mutual
   rules_in_nodes (more n ns) = rules_in n + rules_in_nodes ns
 
 -- as a number of 64 bits, the greatest one where there are more
-abbrev pub counted : ℕ → ℕ
-counted n = min n (2 ^ 64 - 1)
+abbrev pub saturated_count : ℕ → ℕ
+saturated_count n = min n (2 ^ 64 - 1)
 
 -- those of a node that may be there
 abbrev pub rules_in_option : Option Node → ℕ

@@ -1,14 +1,14 @@
 -- Trusted by the clauses of other library calls.
--- What a set of versions holds, and what it tells of an object: Kubernetes documentation, "Versions in CustomResourceDefinitions",
+-- What a set of versions holds, and what it answers for an object: Kubernetes documentation, "Versions in CustomResourceDefinitions",
 -- "Validation rules".
 use Rattle.std.specs.Prelude.{◌≡◌, ℕ, List, map, Option, Some, None, Result, Ok, Err, string_bytes}
 use Rattle.serde_json.specs.Data.{Data, Items}
-use Rattle.kube_cel.specs.Answers.{IsToldOf}
+use Rattle.kube_cel.specs.Answers.{IsReportOf}
 use Rattle.kube_cel.specs.Raw.{raw_form}
-use Rattle.kube_cel.specs.Spots.{judged_spot}
-use Rattle.kube_schema_table.specs.Shown.{whole}
-use Rattle.kube_schema_table.specs.Tree.{Node}
-use Rattle.kube_schema_table.specs.View.{view_of}
+use Rattle.kube_cel.specs.Starts.{defaulted_start}
+use Rattle.kube_schema_compiled.specs.Shown.{whole}
+use Rattle.kube_schema_compiled.specs.Tree.{Node}
+use Rattle.kube_schema_compiled.specs.View.{view_of}
 use Rattle.kube_manifests.specs.declared.fault.CrdError.{CrdError}
 use Rattle.kube_manifests.specs.declared.judgement.Judgement.{Judgement}
 use Rattle.kube_manifests.specs.declared.judgement.Judgement.TheVariants.{Judged, NotJudged}
@@ -16,8 +16,8 @@ use Rattle.kube_manifests.specs.declared.judgement.NotJudged as reason
 use Rattle.kube_manifests.specs.declared.set.CrdSet.{CrdSet}
 use Rattle.kube_manifests.specs.declared.version.CrdVersion.{CrdVersion}
 use Rattle.kube_manifests.specs.Documents.{Fault, versions_in}
-use Rattle.kube_manifests.specs.Rules.{counted, rules_in}
-use Rattle.kube_manifests.specs.Versions.{Version, chosen, root_of}
+use Rattle.kube_manifests.specs.Rules.{saturated_count, rules_in}
+use Rattle.kube_manifests.specs.Versions.{Version, chosen_version, root_of}
 
 -- ---- what the code's values stand for
 
@@ -54,21 +54,21 @@ abbrev pub versions_of : Items → Result (List (Version Data)) Fault
 versions_of = versions_in (λ schema. schema)
 
 -- the version with the tree of its schema
-abbrev pub compiled : Version Data → Version Node
-compiled v = record { group = v.group; kind = v.kind; name = v.name; served = v.served; schema = view_of 65 v.schema }
+abbrev pub with_tree : Version Data → Version Node
+with_tree v = record { group = v.group; kind = v.kind; name = v.name; served = v.served; schema = view_of 65 v.schema }
 
 abbrev pub all_compiled : Result (List (Version Data)) Fault → Result (List (Version Node)) Fault
-all_compiled (Ok vs) = Ok (map compiled vs)
+all_compiled (Ok vs) = Ok (map with_tree vs)
 all_compiled (Err f) = Err f
 
--- ---- what is told of an object
+-- ---- what is reported of an object
 
 -- an object is judged exactly where a version is chosen for it. Then the answer is that of the version's schema, with the object's own
--- apiVersion, group and kind; else the reason is told
+-- apiVersion, group and kind; else the reason is reported
 abbrev pub IsJudgement : List (Version Data) → Data → Option Data → Judgement → Type 0
 IsJudgement versions value old (Judged answer) =
-    (v : Version Data) × (chosen versions value ≡ Ok v) × IsToldOf raw_form (judged_spot v.schema value old (Some (root_of v))) answer
-IsJudgement versions value old (NotJudged r) = chosen versions value ≡ Err r
+    (v : Version Data) × (chosen_version versions value ≡ Ok v) × IsReportOf raw_form (defaulted_start v.schema value old (Some (root_of v))) answer
+IsJudgement versions value old (NotJudged r) = chosen_version versions value ≡ Err r
 
 -- why it isn't judged, if it isn't
 abbrev pub reason_of : Judgement → Option reason.NotJudged
@@ -82,5 +82,5 @@ why_not (Err r) = Some r
 
 -- how many rules the chosen version's schema has, or why none is chosen
 abbrev pub rules_of : Result (Version Node) reason.NotJudged → Result ℕ reason.NotJudged
-rules_of (Ok v) = Ok (counted (rules_in v.schema))
+rules_of (Ok v) = Ok (saturated_count (rules_in v.schema))
 rules_of (Err r) = Err r

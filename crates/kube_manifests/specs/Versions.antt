@@ -6,7 +6,7 @@ use Rattle.std.specs.List.{find, list_any, starts_with}
 use Rattle.std.specs.Str.{bytes_eq}
 use Rattle.serde_json.specs.Data.{Data}
 use Rattle.serde_json.specs.Find.{get, as_str, as_object}
-use Rattle.kube_cel_places.specs.Spot.{Root}
+use Rattle.kube_cel_places.specs.Visit.{Root}
 use Rattle.kube_schema_rules.specs.Rules.{◌>>=◌}
 use Rattle.kube_manifests.specs.declared.judgement.NotJudged.{NotJudged}
 use Rattle.kube_manifests.specs.declared.judgement.NotJudged.TheVariants as reason
@@ -39,7 +39,7 @@ is_of_kind text kind v = starts_with nat_eq text (group_prefix v.group) && bytes
 abbrev pub is_of_version : {S : Type 0} → List ℕ → List ℕ → Version S → Bool
 is_of_version text kind v = bytes_eq (api_version v) text && bytes_eq v.kind kind
 
--- the version, if it is there and served; else whether others of its kind are known tells the reason
+-- the version, if it is there and served; else whether others of its kind are known decides the reason
 abbrev pub if_served : {S : Type 0} → Bool → Option (Version S) → Result (Version S) NotJudged
 if_served known None = Err (if known then reason.NoSuchVersion else reason.NoSuchKind)
 if_served known (Some v) = if v.served then Ok v else Err reason.NotServed
@@ -48,17 +48,17 @@ abbrev pub chosen_by : {S : Type 0} → List (Version S) → List ℕ → List �
 chosen_by versions text kind = if_served (list_any (is_of_kind text kind) versions) (find (is_of_version text kind) versions)
 
 -- what must be there, or the reason
-abbrev pub needed : {A E : Type 0} → E → Option A → Result A E
-needed e None = Err e
-needed e (Some a) = Ok a
+abbrev pub or_reason : {A E : Type 0} → E → Option A → Result A E
+or_reason e None = Err e
+or_reason e (Some a) = Ok a
 
 abbrev pub text_at : List ℕ → Data → Option (List ℕ)
 text_at key d = option_and_then as_str (get key d)
 
 -- the version whose schema judges an object, or why none does
-unfoldable pub chosen : {S : Type 0} → List (Version S) → Data → Result (Version S) NotJudged
-chosen versions value = do
-  members ← needed reason.NotAnObject (as_object value)
-  text ← needed reason.NoApiVersion (text_at (codes "apiVersion") value)
-  kind ← needed reason.NoKind (text_at (codes "kind") value)
+unfoldable pub chosen_version : {S : Type 0} → List (Version S) → Data → Result (Version S) NotJudged
+chosen_version versions value = do
+  members ← or_reason reason.NotAnObject (as_object value)
+  text ← or_reason reason.NoApiVersion (text_at (codes "apiVersion") value)
+  kind ← or_reason reason.NoKind (text_at (codes "kind") value)
   chosen_by versions text kind

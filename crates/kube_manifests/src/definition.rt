@@ -1,6 +1,6 @@
 //! CustomResourceDefinitions and their versions, where they stand in JSON.
 ghost use Rattle.kube_manifests.specs.Documents.{crd_of, entries_of, entry_of, full_text_at, group_of, has_text, is_crd, kind_of, list_of, name_of, schema_of, unless_none};
-ghost use Rattle.kube_manifests.specs.Parts.{crd_view, entry_view, read};
+ghost use Rattle.kube_manifests.specs.Parts.{crd_view, entry_view, reading_view};
 ghost use Rattle.kube_manifests.specs.Versions.{text_at};
 ghost use Rattle.serde_json.specs.View.{items_view, view};
 ghost use Rattle.std.specs.List.{ends_with};
@@ -48,7 +48,7 @@ pub(crate) fn list_of(document: &Value) -> Option<&[Value]>
 /// What stands in a definition, or its first fault.
 #[tactic(auto, unfolding(crate::specs::Documents::crd_of))]
 pub(crate) fn crd_parts(document: &Value) -> Result<CrdParts<'_>, CrdFault>
-    ensures { read crd_view result ≡ crd_of (view document.now) }
+    ensures { reading_view crd_view result ≡ crd_of (view document.now) }
 {
     if !is_crd(document) {
         return Err(CrdFault::NotACrd);
@@ -75,7 +75,7 @@ pub(crate) fn crd_parts(document: &Value) -> Result<CrdParts<'_>, CrdFault>
 /// What stands in a version of a definition, or its first fault.
 #[tactic(auto, unfolding(crate::specs::Documents::entry_of))]
 pub(crate) fn entry_parts(version: &Value) -> Result<EntryParts<'_>, CrdFault>
-    ensures { read entry_view result ≡ entry_of (view version.now) }
+    ensures { reading_view entry_view result ≡ entry_of (view version.now) }
 {
     let Some(name) = full_text_at(version, "name") else {
         return Err(CrdFault::NoVersionName);

@@ -1,15 +1,15 @@
 //! Documents read one after another.
 ghost use Rattle.kube_manifests.specs.Documents.{add_crd, add_document, add_item, add_version, each, is_defined, version_of};
-ghost use Rattle.kube_manifests.specs.Parts.{crd_view, entry_view, place_view};
+ghost use Rattle.kube_manifests.specs.Parts.{crd_view, entry_view, location_view};
 ghost use Rattle.kube_manifests.specs.Sets.{added_view, version_view};
 ghost use Rattle.kube_manifests.specs.Versions.{api_version, is_of_version};
-ghost use Rattle.kube_schema_table.specs.View.{view_of};
+ghost use Rattle.kube_schema_compiled.specs.View.{view_of};
 ghost use Rattle.serde_json.specs.View.{items_view, view};
 ghost use Rattle.std.specs.List.{list_any};
 ghost use Rattle.std.specs.Prelude.{◌≡◌, IfErr, IfOk, map};
 
 use crate::definition::{CrdParts, EntryParts, crd_parts, entry_parts, list_of};
-use crate::fault::{CrdError, CrdFault, Place, error_at};
+use crate::fault::{CrdError, CrdFault, Location, error_at};
 use crate::rules::rule_count;
 use crate::version::CrdVersion;
 use kube_cel::{Refused, RootContext, compile_schema};
@@ -32,7 +32,7 @@ pub(crate) fn add_document(
         Some(items) => add_items(alloc, document, items, versions),
         None => add_crd(
             alloc,
-            Place {
+            Location {
                 document,
                 item: None,
             },
@@ -54,11 +54,11 @@ fn add_items(
     ensures memory { IfErr result (λ e. e ≡ Refused.Memory) }
 {
     for (index, item) in items.iter().enumerate() {
-        let place = Place {
+        let location = Location {
             document,
             item: Some(index),
         };
-        if let Err(error) = add_crd(alloc, place, item, versions)? {
+        if let Err(error) = add_crd(alloc, location, item, versions)? {
             return Ok(Err(error));
         }
     }
@@ -69,38 +69,39 @@ fn add_items(
 #[tactic(auto, unfolding(crate::specs::Documents::add_crd))]
 fn add_crd(
     alloc: Global,
-    place: Place,
+    location: Location,
     value: &Value,
     versions: &mut Vec<CrdVersion>,
 ) -> Result<Result<(), CrdError>, Refused>
     ensures added { IfOk result (λ r. added_view (map version_view versions.new.items) r
-        ≡ add_crd (view_of 65) (place_view place) (view value.now) (map version_view versions.old.items)) }
+        ≡ add_crd (view_of 65) (location_view location) (view value.now)
+        (map version_view versions.old.items)) }
     ensures memory { IfErr result (λ e. e ≡ Refused.Memory) }
 {
     let crd = match crd_parts(value) {
         Ok(crd) => crd,
-        Err(fault) => return Ok(Err(error_at(alloc, place, None, fault)?)),
+        Err(fault) => return Ok(Err(error_at(alloc, location, None, fault)?)),
     };
     if has_kind(versions, crd.group, crd.kind) {
-        return Ok(Err(error_at(alloc, place, None, CrdFault::RepeatedKind)?));
+        return Ok(Err(error_at(alloc, location, None, CrdFault::RepeatedKind)?));
     }
-    add_versions(alloc, place, crd, crd.versions, versions)
+    add_versions(alloc, location, crd, crd.versions, versions)
 }
 
 /// Adds versions of a definition.
 fn add_versions(
     alloc: Global,
-    place: Place,
+    location: Location,
     crd: CrdParts<'_>,
     entries: &[Value],
     versions: &mut Vec<CrdVersion>,
 ) -> Result<Result<(), CrdError>, Refused>
     ensures added { IfOk result (λ r. added_view (map version_view versions.new.items) r
-        ≡ each (add_version (view_of 65) (place_view place) (crd_view crd.entry)) 0 (items_view entries.now) (map version_view versions.old.items)) }
+        ≡ each (add_version (view_of 65) (location_view location) (crd_view crd.entry)) 0 (items_view entries.now) (map version_view versions.old.items)) }
     ensures memory { IfErr result (λ e. e ≡ Refused.Memory) }
 {
     for (index, entry) in entries.iter().enumerate() {
-        if let Err(error) = add_version(alloc, place, crd, index, entry, versions)? {
+        if let Err(error) = add_version(alloc, location, crd, index, entry, versions)? {
             return Ok(Err(error));
         }
     }
@@ -111,23 +112,23 @@ fn add_versions(
 #[tactic(auto, unfolding(crate::specs::Documents::add_version))]
 fn add_version(
     alloc: Global,
-    place: Place,
+    location: Location,
     crd: CrdParts<'_>,
     index: usize,
     version: &Value,
     versions: &mut Vec<CrdVersion>,
 ) -> Result<Result<(), CrdError>, Refused>
     ensures added { IfOk result (λ r. added_view (map version_view versions.new.items) r
-        ≡ add_version (view_of 65) (place_view place) (crd_view crd.entry) index (view version.now) (map version_view versions.old.items)) }
+        ≡ add_version (view_of 65) (location_view location) (crd_view crd.entry) index (view version.now) (map version_view versions.old.items)) }
     ensures memory { IfErr result (λ e. e ≡ Refused.Memory) }
 {
     let entry = match entry_parts(version) {
         Ok(entry) => entry,
-        Err(fault) => return Ok(Err(error_at(alloc, place, Some(index), fault)?)),
+        Err(fault) => return Ok(Err(error_at(alloc, location, Some(index), fault)?)),
     };
     let version = compiled_version(alloc, crd, entry)?;
     if has_version(versions, &version) {
-        return Ok(Err(error_at(alloc, place, Some(index), CrdFault::RepeatedVersion)?));
+        return Ok(Err(error_at(alloc, location, Some(index), CrdFault::RepeatedVersion)?));
     }
     versions.push(version)?;
     Ok(Ok(()))

@@ -1,13 +1,13 @@
 //! Why documents give no set of definitions.
 ghost use Rattle.kube_manifests.specs.Documents.{fault_at};
-ghost use Rattle.kube_manifests.specs.Parts.{place_view};
+ghost use Rattle.kube_manifests.specs.Parts.{location_view};
 ghost use Rattle.kube_manifests.specs.Sets.{error_view};
 ghost use Rattle.std.specs.Prelude.{◌≡◌, IfOk};
 
 use std::alloc::{AllocError, Global};
 use std::fmt;
 
-/// What is wrong with a definition. The first one is told: those of a definition in this order, then those of its versions, one after another.
+/// What is wrong with a definition. The first one is reported: those of a definition in this order, then those of its versions, one after another.
 #[derive(Clone, Copy, Debug, PartialEq, Eq)]
 pub enum CrdFault {
     /// The value doesn't say that it is a CustomResourceDefinition of `apiextensions.k8s.io/v1`, and is no list.
@@ -47,7 +47,7 @@ pub struct CrdError {
 
 /// Where a definition stands: which document, and which item of it, where the document is a list.
 #[derive(Clone, Copy)]
-pub struct Place {
+pub struct Location {
     pub(crate) document: usize,
     pub(crate) item: Option<usize>,
 }
@@ -121,14 +121,14 @@ impl CrdFault {
 /// The error of a fault of the definition at a place, or of one of its versions.
 pub(crate) fn error_at(
     alloc: Global,
-    place: Place,
+    location: Location,
     version: Option<usize>,
     fault: CrdFault,
 ) -> Result<CrdError, AllocError>
-    ensures { IfOk result (λ e. error_view e ≡ fault_at (place_view place) version fault) }
+    ensures { IfOk result (λ e. error_view e ≡ fault_at (location_view location) version fault) }
 {
     let field = fault.pointer();
-    let pointer = match (place.item, version) {
+    let pointer = match (location.item, version) {
         (None, None) => String::from_str(alloc, field)?,
         (Some(item), None) => format!(in alloc; "/items/{item}{field}")?,
         (None, Some(version)) => format!(in alloc; "/spec/versions/{version}{field}")?,
@@ -137,7 +137,7 @@ pub(crate) fn error_at(
         }
     };
     Ok(CrdError {
-        document: place.document,
+        document: location.document,
         pointer,
         fault,
     })

@@ -1,8 +1,8 @@
-//! What is told of an object.
+//! What is reported of an object.
 use kube_cel::ValidationErrors;
 use std::fmt;
 
-/// What a set of definitions tells of an object.
+/// What a set of definitions answers for an object.
 #[derive(Debug, Drop)]
 pub enum Judgement {
     /// The answer of the schema by which the object is judged: `Ok` where all rules admit it, else all errors.

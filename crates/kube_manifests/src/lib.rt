@@ -21,10 +21,10 @@
 //!
 //! Proved: a set holds exactly the versions of its documents, or the documents give exactly their first fault; an object is judged exactly
 //! where a served version of its apiVersion and kind is in the set, and then the answer is that of the version's schema, as `kube_cel` says
-//! it; else exactly the reason is told. `specs/Versions.antt` says which version that is, `specs/Documents.antt` which versions documents have.
+//! it; else exactly the reason is reported. `specs/Versions.antt` says which version that is, `specs/Documents.antt` which versions documents have.
 #![tactic(auto)]
 
-mod chosen;
+mod choice;
 mod definition;
 mod documents;
 mod fault;

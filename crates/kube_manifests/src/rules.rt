@@ -1,8 +1,8 @@
 //! How many rules a schema has.
 ghost use Rattle.kube_cel_lint.specs.Lint.{branches_of};
-ghost use Rattle.kube_manifests.specs.Rules.{counted, rules_in, rules_in_maybe, rules_in_named, rules_in_nodes, rules_in_option};
-ghost use Rattle.kube_schema_table.specs.Shown.{shown, whole};
-ghost use Rattle.kube_schema_table.specs.Tree.{additional_of, items_of, named_of, nodes_length, nth_node};
+ghost use Rattle.kube_manifests.specs.Rules.{saturated_count, rules_in, rules_in_maybe, rules_in_named, rules_in_nodes, rules_in_option};
+ghost use Rattle.kube_schema_compiled.specs.Shown.{node_tree, whole};
+ghost use Rattle.kube_schema_compiled.specs.Tree.{additional_of, items_of, named_of, nodes_length, nth_node};
 ghost use Rattle.std.specs.Prelude.{◌≡◌, ◌+◌, ◌<◌, ◌^◌, option_map};
 
 use kube_cel::{CompiledSchema, SchemaNode};
@@ -11,15 +11,15 @@ use kube_cel_places::BranchKind;
 /// How many rules all nodes of a schema have together, `u64::MAX` where there are more. Where the schema goes on past the greatest depth,
 /// the error that stands there in place of the rules counts as one.
 pub fn rule_count(schema: &CompiledSchema) -> u64
-    ensures { result ≡ counted (rules_in (whole schema.now)) }
+    ensures { result ≡ saturated_count (rules_in (whole schema.now)) }
 {
     with_node(0, &schema.root())
 }
 
-/// So many rules, and those of a node and of the nodes within it.
+/// `count` rules, and those of a node and of the nodes within it.
 #[cycle(count)]
 fn with_node(count: u64, node: &SchemaNode<'_>) -> u64
-    ensures { result ≡ counted (count + rules_in (shown node.now)) }
+    ensures { result ≡ saturated_count (count + rules_in (node_tree node.now)) }
 {
     let own = count.saturating_add(node.validations().len() as u64);
     let properties = with_properties(own, node);
@@ -30,10 +30,10 @@ fn with_node(count: u64, node: &SchemaNode<'_>) -> u64
     with_branches(one_of, BranchKind::AnyOf, node)
 }
 
-/// So many rules, and those of the properties of a node.
+/// `count` rules, and those of the properties of a node.
 #[cycle(count)]
 fn with_properties(count: u64, node: &SchemaNode<'_>) -> u64
-    ensures { result ≡ counted (count + rules_in_named (named_of (shown node.now))) }
+    ensures { result ≡ saturated_count (count + rules_in_named (named_of (node_tree node.now))) }
 {
     let mut all = count;
     for index in 0..node.property_count() {
@@ -45,10 +45,10 @@ fn with_properties(count: u64, node: &SchemaNode<'_>) -> u64
     all
 }
 
-/// So many rules, and those of the items of a list.
+/// `count` rules, and those of the items of a list.
 #[cycle(count)]
 fn with_items(count: u64, node: &SchemaNode<'_>) -> u64
-    ensures { result ≡ counted (count + rules_in_option (items_of (shown node.now))) }
+    ensures { result ≡ saturated_count (count + rules_in_option (items_of (node_tree node.now))) }
 {
     match node.items() {
         Some(items) => with_node(count, &items),
@@ -56,10 +56,10 @@ fn with_items(count: u64, node: &SchemaNode<'_>) -> u64
     }
 }
 
-/// So many rules, and those of the members that aren't declared.
+/// `count` rules, and those of the members that aren't declared.
 #[cycle(count)]
 fn with_additional(count: u64, node: &SchemaNode<'_>) -> u64
-    ensures { result ≡ counted (count + rules_in_option (additional_of (shown node.now))) }
+    ensures { result ≡ saturated_count (count + rules_in_option (additional_of (node_tree node.now))) }
 {
     match node.additional_properties() {
         Some(additional) => with_node(count, &additional),
@@ -67,10 +67,10 @@ fn with_additional(count: u64, node: &SchemaNode<'_>) -> u64
     }
 }
 
-/// So many rules, and those of the branches of one keyword.
+/// `count` rules, and those of the branches of one keyword.
 #[cycle(count)]
 fn with_branches(count: u64, kind: BranchKind, node: &SchemaNode<'_>) -> u64
-    ensures { result ≡ counted (count + rules_in_nodes (branches_of kind (shown node.now))) }
+    ensures { result ≡ saturated_count (count + rules_in_nodes (branches_of kind (node_tree node.now))) }
 {
     let mut all = count;
     for index in 0..branch_count(kind, node) {
@@ -84,7 +84,7 @@ fn with_branches(count: u64, kind: BranchKind, node: &SchemaNode<'_>) -> u64
 
 /// The number of branches of a keyword.
 fn branch_count(kind: BranchKind, node: &SchemaNode<'_>) -> usize
-    ensures { result ≡ nodes_length (branches_of kind (shown node.now)) }
+    ensures { result ≡ nodes_length (branches_of kind (node_tree node.now)) }
 {
     match kind {
         BranchKind::AllOf => node.all_of_count(),
@@ -95,7 +95,7 @@ fn branch_count(kind: BranchKind, node: &SchemaNode<'_>) -> usize
 
 /// A branch of a keyword.
 fn branch<'a>(kind: BranchKind, node: &SchemaNode<'a>, index: usize) -> Option<SchemaNode<'a>>
-    ensures { option_map shown result ≡ nth_node index (branches_of kind (shown node.now)) }
+    ensures { option_map node_tree result ≡ nth_node index (branches_of kind (node_tree node.now)) }
 {
     match kind {
         BranchKind::AllOf => node.all_of(index),

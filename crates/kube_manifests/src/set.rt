@@ -1,12 +1,12 @@
-//! Sets of definitions, and what they tell of objects.
-ghost use Rattle.kube_manifests.specs.Sets.{all_compiled, compiled, outcome_view, reason_of, rules_of, set_view, versions_of, why_not, IsJudgement};
-ghost use Rattle.kube_manifests.specs.Versions.{Version, chosen};
-ghost use Rattle.kube_schema_table.specs.Tree.{Node};
+//! Sets of definitions, and what they answer for objects.
+ghost use Rattle.kube_manifests.specs.Sets.{all_compiled, with_tree, outcome_view, reason_of, rules_of, set_view, versions_of, why_not, IsJudgement};
+ghost use Rattle.kube_manifests.specs.Versions.{Version, chosen_version};
+ghost use Rattle.kube_schema_compiled.specs.Tree.{Node};
 ghost use Rattle.serde_json.specs.Data.{Data};
 ghost use Rattle.serde_json.specs.View.{items_view, view};
 ghost use Rattle.std.specs.Prelude.{◌≡◌, IfErr, IfOk, List, map, option_map};
 
-use crate::chosen::chosen;
+use crate::choice::chosen;
 use crate::documents::add_document;
 use crate::fault::CrdError;
 use crate::judgement::{Judgement, NotJudged};
@@ -57,8 +57,8 @@ impl CrdSet {
         object: &Value,
         old: Option<&Value>,
     ) -> Result<Judgement, Refused>
-        ensures reason { IfOk result (λ j. reason_of j ≡ why_not (chosen (set_view self.now) (view object.now))) }
-        ensures judgement { IfOk result (λ j. (versions : List (Version Data)) → set_view self.now ≡ map compiled versions
+        ensures reason { IfOk result (λ j. reason_of j ≡ why_not (chosen_version (set_view self.now) (view object.now))) }
+        ensures judgement { IfOk result (λ j. (versions : List (Version Data)) → set_view self.now ≡ map with_tree versions
             → IsJudgement versions (view object.now) (option_map (λ v. view v.now) old.entry) j) }
         ensures memory { IfErr result (λ e. e ≡ Refused.Memory) }
     {
@@ -84,7 +84,7 @@ impl CrdSet {
     ///
     /// [`NotJudged`] where `validate` answers it.
     pub fn rule_count(&self, object: &Value) -> Result<u64, NotJudged>
-        ensures { result ≡ rules_of (chosen (set_view self.now) (view object.now)) }
+        ensures { result ≡ rules_of (chosen_version (set_view self.now) (view object.now)) }
     {
         match chosen(&self.versions, object) {
             Ok(version) => Ok(version.rules),

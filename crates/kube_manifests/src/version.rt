@@ -1,7 +1,7 @@
 //! A version of a definition, with its compiled schema.
-ghost use Rattle.kube_manifests.specs.Rules.{counted, rules_in};
+ghost use Rattle.kube_manifests.specs.Rules.{saturated_count, rules_in};
 ghost use Rattle.kube_manifests.specs.Versions.{group_prefix};
-ghost use Rattle.kube_schema_table.specs.Shown.{whole};
+ghost use Rattle.kube_schema_compiled.specs.Shown.{whole};
 ghost use Rattle.std.proofs.Props.{props};
 ghost use Rattle.std.specs.List.{starts_with};
 ghost use Rattle.std.specs.Prelude.{◌≡◌, ◌++◌, nat_eq, string_bytes};
@@ -22,7 +22,7 @@ pub struct CrdVersion {
     pub(crate) rules: u64,
     ghost prefixed: { string_bytes prefix ≡ group_prefix (string_bytes root.api_group) } by { Prim.hlevel props },
     ghost named: { string_bytes root.api_version ≡ group_prefix (string_bytes root.api_group) ++ string_bytes name } by { Prim.hlevel props },
-    ghost right: { rules ≡ counted (rules_in (whole schema)) },
+    ghost right: { rules ≡ saturated_count (rules_in (whole schema)) },
 }
 
 impl CrdVersion {

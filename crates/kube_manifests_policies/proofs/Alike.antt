@@ -1,17 +1,17 @@
 -- Scopes where the same names are bound.
-use Rattle.cel_book.specs.Book.{Book}
-use Rattle.cel_meaning.specs.Bindings.{Bindings, binding}
-use Rattle.cel_meaning.specs.Members.{put_in}
-use Rattle.cel_meaning.specs.Outcome.{Outcome, and_then}
+use Rattle.cel_patterns.specs.Book.{Book}
+use Rattle.cel_semantics.specs.Bindings.{Bindings, binding}
+use Rattle.cel_semantics.specs.Members.{put_in}
+use Rattle.cel_semantics.specs.Outcome.{Outcome, and_then}
 use Rattle.cel_value.specs.Data.{Data, map_of, no_entries, text}
 use Rattle.cel_value.specs.Texts.{fault_text}
-use Rattle.kube_cel_policies.proofs.Bound.{bound, meaning_same}
-use Rattle.kube_cel_policies.specs.Results.{outcome_in, policy_library}
-use Rattle.kube_cel_policies.specs.Variables.{Variables, bindings_always, policy_bindings, with_given}
+use Rattle.kube_cel_vap.proofs.Bound.{bound, meaning_same}
+use Rattle.kube_cel_vap.specs.Results.{outcome_in, policy_library}
+use Rattle.kube_cel_vap.specs.Variables.{Variables, bindings_always, policy_bindings, with_given}
 use Rattle.kube_manifests_policies.specs.Inputs.{first_missing, without_namespace}
 use Rattle.kube_manifests_policies.specs.Policies.{ItemData, item_view}
-use Rattle.kube_manifests_policies.specs.Scopes.{Alike, ScopeData, evaluated, fault_told, first_stop, reached, reached_unless, stopped_by, variable_step, variables_after, with_no_values, with_stored, with_values, with_variable, without_value}
-use Rattle.kube_manifests_policies.specs.Verdicts.{ToldData, with_told}
+use Rattle.kube_manifests_policies.specs.Scopes.{Alike, ScopeData, evaluation, fault_report, first_stop, outcome_or_reason, outcome_unless, stopped_by, variable_step, variables_after, with_no_values, with_stored, with_values, with_variable, without_value}
+use Rattle.kube_manifests_policies.specs.Verdicts.{ItemReportData, with_report}
 use Rattle.kube_manifests_policies.specs.declared.item.Item.{Item}
 use Rattle.kube_schema_values.specs.Plain.{plain}
 use Rattle.serde_json.specs.Data.{Data as Json}
@@ -49,9 +49,9 @@ values_bound (v ∷ vs) m e f k p h x = bound x (codes "variables") m (map_of no
 
 -- ---- what is reached
 
-pub reach_same : (b : Book) (s t : ScopeData) → Alike s t → reached b s ≡ reached b t
-unfolding reached outcome_in
-reach_same b s t h = λ i u. reached_unless (stopped_by (first_missing (h.absent i) u) (first_stop (h.missing i) u)) (meaning_same policy_library b u s.bindings t.bindings h.bindings i)
+pub reach_same : (b : Book) (s t : ScopeData) → Alike s t → outcome_or_reason b s ≡ outcome_or_reason b t
+unfolding outcome_or_reason outcome_in
+reach_same b s t h = λ i u. outcome_unless (stopped_by (first_missing (h.absent i) u) (first_stop (h.missing i) u)) (meaning_same policy_library b u s.bindings t.bindings h.bindings i)
 
 -- ---- variables
 
@@ -69,15 +69,15 @@ values_alike s t h m = record {
   missing = h.missing;
 }
 
-missing_alike : (s t : ScopeData) → Alike s t → (name : List ℕ) (told : ToldData) → Alike (without_value s name told) (without_value t name told)
-missing_alike s t h name told = record { bindings = h.bindings; absent = h.absent; values = h.values; missing = ap (λ rs. rs ++ with_told name told ∷ []) h.missing }
+missing_alike : (s t : ScopeData) → Alike s t → (name : List ℕ) (reported : ItemReportData) → Alike (without_value s name reported) (without_value t name reported)
+missing_alike s t h name reported = record { bindings = h.bindings; absent = h.absent; values = h.values; missing = ap (λ rs. rs ++ with_report name reported ∷ []) h.missing }
 
 stored_alike : (s t : ScopeData) → Alike s t → (name : List ℕ) (o : Outcome) → Alike (with_stored s name o) (with_stored t name o)
 stored_alike s t h name (Ok m) = values_alike s t h m
-stored_alike s t h name (Err f) = missing_alike s t h name (fault_told (fault_text f))
+stored_alike s t h name (Err f) = missing_alike s t h name (fault_report (fault_text f))
 
-variable_alike : (s t : ScopeData) → Alike s t → (name : List ℕ) (r : Result Outcome ToldData) → Alike (with_variable s name r) (with_variable t name r)
-variable_alike s t h name (Err told) = missing_alike s t h name told
+variable_alike : (s t : ScopeData) → Alike s t → (name : List ℕ) (r : Result Outcome ItemReportData) → Alike (with_variable s name r) (with_variable t name r)
+variable_alike s t h name (Err reported) = missing_alike s t h name reported
 variable_alike s t h name (Ok o) =
     let put : Data → Outcome = λ m. and_then o (λ v. put_in m (text name) v) in
     subst (λ r. Alike (with_stored s name (put s.values)) (with_stored t name r)) (ap put h.values) (stored_alike s t h name (put s.values))
@@ -85,8 +85,8 @@ variable_alike s t h name (Ok o) =
 step_alike : (b : Book) (s t : ScopeData) → Alike s t → (x : ItemData) → Alike (variable_step b s x) (variable_step b t x)
 unfolding variable_step
 step_alike b s t h x =
-    subst (λ r. Alike (with_variable s x.label (evaluated (reached b s) x.expression)) (with_variable t x.label (evaluated r x.expression))) (reach_same b s t h)
-    (variable_alike s t h x.label (evaluated (reached b s) x.expression))
+    subst (λ r. Alike (with_variable s x.label (evaluation (outcome_or_reason b s) x.expression)) (with_variable t x.label (evaluation r x.expression))) (reach_same b s t h)
+    (variable_alike s t h x.label (evaluation (outcome_or_reason b s) x.expression))
 
 pub after_alike : (b : Book) (s t : ScopeData) → Alike s t → (xs : List ItemData) → Alike (variables_after b s xs) (variables_after b t xs)
 after_alike b s t h [] = h

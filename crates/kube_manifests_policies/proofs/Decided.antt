@@ -1,45 +1,45 @@
 -- What decides about a policy.
-use Rattle.cel_book.specs.Book.{Book, IsBook}
-use Rattle.kube_cel_policies.specs.Expressions.{◌>>=◌}
-use Rattle.kube_cel_policies.specs.Variables.{Variables}
+use Rattle.cel_patterns.specs.Book.{Book, IsBook}
+use Rattle.kube_cel_vap.specs.Expressions.{◌>>=◌}
+use Rattle.kube_cel_vap.specs.Variables.{Variables}
 use Rattle.kube_manifests_policies.proofs.Alike.{reach_same}
 use Rattle.kube_manifests_policies.specs.Faults.{FaultData}
 use Rattle.kube_manifests_policies.specs.Inputs.{without_namespace}
-use Rattle.kube_manifests_policies.specs.Judged.{policy_verdict, verdict_of, results_as, verdict_after, verdict_in, verdict_of_conditions}
+use Rattle.kube_manifests_policies.specs.Reports.{policy_verdict, verdict_of, results_as, verdict_after, verdict_in, verdict_of_conditions}
 use Rattle.kube_manifests_policies.specs.Policies.{PolicyData, policy_of}
-use Rattle.kube_manifests_policies.specs.Scopes.{Alike, Reach, ScopeData, first_scope, reached, scope_for, variables_after}
-use Rattle.kube_manifests_policies.specs.Verdicts.{Labelled, VerdictData, after_conditions, decided}
-use Rattle.kube_manifests_policies.specs.declared.judged.Subject.TheVariants.{Annotation, Condition, Validation}
+use Rattle.kube_manifests_policies.specs.Scopes.{Alike, Reach, ScopeData, first_scope, outcome_or_reason, scope_for, variables_after}
+use Rattle.kube_manifests_policies.specs.Verdicts.{Labelled, VerdictData, after_conditions, decision_of}
+use Rattle.kube_manifests_policies.specs.declared.reports.Subject.TheVariants.{Annotation, Condition, Validation}
 use Rattle.kube_manifests_policies.specs.declared.verdict.PolicyDecision.{PolicyDecision}
 use Rattle.serde_json.specs.Data.{Data as Json}
 use Rattle.std.proofs.Common.{◌≡◌, List, true, Option, Some, None, Ok, Err, sym, ap, ◌∙◌}
 use Rattle.std.proofs.lemmas.Option.{none-some}
 
 verdict_with : (b : Book) (v : Variables) (p : PolicyData) (rs : List Labelled) (o : Option PolicyDecision)
-    → rs ≡ results_as Condition (reached b (first_scope (without_namespace v))) p.conditions → after_conditions p.ignores rs ≡ o → verdict_after b v p rs o ≡ policy_verdict b v p
+    → rs ≡ results_as Condition (outcome_or_reason b (first_scope (without_namespace v))) p.conditions → after_conditions p.ignores rs ≡ o → verdict_after b v p rs o ≡ policy_verdict b v p
 unfolding policy_verdict
 verdict_with b v p rs o e q = sym (ap (verdict_after b v p rs) q) ∙ ap (λ c. verdict_after b v p c (after_conditions p.ignores c)) e
 
 -- the match conditions alone
 pub by_conditions : (b : Book) (v : Variables) (p : PolicyData) (rs : List Labelled) (d : PolicyDecision)
-    → rs ≡ results_as Condition (reached b (first_scope (without_namespace v))) p.conditions → after_conditions p.ignores rs ≡ Some d → verdict_of_conditions rs d ≡ policy_verdict b v p
+    → rs ≡ results_as Condition (outcome_or_reason b (first_scope (without_namespace v))) p.conditions → after_conditions p.ignores rs ≡ Some d → verdict_of_conditions rs d ≡ policy_verdict b v p
 by_conditions b v p rs d e q = verdict_with b v p rs (Some d) e q
 
 -- all of it
 pub by_all : (b : Book) (v : Variables) (p : PolicyData) (rs : List Labelled) (s : ScopeData)
-    → rs ≡ results_as Condition (reached b (first_scope (without_namespace v))) p.conditions → after_conditions p.ignores rs ≡ None
-    → Alike s (variables_after b (scope_for v p.variables) p.variables) → verdict_in (reached b s) s.missing p rs ≡ policy_verdict b v p
+    → rs ≡ results_as Condition (outcome_or_reason b (first_scope (without_namespace v))) p.conditions → after_conditions p.ignores rs ≡ None
+    → Alike s (variables_after b (scope_for v p.variables) p.variables) → verdict_in (outcome_or_reason b s) s.missing p rs ≡ policy_verdict b v p
 by_all b v p rs s e q h =
     let t = variables_after b (scope_for v p.variables) p.variables in
     (λ i. verdict_in (reach_same b s t h i) (h.missing i) p rs) ∙ verdict_with b v p rs None e q
 
 -- validations and audit annotations
 pub by_both : (r : Reach) (missing : List Labelled) (p : PolicyData) (rs vs ws : List Labelled) (d : PolicyDecision)
-    → vs ≡ results_as Validation r p.validations → ws ≡ results_as Annotation r p.annotations → d ≡ decided p.ignores vs ws
+    → vs ≡ results_as Validation r p.validations → ws ≡ results_as Annotation r p.annotations → d ≡ decision_of p.ignores vs ws
     → ◌≡◌ {A = VerdictData} (record { decision = d; conditions = rs; variables = missing; validations = vs; annotations = ws }) (verdict_in r missing p rs)
 unfolding verdict_in
 by_both r missing p rs vs ws d v w q = λ i. record {
-  decision = (q ∙ (λ j. decided p.ignores (v j) (w j))) i;
+  decision = (q ∙ (λ j. decision_of p.ignores (v j) (w j))) i;
   conditions = rs;
   variables = missing;
   validations = v i;

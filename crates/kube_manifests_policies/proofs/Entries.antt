@@ -1,5 +1,5 @@
 -- Lists that are read entry by entry.
-use Rattle.kube_cel_policies.specs.Expressions.{◌>>=◌}
+use Rattle.kube_cel_vap.specs.Expressions.{◌>>=◌}
 use Rattle.kube_manifests_policies.specs.Policies.{ItemData, entries_after, next_entry}
 use Rattle.kube_manifests_policies.specs.declared.item.Item.{Item}
 use Rattle.kube_manifests_policies.specs.declared.item.PolicyList.{PolicyList}

@@ -1,21 +1,21 @@
 -- A meaning where one member of `variables` differs that isn't asked for.
-use Rattle.cel_book.specs.Book.{Book}
-use Rattle.cel_meaning.specs.Bindings.{Bindings, binding}
-use Rattle.cel_meaning.specs.Calls.{receiver_of, is_there, by_form, called}
-use Rattle.cel_meaning.specs.Decisions.{truth, chosen}
-use Rattle.cel_meaning.specs.Library.{Library}
-use Rattle.cel_meaning.specs.Macros.{macro_name, macro_of, gift_of}
-use Rattle.cel_meaning.specs.Meaning.{meaning, meanings, map_meaning, binary_of, strictly, entry_of}
-use Rattle.cel_meaning.specs.Members.{selected, has_member, indexed}
-use Rattle.cel_meaning.specs.Operators.{operated_on_one}
-use Rattle.cel_meaning.specs.Outcome.{Outcome, and_then, all_values}
-use Rattle.cel_meaning.specs.Ranges.{range_of}
-use Rattle.cel_syntax_tree.specs.Term.{Term, literal, ident, select, has, index, unary, binary, choice, list_of, map_with, call, qualified, macro, Terms, no_terms, term_and, count_of, Pairs, no_pairs, pair_and}
+use Rattle.cel_patterns.specs.Book.{Book}
+use Rattle.cel_semantics.specs.Bindings.{Bindings, binding}
+use Rattle.cel_semantics.specs.Calls.{receiver_of, is_there, by_form, call_outcome}
+use Rattle.cel_semantics.specs.Decisions.{truth, branch_outcome}
+use Rattle.cel_semantics.specs.Library.{Library}
+use Rattle.cel_semantics.specs.Macros.{macro_name, macro_of, iteration_result_of}
+use Rattle.cel_semantics.specs.Meaning.{meaning, meanings, map_meaning, binary_of, strictly, entry_of}
+use Rattle.cel_semantics.specs.Members.{selection, has_member, index_outcome}
+use Rattle.cel_semantics.specs.Operators.{unary_outcome}
+use Rattle.cel_semantics.specs.Outcome.{Outcome, and_then, all_values}
+use Rattle.cel_semantics.specs.Ranges.{range_of}
+use Rattle.cel_syntax_ast.specs.Term.{Term, literal, ident, select, has, index, unary, binary, conditional, list_of, map_with, call, qualified, macro, Terms, no_terms, term_and, count_of, Pairs, no_pairs, pair_and}
 use Rattle.cel_value.specs.Data.{Data, Entries, bool, list, map_of, no_entries, text_key}
 use Rattle.cel_value.specs.Faults.{no_key, undeclared}
 use Rattle.cel_value.specs.Find.{find}
 use Rattle.cel_value.specs.View.{items_of}
-use Rattle.kube_cel_policies.proofs.Bound.{meaning_same}
+use Rattle.kube_cel_vap.proofs.Bound.{meaning_same}
 use Rattle.kube_manifests_policies.specs.Uses.{asks, asks_in_any, asks_in_pairs}
 use Rattle.std.proofs.Common.{◌≡◌, ℕ, List, ◌∷◌, map, Bool, true, false, ◌||◌, ◌&&◌, not, Option, Some, None, is_some, Ok, Err, codes, if◌then◌else◌, refl, sym, ap, ◌∙◌, true≢false}
 use Rattle.std.proofs.lemmas.Slice.Eq.{bytes_eq-Decides}
@@ -68,11 +68,11 @@ hidden es fs e f n x d h y = hidden_by (bytes_eq y x) es fs e f n x d h y refl
 -- ---- members
 
 selected_near : (c : Bool) (es fs : Entries) (e f : Bindings) (y x z : List ℕ) → Near es fs e f → Members y es fs → bytes_eq (codes "variables") x ≡ c → (if c then bytes_eq y z else c) ≡ false
-    → and_then (option_map_or Ok (binding x e) (Err (undeclared x))) (λ v. selected (text_key z) v) ≡ and_then (option_map_or Ok (binding x f) (Err (undeclared x))) (λ v. selected (text_key z) v)
-selected_near false es fs e f y x z n m is h = ap (λ o. and_then (option_map_or Ok o (Err (undeclared x))) (λ v. selected (text_key z) v)) (n.others x is)
+    → and_then (option_map_or Ok (binding x e) (Err (undeclared x))) (λ v. selection (text_key z) v) ≡ and_then (option_map_or Ok (binding x f) (Err (undeclared x))) (λ v. selection (text_key z) v)
+selected_near false es fs e f y x z n m is h = ap (λ o. and_then (option_map_or Ok o (Err (undeclared x))) (λ v. selection (text_key z) v)) (n.others x is)
 selected_near true es fs e f y x z n m is h =
     let same : codes "variables" ≡ x = (bytes_eq-Decides (codes "variables") x).0 is in
-    let to : Option Data → Outcome = λ o. and_then (option_map_or Ok o (Err (undeclared x))) (λ v. selected (text_key z) v) in
+    let to : Option Data → Outcome = λ o. and_then (option_map_or Ok o (Err (undeclared x))) (λ v. selection (text_key z) v) in
     ap to (sym (ap (λ k. binding k e) same) ∙ n.here) ∙ ap (λ o. option_map_or Ok o (Err (no_key (text_key z)))) (m z h) ∙ sym (ap to (sym (ap (λ k. binding k f) same) ∙ n.there))
 
 has_near : (c : Bool) (es fs : Entries) (e f : Bindings) (y x z : List ℕ) → Near es fs e f → Members y es fs → bytes_eq (codes "variables") x ≡ c → (if c then bytes_eq y z else c) ≡ false
@@ -101,43 +101,43 @@ module _ (library : Library) (book : Book) (y : List ℕ) (es fs : Entries) (m :
     near (ident x) e f n h = ap (λ o. option_map_or Ok o (Err (undeclared x))) (n.others x h)
     near (select (ident x) z) e f n h = selected_near (bytes_eq (codes "variables") x) es fs e f y x z n m refl h
     near (has (ident x) z) e f n h = has_near (bytes_eq (codes "variables") x) es fs e f y x z n m refl h
-    near (select (literal v) z) e f n h = ap (λ r. and_then r (λ v. selected (text_key z) v)) (near (literal v) e f n h)
-    near (select (select a x) z) e f n h = ap (λ r. and_then r (λ v. selected (text_key z) v)) (near (select a x) e f n h)
-    near (select (has a x) z) e f n h = ap (λ r. and_then r (λ v. selected (text_key z) v)) (near (has a x) e f n h)
-    near (select (index a c) z) e f n h = ap (λ r. and_then r (λ v. selected (text_key z) v)) (near (index a c) e f n h)
-    near (select (unary op a) z) e f n h = ap (λ r. and_then r (λ v. selected (text_key z) v)) (near (unary op a) e f n h)
-    near (select (binary op a c) z) e f n h = ap (λ r. and_then r (λ v. selected (text_key z) v)) (near (binary op a c) e f n h)
-    near (select (choice a c d) z) e f n h = ap (λ r. and_then r (λ v. selected (text_key z) v)) (near (choice a c d) e f n h)
-    near (select (list_of ts) z) e f n h = ap (λ r. and_then r (λ v. selected (text_key z) v)) (near (list_of ts) e f n h)
-    near (select (map_with ps) z) e f n h = ap (λ r. and_then r (λ v. selected (text_key z) v)) (near (map_with ps) e f n h)
-    near (select (call target name args) z) e f n h = ap (λ r. and_then r (λ v. selected (text_key z) v)) (near (call target name args) e f n h)
-    near (select (qualified name args) z) e f n h = ap (λ r. and_then r (λ v. selected (text_key z) v)) (near (qualified name args) e f n h)
-    near (select (macro kind range x filter body) z) e f n h = ap (λ r. and_then r (λ v. selected (text_key z) v)) (near (macro kind range x filter body) e f n h)
+    near (select (literal v) z) e f n h = ap (λ r. and_then r (λ v. selection (text_key z) v)) (near (literal v) e f n h)
+    near (select (select a x) z) e f n h = ap (λ r. and_then r (λ v. selection (text_key z) v)) (near (select a x) e f n h)
+    near (select (has a x) z) e f n h = ap (λ r. and_then r (λ v. selection (text_key z) v)) (near (has a x) e f n h)
+    near (select (index a c) z) e f n h = ap (λ r. and_then r (λ v. selection (text_key z) v)) (near (index a c) e f n h)
+    near (select (unary op a) z) e f n h = ap (λ r. and_then r (λ v. selection (text_key z) v)) (near (unary op a) e f n h)
+    near (select (binary op a c) z) e f n h = ap (λ r. and_then r (λ v. selection (text_key z) v)) (near (binary op a c) e f n h)
+    near (select (conditional a c d) z) e f n h = ap (λ r. and_then r (λ v. selection (text_key z) v)) (near (conditional a c d) e f n h)
+    near (select (list_of ts) z) e f n h = ap (λ r. and_then r (λ v. selection (text_key z) v)) (near (list_of ts) e f n h)
+    near (select (map_with ps) z) e f n h = ap (λ r. and_then r (λ v. selection (text_key z) v)) (near (map_with ps) e f n h)
+    near (select (call target name args) z) e f n h = ap (λ r. and_then r (λ v. selection (text_key z) v)) (near (call target name args) e f n h)
+    near (select (qualified name args) z) e f n h = ap (λ r. and_then r (λ v. selection (text_key z) v)) (near (qualified name args) e f n h)
+    near (select (macro kind range x filter body) z) e f n h = ap (λ r. and_then r (λ v. selection (text_key z) v)) (near (macro kind range x filter body) e f n h)
     near (has (literal v) z) e f n h = ap (λ r. and_then r (λ v. has_member (text_key z) v)) (near (literal v) e f n h)
     near (has (select a x) z) e f n h = ap (λ r. and_then r (λ v. has_member (text_key z) v)) (near (select a x) e f n h)
     near (has (has a x) z) e f n h = ap (λ r. and_then r (λ v. has_member (text_key z) v)) (near (has a x) e f n h)
     near (has (index a c) z) e f n h = ap (λ r. and_then r (λ v. has_member (text_key z) v)) (near (index a c) e f n h)
     near (has (unary op a) z) e f n h = ap (λ r. and_then r (λ v. has_member (text_key z) v)) (near (unary op a) e f n h)
     near (has (binary op a c) z) e f n h = ap (λ r. and_then r (λ v. has_member (text_key z) v)) (near (binary op a c) e f n h)
-    near (has (choice a c d) z) e f n h = ap (λ r. and_then r (λ v. has_member (text_key z) v)) (near (choice a c d) e f n h)
+    near (has (conditional a c d) z) e f n h = ap (λ r. and_then r (λ v. has_member (text_key z) v)) (near (conditional a c d) e f n h)
     near (has (list_of ts) z) e f n h = ap (λ r. and_then r (λ v. has_member (text_key z) v)) (near (list_of ts) e f n h)
     near (has (map_with ps) z) e f n h = ap (λ r. and_then r (λ v. has_member (text_key z) v)) (near (map_with ps) e f n h)
     near (has (call target name args) z) e f n h = ap (λ r. and_then r (λ v. has_member (text_key z) v)) (near (call target name args) e f n h)
     near (has (qualified name args) z) e f n h = ap (λ r. and_then r (λ v. has_member (text_key z) v)) (near (qualified name args) e f n h)
     near (has (macro kind range x filter body) z) e f n h = ap (λ r. and_then r (λ v. has_member (text_key z) v)) (near (macro kind range x filter body) e f n h)
-    near (index a c) e f n h = λ i. strictly indexed (near a e f n (not_first (asks (codes "variables") y true a) _ h) i) (near c e f n (not_second (asks (codes "variables") y true a) _ h) i)
-    near (unary op a) e f n h = ap (λ r. and_then r (λ v. operated_on_one op v)) (near a e f n h)
+    near (index a c) e f n h = λ i. strictly index_outcome (near a e f n (not_first (asks (codes "variables") y true a) _ h) i) (near c e f n (not_second (asks (codes "variables") y true a) _ h) i)
+    near (unary op a) e f n h = ap (λ r. and_then r (λ v. unary_outcome op v)) (near a e f n h)
     near (binary op a c) e f n h = λ i. binary_of op (near a e f n (not_first (asks (codes "variables") y true a) _ h) i) (near c e f n (not_second (asks (codes "variables") y true a) _ h) i)
-    near (choice a c d) e f n h =
+    near (conditional a c d) e f n h =
         let k = not_second (asks (codes "variables") y true a) _ h in
-        λ i. chosen (truth (codes "?:") (near a e f n (not_first (asks (codes "variables") y true a) _ h) i)) (near c e f n (not_first (asks (codes "variables") y true c) _ k) i) (near d e f n (not_second (asks (codes "variables") y true c) _ k) i)
+        λ i. branch_outcome (truth (codes "?:") (near a e f n (not_first (asks (codes "variables") y true a) _ h) i)) (near c e f n (not_first (asks (codes "variables") y true c) _ k) i) (near d e f n (not_second (asks (codes "variables") y true c) _ k) i)
     near (list_of ts) e f n h = λ i. and_then (all_values (nears ts e f n h i)) (λ vs. Ok (list (items_of vs)))
     near (map_with ps) e f n h = map_near ps e f n h (map_of no_entries)
     near (call target name args) e f n h = λ i. by_form (library.form_of name (is_there target) (count_of args)) name
         (and_then (all_values (nears target e f n (not_first (asks_in_any (codes "variables") y true target) _ h) i))
-        (λ rs. and_then (all_values (nears args e f n (not_second (asks_in_any (codes "variables") y true target) _ h) i)) (λ vs. called library book name (receiver_of rs) vs)))
+        (λ rs. and_then (all_values (nears args e f n (not_second (asks_in_any (codes "variables") y true target) _ h) i)) (λ vs. call_outcome library book name (receiver_of rs) vs)))
     near (qualified name args) e f n h = λ i. by_form (library.form_of name false (count_of args)) name
-        (and_then (all_values (nears args e f n h i)) (λ vs. called library book name None vs))
+        (and_then (all_values (nears args e f n h i)) (λ vs. call_outcome library book name None vs))
     near (macro kind range x filter body) e f n h =
         let c = bytes_eq (codes "variables") x in
         let p = asks_in_any (codes "variables") y true filter in
@@ -152,7 +152,7 @@ module _ (library : Library) (book : Book) (y : List ℕ) (es fs : Entries) (m :
         (λ is. meanings_same library book filter ((x, d) ∷ e) ((x, d) ∷ f) (hidden es fs e f n x d is))
         (λ is hp hq. nears filter ((x, d) ∷ e) ((x, d) ∷ f) (near_under es fs e f n x d is) hp) in
         λ i. and_then (near range e f n (not_first (asks (codes "variables") y true range) _ h) i) (λ v. and_then (range_of (macro_name kind) v)
-        (λ items. macro_of kind (map (λ d. bodies d i) items) (map (λ d. gift_of kind d (filters d i) (bodies d i)) items)))
+        (λ items. macro_of kind (map (λ d. bodies d i) items) (map (λ d. iteration_result_of kind d (filters d i) (bodies d i)) items)))
 
     nears : (ts : Terms) (e f : Bindings) → Near es fs e f → asks_in_any (codes "variables") y true ts ≡ false → meanings library book ts e ≡ meanings library book ts f
     nears no_terms e f n h = refl

@@ -1,14 +1,14 @@
 -- What is admitted was judged.
-use Rattle.cel_book.specs.Book.{Book}
-use Rattle.kube_cel_policies.specs.Variables.{Variables}
+use Rattle.cel_patterns.specs.Book.{Book}
+use Rattle.kube_cel_vap.specs.Variables.{Variables}
 use Rattle.kube_manifests_policies.specs.Inputs.{without_namespace}
-use Rattle.kube_manifests_policies.specs.Judged.{policy_verdict, results_as, verdict_after, verdict_in}
+use Rattle.kube_manifests_policies.specs.Reports.{policy_verdict, results_as, verdict_after, verdict_in}
 use Rattle.kube_manifests_policies.specs.Laws.{IsJudged}
 use Rattle.kube_manifests_policies.specs.Policies.{PolicyData}
-use Rattle.kube_manifests_policies.specs.Scopes.{Reach, first_scope, reached, scope_for, variables_after}
+use Rattle.kube_manifests_policies.specs.Scopes.{Reach, first_scope, outcome_or_reason, scope_for, variables_after}
 use Rattle.kube_manifests_policies.specs.Verdicts.{Labelled, after_conditions, any_is}
-use Rattle.kube_manifests_policies.specs.declared.judged.Subject.TheVariants.{Annotation, Condition, Validation}
-use Rattle.kube_manifests_policies.specs.declared.verdict.Mark.TheVariants as mark
+use Rattle.kube_manifests_policies.specs.declared.reports.Subject.TheVariants.{Annotation, Condition, Validation}
+use Rattle.kube_manifests_policies.specs.declared.verdict.Problem.TheVariants as problem
 use Rattle.kube_manifests_policies.specs.declared.verdict.PolicyDecision.{PolicyDecision}
 use Rattle.kube_manifests_policies.specs.declared.verdict.PolicyDecision.TheVariants.{Admitted, Denied, Skipped, NotJudged}
 use Rattle.std.proofs.Common.{◌≡◌, List, Bool, true, false, ◌||◌, ◌&&◌, not, if◌then◌else◌, Option, Some, None, refl, sym, ap, ◌∙◌, true≢false}
@@ -56,25 +56,25 @@ all_judged false false true n h = no_pass (ap is_admitted h)
 all_judged false false false true h = no_pass (ap is_admitted h)
 all_judged false false false false h = (refl, refl, refl)
 
-judged_in : (r : Reach) (missing : List Labelled) (p : PolicyData) (rs : List Labelled) → any_is mark.NotGiven rs ≡ false → (verdict_in r missing p rs).decision ≡ Admitted
+judged_in : (r : Reach) (missing : List Labelled) (p : PolicyData) (rs : List Labelled) → any_is problem.NotGiven rs ≡ false → (verdict_in r missing p rs).decision ≡ Admitted
     → IsJudged (verdict_in r missing p rs)
 unfolding verdict_in
 judged_in r missing p rs c h =
     let vs = results_as Validation r p.validations in
     let ws = results_as Annotation r p.annotations in
-    let k = all_judged (any_is mark.False vs) (not p.ignores && (any_is mark.Error vs || any_is mark.Error ws)) (any_is mark.NotGiven vs) (any_is mark.NotGiven ws) h in
+    let k = all_judged (any_is problem.False vs) (not p.ignores && (any_is problem.Error vs || any_is problem.Error ws)) (any_is problem.NotGiven vs) (any_is problem.NotGiven ws) h in
     record { conditions = c; validations = k.1; annotations = k.2; none_false = k.0 }
 
 judged_after : (b : Book) (v : Variables) (p : PolicyData) (rs : List Labelled) (o : Option PolicyDecision) → after_conditions p.ignores rs ≡ o
     → (verdict_after b v p rs o).decision ≡ Admitted → IsJudged (verdict_after b v p rs o)
 unfolding lets_pass is_admitted
 judged_after b v p rs (Some d) q h =
-    no_pass (sym (by_conditions (any_is mark.False rs) (any_is mark.NotGiven rs) (any_is mark.Error rs) p.ignores) ∙ ap lets_pass q ∙ ap is_admitted h)
+    no_pass (sym (by_conditions (any_is problem.False rs) (any_is problem.NotGiven rs) (any_is problem.Error rs) p.ignores) ∙ ap lets_pass q ∙ ap is_admitted h)
 judged_after b v p rs None q h =
     let s = variables_after b (scope_for v p.variables) p.variables in
-    judged_in (reached b s) s.missing p rs (none_missing (any_is mark.False rs) (any_is mark.NotGiven rs) (any_is mark.Error rs) p.ignores q) h
+    judged_in (outcome_or_reason b s) s.missing p rs (none_missing (any_is problem.False rs) (any_is problem.NotGiven rs) (any_is problem.Error rs) p.ignores q) h
 
 pub all_was_judged : (b : Book) (v : Variables) (p : PolicyData) → (policy_verdict b v p).decision ≡ Admitted → IsJudged (policy_verdict b v p)
 unfolding policy_verdict
 all_was_judged b v p h =
-    let rs = results_as Condition (reached b (first_scope (without_namespace v))) p.conditions in judged_after b v p rs (after_conditions p.ignores rs) refl h
+    let rs = results_as Condition (outcome_or_reason b (first_scope (without_namespace v))) p.conditions in judged_after b v p rs (after_conditions p.ignores rs) refl h

@@ -1,24 +1,24 @@
 -- Variables that don't ask for each other, in either order.
-use Rattle.cel_book.specs.Book.{Book}
-use Rattle.cel_meaning.specs.Bindings.{binding}
-use Rattle.cel_meaning.specs.Members.{new_entry, put_in}
-use Rattle.cel_meaning.specs.Outcome.{Outcome}
+use Rattle.cel_patterns.specs.Book.{Book}
+use Rattle.cel_semantics.specs.Bindings.{binding}
+use Rattle.cel_semantics.specs.Members.{new_entry, put_in}
+use Rattle.cel_semantics.specs.Outcome.{Outcome}
 use Rattle.cel_syntax.specs.Reading.{tree_of}
-use Rattle.cel_syntax_tree.specs.Term.{Term}
+use Rattle.cel_syntax_ast.specs.Term.{Term}
 use Rattle.cel_value.specs.Data.{Data, Entries, map_of, text, text_key}
 use Rattle.cel_value.specs.Faults.{duplicate_key, no_key}
 use Rattle.cel_value.specs.Find.{find}
 use Rattle.cel_value.specs.Keys.{key_order, put}
 use Rattle.cel_value.specs.Texts.{fault_text}
-use Rattle.kube_cel_policies.specs.Expressions.{unread_text, ◌>>=◌}
-use Rattle.kube_cel_policies.specs.Results.{outcome_in, policy_library}
+use Rattle.kube_cel_vap.specs.Expressions.{unread_text, ◌>>=◌}
+use Rattle.kube_cel_vap.specs.Results.{outcome_in, policy_library}
 use Rattle.kube_manifests_policies.proofs.Near.{Members, Near, near}
 use Rattle.kube_manifests_policies.specs.Inputs.{first_missing}
 use Rattle.kube_manifests_policies.specs.Laws.{HasVariables, IsApartFrom, SameVariables}
 use Rattle.kube_manifests_policies.specs.Policies.{ItemData}
-use Rattle.kube_manifests_policies.specs.Scopes.{Reach, ScopeData, evaluated, fault_told, first_stop, reached, reached_unless, stopped_by, stops, tree_or, variable_step, why_not, with_stored, with_values, with_variable, without_value}
+use Rattle.kube_manifests_policies.specs.Scopes.{Reach, ScopeData, evaluation, fault_report, first_stop, outcome_or_reason, outcome_unless, stopped_by, stops, tree_or, variable_step, why_not, with_stored, with_values, with_variable, without_value}
 use Rattle.kube_manifests_policies.specs.Uses.{asks}
-use Rattle.kube_manifests_policies.specs.Verdicts.{Labelled, ToldData, erred, with_told}
+use Rattle.kube_manifests_policies.specs.Verdicts.{Labelled, ItemReportData, erred, with_report}
 use Rattle.kube_schema_values.proofs.Found.{find-put, find-put_other}
 use Rattle.std.proofs.Common.{◌≡◌, ℕ, List, [], ◌∷◌, ◌++◌, Bool, true, false, Option, Some, None, Result, Ok, Err, codes, if◌then◌else◌, refl, sym, ap, ◌∙◌, subst, true≢false, inl, inr, append_assoc}
 use Rattle.std.proofs.lemmas.Bool.{false_from_ne_true}
@@ -55,46 +55,46 @@ two_puts false false z x y v w es h p q =
 
 -- ---- what a variable does to a scope
 
-abbrev effect_of : Outcome → Option Data → Result Data ToldData
-effect_of (Err f) o = Err (fault_told (fault_text f))
+abbrev effect_of : Outcome → Option Data → Result Data ItemReportData
+effect_of (Err f) o = Err (fault_report (fault_text f))
 effect_of (Ok v) None = Ok v
-effect_of (Ok v) (Some old) = Err (fault_told (fault_text duplicate_key))
+effect_of (Ok v) (Some old) = Err (fault_report (fault_text duplicate_key))
 
-abbrev effect : Option Data → Result Outcome ToldData → Result Data ToldData
-effect o (Err told) = Err told
+abbrev effect : Option Data → Result Outcome ItemReportData → Result Data ItemReportData
+effect o (Err reported) = Err reported
 effect o (Ok r) = effect_of r o
 
-abbrev applied : ScopeData → Entries → List ℕ → Result Data ToldData → ScopeData
+abbrev applied : ScopeData → Entries → List ℕ → Result Data ItemReportData → ScopeData
 applied s es name (Ok v) = with_values s (map_of (put (text_key name) v es))
-applied s es name (Err told) = without_value s name told
+applied s es name (Err reported) = without_value s name reported
 
-abbrev after : Entries → List ℕ → Result Data ToldData → Entries
+abbrev after : Entries → List ℕ → Result Data ItemReportData → Entries
 after es name (Ok v) = put (text_key name) v es
-after es name (Err told) = es
+after es name (Err reported) = es
 
 stored_by : (s : ScopeData) (es : Entries) (name : List ℕ) (v : Data) (o : Option Data) → with_stored s name (new_entry es v o (text_key name)) ≡ applied s es name (effect_of (Ok v) o)
 stored_by s es name v None = refl
 stored_by s es name v (Some old) = refl
 
-is_applied : (s : ScopeData) (es : Entries) → s.values ≡ map_of es → (name : List ℕ) (r : Result Outcome ToldData)
+is_applied : (s : ScopeData) (es : Entries) → s.values ≡ map_of es → (name : List ℕ) (r : Result Outcome ItemReportData)
     → with_variable s name r ≡ applied s es name (effect (find (text_key name) es) r)
-is_applied s es h name (Err told) = refl
+is_applied s es h name (Err reported) = refl
 is_applied s es h name (Ok (Err f)) = refl
 is_applied s es h name (Ok (Ok v)) = ap (λ m. with_stored s name (put_in m (text name) v)) h ∙ stored_by s es name v (find (text_key name) es)
 
-values_after : (s : ScopeData) (es : Entries) → s.values ≡ map_of es → (name : List ℕ) (e : Result Data ToldData) → (applied s es name e).values ≡ map_of (after es name e)
+values_after : (s : ScopeData) (es : Entries) → s.values ≡ map_of es → (name : List ℕ) (e : Result Data ItemReportData) → (applied s es name e).values ≡ map_of (after es name e)
 values_after s es h name (Ok v) = refl
-values_after s es h name (Err told) = h
+values_after s es h name (Err reported) = h
 
-found_after : (es : Entries) (z name : List ℕ) (e : Result Data ToldData) → bytes_eq z name ≡ false → find (text_key z) (after es name e) ≡ find (text_key z) es
+found_after : (es : Entries) (z name : List ℕ) (e : Result Data ItemReportData) → bytes_eq z name ≡ false → find (text_key z) (after es name e) ≡ find (text_key z) es
 found_after es z name (Ok v) h = found_other z name v es h
-found_after es z name (Err told) h = refl
+found_after es z name (Err reported) h = refl
 
 -- ---- what doesn't ask for it
 
 stop_more : (rs : List Labelled) (r : Labelled) (t : Term) → stops t r ≡ false → first_stop (rs ++ r ∷ []) t ≡ first_stop rs t
 stop_more [] r t h = rw h refl
-stop_more (q ∷ qs) r t h = ap (λ o. if stops t q then Some q.told else o) (stop_more qs r t h)
+stop_more (q ∷ qs) r t h = ap (λ o. if stops t q then Some q.reported else o) (stop_more qs r t h)
 
 near_values : (s : ScopeData) (es : Entries) → s.values ≡ map_of es → binding (codes "variables") s.bindings ≡ Some s.values → (y : List ℕ) (v : Data)
     → Near (put (text_key y) v es) es ((codes "variables", map_of (put (text_key y) v es)) ∷ s.bindings) s.bindings
@@ -104,34 +104,34 @@ near_values s es h bound y v = record {
   others = λ x k. rw (turned (codes "variables") x k) refl;
 }
 
-reach_apart : (b : Book) (s : ScopeData) (es : Entries) → s.values ≡ map_of es → binding (codes "variables") s.bindings ≡ Some s.values → (y : List ℕ) (e : Result Data ToldData) (t : Term)
-    → ((k : Bool) → asks (codes "variables") y k t ≡ false) → reached b (applied s es y e) t ≡ reached b s t
-unfolding reached outcome_in
+reach_apart : (b : Book) (s : ScopeData) (es : Entries) → s.values ≡ map_of es → binding (codes "variables") s.bindings ≡ Some s.values → (y : List ℕ) (e : Result Data ItemReportData) (t : Term)
+    → ((k : Bool) → asks (codes "variables") y k t ≡ false) → outcome_or_reason b (applied s es y e) t ≡ outcome_or_reason b s t
+unfolding outcome_or_reason outcome_in
 reach_apart b s es h bound y (Ok v) t apart =
     let members : Members y (put (text_key y) v es) es = λ z k. found_other z y v es (turned y z k) in
-    ap (λ o. reached_unless (why_not s t) o)
+    ap (λ o. outcome_unless (why_not s t) o)
     (near policy_library b y (put (text_key y) v es) es members t ((codes "variables", map_of (put (text_key y) v es)) ∷ s.bindings) s.bindings (near_values s es h bound y v) (apart true))
-reach_apart b s es h bound y (Err told) t apart =
-    ap (λ o. reached_unless (stopped_by (first_missing s.absent t) o) (outcome_in b s.bindings t)) (stop_more s.missing (with_told y told) t (apart _))
+reach_apart b s es h bound y (Err reported) t apart =
+    ap (λ o. outcome_unless (stopped_by (first_missing s.absent t) o) (outcome_in b s.bindings t)) (stop_more s.missing (with_report y reported) t (apart _))
 
-evaluated_by : (r q : Reach) (told : ToldData) (o : Option Term) → ((t : Term) → o ≡ Some t → r t ≡ q t) → (tree_or told o >>= r) ≡ (tree_or told o >>= q)
-evaluated_by r q told None h = refl
-evaluated_by r q told (Some t) h = h t refl
+evaluated_by : (r q : Reach) (reported : ItemReportData) (o : Option Term) → ((t : Term) → o ≡ Some t → r t ≡ q t) → (tree_or reported o >>= r) ≡ (tree_or reported o >>= q)
+evaluated_by r q reported None h = refl
+evaluated_by r q reported (Some t) h = h t refl
 
 -- ---- both orders
 
-one_then : (b : Book) (s : ScopeData) (h : HasVariables s) (x y : ItemData) → IsApartFrom x y → bytes_eq y.label x.label ≡ false → (e : Result Data ToldData)
+one_then : (b : Book) (s : ScopeData) (h : HasVariables s) (x y : ItemData) → IsApartFrom x y → bytes_eq y.label x.label ≡ false → (e : Result Data ItemReportData)
     → variable_step b (applied s h.entries x.label e) y
-    ≡ applied (applied s h.entries x.label e) (after h.entries x.label e) y.label (effect (find (text_key y.label) h.entries) (evaluated (reached b s) y.expression))
+    ≡ applied (applied s h.entries x.label e) (after h.entries x.label e) y.label (effect (find (text_key y.label) h.entries) (evaluation (outcome_or_reason b s) y.expression))
 unfolding variable_step
 one_then b s h x y apart other e =
     let t = applied s h.entries x.label e in
     let es = after h.entries x.label e in
-    is_applied t es (values_after s h.entries h.values x.label e) y.label (evaluated (reached b t) y.expression)
+    is_applied t es (values_after s h.entries h.values x.label e) y.label (evaluation (outcome_or_reason b t) y.expression)
     ∙ (λ i. applied t es y.label (effect (found_after h.entries y.label x.label e other i)
-    (evaluated_by (reached b t) (reached b s) (erred (unread_text (record { text = y.expression; original = y.expression }))) (tree_of y.expression) (λ u is. reach_apart b s h.entries h.values h.bound x.label e u (λ k. apart u k is)) i)))
+    (evaluated_by (outcome_or_reason b t) (outcome_or_reason b s) (erred (unread_text (record { text = y.expression; original = y.expression }))) (tree_of y.expression) (λ u is. reach_apart b s h.entries h.values h.bound x.label e u (λ k. apart u k is)) i)))
 
-both_ways : (s : ScopeData) (es : Entries) (x y : List ℕ) (e f : Result Data ToldData) → bytes_eq x y ≡ false
+both_ways : (s : ScopeData) (es : Entries) (x y : List ℕ) (e f : Result Data ItemReportData) → bytes_eq x y ≡ false
     → SameVariables (applied (applied s es x e) (after es x e) y f) (applied (applied s es y f) (after es y f) x e)
 both_ways s es x y (Ok v) (Ok w) h = record {
   values = λ z. ap (λ o. option_map_or Ok o (Err (no_key (text_key z)))) (two_puts (bytes_eq z y) (bytes_eq z x) z x y v w es h refl refl);
@@ -141,7 +141,7 @@ both_ways s es x y (Ok v) (Err u) h = record { values = λ z. refl; missing = in
 both_ways s es x y (Err t) (Ok w) h = record { values = λ z. refl; missing = inl refl }
 both_ways s es x y (Err t) (Err u) h = record {
   values = λ z. refl;
-  missing = inr (s.missing, with_told x t, with_told y u, append_assoc s.missing (with_told x t ∷ []) (with_told y u ∷ []), append_assoc s.missing (with_told y u ∷ []) (with_told x t ∷ []));
+  missing = inr (s.missing, with_report x t, with_report y u, append_assoc s.missing (with_report x t ∷ []) (with_report y u ∷ []), append_assoc s.missing (with_report y u ∷ []) (with_report x t ∷ []));
 }
 
 pub either_order : (b : Book) (s : ScopeData) (x y : ItemData) → HasVariables s → IsApartFrom x y → IsApartFrom y x → bytes_eq x.label y.label ≡ false
@@ -149,10 +149,10 @@ pub either_order : (b : Book) (s : ScopeData) (x y : ItemData) → HasVariables 
 unfolding variable_step
 either_order b s x y h p q other =
     let es = h.entries in
-    let e = effect (find (text_key x.label) es) (evaluated (reached b s) x.expression) in
-    let f = effect (find (text_key y.label) es) (evaluated (reached b s) y.expression) in
-    let sx = is_applied s es h.values x.label (evaluated (reached b s) x.expression) in
-    let sy = is_applied s es h.values y.label (evaluated (reached b s) y.expression) in
+    let e = effect (find (text_key x.label) es) (evaluation (outcome_or_reason b s) x.expression) in
+    let f = effect (find (text_key y.label) es) (evaluation (outcome_or_reason b s) y.expression) in
+    let sx = is_applied s es h.values x.label (evaluation (outcome_or_reason b s) x.expression) in
+    let sy = is_applied s es h.values y.label (evaluation (outcome_or_reason b s) y.expression) in
     let xy = ap (λ t. variable_step b t y) sx ∙ one_then b s h x y p (turned x.label y.label other) e in
     let yx = ap (λ t. variable_step b t x) sy ∙ one_then b s h y x q other f in
     subst (λ t. SameVariables t (variable_step b (variable_step b s y) x)) (sym xy)

@@ -4,8 +4,8 @@ use Rattle.kube_manifests_policies.specs.declared.fault.FaultKind.{FaultKind}
 use Rattle.kube_manifests_policies.specs.declared.fault.FaultKind.TheVariants.{Missing, NotObject, NotList, NotString, NotBool, Unsupported, UnknownField, Repeated, NothingToCheck}
 use Rattle.kube_manifests_policies.specs.declared.fault.Found.{Found}
 use Rattle.kube_manifests_policies.specs.declared.fault.PolicyFault.{PolicyFault}
-use Rattle.kube_manifests_policies.specs.declared.place.Place.{Place}
-use Rattle.kube_manifests_policies.specs.declared.place.Place.TheVariants.{Field, Item, ItemField}
+use Rattle.kube_manifests_policies.specs.declared.location.Location.{Location}
+use Rattle.kube_manifests_policies.specs.declared.location.Location.TheVariants.{Field, Item, ItemField}
 use Rattle.std.specs.List.{flat_map}
 use Rattle.std.specs.Prelude.{ℕ, List, ◌++◌, ◌==◌, if◌then◌else◌, codes, decimal, encode_utf8, string_bytes}
 use Rattle.std.specs.Str.{chars}
@@ -15,12 +15,12 @@ pub record FaultData : Type 0 where
   pub kind : FaultKind
 
 -- a character of a name, in UTF-8: `~` and `/` have other meanings in a pointer
-abbrev pub escaped : ℕ → List ℕ
-escaped c = if c == 126 then codes "~0" else (if c == 47 then codes "~1" else encode_utf8 c)
+abbrev pub escaped_character : ℕ → List ℕ
+escaped_character c = if c == 126 then codes "~0" else (if c == 47 then codes "~1" else encode_utf8 c)
 
 -- a name as one step
 unfoldable pub token : List ℕ → List ℕ
-token name = flat_map escaped (chars name)
+token name = flat_map escaped_character (chars name)
 
 -- the field of an object that has this pointer
 abbrev pub field : List ℕ → List ℕ → List ℕ
@@ -50,7 +50,7 @@ fault_text f = codes "at \"" ++ (f.pointer ++ (codes "\": " ++ kind_text f.kind)
 
 -- ---- what the code's values stand for
 
-abbrev pub pointer_at : Place → List ℕ
+abbrev pub pointer_at : Location → List ℕ
 pointer_at (Field base name) = field base.now name.now
 pointer_at (Item base i) = nth base.now i
 pointer_at (ItemField base i name) = nth_field base.now i name.now
@@ -59,4 +59,4 @@ abbrev pub fault_view : PolicyFault → FaultData
 fault_view f = record { pointer = string_bytes f.pointer; kind = f.kind }
 
 abbrev pub fault_seen : Found → FaultData
-fault_seen f = record { pointer = pointer_at f.place; kind = f.kind }
+fault_seen f = record { pointer = pointer_at f.location; kind = f.kind }

@@ -1,10 +1,10 @@
 -- Trusted by the clauses of policies.
 -- What the expressions of a policy ask for (Kubernetes API reference, Validation of ValidatingAdmissionPolicySpec: the variables of
 -- `expression`), and what of it isn't given.
-use Rattle.cel_syntax_tree.specs.FreeNames.{is_free}
-use Rattle.cel_syntax_tree.specs.Term.{Term}
-use Rattle.kube_cel_admission.specs.Requests.{request_view}
-use Rattle.kube_cel_policies.specs.Variables.{Variables}
+use Rattle.cel_syntax_ast.specs.FreeNames.{is_free}
+use Rattle.cel_syntax_ast.specs.Term.{Term}
+use Rattle.kube_cel_vap_types.specs.Requests.{request_view}
+use Rattle.kube_cel_vap.specs.Variables.{Variables}
 use Rattle.kube_manifests_policies.specs.Uses.{asks}
 use Rattle.kube_manifests_policies.specs.declared.inputs.Input.{Input}
 use Rattle.kube_manifests_policies.specs.declared.inputs.Input.TheVariants.{Object, OldObject, Request, Params, NamespaceObject, Authorizer, SubResource, RequestKind, RequestResource, RequestSubResource, Options}

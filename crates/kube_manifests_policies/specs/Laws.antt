@@ -1,16 +1,16 @@
 -- Trusted by laws alone.
 -- Policies of validations alone, and verdicts where all was judged.
-use Rattle.cel_meaning.specs.Bindings.{binding}
-use Rattle.cel_meaning.specs.Members.{selected}
+use Rattle.cel_semantics.specs.Bindings.{binding}
+use Rattle.cel_semantics.specs.Members.{selection}
 use Rattle.cel_syntax.specs.Reading.{tree_of}
-use Rattle.cel_syntax_tree.specs.Term.{Term}
+use Rattle.cel_syntax_ast.specs.Term.{Term}
 use Rattle.cel_value.specs.Data.{Entries, map_of, text_key}
-use Rattle.kube_cel_admission.specs.Validations.{ExpressionData, ResultData}
+use Rattle.kube_cel_vap_types.specs.Validations.{ExpressionData, ResultData}
 use Rattle.kube_manifests_policies.specs.Policies.{ItemData, PolicyData}
 use Rattle.kube_manifests_policies.specs.Scopes.{ScopeData, why_not}
 use Rattle.kube_manifests_policies.specs.Uses.{asks}
-use Rattle.kube_manifests_policies.specs.Verdicts.{Labelled, ToldData, VerdictData, any_is, holds, told_text}
-use Rattle.kube_manifests_policies.specs.declared.verdict.Mark.TheVariants as mark
+use Rattle.kube_manifests_policies.specs.Verdicts.{Labelled, ItemReportData, VerdictData, any_is, holds, report_text}
+use Rattle.kube_manifests_policies.specs.declared.verdict.Problem.TheVariants as problem
 use Rattle.std.specs.Prelude.{◌≡◌, ◌⊎◌, ℕ, List, [], ◌∷◌, ◌++◌, Bool, false, Option, Some, None, codes, is_none}
 
 -- the policy that has these validations and nothing else
@@ -26,20 +26,20 @@ pub record IsJudgedIn (s : ScopeData) (x : ItemData) : Type 0 where
   pub tree : (t : Term) → tree_of x.expression ≡ Some t → why_not s t ≡ None
   pub message : (m : List ℕ) (t : Term) → x.message_expression ≡ Some m → tree_of m ≡ Some t → why_not s t ≡ None
 
-abbrev pub message_told : ToldData → Option (List ℕ)
-message_told holds = None
-message_told told = Some (told_text told)
+abbrev pub message_report : ItemReportData → Option (List ℕ)
+message_report holds = None
+message_report reported = Some (report_text reported)
 
--- what is told of a validation, as the result of an expression
+-- what is reported of a validation, as the result of an expression
 abbrev pub vap_result : Labelled → ResultData
-vap_result r = record { expression = r.label; passed = is_none (message_told r.told); message = message_told r.told }
+vap_result r = record { expression = r.label; passed = is_none (message_report r.reported); message = message_report r.reported }
 
 -- nothing asks for what isn't given, and no validation is false
 pub record IsJudged (v : VerdictData) : Type 0 where
-  pub conditions : any_is mark.NotGiven v.conditions ≡ false
-  pub validations : any_is mark.NotGiven v.validations ≡ false
-  pub annotations : any_is mark.NotGiven v.annotations ≡ false
-  pub none_false : any_is mark.False v.validations ≡ false
+  pub conditions : any_is problem.NotGiven v.conditions ≡ false
+  pub validations : any_is problem.NotGiven v.validations ≡ false
+  pub annotations : any_is problem.NotGiven v.annotations ≡ false
+  pub none_false : any_is problem.False v.validations ≡ false
 
 -- ---- variables that don't ask for each other
 
@@ -59,5 +59,5 @@ AreTurned rs qs = (before : List Labelled) × (p : Labelled) × (q : Labelled) �
 
 -- each variable has the same value, or none; those without one stand in the same order, but for the last two
 pub record SameVariables (s t : ScopeData) : Type 0 where
-  pub values : (name : List ℕ) → selected (text_key name) s.values ≡ selected (text_key name) t.values
+  pub values : (name : List ℕ) → selection (text_key name) s.values ≡ selection (text_key name) t.values
   pub missing : (s.missing ≡ t.missing) ⊎ AreTurned s.missing t.missing

@@ -1,6 +1,6 @@
 pub mod Faults
 pub mod Inputs
-pub mod Judged
+pub mod Reports
 pub mod Laws
 pub mod Policies
 pub mod Reviews

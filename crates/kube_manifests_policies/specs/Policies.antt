@@ -1,6 +1,6 @@
 -- Trusted by the clauses of policies.
 -- What the document of a policy says (Kubernetes API reference, ValidatingAdmissionPolicy of `admissionregistration.k8s.io`), or its first fault.
-use Rattle.kube_cel_policies.specs.Expressions.{◌>>=◌}
+use Rattle.kube_cel_vap.specs.Expressions.{◌>>=◌}
 use Rattle.kube_manifests_policies.specs.Faults.{FaultData, fault_seen, field, nth, nth_field}
 use Rattle.kube_manifests_policies.specs.declared.fault.FaultKind.TheVariants.{Missing, NotObject, NotList, NotString, Unsupported, UnknownField, Repeated, NothingToCheck}
 use Rattle.kube_manifests_policies.specs.declared.fault.Found.{Found}
@@ -44,7 +44,7 @@ base Variables = codes "/spec/variables"
 base Validations = codes "/spec/validations"
 base AuditAnnotations = codes "/spec/auditAnnotations"
 
--- the field that an entry goes by
+-- the field that names an entry
 abbrev pub label_key : PolicyList → List ℕ
 label_key MatchConditions = codes "name"
 label_key Variables = codes "name"
@@ -74,12 +74,12 @@ text_of p (Some null) = Ok None
 text_of p (Some (string s)) = Ok (Some s)
 text_of p (Some _) = Err (record { pointer = p; kind = NotString })
 
-abbrev pub required : {A : Type 0} → List ℕ → Option A → Result A FaultData
-required p (Some a) = Ok a
-required p None = Err (record { pointer = p; kind = Missing })
+abbrev pub or_missing : {A : Type 0} → List ℕ → Option A → Result A FaultData
+or_missing p (Some a) = Ok a
+or_missing p None = Err (record { pointer = p; kind = Missing })
 
 abbrev pub required_text : List ℕ → Option Data → Result (List ℕ) FaultData
-required_text p o = text_of p o >>= required p
+required_text p o = text_of p o >>= or_missing p
 
 abbrev pub object_of : List ℕ → Option Data → Result Data FaultData
 object_of p None = Err (record { pointer = p; kind = Missing })
@@ -112,7 +112,7 @@ entry_of l i d = do
   message_expression ← entry_text l i d (codes "messageExpression")
   Ok (record { label = label; expression = expression; message = message; message_expression = message_expression })
 
--- an entry, unless one before it goes by its name
+-- an entry, unless one before it has its name
 abbrev pub unless_repeated : PolicyList → List ItemData → ℕ → ItemData → Result ItemData FaultData
 unless_repeated l done i x = if is_unique l && list_any (λ y. bytes_eq x.label y.label) done
     then Err (record { pointer = nth_field (base l) i (label_key l); kind = Repeated }) else Ok x
@@ -230,6 +230,6 @@ policy_view p = record {
 }
 
 -- what was read, or the fault
-abbrev pub read : {A B : Type 0} → (A → B) → Result A Found → Result B FaultData
-read f (Ok a) = Ok (f a)
-read f (Err e) = Err (fault_seen e)
+abbrev pub reading_view : {A B : Type 0} → (A → B) → Result A Found → Result B FaultData
+reading_view f (Ok a) = Ok (f a)
+reading_view f (Err e) = Err (fault_seen e)

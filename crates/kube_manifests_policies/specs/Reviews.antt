@@ -1,9 +1,9 @@
 -- Trusted by the clauses of policies.
--- What an AdmissionReview tells of a request (Kubernetes API reference, AdmissionReview and AdmissionRequest of `admission.k8s.io`), or its first
+-- What an AdmissionReview says of a request (Kubernetes API reference, AdmissionReview and AdmissionRequest of `admission.k8s.io`), or its first
 -- fault.
-use Rattle.kube_cel_admission.specs.Requests.{KindData, RequestData, ResourceData}
-use Rattle.kube_cel_policies.specs.Expressions.{◌>>=◌}
-use Rattle.kube_cel_policies.specs.Variables.{Variables}
+use Rattle.kube_cel_vap_types.specs.Requests.{KindData, RequestData, ResourceData}
+use Rattle.kube_cel_vap.specs.Expressions.{◌>>=◌}
+use Rattle.kube_cel_vap.specs.Variables.{Variables}
 use Rattle.kube_manifests_policies.specs.Faults.{FaultData, fault_view, field, nth}
 use Rattle.kube_manifests_policies.specs.Inputs.{inputs_view}
 use Rattle.kube_manifests_policies.specs.Policies.{object_of, required_one, required_text, text_of}
@@ -171,7 +171,7 @@ request_in d = do
   kind ← required_one (field [] (codes "kind")) review_kinds (get (codes "kind") d)
   object_of (field [] (codes "request")) (get (codes "request") d)
 
--- Of the two objects a review leaves out what isn't there: it is null. Of params and of the namespace it tells nothing.
+-- Of the two objects a review leaves out what isn't there: it is null. Of params and of the namespace it says nothing.
 abbrev pub inputs_from : Data → RequestData → Variables
 inputs_from d r = record {
   object = Some (value_or_null (get (codes "object") d));

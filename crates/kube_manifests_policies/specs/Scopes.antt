@@ -3,27 +3,27 @@
 -- composition), and what an expression comes to there.
 use Rattle.cel.specs.Program.{program_term}
 use Rattle.cel.specs.declared.program.Program.{Program}
-use Rattle.cel_book.specs.Book.{Book}
-use Rattle.cel_meaning.specs.Bindings.{Bindings, binding, bindings_of}
-use Rattle.cel_meaning.specs.Members.{put_in}
-use Rattle.cel_meaning.specs.Outcome.{Outcome, and_then, outcome_view}
+use Rattle.cel_patterns.specs.Book.{Book}
+use Rattle.cel_semantics.specs.Bindings.{Bindings, binding, bindings_of}
+use Rattle.cel_semantics.specs.Members.{put_in}
+use Rattle.cel_semantics.specs.Outcome.{Outcome, and_then, outcome_view}
 use Rattle.cel_syntax.specs.Reading.{tree_of}
-use Rattle.cel_syntax_tree.specs.Term.{Term}
+use Rattle.cel_syntax_ast.specs.Term.{Term}
 use Rattle.cel_value.specs.Data.{Data, map_of, no_entries, text}
 use Rattle.cel_value.specs.Texts.{fault_text}
 use Rattle.cel_value.specs.View.{view}
 use Rattle.cel_value.specs.declared.error.ExecutionError.{ExecutionError}
 use Rattle.cel_value.specs.declared.value.Value.{Value}
-use Rattle.kube_cel_policies.specs.Expressions.{unread_text, ◌>>=◌}
-use Rattle.kube_cel_policies.specs.Results.{outcome_in}
-use Rattle.kube_cel_policies.specs.Variables.{Variables, policy_bindings}
+use Rattle.kube_cel_vap.specs.Expressions.{unread_text, ◌>>=◌}
+use Rattle.kube_cel_vap.specs.Results.{outcome_in}
+use Rattle.kube_cel_vap.specs.Variables.{Variables, policy_bindings}
 use Rattle.kube_manifests_policies.specs.Inputs.{absent_in, first_missing}
 use Rattle.kube_manifests_policies.specs.Policies.{ItemData}
 use Rattle.kube_manifests_policies.specs.Uses.{asks}
-use Rattle.kube_manifests_policies.specs.Verdicts.{Labelled, ToldData, erred, not_given, result_view, told_view, with_told}
+use Rattle.kube_manifests_policies.specs.Verdicts.{Labelled, ItemReportData, erred, not_given, result_view, report_view, with_report}
 use Rattle.kube_manifests_policies.specs.declared.inputs.Input.{Input}
 use Rattle.kube_manifests_policies.specs.declared.scope.Scope.{Scope}
-use Rattle.kube_manifests_policies.specs.declared.verdict.Told.{Told}
+use Rattle.kube_manifests_policies.specs.declared.verdict.ItemReport.{ItemReport}
 use Rattle.std.specs.Prelude.{◌≡◌, ℕ, List, [], ◌∷◌, ◌++◌, map, Bool, true, false, if◌then◌else◌, Option, Some, None, Result, Ok, Err, codes}
 
 pub record ScopeData : Type 0 where
@@ -53,70 +53,70 @@ scope_for v xs = record (first_scope v) { bindings = with_no_values xs (policy_b
 
 -- ---- why an expression isn't evaluated
 
-abbrev pub is_not_given : ToldData → Bool
+abbrev pub is_not_given : ItemReportData → Bool
 is_not_given (not_given i) = true
 is_not_given _ = false
 
 -- What isn't given to a variable isn't given to an expression that asks for the variable. One that errs is an error where it is selected,
 -- which `&&`, `||` and `?:` may pass over, as any other; and in any case of an expression that asks for it otherwise.
 abbrev pub stops : Term → Labelled → Bool
-stops t r = asks (codes "variables") r.label (is_not_given r.told) t
+stops t r = asks (codes "variables") r.label (is_not_given r.reported) t
 
-abbrev pub first_stop : List Labelled → Term → Option ToldData
+abbrev pub first_stop : List Labelled → Term → Option ItemReportData
 first_stop [] t = None
-first_stop (r ∷ rs) t = if stops t r then Some r.told else first_stop rs t
+first_stop (r ∷ rs) t = if stops t r then Some r.reported else first_stop rs t
 
-abbrev pub stopped_by : Option Input → Option ToldData → Option ToldData
+abbrev pub stopped_by : Option Input → Option ItemReportData → Option ItemReportData
 stopped_by (Some i) o = Some (not_given i)
 stopped_by None o = o
 
-abbrev pub why_not : ScopeData → Term → Option ToldData
+abbrev pub why_not : ScopeData → Term → Option ItemReportData
 why_not s t = stopped_by (first_missing s.absent t) (first_stop s.missing t)
 
 -- ---- what an expression comes to
 
-abbrev pub reached_unless : Option ToldData → Outcome → Result Outcome ToldData
-reached_unless (Some told) o = Err told
-reached_unless None o = Ok o
+abbrev pub outcome_unless : Option ItemReportData → Outcome → Result Outcome ItemReportData
+outcome_unless (Some reported) o = Err reported
+outcome_unless None o = Ok o
 
 -- the outcome of an expression, or why it isn't evaluated
-unfoldable pub reached : Book → ScopeData → Term → Result Outcome ToldData
-reached b s t = reached_unless (why_not s t) (outcome_in b s.bindings t)
+unfoldable pub outcome_or_reason : Book → ScopeData → Term → Result Outcome ItemReportData
+outcome_or_reason b s t = outcome_unless (why_not s t) (outcome_in b s.bindings t)
 
-abbrev pub tree_or : ToldData → Option Term → Result Term ToldData
-tree_or told (Some t) = Ok t
-tree_or told None = Err told
+abbrev pub tree_or : ItemReportData → Option Term → Result Term ItemReportData
+tree_or reported (Some t) = Ok t
+tree_or reported None = Err reported
 
--- the tree of a text, or what is told of a text that derives none
-abbrev pub tree_told : List ℕ → Result Term ToldData
-tree_told s = tree_or (erred (unread_text (record { text = s; original = s }))) (tree_of s)
+-- the tree of a text, or what is reported of a text that derives none
+abbrev pub tree_report : List ℕ → Result Term ItemReportData
+tree_report s = tree_or (erred (unread_text (record { text = s; original = s }))) (tree_of s)
 
 -- how expressions are reached
 abbrev pub Reach : Type 0
-Reach = Term → Result Outcome ToldData
+Reach = Term → Result Outcome ItemReportData
 
-abbrev pub evaluated : Reach → List ℕ → Result Outcome ToldData
-evaluated r s = tree_told s >>= r
+abbrev pub evaluation : Reach → List ℕ → Result Outcome ItemReportData
+evaluation r s = tree_report s >>= r
 
-abbrev pub fault_told : List ℕ → ToldData
-fault_told m = erred (codes "evaluation error: " ++ m)
+abbrev pub fault_report : List ℕ → ItemReportData
+fault_report m = erred (codes "evaluation error: " ++ m)
 
 -- ---- variables
 
-abbrev pub without_value : ScopeData → List ℕ → ToldData → ScopeData
-without_value s name told = record s { missing = s.missing ++ with_told name told ∷ [] }
+abbrev pub without_value : ScopeData → List ℕ → ItemReportData → ScopeData
+without_value s name reported = record s { missing = s.missing ++ with_report name reported ∷ [] }
 
 abbrev pub with_stored : ScopeData → List ℕ → Outcome → ScopeData
 with_stored s name (Ok m) = with_values s m
-with_stored s name (Err f) = without_value s name (fault_told (fault_text f))
+with_stored s name (Err f) = without_value s name (fault_report (fault_text f))
 
-abbrev pub with_variable : ScopeData → List ℕ → Result Outcome ToldData → ScopeData
+abbrev pub with_variable : ScopeData → List ℕ → Result Outcome ItemReportData → ScopeData
 with_variable s name (Ok o) = with_stored s name (and_then o (λ v. put_in s.values (text name) v))
-with_variable s name (Err told) = without_value s name told
+with_variable s name (Err reported) = without_value s name reported
 
 -- one more variable, which sees those before it
 unfoldable pub variable_step : Book → ScopeData → ItemData → ScopeData
-variable_step b s x = with_variable s x.label (evaluated (reached b s) x.expression)
+variable_step b s x = with_variable s x.label (evaluation (outcome_or_reason b s) x.expression)
 
 abbrev pub variables_after : Book → ScopeData → List ItemData → ScopeData
 variables_after b s [] = s
@@ -134,10 +134,10 @@ pub record Alike (a b : ScopeData) : Type 0 where
   pub values : a.values ≡ b.values
   pub missing : a.missing ≡ b.missing
 
-abbrev pub reached_seen : Result (Result Value ExecutionError) Told → Result Outcome ToldData
-reached_seen (Ok r) = Ok (outcome_view r)
-reached_seen (Err told) = Err (told_view told)
+abbrev pub outcome_seen : Result (Result Value ExecutionError) ItemReport → Result Outcome ItemReportData
+outcome_seen (Ok r) = Ok (outcome_view r)
+outcome_seen (Err reported) = Err (report_view reported)
 
-abbrev pub tree_seen : Result Program Told → Result Term ToldData
+abbrev pub tree_seen : Result Program ItemReport → Result Term ItemReportData
 tree_seen (Ok p) = Ok (program_term p)
-tree_seen (Err told) = Err (told_view told)
+tree_seen (Err reported) = Err (report_view reported)

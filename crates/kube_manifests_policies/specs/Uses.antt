@@ -1,7 +1,7 @@
 -- Trusted by the clauses of policies.
 -- Which members of a name an expression asks for. A macro hides the name in its filter and its body, where it binds it (CEL language
 -- definition, "Macros").
-use Rattle.cel_syntax_tree.specs.Term.{Term, literal, ident, select, has, index, unary, binary, choice, list_of, map_with, call, qualified, macro, Terms, no_terms, term_and, Pairs, no_pairs, pair_and}
+use Rattle.cel_syntax_ast.specs.Term.{Term, literal, ident, select, has, index, unary, binary, conditional, list_of, map_with, call, qualified, macro, Terms, no_terms, term_and, Pairs, no_pairs, pair_and}
 use Rattle.std.specs.Prelude.{ℕ, List, Bool, false, not, ◌&&◌, ◌||◌, if◌then◌else◌}
 use Rattle.std.specs.Str.{bytes_eq}
 
@@ -19,7 +19,7 @@ abbrev mutual
   asks x y s (index a b) = asks x y s a || asks x y s b
   asks x y s (unary o a) = asks x y s a
   asks x y s (binary o a b) = asks x y s a || asks x y s b
-  asks x y s (choice a b c) = asks x y s a || (asks x y s b || asks x y s c)
+  asks x y s (conditional a b c) = asks x y s a || (asks x y s b || asks x y s c)
   asks x y s (list_of ts) = asks_in_any x y s ts
   asks x y s (map_with ps) = asks_in_pairs x y s ps
   asks x y s (call target z ts) = asks_in_any x y s target || asks_in_any x y s ts

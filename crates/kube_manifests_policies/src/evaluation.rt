@@ -1,23 +1,23 @@
 //! The evaluation of a policy.
-ghost use Rattle.cel_book.specs.Book.{Agrees};
-ghost use Rattle.cel_book.specs.Entries.{entries_of};
-ghost use Rattle.cel_book.specs.Settled.{Settles};
+ghost use Rattle.cel_patterns.specs.Book.{Extends};
+ghost use Rattle.cel_patterns.specs.Entries.{entries_of};
+ghost use Rattle.cel_patterns.specs.Extensions.{HoldsForExtensions};
 ghost use Rattle.kube_manifests_policies.specs.Inputs.{inputs_view};
-ghost use Rattle.kube_manifests_policies.specs.Judged.{IsVerdictOf, policy_verdict, verdict_in, verdict_of_conditions};
+ghost use Rattle.kube_manifests_policies.specs.Reports.{IsVerdictOf, policy_verdict, verdict_in, verdict_of_conditions};
 ghost use Rattle.kube_manifests_policies.specs.Policies.{policy_view};
-ghost use Rattle.kube_manifests_policies.specs.Scopes.{reached, scope_view};
+ghost use Rattle.kube_manifests_policies.specs.Scopes.{outcome_or_reason, scope_view};
 ghost use Rattle.kube_manifests_policies.specs.Verdicts.{result_view, verdict_view};
 ghost use Rattle.serde_json.specs.View.{view};
 ghost use Rattle.std.specs.Prelude.{◌≡◌, IfErr, IfOk, map};
 
 use crate::context::{condition_scope, policy_scope};
-use crate::fault::{PolicyFault, told};
+use crate::fault::{PolicyFault, reported};
 use crate::inputs::PolicyInputs;
-use crate::judged::{Subject, results_as};
 use crate::policy::{Policy, policy_of};
+use crate::reports::{Subject, results_as};
 use crate::scope::Scope;
 use crate::variables::with_variables;
-use crate::verdict::{PolicyDecision, PolicyResult, PolicyVerdict, after_conditions, decided};
+use crate::verdict::{PolicyDecision, PolicyResult, PolicyVerdict, after_conditions, decision_of};
 use cel::PatternBook;
 use kube_types_refused::Refused;
 use serde_json::Value;
@@ -41,7 +41,7 @@ fn verdict_of_conditions(
 }
 
 /// The verdict where the match conditions let a policy be evaluated, among its variables.
-#[tactic(auto, unfolding(crate::specs::Judged::verdict_in))]
+#[tactic(auto, unfolding(crate::specs::Reports::verdict_in))]
 fn verdict_in(
     alloc: Global,
     scope: Scope<'_>,
@@ -49,16 +49,16 @@ fn verdict_in(
     conditions: Vec<PolicyResult>,
     book: &mut PatternBook,
 ) -> Result<PolicyVerdict, Refused>
-    ensures keeps { Agrees (entries_of book.new) (entries_of book.old) }
-    ensures verdict { IfOk result (λ v. Settles (entries_of book.new) (verdict_view v)
-        (λ b. verdict_in (reached b (scope_view scope.entry)) (scope_view scope.entry).missing (policy_view policy.now) (map result_view conditions.items))) }
+    ensures keeps { Extends (entries_of book.new) (entries_of book.old) }
+    ensures verdict { IfOk result (λ v. HoldsForExtensions (entries_of book.new) (verdict_view v)
+        (λ b. verdict_in (outcome_or_reason b (scope_view scope.entry)) (scope_view scope.entry).missing (policy_view policy.now) (map result_view conditions.items))) }
     ensures memory { IfErr result (λ e. e ≡ Refused.Memory) }
 {
     let items = policy.validations.as_slice();
     let validations = results_as(alloc, Subject::Validation, items, &scope, book)?;
     let items = policy.annotations.as_slice();
     let annotations = results_as(alloc, Subject::Annotation, items, &scope, book)?;
-    let decision = decided(
+    let decision = decision_of(
         policy.ignores,
         validations.as_slice(),
         annotations.as_slice(),
@@ -79,7 +79,7 @@ fn policy_verdict(
     inputs: &PolicyInputs,
     book: &mut PatternBook,
 ) -> Result<PolicyVerdict, Refused>
-    ensures verdict { IfOk result (λ v. Settles (entries_of book.new) (verdict_view v)
+    ensures verdict { IfOk result (λ v. HoldsForExtensions (entries_of book.new) (verdict_view v)
         (λ b. policy_verdict b (inputs_view inputs.now) (policy_view policy.now))) }
     ensures memory { IfErr result (λ e. e ≡ Refused.Memory) }
 {
@@ -105,7 +105,7 @@ fn policy_verdict(
 /// selects it, which `&&`, `||` and `?:` may pass over as any other error. Then come validations and audit annotations. Neither
 /// `matchConstraints` nor a binding is looked at.
 ///
-/// An expression that asks for what isn't given, itself or by a variable, is not evaluated: it is told as [`Told::NotGiven`](crate::Told),
+/// An expression that asks for what isn't given, itself or by a variable, is not evaluated: it is reported as [`ItemReport::NotGiven`](crate::ItemReport),
 /// and the policy is never admitted then.
 ///
 /// Answers the first [`PolicyFault`] where the document is no such policy.
@@ -123,7 +123,7 @@ pub fn evaluate_policy(
 {
     let policy = match policy_of(alloc, policy)? {
         Ok(policy) => policy,
-        Err(found) => return Ok(Err(told(alloc, found)?)),
+        Err(found) => return Ok(Err(reported(alloc, found)?)),
     };
     let mut book = PatternBook::new(alloc);
     let verdict = policy_verdict(alloc, &policy, inputs, &mut book)?;

@@ -2,7 +2,7 @@
 ghost use Rattle.kube_manifests_policies.specs.Faults.{fault_seen, fault_text, fault_view, kind_text};
 ghost use Rattle.std.specs.Prelude.{◌≡◌, IfErr, IfOk, Some};
 
-use crate::place::{Place, pointer_of};
+use crate::location::{Location, pointer_of};
 use kube_types_refused::Refused;
 use std::alloc::{AllocError, Global};
 use std::fmt;
@@ -68,16 +68,16 @@ impl fmt::Display for PolicyFault {
 /// A fault that was found, before its pointer is written.
 #[derive(Clone, Copy, Drop)]
 pub(crate) struct Found<'v> {
-    pub(crate) place: Place<'v>,
+    pub(crate) location: Location<'v>,
     pub(crate) kind: FaultKind,
 }
 
 /// A fault with its pointer.
-pub(crate) fn told(alloc: Global, found: Found<'_>) -> Result<PolicyFault, AllocError>
+pub(crate) fn reported(alloc: Global, found: Found<'_>) -> Result<PolicyFault, AllocError>
     ensures { IfOk result (λ f. fault_view f ≡ fault_seen found.entry) }
 {
     Ok(PolicyFault {
-        pointer: pointer_of(alloc, found.place)?,
+        pointer: pointer_of(alloc, found.location)?,
         kind: found.kind,
     })
 }

@@ -1,13 +1,13 @@
 //! What a policy is evaluated over.
-ghost use Rattle.cel_syntax_tree.specs.Term.{term};
-ghost use Rattle.kube_cel_policies.specs.Variables.{no_variables};
+ghost use Rattle.cel_syntax_ast.specs.Term.{term};
+ghost use Rattle.kube_cel_vap.specs.Variables.{no_variables};
 ghost use Rattle.kube_manifests_policies.specs.Inputs.{absent_in, asks_for, first_asked, first_missing, input_name, inputs_view, member_of, never_given, unless};
 ghost use Rattle.serde_json.specs.View.{view as json_view};
 ghost use Rattle.std.specs.Prelude.{◌≡◌, ◌++◌, IfErr, IfOk, OnOk, option_map, Some};
 
 use crate::uses::asks;
 use cel::Expr;
-use kube_cel_admission::AdmissionRequest;
+use kube_cel_vap_types::AdmissionRequest;
 use kube_types_refused::Refused;
 use serde_json::Value;
 use std::alloc::{AllocError, Global};

@@ -1,5 +1,5 @@
 //! The lists of a policy and their entries, as JSON gives them.
-ghost use Rattle.kube_manifests_policies.specs.Policies.{base, entries_after, entry_of, entry_text, expression_key, is_unique, item_view, keyword, label_key, next_entry, read, required_entry_text, required_text, text_of};
+ghost use Rattle.kube_manifests_policies.specs.Policies.{base, entries_after, entry_of, entry_text, expression_key, is_unique, item_view, keyword, label_key, next_entry, reading_view, required_entry_text, required_text, text_of};
 ghost use Rattle.kube_manifests_policies.specs.Faults.{pointer_at};
 ghost use Rattle.serde_json.specs.Find.{get};
 ghost use Rattle.serde_json.specs.View.{items_view, view};
@@ -8,7 +8,7 @@ ghost use Rattle.std.specs.Prelude.{◌≡◌, [], IfErr, IfOk, length, map, opt
 ghost use Rattle.std.specs.Str.{bytes_eq};
 
 use crate::fault::{FaultKind, Found};
-use crate::place::Place;
+use crate::location::Location;
 use kube_types_refused::Refused;
 use serde_json::Value;
 use std::alloc::Global;
@@ -47,7 +47,7 @@ impl PolicyList {
         }
     }
 
-    /// The field that an entry goes by.
+    /// The field that names an entry.
     fn label_key(self) -> &'static str
         ensures { result.now ≡ label_key self }
     {
@@ -71,7 +71,7 @@ impl PolicyList {
         }
     }
 
-    /// Whether no two entries go by one name.
+    /// Whether no two entries have one name.
     fn is_unique(self) -> bool
         ensures { result ≡ is_unique self }
     {
@@ -98,15 +98,15 @@ pub(crate) struct Item<'v> {
 pub(crate) fn text_at<'v>(
     value: &'v Value,
     name: &'static str,
-    place: Place<'v>,
+    location: Location<'v>,
 ) -> Result<Option<&'v str>, Found<'v>>
-    ensures { read (option_map (λ s. s.now)) result ≡ text_of (pointer_at place.entry) (get name.now (view value.now)) }
+    ensures { reading_view (option_map (λ s. s.now)) result ≡ text_of (pointer_at location.entry) (get name.now (view value.now)) }
 {
     match value.get(name) {
         None | Some(Value::Null) => Ok(None),
         Some(Value::String(text)) => Ok(Some(text.as_str())),
         Some(_) => Err(Found {
-            place,
+            location,
             kind: FaultKind::NotString,
         }),
     }
@@ -116,14 +116,14 @@ pub(crate) fn text_at<'v>(
 pub(crate) fn required_text_at<'v>(
     value: &'v Value,
     name: &'static str,
-    place: Place<'v>,
+    location: Location<'v>,
 ) -> Result<&'v str, Found<'v>>
-    ensures { read (λ s. s.now) result ≡ required_text (pointer_at place.entry) (get name.now (view value.now)) }
+    ensures { reading_view (λ s. s.now) result ≡ required_text (pointer_at location.entry) (get name.now (view value.now)) }
 {
-    match text_at(value, name, place)? {
+    match text_at(value, name, location)? {
         Some(text) => Ok(text),
         None => Err(Found {
-            place,
+            location,
             kind: FaultKind::Missing,
         }),
     }
@@ -136,9 +136,10 @@ fn entry_text<'v>(
     value: &'v Value,
     name: &'static str,
 ) -> Result<Option<&'v str>, Found<'v>>
-    ensures { read (option_map (λ s. s.now)) result ≡ entry_text list index (view value.now) name.now }
+    ensures { reading_view (option_map (λ s. s.now)) result
+        ≡ entry_text list index (view value.now) name.now }
 {
-    text_at(value, name, Place::ItemField(list.base(), index, name))
+    text_at(value, name, Location::ItemField(list.base(), index, name))
 }
 
 /// A text that the entry with this number has to have.
@@ -148,15 +149,15 @@ fn required_entry_text<'v>(
     value: &'v Value,
     name: &'static str,
 ) -> Result<&'v str, Found<'v>>
-    ensures { read (λ s. s.now) result ≡ required_entry_text list index (view value.now) name.now }
+    ensures { reading_view (λ s. s.now) result ≡ required_entry_text list index (view value.now) name.now }
 {
-    required_text_at(value, name, Place::ItemField(list.base(), index, name))
+    required_text_at(value, name, Location::ItemField(list.base(), index, name))
 }
 
 /// What the entry with this number says.
 #[tactic(auto, unfolding(crate::specs::Policies::entry_of))]
 fn entry_of(list: PolicyList, index: usize, value: &Value) -> Result<Item<'_>, Found<'_>>
-    ensures { read item_view result ≡ entry_of list index (view value.now) }
+    ensures { reading_view item_view result ≡ entry_of list index (view value.now) }
 {
     let label = required_entry_text(list, index, value, list.label_key())?;
     let expression = required_entry_text(list, index, value, list.expression_key())?;
@@ -170,7 +171,7 @@ fn entry_of(list: PolicyList, index: usize, value: &Value) -> Result<Item<'_>, F
     })
 }
 
-/// Whether one of these entries goes by this name.
+/// Whether one of these entries has this name.
 fn is_named(items: &[Item<'_>], label: &str) -> bool
     ensures { result ≡ list_any (λ y. bytes_eq label.now y.label) (map item_view items.now) }
 {
@@ -189,19 +190,19 @@ fn next_entry<'v>(
     before: &[Item<'v>],
     value: &'v Value,
 ) -> Result<Item<'v>, Found<'v>>
-    ensures { read item_view result ≡ next_entry list (map item_view before.now) (length before.now) (view value.now) }
+    ensures { reading_view item_view result ≡ next_entry list (map item_view before.now) (length before.now) (view value.now) }
 {
     let index = before.len();
     if !value.is_object() {
         return Err(Found {
-            place: Place::Item(list.base(), index),
+            location: Location::Item(list.base(), index),
             kind: FaultKind::NotObject,
         });
     }
     let entry = entry_of(list, index, value)?;
     if list.is_unique() && is_named(before, entry.label) {
         return Err(Found {
-            place: Place::ItemField(list.base(), index, list.label_key()),
+            location: Location::ItemField(list.base(), index, list.label_key()),
             kind: FaultKind::Repeated,
         });
     }
@@ -214,7 +215,7 @@ pub(crate) fn entries_of<'v>(
     list: PolicyList,
     values: &'v [Value],
 ) -> Result<Result<Vec<Item<'v>>, Found<'v>>, Refused>
-    ensures entries { IfOk result (λ r. read (λ v. map item_view v.items) r ≡ entries_after list [] (items_view values.now)) }
+    ensures entries { IfOk result (λ r. reading_view (λ v. map item_view v.items) r ≡ entries_after list [] (items_view values.now)) }
     ensures memory { IfErr result (λ e. e ≡ Refused.Memory) }
 {
     let mut items = Vec::with_capacity(alloc, values.len())?;

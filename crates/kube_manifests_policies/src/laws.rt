@@ -1,8 +1,8 @@
 //! Laws of verdicts, each the contract of a call.
-ghost use Rattle.cel_book.specs.Book.{Book};
-ghost use Rattle.kube_cel_policies.specs.Results.{policy_results};
-ghost use Rattle.kube_cel_policies.specs.Variables.{Variables};
-ghost use Rattle.kube_manifests_policies.specs.Judged.{policy_verdict};
+ghost use Rattle.cel_patterns.specs.Book.{Book};
+ghost use Rattle.kube_cel_vap.specs.Results.{policy_results};
+ghost use Rattle.kube_cel_vap.specs.Variables.{Variables};
+ghost use Rattle.kube_manifests_policies.specs.Reports.{policy_verdict};
 ghost use Rattle.kube_manifests_policies.specs.Laws.{HasVariables, IsApartFrom, IsJudged, IsJudgedIn, SameVariables, expression_of, of_validations, vap_result};
 ghost use Rattle.kube_manifests_policies.specs.Policies.{ItemData, PolicyData};
 ghost use Rattle.kube_manifests_policies.specs.Scopes.{ScopeData, first_scope, variable_step};
@@ -13,7 +13,7 @@ ghost use Rattle.std.specs.Str.{bytes_eq};
 use crate::verdict::PolicyDecision;
 
 /// A policy of validations alone, none of which asks for what isn't given: they come to the results that `VapEvaluator::evaluate` of
-/// `kube_cel_policies` has for them.
+/// `kube_cel_vap` has for them.
 #[tactic(auto, using(crate::proofs::Vap::alike))]
 pub fn validations_alone()
     ensures { (b : Book) (v : Variables) (ignores : Bool) (xs : List ItemData) → AllByRecursion (IsJudgedIn (first_scope v)) xs

@@ -1,6 +1,6 @@
 //! The document of a policy.
 ghost use Rattle.kube_manifests_policies.specs.Faults.{pointer_at};
-ghost use Rattle.kube_manifests_policies.specs.Policies.{entries_of, failure_policies, ignores_in, item_view, kinds, object_of, one_of, policy_of, policy_view, read, spec_fields, spec_in, spec_of, unknown_field, unless_empty, versions};
+ghost use Rattle.kube_manifests_policies.specs.Policies.{entries_of, failure_policies, ignores_in, item_view, kinds, object_of, one_of, policy_of, policy_view, reading_view, spec_fields, spec_in, spec_of, unknown_field, unless_empty, versions};
 ghost use Rattle.serde_json.specs.Find.{get};
 ghost use Rattle.serde_json.specs.View.{view};
 ghost use Rattle.std.specs.List.{list_any};
@@ -9,7 +9,7 @@ ghost use Rattle.std.specs.Str.{bytes_eq};
 
 use crate::fault::{FaultKind, Found};
 use crate::item::{Item, PolicyList, entries_of, required_text_at, text_at};
-use crate::place::Place;
+use crate::location::Location;
 use kube_types_refused::Refused;
 use serde_json::Value;
 use std::alloc::Global;
@@ -61,13 +61,13 @@ fn is_spec_field(name: &str) -> bool
 pub(crate) fn object_at<'v>(
     value: &'v Value,
     name: &'static str,
-    place: Place<'v>,
+    location: Location<'v>,
 ) -> Result<&'v Value, Found<'v>>
-    ensures { read (λ v. view v.now) result ≡ object_of (pointer_at place.entry) (get name.now (view value.now)) }
+    ensures { reading_view (λ v. view v.now) result ≡ object_of (pointer_at location.entry) (get name.now (view value.now)) }
 {
     match value.get(name) {
         None | Some(Value::Null) => Err(Found {
-            place,
+            location,
             kind: FaultKind::Missing,
         }),
         Some(found) => {
@@ -75,7 +75,7 @@ pub(crate) fn object_at<'v>(
                 return Ok(found);
             }
             Err(Found {
-                place,
+                location,
                 kind: FaultKind::NotObject,
             })
         }
@@ -100,27 +100,27 @@ fn unknown_field(spec: &Value) -> Option<&str>
 /// The `spec` of a document that is a policy.
 #[tactic(auto, unfolding(crate::specs::Policies::spec_in))]
 fn spec_in(document: &Value) -> Result<&Value, Found<'_>>
-    ensures { read (λ v. view v.now) result ≡ spec_in (view document.now) }
+    ensures { reading_view (λ v. view v.now) result ≡ spec_in (view document.now) }
 {
-    let place = Place::Field("", "apiVersion");
-    if !is_version(required_text_at(document, "apiVersion", place)?) {
+    let location = Location::Field("", "apiVersion");
+    if !is_version(required_text_at(document, "apiVersion", location)?) {
         return Err(Found {
-            place,
+            location,
             kind: FaultKind::Unsupported,
         });
     }
-    let place = Place::Field("", "kind");
-    if !is_kind(required_text_at(document, "kind", place)?) {
+    let location = Location::Field("", "kind");
+    if !is_kind(required_text_at(document, "kind", location)?) {
         return Err(Found {
-            place,
+            location,
             kind: FaultKind::Unsupported,
         });
     }
-    let spec = object_at(document, "spec", Place::Field("", "spec"))?;
+    let spec = object_at(document, "spec", Location::Field("", "spec"))?;
     match unknown_field(spec) {
         None => Ok(spec),
         Some(name) => Err(Found {
-            place: Place::Field("/spec", name),
+            location: Location::Field("/spec", name),
             kind: FaultKind::UnknownField,
         }),
     }
@@ -128,15 +128,15 @@ fn spec_in(document: &Value) -> Result<&Value, Found<'_>>
 
 /// Whether failurePolicy is `Ignore`.
 fn ignores_in(spec: &Value) -> Result<bool, Found<'_>>
-    ensures { read (λ b. b) result ≡ ignores_in (view spec.now) }
+    ensures { reading_view (λ b. b) result ≡ ignores_in (view spec.now) }
 {
-    let place = Place::Field("/spec", "failurePolicy");
-    let Some(text) = text_at(spec, "failurePolicy", place)? else {
+    let location = Location::Field("/spec", "failurePolicy");
+    let Some(text) = text_at(spec, "failurePolicy", location)? else {
         return Ok(false);
     };
     if !is_failure_policy(text) {
         return Err(Found {
-            place,
+            location,
             kind: FaultKind::Unsupported,
         });
     }
@@ -149,14 +149,14 @@ fn list_of<'v>(
     list: PolicyList,
     spec: &'v Value,
 ) -> Result<Result<Vec<Item<'v>>, Found<'v>>, Refused>
-    ensures entries { IfOk result (λ r. read (λ v. map item_view v.items) r ≡ entries_of list (view spec.now)) }
+    ensures entries { IfOk result (λ r. reading_view (λ v. map item_view v.items) r ≡ entries_of list (view spec.now)) }
     ensures memory { IfErr result (λ e. e ≡ Refused.Memory) }
 {
     match spec.get(list.keyword()) {
         None | Some(Value::Null) => Ok(Ok(Vec::new(alloc))),
         Some(Value::Array(values)) => entries_of(alloc, list, values.as_slice()),
         Some(_) => Ok(Err(Found {
-            place: Place::Field("/spec", list.keyword()),
+            location: Location::Field("/spec", list.keyword()),
             kind: FaultKind::NotList,
         })),
     }
@@ -164,11 +164,11 @@ fn list_of<'v>(
 
 /// A policy, unless it checks nothing.
 fn unless_empty(policy: Policy<'_>) -> Result<Policy<'_>, Found<'_>>
-    ensures { read policy_view result ≡ unless_empty (policy_view policy.entry) }
+    ensures { reading_view policy_view result ≡ unless_empty (policy_view policy.entry) }
 {
     if policy.validations.is_empty() && policy.annotations.is_empty() {
         return Err(Found {
-            place: Place::Field("", "spec"),
+            location: Location::Field("", "spec"),
             kind: FaultKind::NothingToCheck,
         });
     }
@@ -178,7 +178,7 @@ fn unless_empty(policy: Policy<'_>) -> Result<Policy<'_>, Found<'_>>
 /// What a `spec` says.
 #[tactic(auto, unfolding(crate::specs::Policies::spec_of))]
 fn spec_of(alloc: Global, spec: &Value) -> Result<Result<Policy<'_>, Found<'_>>, Refused>
-    ensures policy { IfOk result (λ r. read policy_view r ≡ spec_of (view spec.now)) }
+    ensures policy { IfOk result (λ r. reading_view policy_view r ≡ spec_of (view spec.now)) }
     ensures memory { IfErr result (λ e. e ≡ Refused.Memory) }
 {
     let ignores = match ignores_in(spec) {
@@ -216,7 +216,7 @@ pub(crate) fn policy_of(
     alloc: Global,
     document: &Value,
 ) -> Result<Result<Policy<'_>, Found<'_>>, Refused>
-    ensures policy { IfOk result (λ r. read policy_view r ≡ policy_of (view document.now)) }
+    ensures policy { IfOk result (λ r. reading_view policy_view r ≡ policy_of (view document.now)) }
     ensures memory { IfErr result (λ e. e ≡ Refused.Memory) }
 {
     match spec_in(document) {

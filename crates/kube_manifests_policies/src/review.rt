@@ -1,8 +1,8 @@
 //! The inputs that an AdmissionReview carries.
-ghost use Rattle.kube_cel_admission.specs.Requests.{kind_view, request_view, resource_view};
+ghost use Rattle.kube_cel_vap_types.specs.Requests.{kind_view, request_view, resource_view};
 ghost use Rattle.kube_manifests_policies.specs.Faults.{pointer_at};
 ghost use Rattle.kube_manifests_policies.specs.Inputs.{inputs_view};
-ghost use Rattle.kube_manifests_policies.specs.Policies.{read};
+ghost use Rattle.kube_manifests_policies.specs.Policies.{reading_view};
 ghost use Rattle.kube_manifests_policies.specs.Reviews.{bool_of, inputs_from, inputs_in, inputs_seen, items_of, kind_from, kind_in, object_in, parts_of, parts_view, request_from, request_in, request_of, request_with, resource_from, review_kinds, review_of, review_versions, required_text_in, resource_in, served_of, served_view, text_in, texts_after, user_in, user_of, user_view, value_or_null};
 ghost use Rattle.serde_json.specs.Find.{get};
 ghost use Rattle.serde_json.specs.View.{items_view, view};
@@ -10,12 +10,12 @@ ghost use Rattle.std.specs.List.{list_any};
 ghost use Rattle.std.specs.Prelude.{◌≡◌, [], IfErr, IfOk, map, string_bytes};
 ghost use Rattle.std.specs.Str.{bytes_eq};
 
-use crate::fault::{FaultKind, Found, PolicyFault, told};
+use crate::fault::{FaultKind, Found, PolicyFault, reported};
 use crate::inputs::PolicyInputs;
 use crate::item::{required_text_at, text_at};
-use crate::place::Place;
+use crate::location::Location;
 use crate::policy::object_at;
-use kube_cel_admission::{AdmissionRequest, GroupVersionKind, GroupVersionResource};
+use kube_cel_vap_types::{AdmissionRequest, GroupVersionKind, GroupVersionResource};
 use kube_types_refused::Refused;
 use serde_json::Value;
 use std::alloc::{AllocError, Global};
@@ -66,9 +66,9 @@ fn text_in<'v>(
     value: &'v Value,
     name: &'static str,
 ) -> Result<&'v str, Found<'v>>
-    ensures { read (λ s. s.now) result ≡ text_in base.now (view value.now) name.now }
+    ensures { reading_view (λ s. s.now) result ≡ text_in base.now (view value.now) name.now }
 {
-    match text_at(value, name, Place::Field(base, name))? {
+    match text_at(value, name, Location::Field(base, name))? {
         Some(text) => Ok(text),
         None => Ok(""),
     }
@@ -80,9 +80,9 @@ fn required_text_in<'v>(
     value: &'v Value,
     name: &'static str,
 ) -> Result<&'v str, Found<'v>>
-    ensures { read (λ s. s.now) result ≡ required_text_in base.now (view value.now) name.now }
+    ensures { reading_view (λ s. s.now) result ≡ required_text_in base.now (view value.now) name.now }
 {
-    required_text_at(value, name, Place::Field(base, name))
+    required_text_at(value, name, Location::Field(base, name))
 }
 
 /// An object of the object at this pointer.
@@ -91,20 +91,25 @@ fn object_in<'v>(
     value: &'v Value,
     name: &'static str,
 ) -> Result<&'v Value, Found<'v>>
-    ensures { read (λ v. view v.now) result ≡ object_in base.now (view value.now) name.now }
+    ensures { reading_view (λ v. view v.now) result ≡ object_in base.now (view value.now) name.now }
 {
-    object_at(value, name, Place::Field(base, name))
+    object_at(value, name, Location::Field(base, name))
 }
 
 /// A bool that may be left out.
-fn bool_at<'v>(value: &'v Value, name: &'static str, place: Place<'v>) -> Result<bool, Found<'v>>
-    ensures { read (λ b. b) result ≡ bool_of (pointer_at place.entry) (get name.now (view value.now)) }
+fn bool_at<'v>(
+    value: &'v Value,
+    name: &'static str,
+    location: Location<'v>,
+) -> Result<bool, Found<'v>>
+    ensures { reading_view (λ b. b) result
+        ≡ bool_of (pointer_at location.entry) (get name.now (view value.now)) }
 {
     match value.get(name) {
         None | Some(Value::Null) => Ok(false),
         Some(Value::Bool(truth)) => Ok(*truth),
         Some(_) => Err(Found {
-            place,
+            location,
             kind: FaultKind::NotBool,
         }),
     }
@@ -114,15 +119,15 @@ fn bool_at<'v>(value: &'v Value, name: &'static str, place: Place<'v>) -> Result
 fn items_at<'v>(
     value: &'v Value,
     name: &'static str,
-    place: Place<'v>,
+    location: Location<'v>,
 ) -> Result<&'v [Value], Found<'v>>
-    ensures { read (λ v. items_view v.now) result ≡ items_of (pointer_at place.entry) (get name.now (view value.now)) }
+    ensures { reading_view (λ v. items_view v.now) result ≡ items_of (pointer_at location.entry) (get name.now (view value.now)) }
 {
     match value.get(name) {
         None | Some(Value::Null) => Ok(&[]),
         Some(Value::Array(items)) => Ok(items.as_slice()),
         Some(_) => Err(Found {
-            place,
+            location,
             kind: FaultKind::NotList,
         }),
     }
@@ -135,7 +140,7 @@ fn served_of<'v>(
     key: &'static str,
     value: &'v Value,
 ) -> Result<Served<'v>, Found<'v>>
-    ensures { read served_view result ≡ served_of base.now key.now (view value.now) }
+    ensures { reading_view served_view result ≡ served_of base.now key.now (view value.now) }
 {
     let group = text_in(base, value, "group")?;
     let version = required_text_in(base, value, "version")?;
@@ -150,12 +155,12 @@ fn served_of<'v>(
 /// Who asks.
 #[tactic(auto, unfolding(crate::specs::Reviews::user_of))]
 fn user_of(user: &Value) -> Result<User<'_>, Found<'_>>
-    ensures { read user_view result ≡ user_of (view user.now) }
+    ensures { reading_view user_view result ≡ user_of (view user.now) }
 {
     let base = "/request/userInfo";
     let username = text_in(base, user, "username")?;
     let uid = text_in(base, user, "uid")?;
-    let groups = items_at(user, "groups", Place::Field(base, "groups"))?;
+    let groups = items_at(user, "groups", Location::Field(base, "groups"))?;
     Ok(User {
         username,
         uid,
@@ -165,7 +170,7 @@ fn user_of(user: &Value) -> Result<User<'_>, Found<'_>>
 
 /// Who asks a request.
 fn user_in(request: &Value) -> Result<User<'_>, Found<'_>>
-    ensures { read user_view result ≡ user_in (view request.now) }
+    ensures { reading_view user_view result ≡ user_in (view request.now) }
 {
     let user = object_in("/request", request, "userInfo")?;
     user_of(user)
@@ -173,7 +178,7 @@ fn user_in(request: &Value) -> Result<User<'_>, Found<'_>>
 
 /// The kind of a request's object.
 fn kind_in(request: &Value) -> Result<Served<'_>, Found<'_>>
-    ensures { read served_view result ≡ kind_in (view request.now) }
+    ensures { reading_view served_view result ≡ kind_in (view request.now) }
 {
     let kind = object_in("/request", request, "kind")?;
     served_of("/request/kind", "kind", kind)
@@ -181,7 +186,7 @@ fn kind_in(request: &Value) -> Result<Served<'_>, Found<'_>>
 
 /// The resource of a request's object.
 fn resource_in(request: &Value) -> Result<Served<'_>, Found<'_>>
-    ensures { read served_view result ≡ resource_in (view request.now) }
+    ensures { reading_view served_view result ≡ resource_in (view request.now) }
 {
     let resource = object_in("/request", request, "resource")?;
     served_of("/request/resource", "resource", resource)
@@ -190,13 +195,13 @@ fn resource_in(request: &Value) -> Result<Served<'_>, Found<'_>>
 /// What a request says, or its first fault.
 #[tactic(auto, unfolding(crate::specs::Reviews::parts_of))]
 fn parts_of(request: &Value) -> Result<Parts<'_>, Found<'_>>
-    ensures { read parts_view result ≡ parts_of (view request.now) }
+    ensures { reading_view parts_view result ≡ parts_of (view request.now) }
 {
     let base = "/request";
     let operation = required_text_in(base, request, "operation")?;
     let name = text_in(base, request, "name")?;
     let namespace = text_in(base, request, "namespace")?;
-    let dry_run = bool_at(request, "dryRun", Place::Field(base, "dryRun"))?;
+    let dry_run = bool_at(request, "dryRun", Location::Field(base, "dryRun"))?;
     let user = user_in(request)?;
     let kind = kind_in(request)?;
     let resource = resource_in(request)?;
@@ -213,14 +218,14 @@ fn parts_of(request: &Value) -> Result<Parts<'_>, Found<'_>>
 
 /// The texts of the groups.
 fn texts_of(alloc: Global, items: &[Value]) -> Result<Result<Vec<String>, Found<'_>>, Refused>
-    ensures texts { IfOk result (λ r. read (λ v. map string_bytes v.items) r ≡ texts_after [] (items_view items.now)) }
+    ensures texts { IfOk result (λ r. reading_view (λ v. map string_bytes v.items) r ≡ texts_after [] (items_view items.now)) }
     ensures memory { IfErr result (λ e. e ≡ Refused.Memory) }
 {
     let mut texts = Vec::with_capacity(alloc, items.len())?;
     for item in items {
         let Some(text) = item.as_str() else {
             return Ok(Err(Found {
-                place: Place::Item("/request/userInfo/groups", texts.len()),
+                location: Location::Item("/request/userInfo/groups", texts.len()),
                 kind: FaultKind::NotString,
             }));
         };
@@ -276,7 +281,7 @@ fn request_of(
     alloc: Global,
     request: &Value,
 ) -> Result<Result<AdmissionRequest, Found<'_>>, Refused>
-    ensures request { IfOk result (λ r. read request_view r ≡ request_of (view request.now)) }
+    ensures request { IfOk result (λ r. reading_view request_view r ≡ request_of (view request.now)) }
     ensures memory { IfErr result (λ e. e ≡ Refused.Memory) }
 {
     let parts = match parts_of(request) {
@@ -292,23 +297,23 @@ fn request_of(
 /// The `request` of a document that is a review.
 #[tactic(auto, unfolding(crate::specs::Reviews::request_in))]
 fn request_in(document: &Value) -> Result<&Value, Found<'_>>
-    ensures { read (λ v. view v.now) result ≡ request_in (view document.now) }
+    ensures { reading_view (λ v. view v.now) result ≡ request_in (view document.now) }
 {
-    let place = Place::Field("", "apiVersion");
-    if !is_review_version(required_text_at(document, "apiVersion", place)?) {
+    let location = Location::Field("", "apiVersion");
+    if !is_review_version(required_text_at(document, "apiVersion", location)?) {
         return Err(Found {
-            place,
+            location,
             kind: FaultKind::Unsupported,
         });
     }
-    let place = Place::Field("", "kind");
-    if !is_review_kind(required_text_at(document, "kind", place)?) {
+    let location = Location::Field("", "kind");
+    if !is_review_kind(required_text_at(document, "kind", location)?) {
         return Err(Found {
-            place,
+            location,
             kind: FaultKind::Unsupported,
         });
     }
-    object_at(document, "request", Place::Field("", "request"))
+    object_at(document, "request", Location::Field("", "request"))
 }
 
 /// The value of a field, null where it is left out.
@@ -326,7 +331,7 @@ fn inputs_in<'v>(
     alloc: Global,
     request: &'v Value,
 ) -> Result<Result<PolicyInputs, Found<'v>>, Refused>
-    ensures inputs { IfOk result (λ r. read inputs_view r ≡ inputs_in (view request.now)) }
+    ensures inputs { IfOk result (λ r. reading_view inputs_view r ≡ inputs_in (view request.now)) }
     ensures memory { IfErr result (λ e. e ≡ Refused.Memory) }
 {
     match request_of(alloc, request)? {
@@ -344,7 +349,7 @@ fn inputs_in<'v>(
 /// The inputs that a review carries, or its first fault.
 #[tactic(auto, unfolding(crate::specs::Reviews::review_of))]
 fn review_of(alloc: Global, document: &Value) -> Result<Result<PolicyInputs, Found<'_>>, Refused>
-    ensures inputs { IfOk result (λ r. read inputs_view r ≡ review_of (view document.now)) }
+    ensures inputs { IfOk result (λ r. reading_view inputs_view r ≡ review_of (view document.now)) }
     ensures memory { IfErr result (λ e. e ≡ Refused.Memory) }
 {
     match request_in(document) {
@@ -355,7 +360,7 @@ fn review_of(alloc: Global, document: &Value) -> Result<Result<PolicyInputs, Fou
 
 impl PolicyInputs {
     /// `request`, `object` and `oldObject` of an AdmissionReview (`admission.k8s.io`). What it leaves out of the two objects is known to be
-    /// null. Of `params` and `namespaceObject` it tells nothing: set these fields afterwards.
+    /// null. Of `params` and `namespaceObject` it says nothing: set these fields afterwards.
     ///
     /// Answers the first [`PolicyFault`] where the document is no such review.
     ///
@@ -371,7 +376,7 @@ impl PolicyInputs {
     {
         match review_of(alloc, review)? {
             Ok(inputs) => Ok(Ok(inputs)),
-            Err(found) => Ok(Err(told(alloc, found)?)),
+            Err(found) => Ok(Err(reported(alloc, found)?)),
         }
     }
 }

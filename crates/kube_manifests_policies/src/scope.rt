@@ -1,19 +1,19 @@
 //! What the expressions of a policy see.
 ghost use Rattle.cel.specs.Program.{program_term};
-ghost use Rattle.cel_book.specs.Book.{Agrees};
-ghost use Rattle.cel_book.specs.Entries.{entries_of};
-ghost use Rattle.cel_book.specs.Settled.{Settles};
-ghost use Rattle.cel_meaning.specs.Outcome.{outcome_view};
-ghost use Rattle.cel_syntax_tree.specs.Term.{term};
-ghost use Rattle.kube_cel_policies.specs.Results.{outcome_in};
-ghost use Rattle.cel_meaning.specs.Bindings.{bindings_of};
-ghost use Rattle.kube_manifests_policies.specs.Scopes.{evaluated, first_stop, is_not_given, reached, reached_seen, scope_view, stops, tree_seen, tree_told, why_not};
-ghost use Rattle.kube_manifests_policies.specs.Verdicts.{result_view, told_view};
+ghost use Rattle.cel_patterns.specs.Book.{Extends};
+ghost use Rattle.cel_patterns.specs.Entries.{entries_of};
+ghost use Rattle.cel_patterns.specs.Extensions.{HoldsForExtensions};
+ghost use Rattle.cel_semantics.specs.Outcome.{outcome_view};
+ghost use Rattle.cel_syntax_ast.specs.Term.{term};
+ghost use Rattle.kube_cel_vap.specs.Results.{outcome_in};
+ghost use Rattle.cel_semantics.specs.Bindings.{bindings_of};
+ghost use Rattle.kube_manifests_policies.specs.Scopes.{evaluation, first_stop, is_not_given, outcome_or_reason, outcome_seen, scope_view, stops, tree_seen, tree_report, why_not};
+ghost use Rattle.kube_manifests_policies.specs.Verdicts.{result_view, report_view};
 ghost use Rattle.std.specs.Prelude.{◌≡◌, IfErr, IfOk, map, option_map};
 
 use crate::inputs::{Input, first_missing};
 use crate::uses::asks;
-use crate::verdict::{PolicyResult, Told};
+use crate::verdict::{ItemReport, PolicyResult};
 use cel::{Answer, Context, Expr, PatternBook, Program, Value};
 use kube_functions::AllFunctions;
 use kube_types_refused::Refused;
@@ -35,16 +35,16 @@ pub(crate) struct Scope<'a> {
     pub(crate) missing: Vec<PolicyResult>,
 }
 
-fn is_not_given(told: &Told) -> bool
-    ensures { result ≡ is_not_given (told_view told.now) }
+fn is_not_given(reported: &ItemReport) -> bool
+    ensures { result ≡ is_not_given (report_view reported.now) }
 {
-    match told {
-        Told::True => false,
-        Told::False(_) => false,
-        Told::Text(_) => false,
-        Told::Null => false,
-        Told::Error(_) => false,
-        Told::NotGiven(_) => true,
+    match reported {
+        ItemReport::True => false,
+        ItemReport::False(_) => false,
+        ItemReport::Text(_) => false,
+        ItemReport::Null => false,
+        ItemReport::Error(_) => false,
+        ItemReport::NotGiven(_) => true,
     }
 }
 
@@ -56,46 +56,46 @@ fn stops(expr: &Expr, variable: &PolicyResult) -> bool
         expr,
         "variables",
         variable.label.as_str(),
-        is_not_given(&variable.told),
+        is_not_given(&variable.reported),
     )
 }
 
-/// What is told of the first variable that keeps an expression from being evaluated.
-fn first_stop<'m>(missing: &'m [PolicyResult], expr: &Expr) -> Option<&'m Told>
-    ensures { option_map (λ t. told_view t.now) result ≡ first_stop (map result_view missing.now) (term expr.now) }
+/// What is reported of the first variable that keeps an expression from being evaluated.
+fn first_stop<'m>(missing: &'m [PolicyResult], expr: &Expr) -> Option<&'m ItemReport>
+    ensures { option_map (λ t. report_view t.now) result ≡ first_stop (map result_view missing.now) (term expr.now) }
 {
     for variable in missing {
         if stops(expr, variable) {
-            return Some(&variable.told);
+            return Some(&variable.reported);
         }
     }
     None
 }
 
 /// Why an expression isn't evaluated.
-fn why_not(scope: &Scope<'_>, expr: &Expr) -> Result<Option<Told>, Refused>
-    ensures told { IfOk result (λ o. option_map told_view o ≡ why_not (scope_view scope.now) (term expr.now)) }
+fn why_not(scope: &Scope<'_>, expr: &Expr) -> Result<Option<ItemReport>, Refused>
+    ensures reported { IfOk result (λ o. option_map report_view o ≡ why_not (scope_view scope.now) (term expr.now)) }
     ensures memory { IfErr result (λ e. e ≡ Refused.Memory) }
 {
     if let Some(input) = first_missing(scope.absent.as_slice(), expr) {
-        return Ok(Some(Told::NotGiven(input)));
+        return Ok(Some(ItemReport::NotGiven(input)));
     }
     match first_stop(scope.missing.as_slice(), expr) {
-        Some(told) => Ok(Some(told.copy()?)),
+        Some(reported) => Ok(Some(reported.copy()?)),
         None => Ok(None),
     }
 }
 
 /// What a program means among the names of a scope.
-#[tactic(auto, unfolding(kube_cel_policies::specs::Results::outcome_in))]
+#[tactic(auto, unfolding(kube_cel_vap::specs::Results::outcome_in))]
 fn outcome_of(
     alloc: Global,
     program: &Program,
     scope: &Scope<'_>,
     book: &mut PatternBook,
 ) -> Result<Answer, Refused>
-    ensures keeps { Agrees (entries_of book.new) (entries_of book.old) }
-    ensures value { IfOk result (λ r. Settles (entries_of book.new) (outcome_view r)
+    ensures keeps { Extends (entries_of book.new) (entries_of book.old) }
+    ensures value { IfOk result (λ r. HoldsForExtensions (entries_of book.new) (outcome_view r)
         (λ b. outcome_in b (bindings_of scope.now.context) (program_term program.now))) }
     ensures memory { IfErr result (λ e. e ≡ Refused.Memory) }
 {
@@ -103,20 +103,20 @@ fn outcome_of(
 }
 
 /// What a program comes to in a scope, or why it isn't run there.
-#[tactic(auto, unfolding(crate::specs::Scopes::reached))]
+#[tactic(auto, unfolding(crate::specs::Scopes::outcome_or_reason))]
 pub(crate) fn reach(
     alloc: Global,
     program: &Program,
     scope: &Scope<'_>,
     book: &mut PatternBook,
-) -> Result<Result<Answer, Told>, Refused>
-    ensures keeps { Agrees (entries_of book.new) (entries_of book.old) }
-    ensures reached { IfOk result (λ r. Settles (entries_of book.new) (reached_seen r)
-        (λ b. reached b (scope_view scope.now) (program_term program.now))) }
+) -> Result<Result<Answer, ItemReport>, Refused>
+    ensures keeps { Extends (entries_of book.new) (entries_of book.old) }
+    ensures reached { IfOk result (λ r. HoldsForExtensions (entries_of book.new) (outcome_seen r)
+        (λ b. outcome_or_reason b (scope_view scope.now) (program_term program.now))) }
     ensures memory { IfErr result (λ e. e ≡ Refused.Memory) }
 {
     match why_not(scope, program.expression())? {
-        Some(told) => Ok(Err(told)),
+        Some(reported) => Ok(Err(reported)),
         None => {
             let answer = outcome_of(alloc, program, scope, book)?;
             Ok(Ok(answer))
@@ -124,9 +124,9 @@ pub(crate) fn reach(
     }
 }
 
-/// The program of a text, or what is told of a text that isn't read.
-pub(crate) fn read(alloc: Global, text: &str) -> Result<Result<Program, Told>, Refused>
-    ensures read { IfOk result (λ r. tree_seen r ≡ tree_told text.now) }
+/// The program of a text, or what is reported of a text that isn't read.
+pub(crate) fn read(alloc: Global, text: &str) -> Result<Result<Program, ItemReport>, Refused>
+    ensures read { IfOk result (λ r. tree_seen r ≡ tree_report text.now) }
     ensures memory { IfErr result (λ e. e ≡ Refused.Memory) }
 {
     match Program::compile(alloc, text)? {
@@ -135,7 +135,7 @@ pub(crate) fn read(alloc: Global, text: &str) -> Result<Result<Program, Told>, R
             let message = format!(in alloc;
                 "failed to compile VAP expression \"{text}\": {errors}"
             )?;
-            Ok(Err(Told::Error(message)))
+            Ok(Err(ItemReport::Error(message)))
         }
     }
 }
@@ -146,14 +146,14 @@ pub(crate) fn evaluate(
     text: &str,
     scope: &Scope<'_>,
     book: &mut PatternBook,
-) -> Result<Result<Answer, Told>, Refused>
-    ensures keeps { Agrees (entries_of book.new) (entries_of book.old) }
-    ensures reached { IfOk result (λ r. Settles (entries_of book.new) (reached_seen r)
-        (λ b. evaluated (reached b (scope_view scope.now)) text.now)) }
+) -> Result<Result<Answer, ItemReport>, Refused>
+    ensures keeps { Extends (entries_of book.new) (entries_of book.old) }
+    ensures reached { IfOk result (λ r. HoldsForExtensions (entries_of book.new) (outcome_seen r)
+        (λ b. evaluation (outcome_or_reason b (scope_view scope.now)) text.now)) }
     ensures memory { IfErr result (λ e. e ≡ Refused.Memory) }
 {
     match read(alloc, text)? {
-        Err(told) => Ok(Err(told)),
+        Err(reported) => Ok(Err(reported)),
         Ok(program) => {
             let reached = reach(alloc, &program, scope, book)?;
             Ok(reached)

@@ -1,5 +1,5 @@
 //! Which members of a name an expression asks for.
-ghost use Rattle.cel_syntax_tree.specs.Term.{pairs_of, term, terms_of};
+ghost use Rattle.cel_syntax_ast.specs.Term.{pairs_of, term, terms_of};
 ghost use Rattle.kube_manifests_policies.specs.Uses.{asks, asks_in_any, asks_in_pairs, is_name};
 ghost use Rattle.std.specs.Prelude.{◌≡◌, map};
 

@@ -1,20 +1,20 @@
 //! The variables of a policy, one after another.
-ghost use Rattle.cel_book.specs.Book.{Agrees, Book};
-ghost use Rattle.cel_book.specs.Entries.{entries_of};
-ghost use Rattle.cel_meaning.specs.Members.{put_in};
-ghost use Rattle.cel_meaning.specs.Outcome.{and_then, outcome_view};
+ghost use Rattle.cel_patterns.specs.Book.{Extends, Book};
+ghost use Rattle.cel_patterns.specs.Entries.{entries_of};
+ghost use Rattle.cel_semantics.specs.Members.{put_in};
+ghost use Rattle.cel_semantics.specs.Outcome.{and_then, outcome_view};
 ghost use Rattle.cel_value.specs.Data.{text};
 ghost use Rattle.cel_value.specs.View.{view};
 ghost use Rattle.kube_manifests_policies.specs.Policies.{item_view};
-ghost use Rattle.kube_manifests_policies.specs.Scopes.{Alike, reached_seen, scope_view, variable_step, variables_after, with_stored, with_values, with_variable, without_value};
-ghost use Rattle.kube_manifests_policies.specs.Verdicts.{told_view};
+ghost use Rattle.kube_manifests_policies.specs.Scopes.{Alike, outcome_seen, scope_view, variable_step, variables_after, with_stored, with_values, with_variable, without_value};
+ghost use Rattle.kube_manifests_policies.specs.Verdicts.{report_view};
 ghost use Rattle.std.specs.Prelude.{◌≡◌, IfErr, IfOk, map};
 
 use crate::item::Item;
 use crate::scope::{Scope, evaluate};
-use crate::verdict::{Told, with_told};
+use crate::verdict::{ItemReport, with_report};
 use cel::{Answer, PatternBook, Value};
-use cel_meaning::members::put;
+use cel_semantics::members::put;
 use kube_types_refused::Refused;
 use std::alloc::Global;
 
@@ -38,9 +38,9 @@ fn without_value<'a>(
     alloc: Global,
     scope: Scope<'a>,
     name: &str,
-    told: Told,
+    reported: ItemReport,
 ) -> Result<Scope<'a>, Refused>
-    ensures scope { IfOk result (λ s. Alike (scope_view s) (without_value (scope_view scope.entry) name.now (told_view told))) }
+    ensures scope { IfOk result (λ s. Alike (scope_view s) (without_value (scope_view scope.entry) name.now (report_view reported))) }
     ensures memory { IfErr result (λ e. e ≡ Refused.Memory) }
 {
     let Scope {
@@ -49,7 +49,7 @@ fn without_value<'a>(
         values,
         mut missing,
     } = scope;
-    missing.push(with_told(alloc, name, told)?)?;
+    missing.push(with_report(alloc, name, reported)?)?;
     Ok(Scope {
         context,
         absent,
@@ -92,7 +92,7 @@ fn with_stored<'a>(
         Ok(map) => with_values(scope, map),
         Err(fault) => {
             let message = format!(in alloc; "evaluation error: {fault}")?;
-            let kept = without_value(alloc, scope, name, Told::Error(message))?;
+            let kept = without_value(alloc, scope, name, ItemReport::Error(message))?;
             Ok(kept)
         }
     }
@@ -103,13 +103,13 @@ fn with_variable<'a>(
     alloc: Global,
     scope: Scope<'a>,
     name: &str,
-    reached: Result<Answer, Told>,
+    reached: Result<Answer, ItemReport>,
 ) -> Result<Scope<'a>, Refused>
-    ensures scope { IfOk result (λ s. Alike (scope_view s) (with_variable (scope_view scope.entry) name.now (reached_seen reached))) }
+    ensures scope { IfOk result (λ s. Alike (scope_view s) (with_variable (scope_view scope.entry) name.now (outcome_seen reached))) }
     ensures memory { IfErr result (λ e. e ≡ Refused.Memory) }
 {
     match reached {
-        Err(told) => without_value(alloc, scope, name, told),
+        Err(reported) => without_value(alloc, scope, name, reported),
         Ok(answer) => {
             let stored = stored(alloc, &scope.values, name, answer)?;
             with_stored(alloc, scope, name, stored)
@@ -125,8 +125,8 @@ fn variable_step<'a>(
     item: &Item<'_>,
     book: &mut PatternBook,
 ) -> Result<Scope<'a>, Refused>
-    ensures keeps { Agrees (entries_of book.new) (entries_of book.old) }
-    ensures scope { IfOk result (λ s. (b : Book) → Agrees b (entries_of book.new)
+    ensures keeps { Extends (entries_of book.new) (entries_of book.old) }
+    ensures scope { IfOk result (λ s. (b : Book) → Extends b (entries_of book.new)
         → Alike (scope_view s) (variable_step b (scope_view scope.entry) (item_view item.now))) }
     ensures memory { IfErr result (λ e. e ≡ Refused.Memory) }
 {
@@ -141,8 +141,8 @@ pub(crate) fn with_variables<'a>(
     items: &[Item<'_>],
     book: &mut PatternBook,
 ) -> Result<Scope<'a>, Refused>
-    ensures keeps { Agrees (entries_of book.new) (entries_of book.old) }
-    ensures scope { IfOk result (λ s. (b : Book) → Agrees b (entries_of book.new)
+    ensures keeps { Extends (entries_of book.new) (entries_of book.old) }
+    ensures scope { IfOk result (λ s. (b : Book) → Extends b (entries_of book.new)
         → Alike (scope_view s) (variables_after b (scope_view scope.entry) (map item_view items.now))) }
     ensures memory { IfErr result (λ e. e ≡ Refused.Memory) }
 {

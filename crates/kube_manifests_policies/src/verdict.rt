@@ -1,5 +1,5 @@
 //! What a policy comes to.
-ghost use Rattle.kube_manifests_policies.specs.Verdicts.{after_conditions, any_is, decided, decision_text, is_marked, result_view, told_text, told_view, with_told};
+ghost use Rattle.kube_manifests_policies.specs.Verdicts.{after_conditions, any_is, decision_of, decision_text, is_problem, result_view, report_text, report_view, with_report};
 ghost use Rattle.std.specs.Prelude.{◌≡◌, IfErr, IfOk, map, Some};
 
 use crate::inputs::Input;
@@ -9,10 +9,10 @@ use std::fmt;
 
 /// What an expression came to.
 #[derive(Debug, Drop)]
-pub enum Told {
+pub enum ItemReport {
     /// A match condition or a validation is true.
     True,
-    /// A match condition or a validation is false, and this is told of it.
+    /// A match condition or a validation is false, and this is reported of it.
     False(String),
     /// An audit annotation has this text.
     Text(String),
@@ -24,57 +24,57 @@ pub enum Told {
     NotGiven(Input),
 }
 
-impl fmt::Display for Told {
-    ghost output = { λ t. Some (told_text (told_view t)) };
+impl fmt::Display for ItemReport {
+    ghost output = { λ t. Some (report_text (report_view t)) };
 
     fn fmt<W: fmt::Write>(&self, f: &mut fmt::Formatter<W>) -> fmt::Result {
         match self {
-            Told::True => write!(f, "true"),
-            Told::False(message) => write!(f, "{message}"),
-            Told::Text(text) => write!(f, "{text}"),
-            Told::Null => write!(f, "null"),
-            Told::Error(message) => write!(f, "{message}"),
-            Told::NotGiven(input) => write!(f, "{input} is not given"),
+            ItemReport::True => write!(f, "true"),
+            ItemReport::False(message) => write!(f, "{message}"),
+            ItemReport::Text(text) => write!(f, "{text}"),
+            ItemReport::Null => write!(f, "null"),
+            ItemReport::Error(message) => write!(f, "{message}"),
+            ItemReport::NotGiven(input) => write!(f, "{input} is not given"),
         }
     }
 }
 
-impl Told {
+impl ItemReport {
     /// An equal one.
-    pub(crate) fn copy(&self) -> Result<Told, AllocError>
-        ensures { IfOk result (λ t. told_view t ≡ told_view self.now) }
+    pub(crate) fn copy(&self) -> Result<ItemReport, AllocError>
+        ensures { IfOk result (λ t. report_view t ≡ report_view self.now) }
     {
         match self {
-            Told::True => Ok(Told::True),
-            Told::False(message) => Ok(Told::False(message.clone()?)),
-            Told::Text(text) => Ok(Told::Text(text.clone()?)),
-            Told::Null => Ok(Told::Null),
-            Told::Error(message) => Ok(Told::Error(message.clone()?)),
-            Told::NotGiven(input) => Ok(Told::NotGiven(*input)),
+            ItemReport::True => Ok(ItemReport::True),
+            ItemReport::False(message) => Ok(ItemReport::False(message.clone()?)),
+            ItemReport::Text(text) => Ok(ItemReport::Text(text.clone()?)),
+            ItemReport::Null => Ok(ItemReport::Null),
+            ItemReport::Error(message) => Ok(ItemReport::Error(message.clone()?)),
+            ItemReport::NotGiven(input) => Ok(ItemReport::NotGiven(*input)),
         }
     }
 }
 
 /// What decides about a policy.
 #[derive(Clone, Copy, Drop)]
-pub(crate) enum Mark {
+pub(crate) enum Problem {
     False,
     Error,
     NotGiven,
 }
 
-impl Mark {
-    /// Whether what is told is so.
-    pub(crate) fn is_of(self, told: &Told) -> bool
-        ensures { result ≡ is_marked self (told_view told.now) }
+impl Problem {
+    /// Whether what is reported is so.
+    pub(crate) fn is_of(self, reported: &ItemReport) -> bool
+        ensures { result ≡ is_problem self (report_view reported.now) }
     {
-        match told {
-            Told::True => false,
-            Told::False(_) => matches!(self, Mark::False),
-            Told::Text(_) => false,
-            Told::Null => false,
-            Told::Error(_) => matches!(self, Mark::Error),
-            Told::NotGiven(_) => matches!(self, Mark::NotGiven),
+        match reported {
+            ItemReport::True => false,
+            ItemReport::False(_) => matches!(self, Problem::False),
+            ItemReport::Text(_) => false,
+            ItemReport::Null => false,
+            ItemReport::Error(_) => matches!(self, Problem::Error),
+            ItemReport::NotGiven(_) => matches!(self, Problem::NotGiven),
         }
     }
 }
@@ -85,16 +85,20 @@ pub struct PolicyResult {
     /// The name of a match condition or of a variable, the text of a validation's expression, the key of an audit annotation.
     pub label: String,
     /// What it came to.
-    pub told: Told,
+    pub reported: ItemReport,
 }
 
-/// What this is told of.
-pub(crate) fn with_told(alloc: Global, label: &str, told: Told) -> Result<PolicyResult, AllocError>
-    ensures { IfOk result (λ r. result_view r ≡ with_told label.now (told_view told)) }
+/// What this reports on.
+pub(crate) fn with_report(
+    alloc: Global,
+    label: &str,
+    reported: ItemReport,
+) -> Result<PolicyResult, AllocError>
+    ensures { IfOk result (λ r. result_view r ≡ with_report label.now (report_view reported)) }
 {
     Ok(PolicyResult {
         label: String::from_str(alloc, label)?,
-        told,
+        reported,
     })
 }
 
@@ -140,11 +144,11 @@ pub struct PolicyVerdict {
 }
 
 /// Whether one of these is so.
-fn any_is(mark: Mark, results: &[PolicyResult]) -> bool
-    ensures { result ≡ any_is mark (map result_view results.now) }
+fn any_is(problem: Problem, results: &[PolicyResult]) -> bool
+    ensures { result ≡ any_is problem (map result_view results.now) }
 {
     for one in results {
-        if mark.is_of(&one.told) {
+        if problem.is_of(&one.reported) {
             return true;
         }
     }
@@ -155,13 +159,13 @@ fn any_is(mark: Mark, results: &[PolicyResult]) -> bool
 pub(crate) fn after_conditions(ignores: bool, conditions: &[PolicyResult]) -> Option<PolicyDecision>
     ensures { result ≡ after_conditions ignores (map result_view conditions.now) }
 {
-    if any_is(Mark::False, conditions) {
+    if any_is(Problem::False, conditions) {
         return Some(PolicyDecision::Skipped);
     }
-    if any_is(Mark::NotGiven, conditions) {
+    if any_is(Problem::NotGiven, conditions) {
         return Some(PolicyDecision::NotJudged);
     }
-    if !any_is(Mark::Error, conditions) {
+    if !any_is(Problem::Error, conditions) {
         return None;
     }
     if ignores {
@@ -171,20 +175,21 @@ pub(crate) fn after_conditions(ignores: bool, conditions: &[PolicyResult]) -> Op
 }
 
 /// What validations and audit annotations decide.
-pub(crate) fn decided(
+pub(crate) fn decision_of(
     ignores: bool,
     validations: &[PolicyResult],
     annotations: &[PolicyResult],
 ) -> PolicyDecision
-    ensures { result ≡ decided ignores (map result_view validations.now) (map result_view annotations.now) }
+    ensures { result ≡ decision_of ignores (map result_view validations.now)
+        (map result_view annotations.now) }
 {
-    if any_is(Mark::False, validations) {
+    if any_is(Problem::False, validations) {
         return PolicyDecision::Denied;
     }
-    if !ignores && (any_is(Mark::Error, validations) || any_is(Mark::Error, annotations)) {
+    if !ignores && (any_is(Problem::Error, validations) || any_is(Problem::Error, annotations)) {
         return PolicyDecision::Denied;
     }
-    if any_is(Mark::NotGiven, validations) || any_is(Mark::NotGiven, annotations) {
+    if any_is(Problem::NotGiven, validations) || any_is(Problem::NotGiven, annotations) {
         return PolicyDecision::NotJudged;
     }
     PolicyDecision::Admitted

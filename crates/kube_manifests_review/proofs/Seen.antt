@@ -1,12 +1,12 @@
 -- Nodes of a tree as terms.
 use Rattle.std.proofs.Common.{◌≡◌, ℕ, List, [], ◌∷◌, true, Option, Some, None, Box, codes, cond, map, option_map, refl, sym, ap, ◌∙◌, string_bytes}
 use Rattle.std.specs.declared.alloc.Global.{Global}
-use Rattle.cel_syntax_tree.specs.Term.{Term, call, no_terms, qualified, term, term_and, term_step, terms_of}
-use Rattle.cel_syntax_tree.specs.declared.expr.Expr.{Expr, Expr-F, fold-roll-Expr}
-use Rattle.cel_syntax_tree.specs.declared.expr.Expr.TheVariants as expr
+use Rattle.cel_syntax_ast.specs.Term.{Term, call, no_terms, qualified, term, term_and, term_step, terms_of}
+use Rattle.cel_syntax_ast.specs.declared.expr.Expr.{Expr, Expr-F, fold-roll-Expr}
+use Rattle.cel_syntax_ast.specs.declared.expr.Expr.TheVariants as expr
 use Rattle.cel_value.specs.Data.{Data}
 use Rattle.cel_value.specs.Same.{has_double}
-use Rattle.kube_manifests_review.specs.Calls.{Text, call_doubts, double_text, literal_doubts, node_doubts, said, terms_in}
+use Rattle.kube_manifests_review.specs.Calls.{Text, call_doubts, double_text, literal_doubts, node_doubts, doubt_about, terms_in}
 use Rattle.kube_manifests_review.specs.Doubts.{always}
 use Rattle.kube_manifests_review.specs.Messages.{is_no_string}
 use Rattle.kube_manifests_review.specs.Rules.{kind_doubts}
@@ -33,10 +33,10 @@ qualified_is x es = ap term (sym (expr.rolls-Qualified x es)) ∙ fold-roll-Expr
 pub qualified_seen : (t : Text) (x : _) (es : _) → node_doubts t (term (expr.Qualified x es)) ≡ call_doubts t None (string_bytes x.value) (map term es.items)
 qualified_seen t x es = ap (node_doubts t) (qualified_is x es) ∙ ap (call_doubts t None (string_bytes x.value)) (terms_back (map term es.items))
 
-pub double_said : (t : Text) (v : Data) (m : List ℕ) → has_double v ≡ true → m ≡ double_text → said t kind.Double m always ∷ [] ≡ literal_doubts t v
+pub double_said : (t : Text) (v : Data) (m : List ℕ) → has_double v ≡ true → m ≡ double_text → doubt_about t kind.Double m always ∷ [] ≡ literal_doubts t v
 double_said t v m e f =
-    ap (λ x. said t kind.Double x always ∷ []) f ∙ ap (λ b. cond b (said t kind.Double double_text always ∷ []) []) (sym e)
+    ap (λ x. doubt_about t kind.Double x always ∷ []) f ∙ ap (λ b. cond b (doubt_about t kind.Double double_text always ∷ []) []) (sym e)
 
-pub kind_said : (t : Text) (e : Term) (m : List ℕ) → is_no_string e ≡ true → m ≡ codes "messageExpression gives no string" → said t kind.Message m always ∷ [] ≡ kind_doubts t e
+pub kind_said : (t : Text) (e : Term) (m : List ℕ) → is_no_string e ≡ true → m ≡ codes "messageExpression gives no string" → doubt_about t kind.Message m always ∷ [] ≡ kind_doubts t e
 kind_said t e m n f =
-    ap (λ x. said t kind.Message x always ∷ []) f ∙ ap (λ b. cond b (said t kind.Message (codes "messageExpression gives no string") always ∷ []) []) (sym n)
+    ap (λ x. doubt_about t kind.Message x always ∷ []) f ∙ ap (λ b. cond b (doubt_about t kind.Message (codes "messageExpression gives no string") always ∷ []) []) (sym n)

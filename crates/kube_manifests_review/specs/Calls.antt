@@ -5,9 +5,9 @@ use Rattle.std.specs.Prelude.{ℕ, List, [], ◌∷◌, ◌++◌, length, Bool, 
 use Rattle.std.specs.List.{list_any, slice_get}
 use Rattle.std.specs.Option.{option_and_then}
 use Rattle.std.specs.Str.{bytes_eq}
-use Rattle.cel_meaning.specs.declared.functions.Form.{Form}
-use Rattle.cel_meaning.specs.declared.functions.Form.TheVariants.{Unknown, Wrong, Known}
-use Rattle.cel_syntax_tree.specs.Term.{Term, literal, ident, select, has, index, unary, binary, choice, list_of, map_with, call, qualified, macro, Terms, no_terms, term_and}
+use Rattle.cel_semantics.specs.declared.functions.Form.{Form}
+use Rattle.cel_semantics.specs.declared.functions.Form.TheVariants.{Unknown, Wrong, Known}
+use Rattle.cel_syntax_ast.specs.Term.{Term, literal, ident, select, has, index, unary, binary, conditional, list_of, map_with, call, qualified, macro, Terms, no_terms, term_and}
 use Rattle.cel_value.specs.Data.{Data}
 use Rattle.cel_value.specs.Parts.{text_in}
 use Rattle.cel_value.specs.Same.{has_double}
@@ -27,8 +27,8 @@ abbrev pub text_view : code.Text → Text
 text_view t = record { pointer = t.pointer.now; rule = t.rule.now; is_message = t.is_message }
 
 -- what is said of a text of a rule
-abbrev pub said : Text → ReviewKind → List ℕ → When → Doubt
-said t k m w = record { finding = record { pointer = t.pointer; rule = t.rule; kind = k; message = m }; when = w }
+abbrev pub doubt_about : Text → ReviewKind → List ℕ → When → Doubt
+doubt_about t k m w = record { finding = record { pointer = t.pointer; rule = t.rule; kind = k; message = m }; when = w }
 
 -- ---- what stands in a call
 
@@ -41,7 +41,7 @@ literal_text (has a x) = None
 literal_text (index a b) = None
 literal_text (unary o a) = None
 literal_text (binary o a b) = None
-literal_text (choice a b c) = None
+literal_text (conditional a b c) = None
 literal_text (list_of ts) = None
 literal_text (map_with ps) = None
 literal_text (call r x ts) = None
@@ -91,15 +91,15 @@ abbrev pub pattern_text : List ℕ → List ℕ
 pattern_text p = codes "pattern '" ++ (p ++ codes "' is refused")
 
 abbrev pub old_self_doubts : Text → Option Term → List ℕ → List Doubt
-old_self_doubts t r name = if asks_optional name then (if is_old_self r then said t kind.OldSelf (old_self_text name) always ∷ [] else []) else []
+old_self_doubts t r name = if asks_optional name then (if is_old_self r then doubt_about t kind.OldSelf (old_self_text name) always ∷ [] else []) else []
 
 abbrev pub fails_doubts : Text → List ℕ → Option (List ℕ) → List Doubt
 fails_doubts t name None = []
-fails_doubts t name (Some s) = said t kind.Literal (fails_text name s) (fails name s) ∷ []
+fails_doubts t name (Some s) = doubt_about t kind.Literal (fails_text name s) (fails name s) ∷ []
 
 abbrev pub refused_doubts : Text → Option (List ℕ) → List Doubt
 refused_doubts t None = []
-refused_doubts t (Some p) = said t kind.Pattern (pattern_text p) (refused p) ∷ []
+refused_doubts t (Some p) = doubt_about t kind.Pattern (pattern_text p) (refused p) ∷ []
 
 abbrev pub pattern_doubts : Text → Option Term → List ℕ → List Term → List Doubt
 pattern_doubts t r name ts = if takes_pattern name then refused_doubts t (second_text r ts) else []
@@ -108,10 +108,10 @@ pattern_doubts t r name ts = if takes_pattern name then refused_doubts t (second
 abbrev pub known_doubts : Text → Option Term → List ℕ → List Term → List Doubt
 known_doubts t r name ts = old_self_doubts t r name ++ (fails_doubts t name (only_text r ts) ++ pattern_doubts t r name ts)
 
--- of an unknown function a linter tells, but not where a messageExpression calls it
+-- an unknown function is reported by a linter, but not where a messageExpression calls it
 abbrev pub form_doubts : Form → Text → Option Term → List ℕ → List Term → List Doubt
-form_doubts Unknown t r name ts = if t.is_message then said t kind.Call (unknown_text name) always ∷ [] else []
-form_doubts Wrong t r name ts = said t kind.Call (wrong_text name (is_some r) (length ts)) always ∷ []
+form_doubts Unknown t r name ts = if t.is_message then doubt_about t kind.Call (unknown_text name) always ∷ [] else []
+form_doubts Wrong t r name ts = doubt_about t kind.Call (wrong_text name (is_some r) (length ts)) always ∷ []
 form_doubts Known t r name ts = known_doubts t r name ts
 
 abbrev pub call_doubts : Text → Option Term → List ℕ → List Term → List Doubt
@@ -123,7 +123,7 @@ abbrev pub double_text : List ℕ
 double_text = codes "numbers of kind double are not supported"
 
 abbrev pub literal_doubts : Text → Data → List Doubt
-literal_doubts t v = if has_double v then said t kind.Double double_text always ∷ [] else []
+literal_doubts t v = if has_double v then doubt_about t kind.Double double_text always ∷ [] else []
 
 abbrev pub first_term : Terms → Option Term
 first_term no_terms = None
@@ -141,7 +141,7 @@ node_doubts t (has a x) = []
 node_doubts t (index a b) = []
 node_doubts t (unary o a) = []
 node_doubts t (binary o a b) = []
-node_doubts t (choice a b c) = []
+node_doubts t (conditional a b c) = []
 node_doubts t (list_of ts) = []
 node_doubts t (map_with ps) = []
 node_doubts t (call r x ts) = call_doubts t (first_term r) x (terms_in ts)

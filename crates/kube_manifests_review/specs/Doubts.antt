@@ -2,9 +2,9 @@
 -- What a review says of a document, and under which condition it says it. Source: this project's own statement.
 use Rattle.std.specs.Prelude.{ℕ, List, [], ◌∷◌, Bool, true, false, ◌&&◌, None, is_none, is_err, if◌then◌else◌, codes, string_bytes}
 use Rattle.std.specs.List.{flat_map}
-use Rattle.cel_book.specs.Book.{Book, pattern_in}
-use Rattle.cel_meaning.specs.declared.functions.Form.{Form}
-use Rattle.cel_meaning.specs.declared.functions.Form.TheVariants.{Unknown, Wrong, Known}
+use Rattle.cel_patterns.specs.Book.{Book, pattern_in}
+use Rattle.cel_semantics.specs.declared.functions.Form.{Form}
+use Rattle.cel_semantics.specs.declared.functions.Form.TheVariants.{Unknown, Wrong, Known}
 use Rattle.cel_value.specs.Data.{text}
 use Rattle.kube_cel_lint.specs.declared.finding.LintKind.{LintKind}
 use Rattle.kube_cel_lint.specs.declared.finding.LintKind.TheVariants as lint

@@ -2,7 +2,7 @@ pub mod Doubts
 pub mod Pointers
 pub mod Keywords
 pub mod Edits
-pub mod Places
+pub mod Locations
 pub mod Nodes
 pub mod Calls
 pub mod Messages

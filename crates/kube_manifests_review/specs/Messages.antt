@@ -2,9 +2,9 @@
 -- Which trees plainly give no string: the kind of the node says so, without any value. Source: CEL language definition, "List of Standard
 -- Definitions", "Macros"; of the operators `+` alone gives strings, and of strings alone.
 use Rattle.std.specs.Prelude.{Bool, true, false, not, ◌||◌, is_some}
-use Rattle.cel_syntax_tree.specs.Term.{Term, literal, ident, select, has, index, unary, binary, choice, list_of, map_with, call, qualified, macro}
-use Rattle.cel_syntax_tree.specs.declared.expr.BinaryOperator.{BinaryOperator}
-use Rattle.cel_syntax_tree.specs.declared.expr.BinaryOperator.TheVariants.{Or, And, Less, LessOrEqual, Greater, GreaterOrEqual, Equal, NotEqual, In, Add, Subtract, Multiply, Divide, Remainder}
+use Rattle.cel_syntax_ast.specs.Term.{Term, literal, ident, select, has, index, unary, binary, conditional, list_of, map_with, call, qualified, macro}
+use Rattle.cel_syntax_ast.specs.declared.expr.BinaryOperator.{BinaryOperator}
+use Rattle.cel_syntax_ast.specs.declared.expr.BinaryOperator.TheVariants.{Or, And, Less, LessOrEqual, Greater, GreaterOrEqual, Equal, NotEqual, In, Add, Subtract, Multiply, Divide, Remainder}
 use Rattle.cel_value.specs.Parts.{text_in}
 
 abbrev pub may_join : BinaryOperator → Bool
@@ -32,7 +32,7 @@ is_no_string (index a b) = false
 is_no_string (unary o a) = true
 is_no_string (binary o a b) = not (may_join o) || (is_no_string a || is_no_string b)
 -- both branches have one kind
-is_no_string (choice a b c) = is_no_string b || is_no_string c
+is_no_string (conditional a b c) = is_no_string b || is_no_string c
 is_no_string (list_of ts) = true
 is_no_string (map_with ps) = true
 is_no_string (call r x ts) = false

@@ -1,7 +1,7 @@
 -- Trusted by the clauses of manifests.
 -- The nodes of a tree: itself, then those of its parts, in the order of the text. Source: CEL language definition, "Syntax".
 use Rattle.std.specs.Prelude.{List, [], ◌∷◌, ◌++◌}
-use Rattle.cel_syntax_tree.specs.Term.{Term, literal, ident, select, has, index, unary, binary, choice, list_of, map_with, call, qualified, macro, Terms, no_terms, term_and, Pairs, no_pairs, pair_and}
+use Rattle.cel_syntax_ast.specs.Term.{Term, literal, ident, select, has, index, unary, binary, conditional, list_of, map_with, call, qualified, macro, Terms, no_terms, term_and, Pairs, no_pairs, pair_and}
 
 abbrev mutual
   pub nodes_of : Term → List Term
@@ -12,7 +12,7 @@ abbrev mutual
   nodes_of (index a b) = index a b ∷ (nodes_of a ++ nodes_of b)
   nodes_of (unary o a) = unary o a ∷ nodes_of a
   nodes_of (binary o a b) = binary o a b ∷ (nodes_of a ++ nodes_of b)
-  nodes_of (choice a b c) = choice a b c ∷ (nodes_of a ++ (nodes_of b ++ nodes_of c))
+  nodes_of (conditional a b c) = conditional a b c ∷ (nodes_of a ++ (nodes_of b ++ nodes_of c))
   nodes_of (list_of ts) = list_of ts ∷ nodes_of_all ts
   nodes_of (map_with ps) = map_with ps ∷ nodes_of_pairs ps
   nodes_of (call r x ts) = call r x ts ∷ (nodes_of_all r ++ nodes_of_all ts)

@@ -4,16 +4,16 @@
 use Rattle.std.specs.Prelude.{ℕ, suc, List, [], ◌∷◌, ◌++◌, map, Bool, true, false, Option, Some, None, if◌then◌else◌, is_some, codes}
 use Rattle.std.specs.List.{flat_map, list_any}
 use Rattle.std.specs.Option.{option_and_then}
-use Rattle.cel_book.specs.Book.{Book}
+use Rattle.cel_patterns.specs.Book.{Book}
 use Rattle.serde_json.specs.Data.{Data, Items, no_items, item}
 use Rattle.serde_json.specs.Find.{get, as_array, as_object}
 use Rattle.kube_cel_lint.specs.Findings.{Naming}
 use Rattle.kube_cel_lint.specs.Findings as linter
 use Rattle.kube_cel_lint.specs.Lint.{findings}
 use Rattle.kube_schema_rules.specs.Rules.{rule_items}
-use Rattle.kube_schema_table.specs.View.{items_or_none, view_of}
+use Rattle.kube_schema_compiled.specs.View.{items_or_none, view_of}
 use Rattle.kube_manifests_review.specs.Doubts.{Doubt, Finding, always, due, plainly}
-use Rattle.kube_manifests_review.specs.Places.{Place, places_of}
+use Rattle.kube_manifests_review.specs.Locations.{SchemaLocation, locations_of}
 use Rattle.kube_manifests_review.specs.Pointers.{index_pointer}
 use Rattle.kube_manifests_review.specs.Rules.{place_doubts}
 use Rattle.kube_manifests_review.specs.declared.finding.ReviewKind.TheVariants as kind
@@ -21,24 +21,24 @@ use Rattle.kube_manifests_review.specs.declared.finding.ReviewKind.TheVariants a
 -- ---- of the schema at this pointer
 
 -- what a linter finds, with its pointer in the document
-abbrev pub moved : List ℕ → linter.Finding → Doubt
-moved base f = record { finding = record { pointer = base ++ f.pointer; rule = f.rule; kind = kind.Lint f.kind; message = f.message }; when = always }
+abbrev pub doubt_of_finding : List ℕ → linter.Finding → Doubt
+doubt_of_finding base f = record { finding = record { pointer = base ++ f.pointer; rule = f.rule; kind = kind.Lint f.kind; message = f.message }; when = always }
 
 abbrev pub any_item : Items → Bool
 any_item no_items = false
 any_item (item d ds) = true
 
-abbrev pub has_rules : Place → Bool
+abbrev pub has_rules : SchemaLocation → Bool
 has_rules p = any_item (rule_items p.schema)
 
-abbrev pub no_rule_doubts : List ℕ → List Place → List Doubt
+abbrev pub no_rule_doubts : List ℕ → List SchemaLocation → List Doubt
 no_rule_doubts base ps = if list_any has_rules ps then [] else plainly base kind.NoRules (codes "the schema has no rule") ∷ []
 
-unfoldable pub own_doubts : List ℕ → List Place → List Doubt
+unfoldable pub own_doubts : List ℕ → List SchemaLocation → List Doubt
 own_doubts base ps = no_rule_doubts base ps ++ flat_map place_doubts ps
 
 unfoldable pub schema_doubts : Naming → List ℕ → Data → List Doubt
-schema_doubts names base s = map (moved base) (findings names [] (view_of 65 s)) ++ own_doubts base (places_of 65 base s)
+schema_doubts names base s = map (doubt_of_finding base) (findings names [] (view_of 65 s)) ++ own_doubts base (locations_of 65 base s)
 
 -- ---- of a document
 

@@ -3,17 +3,17 @@
 use Rattle.std.specs.Prelude.{ℕ, suc, List, [], ◌∷◌, ◌++◌, false, true, Option, Some, None, unwrap_or, Result, Ok, Err, if◌then◌else◌, codes}
 use Rattle.std.specs.List.{flat_map}
 use Rattle.std.specs.Option.{option_and_then}
-use Rattle.cel_syntax_tree.specs.Term.{Term}
+use Rattle.cel_syntax_ast.specs.Term.{Term}
 use Rattle.serde_json.specs.Data.{Data, Items, no_items, item, Members}
 use Rattle.serde_json.specs.Find.{get, as_array, as_object, as_str}
-use Rattle.kube_schema_filled.specs.Look.{members_or_none}
+use Rattle.kube_schema_defaults.specs.DefaultsAccessors.{members_or_none}
 use Rattle.kube_schema_rules.specs.Compilation.{Compiled, Malformed, compiled_rule}
-use Rattle.kube_manifests_review.specs.Calls.{Text, node_doubts, said}
+use Rattle.kube_manifests_review.specs.Calls.{Text, node_doubts, doubt_about}
 use Rattle.kube_manifests_review.specs.Doubts.{Doubt, always, plainly}
 use Rattle.kube_manifests_review.specs.Keywords.{keywords, keys_doubts, rule_fields}
 use Rattle.kube_manifests_review.specs.Messages.{is_no_string}
 use Rattle.kube_manifests_review.specs.Nodes.{nodes_of}
-use Rattle.kube_manifests_review.specs.Places.{Place}
+use Rattle.kube_manifests_review.specs.Locations.{SchemaLocation}
 use Rattle.kube_manifests_review.specs.Pointers.{keyword_pointer, index_pointer}
 use Rattle.kube_manifests_review.specs.declared.finding.ReviewKind.TheVariants as kind
 
@@ -30,13 +30,13 @@ abbrev pub message_text_at : List ℕ → List ℕ → Text
 message_text_at q rule = record { pointer = keyword_pointer q (codes "messageExpression"); rule = rule; is_message = true }
 
 abbrev pub kind_doubts : Text → Term → List Doubt
-kind_doubts t e = if is_no_string e then said t kind.Message (codes "messageExpression gives no string") always ∷ [] else []
+kind_doubts t e = if is_no_string e then doubt_about t kind.Message (codes "messageExpression gives no string") always ∷ [] else []
 
 abbrev pub message_doubts : Text → Option Term → List Doubt
 message_doubts t None = []
 message_doubts t (Some e) = tree_doubts t e ++ kind_doubts t e
 
--- of a malformed rule a linter tells
+-- a malformed rule is reported by a linter
 abbrev pub compiled_doubts : List ℕ → Result Compiled Malformed → List Doubt
 compiled_doubts q (Ok c) = tree_doubts (rule_text_at q c.fields.rule) c.tree ++ message_doubts (message_text_at q c.fields.rule) c.message_tree
 compiled_doubts q (Err m) = []
@@ -69,7 +69,7 @@ abbrev pub validations_doubts : List ℕ → Option Data → List Doubt
 validations_doubts q None = []
 validations_doubts q (Some d) = listed_doubts q (as_array d)
 
-unfoldable pub place_doubts : Place → List Doubt
+unfoldable pub place_doubts : SchemaLocation → List Doubt
 place_doubts p =
     keys_doubts keywords p.pointer [] (members_of p.schema)
     ++ validations_doubts (keyword_pointer p.pointer (codes "x-kubernetes-validations")) (get (codes "x-kubernetes-validations") p.schema)

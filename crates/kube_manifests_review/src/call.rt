@@ -1,16 +1,16 @@
 //! What is said of a call.
 ghost use Rattle.std.specs.Prelude.{◌≡◌, ◌++◌, [], ◌∷◌, OnOk, if◌then◌else◌, map, option_map};
-ghost use Rattle.cel_syntax_tree.specs.Term.{term};
+ghost use Rattle.cel_syntax_ast.specs.Term.{term};
 ghost use Rattle.kube_manifests_review.specs.Calls as spec;
 ghost use Rattle.kube_manifests_review.specs.Calls.{text_view};
 ghost use Rattle.kube_manifests_review.specs.Doubts.{always, doubt_view};
 
 use crate::doubt::{Condition, Doubt};
 use crate::finding::ReviewKind;
-use crate::said::{fails_text, old_self_text, pattern_text, unknown_text, wrong_text};
+use crate::messages::{fails_text, old_self_text, pattern_text, unknown_text, wrong_text};
 use crate::text::{Text, add_said};
-use cel_meaning::{Form, Functions};
-use cel_syntax_tree::Expr;
+use cel_semantics::{Form, Functions};
+use cel_syntax_ast::Expr;
 use kube_functions::AllFunctions;
 use std::alloc::{AllocError, Global};
 
@@ -53,11 +53,11 @@ fn only_text<'a>(receiver: Option<&'a Expr>, args: &'a [Expr]) -> Option<&'a str
 fn second_text<'a>(receiver: Option<&'a Expr>, args: &'a [Expr]) -> Option<&'a str>
     ensures { option_map (λ s. s.now) result ≡ spec.second_text (option_map (λ r. term r.now) receiver.entry) (map term args.now) }
 {
-    let place = match receiver {
+    let location = match receiver {
         Some(_) => 0,
         None => 1,
     };
-    literal_text(args.get(place)?)
+    literal_text(args.get(location)?)
 }
 
 /// Whether it is the name `oldSelf`.
@@ -194,7 +194,7 @@ fn add_known(
     Ok(())
 }
 
-/// Adds that a function has no form with or without a receiver and with so many arguments.
+/// Adds that a function has no form with or without a receiver and with this number of arguments.
 fn add_wrong(
     alloc: Global,
     text: Text<'_>,
@@ -204,7 +204,7 @@ fn add_wrong(
     doubts: &mut Vec<Doubt>,
 ) -> Result<(), AllocError>
     ensures { OnOk result (map doubt_view doubts.new.items ≡ map doubt_view doubts.old.items
-        ++ spec.said (text_view text.entry) ReviewKind.Call (spec.wrong_text name.now has_receiver count) always ∷ []) }
+        ++ spec.doubt_about (text_view text.entry) ReviewKind.Call (spec.wrong_text name.now has_receiver count) always ∷ []) }
 {
     let message = wrong_text(alloc, name, has_receiver, count)?;
     add_said(
@@ -226,7 +226,7 @@ fn add_unknown(
     doubts: &mut Vec<Doubt>,
 ) -> Result<(), AllocError>
     ensures { OnOk result (map doubt_view doubts.new.items ≡ map doubt_view doubts.old.items
-        ++ (if (text_view text.entry).is_message then spec.said (text_view text.entry) ReviewKind.Call (spec.unknown_text name.now) always ∷ [] else [])) }
+        ++ (if (text_view text.entry).is_message then spec.doubt_about (text_view text.entry) ReviewKind.Call (spec.unknown_text name.now) always ∷ [] else [])) }
 {
     if !text.is_message {
         return Ok(());

@@ -1,6 +1,6 @@
 //! The review of a CustomResourceDefinition: what a person should look at, found without an object.
 //!
-//! [`review_crd`] tells, version by version, what the linter finds, and then what is wrong with the schema besides: calls that can't work, literals
+//! [`review_crd`] reports, version by version, what the linter finds, and then what is wrong with the schema besides: calls that can't work, literals
 //! and patterns that aren't read, messages that are no strings, keys one letter off a keyword, rules that are no list, a schema without rules.
 //! Each finding has the JSON Pointer of its place in the document.
 //!
@@ -28,14 +28,14 @@ mod doubt;
 pub mod finding;
 mod keyword;
 pub mod laws;
+mod locations;
 mod message;
+mod messages;
 mod node;
 mod nodes;
-mod places;
 mod pointer;
 pub mod review;
 mod rule;
-mod said;
 mod schema;
 mod text;
 mod word;

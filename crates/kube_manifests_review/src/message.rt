@@ -1,9 +1,9 @@
 //! Trees that plainly give no string.
 ghost use Rattle.std.specs.Prelude.{◌≡◌};
-ghost use Rattle.cel_syntax_tree.specs.Term.{term};
+ghost use Rattle.cel_syntax_ast.specs.Term.{term};
 ghost use Rattle.kube_manifests_review.specs.Messages.{is_no_string, may_join};
 
-use cel_syntax_tree::{BinaryOperator, Expr};
+use cel_syntax_ast::{BinaryOperator, Expr};
 
 /// Whether the operator gives strings.
 fn may_join(operator: BinaryOperator) -> bool

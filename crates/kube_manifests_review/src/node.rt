@@ -1,6 +1,6 @@
 //! What is said of the nodes of a rule's tree.
 ghost use Rattle.std.specs.Prelude.{◌≡◌, ◌++◌, OnOk, map, option_map};
-ghost use Rattle.cel_syntax_tree.specs.Term.{term};
+ghost use Rattle.cel_syntax_ast.specs.Term.{term};
 ghost use Rattle.cel_value.specs.View.{view};
 ghost use Rattle.kube_manifests_review.specs.Calls.{call_doubts, literal_doubts, node_doubts, text_view};
 ghost use Rattle.kube_manifests_review.specs.Doubts.{doubt_view};
@@ -11,7 +11,7 @@ use crate::doubt::{Condition, Doubt};
 use crate::finding::ReviewKind;
 use crate::nodes::add_nodes;
 use crate::text::{Text, add_said};
-use cel_syntax_tree::Expr;
+use cel_syntax_ast::Expr;
 use cel_value::Value;
 use std::alloc::{AllocError, Global};
 

@@ -1,9 +1,9 @@
 //! The nodes of a tree.
 ghost use Rattle.std.specs.Prelude.{◌≡◌, ◌++◌, OnOk, map};
-ghost use Rattle.cel_syntax_tree.specs.Term.{pairs_of, term, terms_of};
+ghost use Rattle.cel_syntax_ast.specs.Term.{pairs_of, term, terms_of};
 ghost use Rattle.kube_manifests_review.specs.Nodes.{nodes_of, nodes_of_all, nodes_of_pairs};
 
-use cel_syntax_tree::Expr;
+use cel_syntax_ast::Expr;
 use std::alloc::AllocError;
 
 /// Adds the node of an expression, then those of its parts.

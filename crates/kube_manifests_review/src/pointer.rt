@@ -1,13 +1,13 @@
 //! JSON Pointers (RFC 6901).
 ghost use Rattle.std.specs.Prelude.{◌≡◌, ◌++◌, IfOk, OnOk, string_bytes};
-ghost use Rattle.kube_cel_lint.specs.Pointers.{escaped, token};
+ghost use Rattle.kube_cel_lint.specs.Pointers.{escaped_character, token};
 ghost use Rattle.kube_manifests_review.specs.Pointers.{index_pointer, key_pointer, keyword_pointer};
 
 use std::alloc::{AllocError, Global};
 
 /// Adds a character of a name.
 fn push_escaped(out: &mut String, character: char) -> Result<(), AllocError>
-    ensures { OnOk result (string_bytes out.new ≡ string_bytes out.old ++ escaped character) }
+    ensures { OnOk result (string_bytes out.new ≡ string_bytes out.old ++ escaped_character character) }
 {
     match character {
         '~' => out.push_str("~0"),

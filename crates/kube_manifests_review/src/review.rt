@@ -1,8 +1,8 @@
 //! The review of a document.
 ghost use Rattle.std.specs.Prelude.{◌≡◌, ◌++◌, IfErr, IfOk, OnOk, map};
-ghost use Rattle.cel_book.specs.Book.{Agrees, Book, IsBook};
-ghost use Rattle.cel_book.specs.Entries.{entries_of};
-ghost use Rattle.cel_book.specs.Settled.{Settles};
+ghost use Rattle.cel_patterns.specs.Book.{Extends, Book, IsBook};
+ghost use Rattle.cel_patterns.specs.Entries.{entries_of};
+ghost use Rattle.cel_patterns.specs.Extensions.{HoldsForExtensions};
 ghost use Rattle.kube_cel_lint.specs.Findings.{Naming};
 ghost use Rattle.kube_manifests_review.specs.Doubts.{doubt_view, finding_view, when_view};
 ghost use Rattle.kube_manifests_review.specs.Doubts as spec;
@@ -12,8 +12,8 @@ ghost use Rattle.serde_json.specs.View.{view};
 use crate::document::doubts_of;
 use crate::doubt::{Condition, Doubt};
 use crate::finding::ReviewFinding;
-use cel_book::PatternBook;
-use cel_meaning::{Form, Functions};
+use cel_patterns::PatternBook;
+use cel_semantics::{Form, Functions};
 use cel_value::Value as CelValue;
 use kube_functions::AllFunctions;
 use kube_types_refused::Refused;
@@ -23,8 +23,9 @@ use std::alloc::Global;
 /// Whether the call of a function with a string alone has no value.
 #[tactic(auto, unfolding(crate::specs::Doubts::fails_at))]
 fn fails_at(alloc: Global, name: &str, text: &str, book: &mut PatternBook) -> Result<bool, Refused>
-    ensures keeps { Agrees (entries_of book.new) (entries_of book.old) }
-    ensures value { IfOk result (λ r. Settles (entries_of book.new) r (spec.fails_at name.now text.now)) }
+    ensures keeps { Extends (entries_of book.new) (entries_of book.old) }
+    ensures value { IfOk result (λ r. HoldsForExtensions (entries_of book.new) r
+        (spec.fails_at name.now text.now)) }
     ensures memory { IfErr result (λ e. e ≡ Refused.Memory) }
 {
     match AllFunctions.form(name, false, 1) {
@@ -42,8 +43,9 @@ fn fails_at(alloc: Global, name: &str, text: &str, book: &mut PatternBook) -> Re
 /// Whether a pattern is refused.
 #[tactic(auto, unfolding(crate::specs::Doubts::is_refused))]
 fn is_refused(pattern: &str, book: &mut PatternBook) -> Result<bool, Refused>
-    ensures keeps { Agrees (entries_of book.new) (entries_of book.old) }
-    ensures value { IfOk result (λ r. Settles (entries_of book.new) r (spec.is_refused pattern.now)) }
+    ensures keeps { Extends (entries_of book.new) (entries_of book.old) }
+    ensures value { IfOk result (λ r. HoldsForExtensions (entries_of book.new) r
+        (spec.is_refused pattern.now)) }
     ensures memory { IfErr result (λ e. e ≡ Refused.Memory) }
 {
     let found = book.matches(pattern, "")?;
@@ -52,8 +54,8 @@ fn is_refused(pattern: &str, book: &mut PatternBook) -> Result<bool, Refused>
 
 /// Whether what has this condition is said.
 fn is_due(alloc: Global, condition: Condition, book: &mut PatternBook) -> Result<bool, Refused>
-    ensures keeps { Agrees (entries_of book.new) (entries_of book.old) }
-    ensures value { IfOk result (λ r. Settles (entries_of book.new) r (λ b. spec.is_due b (when_view condition))) }
+    ensures keeps { Extends (entries_of book.new) (entries_of book.old) }
+    ensures value { IfOk result (λ r. HoldsForExtensions (entries_of book.new) r (λ b. spec.is_due b (when_view condition))) }
     ensures memory { IfErr result (λ e. e ≡ Refused.Memory) }
 {
     match condition {
@@ -70,8 +72,8 @@ fn add_due(
     book: &mut PatternBook,
     found: &mut Vec<ReviewFinding>,
 ) -> Result<(), Refused>
-    ensures keeps { Agrees (entries_of book.new) (entries_of book.old) }
-    ensures value { OnOk result (Settles (entries_of book.new) (map finding_view found.new.items)
+    ensures keeps { Extends (entries_of book.new) (entries_of book.old) }
+    ensures value { OnOk result (HoldsForExtensions (entries_of book.new) (map finding_view found.new.items)
         (λ b. map finding_view found.old.items ++ spec.said_by b (doubt_view doubt))) }
     ensures memory { IfErr result (λ e. e ≡ Refused.Memory) }
 {
@@ -89,8 +91,8 @@ fn due(
     doubts: Vec<Doubt>,
     book: &mut PatternBook,
 ) -> Result<Vec<ReviewFinding>, Refused>
-    ensures keeps { Agrees (entries_of book.new) (entries_of book.old) }
-    ensures value { IfOk result (λ v. Settles (entries_of book.new) (map finding_view v.items) (spec.due (map doubt_view doubts.items))) }
+    ensures keeps { Extends (entries_of book.new) (entries_of book.old) }
+    ensures value { IfOk result (λ v. HoldsForExtensions (entries_of book.new) (map finding_view v.items) (spec.due (map doubt_view doubts.items))) }
     ensures memory { IfErr result (λ e. e ≡ Refused.Memory) }
 {
     let mut found = Vec::new(alloc);
@@ -112,8 +114,8 @@ pub fn review_crd_with(
     crd: &Value,
     book: &mut PatternBook,
 ) -> Result<Vec<ReviewFinding>, Refused>
-    ensures keeps { Agrees (entries_of book.new) (entries_of book.old) }
-    ensures findings { IfOk result (λ v. (names : Naming) → Settles (entries_of book.new) (map finding_view v.items) (crd_findings names (view crd.now))) }
+    ensures keeps { Extends (entries_of book.new) (entries_of book.old) }
+    ensures findings { IfOk result (λ v. (names : Naming) → HoldsForExtensions (entries_of book.new) (map finding_view v.items) (crd_findings names (view crd.now))) }
     ensures memory { IfErr result (λ e. e ≡ Refused.Memory) }
 {
     let doubts = doubts_of(alloc, crd)?;

@@ -1,7 +1,7 @@
 //! What is said of the rules of a schema.
 ghost use Rattle.std.specs.Prelude.{◌≡◌, ◌++◌, [], IfErr, OnOk, codes, map, option_map};
 ghost use Rattle.cel.specs.Program.{program_term};
-ghost use Rattle.cel_syntax_tree.specs.Term.{term};
+ghost use Rattle.cel_syntax_ast.specs.Term.{term};
 ghost use Rattle.kube_manifests_review.specs.Calls.{text_view};
 ghost use Rattle.kube_manifests_review.specs.Doubts.{doubt_view};
 ghost use Rattle.kube_manifests_review.specs.Keywords.{keys_doubts};
@@ -19,7 +19,7 @@ use crate::node::add_tree;
 use crate::pointer::{index_pointer, keyword_pointer};
 use crate::text::{Text, add_plainly, add_said};
 use cel::Program;
-use cel_syntax_tree::Expr;
+use cel_syntax_ast::Expr;
 use kube_schema_rules::{CompilationError, CompilationResult, compile_rule};
 use kube_types_refused::Refused;
 use serde_json::Value;
@@ -79,9 +79,9 @@ fn add_text(
     ensures { OnOk result (map doubt_view doubts.new.items ≡ map doubt_view doubts.old.items
         ++ tree_doubts (spec.rule_text_at pointer.now rule.now) (term tree.now)) }
 {
-    let place = keyword_pointer(alloc, pointer, "rule")?;
+    let location = keyword_pointer(alloc, pointer, "rule")?;
     let text = Text {
-        pointer: place.as_str(),
+        pointer: location.as_str(),
         rule,
         is_message: false,
     };
@@ -100,9 +100,9 @@ fn add_message_text(
     ensures { OnOk result (map doubt_view doubts.new.items ≡ map doubt_view doubts.old.items
         ++ spec.message_doubts (spec.message_text_at pointer.now rule.now) (option_map program_term program.now)) }
 {
-    let place = keyword_pointer(alloc, pointer, "messageExpression")?;
+    let location = keyword_pointer(alloc, pointer, "messageExpression")?;
     let text = Text {
-        pointer: place.as_str(),
+        pointer: location.as_str(),
         rule,
         is_message: true,
     };

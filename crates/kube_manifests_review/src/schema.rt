@@ -4,7 +4,7 @@ ghost use Rattle.std.specs.List.{flat_map, list_any};
 ghost use Rattle.kube_cel_lint.specs.Findings.{Naming};
 ghost use Rattle.kube_cel_lint.specs.Findings as linter;
 ghost use Rattle.kube_manifests_review.specs.Doubts.{doubt_view};
-ghost use Rattle.kube_manifests_review.specs.Places.{place_view};
+ghost use Rattle.kube_manifests_review.specs.Locations.{location_view};
 ghost use Rattle.kube_manifests_review.specs.Reviewed as spec;
 ghost use Rattle.kube_manifests_review.specs.Rules.{place_doubts};
 ghost use Rattle.kube_schema_rules.specs.Rules.{rule_items};
@@ -13,13 +13,13 @@ ghost use Rattle.serde_json.specs.View.{items_view, view};
 use crate::doubt::{Condition, Doubt};
 use crate::finding::{ReviewFinding, ReviewKind};
 use crate::keyword::KEYWORDS;
-use crate::places::{Place, add_places};
+use crate::locations::{SchemaLocation, add_locations};
 use crate::pointer::keyword_pointer;
 use crate::rule::{add_keys_of, add_validations};
 use crate::text::add_plainly;
 use kube_cel_lint::{LintFinding, lint_schema};
+use kube_schema_compiled::compile_schema;
 use kube_schema_rules::rule_values;
-use kube_schema_table::compile_schema;
 use kube_types_refused::Refused;
 use serde_json::Value;
 use std::alloc::{AllocError, Global};
@@ -29,7 +29,7 @@ const LEVELS: usize = 65;
 
 /// What a linter finds, with its pointer in the document.
 fn moved(alloc: Global, base: &str, finding: LintFinding) -> Result<Doubt, AllocError>
-    ensures { IfOk result (λ d. doubt_view d ≡ spec.moved base.now (linter.finding_view finding)) }
+    ensures { IfOk result (λ d. doubt_view d ≡ spec.doubt_of_finding base.now (linter.finding_view finding)) }
 {
     let LintFinding {
         pointer,
@@ -55,7 +55,7 @@ fn add_lint(
     findings: Vec<LintFinding>,
     doubts: &mut Vec<Doubt>,
 ) -> Result<(), AllocError>
-    ensures { OnOk result (map doubt_view doubts.new.items ≡ map doubt_view doubts.old.items ++ map (spec.moved base.now) (map linter.finding_view findings.items)) }
+    ensures { OnOk result (map doubt_view doubts.new.items ≡ map doubt_view doubts.old.items ++ map (spec.doubt_of_finding base.now) (map linter.finding_view findings.items)) }
 {
     for finding in findings {
         doubts.push(moved(alloc, base, finding)?)?;
@@ -81,11 +81,11 @@ fn has_rule(schema: &Value) -> bool
 }
 
 /// Whether one of the schemas has a rule.
-fn has_rules(places: &[Place<'_>]) -> bool
-    ensures { result ≡ list_any spec.has_rules (map place_view places.now) }
+fn has_rules(places: &[SchemaLocation<'_>]) -> bool
+    ensures { result ≡ list_any spec.has_rules (map location_view places.now) }
 {
-    for place in places {
-        if has_rule(place.schema) {
+    for location in places {
+        if has_rule(location.schema) {
             return true;
         }
     }
@@ -96,10 +96,10 @@ fn has_rules(places: &[Place<'_>]) -> bool
 fn add_no_rule(
     alloc: Global,
     base: &str,
-    places: &[Place<'_>],
+    places: &[SchemaLocation<'_>],
     doubts: &mut Vec<Doubt>,
 ) -> Result<(), AllocError>
-    ensures { OnOk result (map doubt_view doubts.new.items ≡ map doubt_view doubts.old.items ++ spec.no_rule_doubts base.now (map place_view places.now)) }
+    ensures { OnOk result (map doubt_view doubts.new.items ≡ map doubt_view doubts.old.items ++ spec.no_rule_doubts base.now (map location_view places.now)) }
 {
     if has_rules(places) {
         return Ok(());
@@ -115,25 +115,33 @@ fn add_no_rule(
 }
 
 /// Adds what is said of one schema.
-fn add_place(alloc: Global, place: &Place<'_>, doubts: &mut Vec<Doubt>) -> Result<(), Refused>
-    ensures doubts { OnOk result (map doubt_view doubts.new.items ≡ map doubt_view doubts.old.items ++ place_doubts (place_view place.now)) }
+fn add_location(
+    alloc: Global,
+    location: &SchemaLocation<'_>,
+    doubts: &mut Vec<Doubt>,
+) -> Result<(), Refused>
+    ensures doubts { OnOk result (map doubt_view doubts.new.items ≡ map doubt_view doubts.old.items ++ place_doubts (location_view location.now)) }
     ensures memory { IfErr result (λ e. e ≡ Refused.Memory) }
 {
-    let pointer = place.pointer.as_str();
-    add_keys_of(alloc, &KEYWORDS, pointer, "", place.schema, doubts)?;
+    let pointer = location.pointer.as_str();
+    add_keys_of(alloc, &KEYWORDS, pointer, "", location.schema, doubts)?;
     let inner = keyword_pointer(alloc, pointer, "x-kubernetes-validations")?;
-    let rules = place.schema.get("x-kubernetes-validations");
+    let rules = location.schema.get("x-kubernetes-validations");
     add_validations(alloc, inner.as_str(), rules, doubts)?;
     Ok(())
 }
 
 /// Adds what is said of schemas, in their order.
-fn add_each(alloc: Global, places: &[Place<'_>], doubts: &mut Vec<Doubt>) -> Result<(), Refused>
-    ensures doubts { OnOk result (map doubt_view doubts.new.items ≡ map doubt_view doubts.old.items ++ flat_map place_doubts (map place_view places.now)) }
+fn add_each(
+    alloc: Global,
+    places: &[SchemaLocation<'_>],
+    doubts: &mut Vec<Doubt>,
+) -> Result<(), Refused>
+    ensures doubts { OnOk result (map doubt_view doubts.new.items ≡ map doubt_view doubts.old.items ++ flat_map place_doubts (map location_view places.now)) }
     ensures memory { IfErr result (λ e. e ≡ Refused.Memory) }
 {
-    for place in places {
-        add_place(alloc, place, doubts)?;
+    for location in places {
+        add_location(alloc, location, doubts)?;
     }
     Ok(())
 }
@@ -142,10 +150,10 @@ fn add_each(alloc: Global, places: &[Place<'_>], doubts: &mut Vec<Doubt>) -> Res
 fn add_own(
     alloc: Global,
     base: &str,
-    places: &[Place<'_>],
+    places: &[SchemaLocation<'_>],
     doubts: &mut Vec<Doubt>,
 ) -> Result<(), Refused>
-    ensures doubts { OnOk result (map doubt_view doubts.new.items ≡ map doubt_view doubts.old.items ++ spec.own_doubts base.now (map place_view places.now)) }
+    ensures doubts { OnOk result (map doubt_view doubts.new.items ≡ map doubt_view doubts.old.items ++ spec.own_doubts base.now (map location_view places.now)) }
     ensures memory { IfErr result (λ e. e ≡ Refused.Memory) }
 {
     add_no_rule(alloc, base, places, doubts)?;
@@ -167,7 +175,7 @@ pub(crate) fn add_schema(
     let findings = lint_schema(alloc, &compiled)?;
     add_lint(alloc, base, findings, doubts)?;
     let mut places = Vec::new(alloc);
-    add_places(alloc, base, schema, LEVELS, &mut places)?;
+    add_locations(alloc, base, schema, LEVELS, &mut places)?;
     add_own(alloc, base, places.as_slice(), doubts)?;
     Ok(())
 }

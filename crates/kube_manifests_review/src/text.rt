@@ -1,6 +1,6 @@
 //! A text of a rule, and what is said of it.
 ghost use Rattle.std.specs.Prelude.{◌≡◌, ◌++◌, [], ◌∷◌, OnOk, map, string_bytes};
-ghost use Rattle.kube_manifests_review.specs.Calls.{said, text_view};
+ghost use Rattle.kube_manifests_review.specs.Calls.{doubt_about, text_view};
 ghost use Rattle.kube_manifests_review.specs.Doubts.{doubt_view, plainly, when_view};
 
 use crate::doubt::{Condition, Doubt};
@@ -28,7 +28,7 @@ pub(crate) fn add_said(
     doubts: &mut Vec<Doubt>,
 ) -> Result<(), AllocError>
     ensures { OnOk result (map doubt_view doubts.new.items ≡ map doubt_view doubts.old.items
-        ++ said (text_view text.entry) kind (string_bytes message) (when_view condition) ∷ []) }
+        ++ doubt_about (text_view text.entry) kind (string_bytes message) (when_view condition) ∷ []) }
 {
     doubts.push(Doubt {
         finding: ReviewFinding {

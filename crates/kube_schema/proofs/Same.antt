@@ -5,17 +5,17 @@ use Rattle.serde_json.specs.Data as json
 use Rattle.serde_json.specs.Find.{get}
 use Rattle.cel_value.specs.Data.{Data, item, list, map_of, text_key}
 use Rattle.cel_value.specs.Keys.{put}
-use Rattle.kube_schema_bound.specs.Bound.{Look, bound, bound_by, entries_by, items_by, key_in, member_by, member_key, object_by, or_else, raw, with_resource_fields}
-use Rattle.kube_schema_bound.specs.Formats.{formatted}
-use Rattle.kube_schema_bound.specs.Node as asked
-use Rattle.kube_schema_filled.specs.Look.{additional, declared, members_or_none, property}
-use Rattle.kube_schema_filled.proofs.Fills.{property_is}
+use Rattle.kube_schema_conversion.specs.Conversion.{ConversionAccessors, to_cel, to_cel_by, entries_by, items_by, key_in, member_by, member_key, object_by, or_else, raw, with_resource_fields}
+use Rattle.kube_schema_conversion.specs.Formats.{value_by_format}
+use Rattle.kube_schema_conversion.specs.Node as asked
+use Rattle.kube_schema_defaults.specs.DefaultsAccessors.{additional, declared_properties, members_or_none, property}
+use Rattle.kube_schema_defaults.proofs.Fills.{property_is}
 use Rattle.kube_schema_values.specs.Plain.{plain}
-use Rattle.kube_schema_table.specs.View.{children_view, own_view, view_of}
-use Rattle.kube_schema_table.proofs.Same.{find_same, maybe_same}
-use Rattle.kube_schema.specs.Compiled.{compiled}
+use Rattle.kube_schema_compiled.specs.View.{children_view, own_view, view_of}
+use Rattle.kube_schema_compiled.proofs.Same.{find_same, maybe_same}
+use Rattle.kube_schema.specs.Compiled.{tree_accessors}
 
--- ---- generic: two schemas that look alike, one level down
+-- ---- generic: two schemas that answer alike, one level down
 
 items_by_same : (f g : json.Data → Data) → ((d : json.Data) → f d ≡ g d) → (ds : json.Items) → items_by f ds ≡ items_by g ds
 items_by_same f g h json.no_items = refl
@@ -25,7 +25,7 @@ entries_by_same : (key other : List ℕ → List ℕ) (f g : List ℕ → json.D
 entries_by_same key other f g named same json.no_members = refl
 entries_by_same key other f g named same (json.member k d ms) = λ i. put (text_key (named k i)) (same k d i) (entries_by_same key other f g named same ms i)
 
-module _ {S T : Type 0} (ls : Look S) (lt : Look T) (view : S → T) where
+module _ {S T : Type 0} (ls : ConversionAccessors S) (lt : ConversionAccessors T) (view : S → T) where
   -- t is what s looks like
   pub record Alike (s : S) (t : T) : Type 0 where
     pub property : (k : List ℕ) → option_map view (ls.property k s) ≡ lt.property k t
@@ -55,21 +55,21 @@ module _ {S T : Type 0} (ls : Look S) (lt : Look T) (view : S → T) where
     each_item None ds x = refl
     each_item (Some p) ds x = ap list (items_by_same (f p) (g (view p)) (same p) ds)
 
-    pub bound_by_same : (s : S) (t : T) → Alike s t → (d : json.Data) → bound_by ls f s d ≡ bound_by lt g t d
-    unfolding bound_by
+    pub bound_by_same : (s : S) (t : T) → Alike s t → (d : json.Data) → to_cel_by ls f s d ≡ to_cel_by lt g t d
+    unfolding to_cel_by
     bound_by_same s t h json.null = refl
     bound_by_same s t h (json.boolean b) = refl
     bound_by_same s t h (json.number n) = refl
-    bound_by_same s t h (json.string x) = ap (λ y. formatted y x) h.format
+    bound_by_same s t h (json.string x) = ap (λ y. value_by_format y x) h.format
     bound_by_same s t h (json.array ds) = each_item (ls.items s) ds (plain (json.array ds)) ∙ ap (λ o. option_map_or (λ p. list (items_by (g p) ds)) o (plain (json.array ds))) h.items
     bound_by_same s t h (json.object ms) = ap map_of (object_same s t h ms)
 
 -- ---- a schema and its tree
 
-pub alike : (n : ℕ) (s : json.Data) → Alike raw compiled (view_of n) s (view_of (suc n) s)
-unfolding view_of own_view children_view raw compiled asked.property_of asked.items_of asked.additional_of property additional
+pub alike : (n : ℕ) (s : json.Data) → Alike raw tree_accessors (view_of n) s (view_of (suc n) s)
+unfolding view_of own_view children_view raw tree_accessors asked.property_of asked.items_of asked.additional_of property additional
 alike n s = record {
-  property = λ k. ap (option_map (view_of n)) (property_is k s) ∙ find_same (view_of n) k (members_or_none (declared s));
+  property = λ k. ap (option_map (view_of n)) (property_is k s) ∙ find_same (view_of n) k (members_or_none (declared_properties s));
   additional = maybe_same (view_of n) (additional s);
   items = maybe_same (view_of n) (get (codes "items") s);
   is_map = refl;
@@ -78,7 +78,7 @@ alike n s = record {
 }
 
 -- what the tree binds is what the schema binds
-pub bound_same : (n : ℕ) (s d : json.Data) → bound raw n s d ≡ bound compiled n (view_of n s) d
-unfolding bound
+pub bound_same : (n : ℕ) (s d : json.Data) → to_cel raw n s d ≡ to_cel tree_accessors n (view_of n s) d
+unfolding to_cel
 bound_same zero s d = refl
-bound_same (suc n) s d = bound_by_same raw compiled (view_of n) (bound raw n) (bound compiled n) (bound_same n) s (view_of (suc n) s) (alike n s) d
+bound_same (suc n) s d = bound_by_same raw tree_accessors (view_of n) (to_cel raw n) (to_cel tree_accessors n) (bound_same n) s (view_of (suc n) s) (alike n s) d

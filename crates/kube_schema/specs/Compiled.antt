@@ -1,10 +1,10 @@
 -- Trusted by the clauses of other library calls.
 -- What the tree of a schema answers where binding asks: as the schema itself does.
-use Rattle.kube_schema_bound.specs.Bound.{Look}
-use Rattle.kube_schema_table.specs.Tree.{Node, own, items_of, additional_of, property_of}
+use Rattle.kube_schema_conversion.specs.Conversion.{ConversionAccessors}
+use Rattle.kube_schema_compiled.specs.Tree.{Node, own, items_of, additional_of, property_of}
 
-unfoldable pub compiled : Look Node
-compiled = record {
+unfoldable pub tree_accessors : ConversionAccessors Node
+tree_accessors = record {
   property = property_of;
   additional = additional_of;
   items = items_of;

@@ -3,13 +3,13 @@
 ghost use Rattle.std.specs.Prelude.{◌≡◌, IfErr, IfOk, option_map};
 ghost use Rattle.serde_json.specs.View.{view as json_view};
 ghost use Rattle.cel_value.specs.View.{view};
-ghost use Rattle.kube_schema_bound.specs.Bound.{bound, levels, member_node};
-ghost use Rattle.kube_schema_table.specs.Shown.{shown};
-ghost use Rattle.kube_schema.specs.Compiled.{compiled};
+ghost use Rattle.kube_schema_conversion.specs.Conversion.{to_cel, levels, member_node};
+ghost use Rattle.kube_schema_compiled.specs.Shown.{node_tree};
+ghost use Rattle.kube_schema.specs.Compiled.{tree_accessors};
 
 use cel_value::{Refused, Value};
-use kube_schema_bound::{Node, SchemaFormat, bind_at};
-use kube_schema_table::SchemaNode;
+use kube_schema_compiled::SchemaNode;
+use kube_schema_conversion::{Node, SchemaFormat, bind_at};
 use serde_json::Value as Json;
 use std::alloc::Global;
 
@@ -20,46 +20,46 @@ struct CompiledNode<'a> {
 }
 
 impl Node for CompiledNode<'_> {
-    ghost use Rattle.kube_schema_table.specs.Shown.{shown};
-    ghost use Rattle.kube_schema_table.specs.Tree.{Node as Tree};
-    ghost use Rattle.kube_schema.specs.Compiled.{compiled};
+    ghost use Rattle.kube_schema_compiled.specs.Shown.{node_tree};
+    ghost use Rattle.kube_schema_compiled.specs.Tree.{Node as Tree};
+    ghost use Rattle.kube_schema.specs.Compiled.{tree_accessors};
 
     ghost Seen = { Tree };
 
-    ghost seen = { λ n. shown n.node };
+    ghost seen = { λ n. node_tree n.node };
 
-    ghost look = { compiled };
+    ghost accessors = { tree_accessors };
 
     fn member(&self, name: &str) -> Option<Self> {
         let node = node_of_member(&self.node, name)?;
         Some(CompiledNode { node })
     }
 
-    #[tactic(auto, unfolding(crate::specs::Compiled::compiled))]
+    #[tactic(auto, unfolding(crate::specs::Compiled::tree_accessors))]
     fn items(&self) -> Option<Self> {
         let node = self.node.items()?;
         Some(CompiledNode { node })
     }
 
-    #[tactic(auto, unfolding(crate::specs::Compiled::compiled))]
+    #[tactic(auto, unfolding(crate::specs::Compiled::tree_accessors))]
     fn is_map(&self) -> bool {
         self.node.is_map()
     }
 
-    #[tactic(auto, unfolding(crate::specs::Compiled::compiled))]
+    #[tactic(auto, unfolding(crate::specs::Compiled::tree_accessors))]
     fn is_embedded(&self) -> bool {
         self.node.embedded_resource()
     }
 
-    #[tactic(auto, unfolding(crate::specs::Compiled::compiled))]
+    #[tactic(auto, unfolding(crate::specs::Compiled::tree_accessors))]
     fn format(&self) -> SchemaFormat {
         *self.node.format()
     }
 }
 
-/// The CEL value of a JSON value at a node of a compiled schema that stands so many steps below the root.
+/// The CEL value of a JSON value at a node of a compiled schema that stands `depth` steps below the root.
 ///
-/// Texts become what the node's format says, members and items go by their own nodes, and keys are escaped unless the node is
+/// Texts become what the node's format says, members and items are converted by their own nodes, and keys are escaped unless the node is
 /// a map. At a depth of 65 and more no schema is looked at.
 ///
 /// # Errors
@@ -71,16 +71,16 @@ pub fn bind_node(
     value: &Json,
     depth: usize,
 ) -> Result<Value, Refused>
-    ensures value { IfOk result (λ v. view v ≡ bound compiled (levels depth) (shown node.now) (json_view value.now)) }
+    ensures value { IfOk result (λ v. view v ≡ to_cel tree_accessors (levels depth) (node_tree node.now) (json_view value.now)) }
     ensures memory { IfErr result (λ e. e ≡ Refused.Memory) }
 {
     bind_at(alloc, CompiledNode { node: *node }, value, depth)
 }
 
-// The node that a member goes by: its property, else the node of members that aren't declared.
-#[tactic(auto, unfolding(crate::specs::Compiled::compiled))]
+// The node of a member: its property, else the node of members that aren't declared.
+#[tactic(auto, unfolding(crate::specs::Compiled::tree_accessors))]
 fn node_of_member<'a>(node: &SchemaNode<'a>, name: &str) -> Option<SchemaNode<'a>>
-    ensures { option_map shown result ≡ member_node compiled (shown node.now) name.now }
+    ensures { option_map node_tree result ≡ member_node tree_accessors (node_tree node.now) name.now }
 {
     if let Some(property) = node.property_named(name) {
         return Some(property);

@@ -4,8 +4,8 @@
 use Rattle.std.specs.Prelude.{ℕ, List, [], ◌∷◌, ◌++◌, Bool, Option, Some, None, option_map, Result, Ok, Err, codes, decimal, string_bytes}
 use Rattle.serde_json.specs.Data.{Data, Items, no_items, item}
 use Rattle.cel_syntax.specs.Reading.{tree_of}
-use Rattle.cel_syntax_tree.specs.Term.{Term}
-use Rattle.cel_syntax_tree.specs.FreeNames.{is_free}
+use Rattle.cel_syntax_ast.specs.Term.{Term}
+use Rattle.cel_syntax_ast.specs.FreeNames.{is_free}
 use Rattle.cel.specs.Program.{program_term}
 use Rattle.kube_schema_rules.specs.Rules.{Fields, Fault, fault_text, fault_view, rule_of, rule_view, ◌>>=◌}
 use Rattle.kube_schema_rules.specs.declared.compilation.CompilationResult.{CompilationResult}
@@ -51,13 +51,13 @@ with_tree fields tree = do
   Ok (with_trees fields tree message_tree)
 
 -- the text first, then the messageExpression
-unfoldable pub compiled : Fields → Result Compiled Malformed
-compiled fields = do
+unfoldable pub compile_result : Fields → Result Compiled Malformed
+compile_result fields = do
   tree ← required_tree (unread fields.rule) (tree_of fields.rule)
   with_tree fields tree
 
 abbrev pub compiled_of : Result Fields Fault → Result Compiled Malformed
-compiled_of (Ok fields) = compiled fields
+compiled_of (Ok fields) = compile_result fields
 compiled_of (Err f) = Err (invalid f)
 
 -- the compiled rule that a JSON value gives, or why there is none

@@ -8,7 +8,7 @@ use Rattle.kube_schema_rules.specs.declared.rule.RuleFault.TheVariants as fault
 use Rattle.kube_schema_rules.specs.declared.rule.Rule.{Rule}
 use Rattle.kube_schema_rules.specs.declared.rule.Parts.{Parts}
 
--- what is wrong with a value that is no rule; a field goes by its name
+-- what is wrong with a value that is no rule; a field is found by its name
 pub data Fault : Type 0 where
   not_object : Fault
   rule_not_string : Fault
@@ -121,6 +121,6 @@ parts_view p = record {
 }
 
 -- what was read, or the fault
-abbrev pub read : {A B : Type 0} → (A → B) → Result A RuleFault → Result B Fault
-read f (Ok a) = Ok (f a)
-read f (Err e) = Err (fault_view e)
+abbrev pub reading_view : {A B : Type 0} → (A → B) → Result A RuleFault → Result B Fault
+reading_view f (Ok a) = Ok (f a)
+reading_view f (Err e) = Err (fault_view e)

@@ -3,7 +3,7 @@ ghost use Rattle.std.specs.Prelude.{◌≡◌, IfErr, IfOk, map, option_map};
 ghost use Rattle.serde_json.specs.View.{view};
 ghost use Rattle.kube_schema_rules.specs.Rules.{rule_view, rule_items};
 ghost use Rattle.cel.specs.Program.{program_term};
-ghost use Rattle.kube_schema_rules.specs.Compilation.{compiled, compiled_seen, compiled_rule, compiled_rules, result_view, with_tree, with_trees};
+ghost use Rattle.kube_schema_rules.specs.Compilation.{compile_result, compiled_seen, compiled_rule, compiled_rules, result_view, with_tree, with_trees};
 
 use crate::rule::{Rule, RuleFault, rule_values};
 use cel::{ParseErrors, Program};
@@ -123,12 +123,12 @@ pub fn rules_of(
 }
 
 // Compiles the texts of a rule.
-#[tactic(auto, unfolding(crate::specs::Compilation::compiled))]
+#[tactic(auto, unfolding(crate::specs::Compilation::compile_result))]
 fn compile_text(
     alloc: Global,
     rule: Rule,
 ) -> Result<Result<CompilationResult, CompilationError>, Refused>
-    ensures rule { IfOk result (λ r. compiled_seen r ≡ compiled (rule_view rule)) }
+    ensures rule { IfOk result (λ r. compiled_seen r ≡ compile_result (rule_view rule)) }
     ensures memory { IfErr result (λ e. e ≡ Refused.Memory) }
 {
     match Program::compile(alloc, rule.rule.as_str())? {

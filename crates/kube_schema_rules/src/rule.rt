@@ -2,7 +2,7 @@
 //! CustomResourceDefinition; "Use CEL validation rules").
 ghost use Rattle.std.specs.Prelude.{◌≡◌, IfErr, IfOk, option_map, string_bytes};
 ghost use Rattle.serde_json.specs.View.{view, items_view};
-ghost use Rattle.kube_schema_rules.specs.Rules.{fault_view, text_at, bool_at, rule_of, rule_items, parts_view, rule_view, read};
+ghost use Rattle.kube_schema_rules.specs.Rules.{fault_view, text_at, bool_at, rule_of, rule_items, parts_view, rule_view, reading_view};
 
 use kube_types_refused::Refused;
 use serde_json::Value;
@@ -47,9 +47,9 @@ impl fmt::Display for RuleFault {
 pub struct Rule {
     /// The CEL expression that has to be true.
     pub rule: String,
-    /// What is told where it is not.
+    /// What is reported where it is not.
     pub message: Option<String>,
-    /// A CEL expression that gives what is told where the rule isn't true.
+    /// A CEL expression that gives what is reported where the rule isn't true.
     pub message_expression: Option<String>,
     /// A word for programs that goes with the error.
     pub reason: Option<String>,
@@ -73,13 +73,13 @@ struct Parts<'a> {
 impl Rule {
     /// Reads a rule: an object with a string `rule`, with a string, null or nothing in `message`, `messageExpression`, `reason`
     /// and `fieldPath`, and with a bool, null or nothing in `optionalOldSelf`. Fields of other names are ignored. The first
-    /// fault, in this order of the fields, is told.
+    /// fault, in this order of the fields, is reported.
     ///
     /// # Errors
     ///
     /// [`Refused`] where memory is refused.
     pub fn from_json(alloc: Global, value: &Value) -> Result<Result<Rule, RuleFault>, Refused>
-        ensures rule { IfOk result (λ r. read rule_view r ≡ rule_of (view value.now)) }
+        ensures rule { IfOk result (λ r. reading_view rule_view r ≡ rule_of (view value.now)) }
         ensures memory { IfErr result (λ e. e ≡ Refused.Memory) }
     {
         match parts_of(value) {
@@ -124,7 +124,7 @@ pub fn rule_values(schema: &Value) -> &[Value]
 
 // A text, if the field is there and not null.
 fn text_at<'v>(value: &'v Value, name: &'static str) -> Result<Option<&'v str>, RuleFault>
-    ensures { read (option_map (λ s. s.now)) result ≡ text_at name.now (view value.now) }
+    ensures { reading_view (option_map (λ s. s.now)) result ≡ text_at name.now (view value.now) }
 {
     match value.get(name) {
         None | Some(Value::Null) => Ok(None),
@@ -135,7 +135,7 @@ fn text_at<'v>(value: &'v Value, name: &'static str) -> Result<Option<&'v str>, 
 
 // A bool, if the field is there and not null.
 fn bool_at(value: &Value, name: &str) -> Result<Option<bool>, RuleFault>
-    ensures { read (λ o. o) result ≡ bool_at name.now (view value.now) }
+    ensures { reading_view (λ o. o) result ≡ bool_at name.now (view value.now) }
 {
     match value.get(name) {
         None | Some(Value::Null) => Ok(None),
@@ -147,7 +147,7 @@ fn bool_at(value: &Value, name: &str) -> Result<Option<bool>, RuleFault>
 // What stands in the fields of a rule, or its first fault.
 #[tactic(auto, unfolding(crate::specs::Rules::rule_of, crate::specs::Rules::fields_of))]
 fn parts_of(value: &Value) -> Result<Parts<'_>, RuleFault>
-    ensures { read parts_view result ≡ rule_of (view value.now) }
+    ensures { reading_view parts_view result ≡ rule_of (view value.now) }
 {
     if !value.is_object() {
         return Err(RuleFault::NotObject);

@@ -10,7 +10,7 @@ use std::rc::Rc;
 /// The most names that are kept. A name that isn't among them is made anew.
 const MAX_NAMES: usize = 32;
 
-/// After so many names in a row that weren't found, only one place is looked at, so that names that all differ cost little.
+/// After this number of names in a row that weren't found, only one slot is tried, so that names that all differ cost little.
 const MAX_MISSES: usize = 64;
 
 /// A name with its escaped text.

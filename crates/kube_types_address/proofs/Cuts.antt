@@ -137,10 +137,10 @@ pub around-complete : (front back : List ℕ) → list_any is_slash front ≡ fa
 unfolding around_slash
 around-complete front back h =
     let text = front ++ 47 ∷ back in
-    let place = place_after front back h in
+    let offset = place_after front back h in
     let long : length front < length text = omega (arith, length-append front (47 ∷ back)) in
     let found : position is_slash text ≡ Some (length front) =
-    ap (λ i. cond (ltb i (length text)) (Some i) None) place ∙ ap (λ b. cond b (Some (length front)) None) (lt-ltb (length front) (length text) long) in
+    ap (λ i. cond (ltb i (length text)) (Some i) None) offset ∙ ap (λ b. cond b (Some (length front)) None) (lt-ltb (length front) (length text) long) in
     ap (λ o. option_map (λ i. (take i text, drop (i + 1) text)) o) found
     ∙ ap₂ (λ a b. Some (a, b)) (take_front front (47 ∷ back)) (ap (λ i. drop i text) (add-one (length front)) ∙ drop_front front back 47)
 
@@ -195,10 +195,10 @@ around-sound text p h = elim (cut_cases text) as (λ _. (text ≡ p.0 ++ 47 ∷ 
 ]
 
 -- what a place of a first slash gives
-pub around_by_place : (text : List ℕ) (place : ℕ) → position is_slash text ≡ Some place → around_slash text ≡ Some (take place text, take (length text - (place + 1)) (drop (place + 1) text))
+pub around_by_offset : (text : List ℕ) (offset : ℕ) → position is_slash text ≡ Some offset → around_slash text ≡ Some (take offset text, take (length text - (offset + 1)) (drop (offset + 1) text))
 unfolding around_slash
-around_by_place text place e =
-    ap (λ o. option_map (λ i. (take i text, drop (i + 1) text)) o) e ∙ ap (λ t. Some (take place text, t)) (sym (take_rest text (place + 1)))
+around_by_offset text offset e =
+    ap (λ o. option_map (λ i. (take i text, drop (i + 1) text)) o) e ∙ ap (λ t. Some (take offset text, t)) (sym (take_rest text (offset + 1)))
 
 -- ---- the grammar
 

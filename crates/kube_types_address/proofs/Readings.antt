@@ -10,7 +10,7 @@ use Rattle.std.specs.declared.net.ip_addr.IpAddr.{IpAddr}
 use Rattle.std.specs.declared.net.ip_addr.IpAddr.TheVariants as Ip
 use Rattle.kube_types_address.specs.Addresses.{Address, four, six, is_mapped}
 use Rattle.kube_types_address.specs.Shown.{parts}
-use Rattle.kube_types_address.specs.Texts.{IsTextOf, IsIpAnswer, address_of, or_else, unmapped, has_zone, ip_of, zone_error, mapped_error}
+use Rattle.kube_types_address.specs.Texts.{IsTextOf, IsIpAnswer, address_of, or_else, unless_mapped, has_zone, ip_of, zone_error, mapped_error}
 
 append_nil : (xs : List ℕ) → xs ++ [] ≡ xs
 append_nil [] = refl
@@ -100,11 +100,11 @@ not_parsed text h = address_of-none text (no_text text h)
 -- the cases of the answer
 pub answer_zone : (text : List ℕ) → has_zone text ≡ true → ip_of text ≡ Err zone_error
 unfolding ip_of
-answer_zone text z = ap (λ b. cond b (Err zone_error) (unmapped (address_of text))) z
+answer_zone text z = ap (λ b. cond b (Err zone_error) (unless_mapped (address_of text))) z
 
-pub answer_by : (text : List ℕ) (o : Option Address) → has_zone text ≡ false → address_of text ≡ o → ip_of text ≡ unmapped o
+pub answer_by : (text : List ℕ) (o : Option Address) → has_zone text ≡ false → address_of text ≡ o → ip_of text ≡ unless_mapped o
 unfolding ip_of
-answer_by text o z e = ap (λ b. cond b (Err zone_error) (unmapped (address_of text))) z ∙ ap unmapped e
+answer_by text o z e = ap (λ b. cond b (Err zone_error) (unless_mapped (address_of text))) z ∙ ap unless_mapped e
 
 pub answer_mapped : (text : List ℕ) (a : Address) → has_zone text ≡ false → address_of text ≡ Some a → is_mapped a ≡ true → ip_of text ≡ Err mapped_error
 answer_mapped text a z e m = answer_by text (Some a) z e ∙ ap (λ b. cond b (Err mapped_error) (Ok a)) m
@@ -116,7 +116,7 @@ mapped_or_not : (text : List ℕ) (a : Address) (m : Bool) → is_mapped a ≡ m
 mapped_or_not text a true e z t = inr (inl (z, (a, t, e), refl))
 mapped_or_not text a false e z t = (z, t, e)
 
-by_parts : (text : List ℕ) (b : Bool) (o : Option Address) → has_zone text ≡ b → address_of text ≡ o → IsIpAnswer text (cond b (Err zone_error) (unmapped o))
+by_parts : (text : List ℕ) (b : Bool) (o : Option Address) → has_zone text ≡ b → address_of text ≡ o → IsIpAnswer text (cond b (Err zone_error) (unless_mapped o))
 by_parts text true o z e = inl (z, refl)
 by_parts text false None z e = inr (inr (z, (λ a t. some_is_not_none (address_of text) a e (address_of-complete text a t)), refl))
 by_parts text false (Some a) z e = mapped_or_not text a (is_mapped a) refl z (address_of-sound text a e)

@@ -6,7 +6,7 @@ use Rattle.std.proofs.lemmas.Nat.{pow_pos, pow_below, pow-add, div_below, div-mu
 use Rattle.std.specs.Cmp.{first_so, second_so}
 use Rattle.kube_types_address.proofs.Numbers.{number_below, number-with_number, with_number_twice, width-with_number, family-with_number, same_width, with_number_is_address}
 use Rattle.kube_types_address.specs.Addresses.{Address, IsAddress, family, width, number, with_number}
-use Rattle.kube_types_address.specs.Prefixes.{Network, IsNetwork, first_bits, holds, encloses, masked}
+use Rattle.kube_types_address.specs.Prefixes.{Network, IsNetwork, first_bits, holds, encloses, masked_network}
 
 both_true : (a b : Bool) → a ≡ true → b ≡ true → (a && b) ≡ true
 both_true true b h k = k
@@ -115,22 +115,22 @@ containment outer inner out net = ((λ h a _ k. inside outer inner net h a k), c
 first_below : (c : Network) → IsNetwork c → first_bits c.prefix c.ip * 2 ^ (width c.ip - c.prefix) < 2 ^ width c.ip
 first_below c net = omega (arith, set_below c net, pow_pos (width c.ip - c.prefix))
 
-pub number-masked : (c : Network) → IsNetwork c → number (masked c).ip ≡ first_bits c.prefix c.ip * 2 ^ (width c.ip - c.prefix)
+pub number-masked : (c : Network) → IsNetwork c → number (masked_network c).ip ≡ first_bits c.prefix c.ip * 2 ^ (width c.ip - c.prefix)
 number-masked c net = number-with_number c.ip _ (first_below c net)
 
-first_bits-masked : (c : Network) → IsNetwork c → first_bits c.prefix (masked c).ip ≡ first_bits c.prefix c.ip
+first_bits-masked : (c : Network) → IsNetwork c → first_bits c.prefix (masked_network c).ip ≡ first_bits c.prefix c.ip
 first_bits-masked c net =
     ap₂ (λ x w. x / 2 ^ (w - c.prefix)) (number-masked c net) (width-with_number c.ip _)
     ∙ mul-div_cancel (first_bits c.prefix c.ip) (pow_pos (width c.ip - c.prefix))
 
-pub masked_twice : (c : Network) → IsNetwork c → masked (masked c) ≡ masked c
+pub masked_twice : (c : Network) → IsNetwork c → masked_network (masked_network c) ≡ masked_network c
 masked_twice c net =
     let same = ap₂ (λ b w. b * 2 ^ (w - c.prefix)) (first_bits-masked c net) (width-with_number c.ip (first_bits c.prefix c.ip * 2 ^ (width c.ip - c.prefix))) in
     ap (λ a. record { ip = a; prefix = c.prefix }) (with_number_twice c.ip _ _ ∙ ap (with_number c.ip) same)
 
-pub masked_least : (c : Network) → IsNetwork c → (holds c (masked c).ip ≡ true) × ((a : Address) → holds c a ≡ true → number (masked c).ip ≤ number a)
+pub masked_least : (c : Network) → IsNetwork c → (holds c (masked_network c).ip ≡ true) × ((a : Address) → holds c a ≡ true → number (masked_network c).ip ≤ number a)
 masked_least c net = (
-  holds_from c (masked c).ip (record { one_family = sym (family-with_number c.ip _); bits = sym (first_bits-masked c net) }),
+  holds_from c (masked_network c).ip (record { one_family = sym (family-with_number c.ip _); bits = sym (first_bits-masked c net) }),
   λ a h.
       let m = member_from c a h in
       let part = div-mul-le_self (number a) (2 ^ (width a - c.prefix)) in

@@ -26,8 +26,8 @@ abbrev pub encloses : Network → Network → Bool
 encloses outer inner = holds outer inner.ip && nat_le outer.prefix inner.prefix
 
 -- the first address of the set, with the same prefix: the bits after the prefix are 0
-abbrev pub masked : Network → Network
-masked c = record {
+abbrev pub masked_network : Network → Network
+masked_network c = record {
   ip = with_number c.ip (first_bits c.prefix c.ip * 2 ^ (width c.ip - c.prefix));
   prefix = c.prefix;
 }

@@ -52,13 +52,13 @@ unfoldable pub address_of : List ℕ → Option Address
 address_of text = or_else (option_map four (whole_value (read_ipv4 text))) (option_map six (whole_value (read_ipv6 text)))
 
 -- an address that is not IPv4-mapped
-abbrev pub unmapped : Option Address → Result Address (List ℕ)
-unmapped None = Err invalid_error
-unmapped (Some a) = if is_mapped a then Err mapped_error else Ok a
+abbrev pub unless_mapped : Option Address → Result Address (List ℕ)
+unless_mapped None = Err invalid_error
+unless_mapped (Some a) = if is_mapped a then Err mapped_error else Ok a
 
 -- that answer as a function
 unfoldable pub ip_of : List ℕ → Result Address (List ℕ)
-ip_of text = if has_zone text then Err zone_error else unmapped (address_of text)
+ip_of text = if has_zone text then Err zone_error else unless_mapped (address_of text)
 
 -- whether a text is the printed one of its address
 abbrev pub canonical_answer : List ℕ → Result Address (List ℕ) → Result Bool (List ℕ)

@@ -6,7 +6,7 @@ ghost use Rattle.std.specs.Prelude.{◌≡◌, ◌^◌, ◌<◌, ◌≤◌, true
 ghost use Rattle.std.specs.Str.Parse.{digits_value};
 ghost use Rattle.kube_types_address.specs.Addresses.{family, width};
 ghost use Rattle.kube_types_address.specs.CidrTexts.{around_slash, is_slash, is_plain, length_of, written_cidr, unmapped_cidr, cidr_of, cidr_text, IsCidrAnswer};
-ghost use Rattle.kube_types_address.specs.Prefixes.{holds, encloses, masked};
+ghost use Rattle.kube_types_address.specs.Prefixes.{holds, encloses, masked_network};
 ghost use Rattle.kube_types_address.specs.Shown.{address, part_texts};
 
 use crate::ip::KubeIP;
@@ -43,12 +43,12 @@ impl KubeCIDR {
     {
         match KubeCIDR::parse(text) {
             None => Err("invalid CIDR"),
-            Some(cidr) => cidr.unmapped(),
+            Some(cidr) => cidr.unless_mapped(),
         }
     }
 
     /// This CIDR, unless its addresses are IPv4-mapped.
-    fn unmapped(self) -> Result<KubeCIDR, &'static str>
+    fn unless_mapped(self) -> Result<KubeCIDR, &'static str>
         ensures { cidr_answer result ≡ unmapped_cidr (Some (network self)) }
     {
         if self.ip().is_ipv4_mapped() {
@@ -94,7 +94,7 @@ impl KubeCIDR {
 
     /// The same set, written by its first address: the bits after the prefix are 0.
     pub fn masked(&self) -> KubeCIDR
-        ensures { network result ≡ masked (network self.now) }
+        ensures { network result ≡ masked_network (network self.now) }
     {
         KubeCIDR {
             written: self.ip().masked(self.prefix_length()),
@@ -121,18 +121,18 @@ impl KubeCIDR {
 /// Where the first slash stands.
 fn first_slash(text: &[u8]) -> Option<usize>
     ensures value { result ≡ position is_slash text.now }
-    ensures within { IfSome result (λ place. place < length text.now) }
+    ensures within { IfSome result (λ offset. offset < length text.now) }
 {
     text.iter().position(|byte| *byte == b'/')
 }
 
 /// What stands before and after the first slash.
-#[tactic(auto, using(crate::proofs::Cuts::around_by_place), unfolding(crate::specs::CidrTexts::around_slash))]
+#[tactic(auto, using(crate::proofs::Cuts::around_by_offset), unfolding(crate::specs::CidrTexts::around_slash))]
 fn split_at_slash(text: &[u8]) -> Option<(&[u8], &[u8])>
     ensures { part_texts result ≡ around_slash text.now }
 {
-    let place = first_slash(text)?;
-    Some((&text[..place], &text[place + 1..]))
+    let offset = first_slash(text)?;
+    Some((&text[..offset], &text[offset + 1..]))
 }
 
 fn all_digits(text: &[u8]) -> bool

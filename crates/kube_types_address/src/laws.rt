@@ -2,7 +2,7 @@
 ghost use Rattle.std.specs.Prelude.{◌≡◌, ◌≤◌, ◌↔◌, ℕ, List, true, false, Result, Ok};
 ghost use Rattle.kube_types_address.specs.Addresses.{Address, IsAddress, number, is_mapped};
 ghost use Rattle.kube_types_address.specs.CidrTexts.{IsCidrAnswer, cidr_of, cidr_text};
-ghost use Rattle.kube_types_address.specs.Prefixes.{Network, IsNetwork, holds, encloses, masked};
+ghost use Rattle.kube_types_address.specs.Prefixes.{Network, IsNetwork, holds, encloses, masked_network};
 ghost use Rattle.kube_types_address.specs.Texts.{IsIpAnswer, address_text, canonical_of, ip_of};
 
 /// A text has one answer: that of `ip_of` alone is right by the grammar.
@@ -23,13 +23,13 @@ pub fn containment_is_of_sets()
 
 /// The masked CIDR is masked.
 pub fn masked_twice_is_masked_once()
-    ensures { (c : Network) → IsNetwork c → masked (masked c) ≡ masked c }
+    ensures { (c : Network) → IsNetwork c → masked_network (masked_network c) ≡ masked_network c }
 {}
 
 /// The masked address is the least of the set.
 pub fn masked_is_the_least()
-    ensures { (c : Network) → IsNetwork c → (holds c (masked c).ip ≡ true)
-        × ((a : Address) → holds c a ≡ true → number (masked c).ip ≤ number a) }
+    ensures { (c : Network) → IsNetwork c → (holds c (masked_network c).ip ≡ true)
+        × ((a : Address) → holds c a ≡ true → number (masked_network c).ip ≤ number a) }
 {}
 
 /// A printed address is read as the same address.

@@ -17,4 +17,4 @@ short_clock text h =
 pub short_sign : (rest : List ℕ) → length rest < 2 → None ≡ last_sign rest
 short_sign rest h =
     let few : length rest ≤ 2 = omega arith in
-    sym (ap (option_map (λ place. place + 2)) (last_place_end (codes "+-") rest 2 few))
+    sym (ap (option_map (λ byte_offset. byte_offset + 2)) (last_place_end (codes "+-") rest 2 few))

@@ -3,30 +3,30 @@ use Rattle.std.proofs.Common.{◌≡◌, ℕ, zero, suc, ◌+◌, ◌<◌, ◌�
 use Rattle.std.proofs.lemmas.Bool.Decides.{nat_tests}
 use Rattle.std.proofs.lemmas.List.{at_drop_all}
 use Rattle.std.specs.List.{position_or_len}
-use Rattle.kube_types_formats.specs.Places.{is_one_of, later_or_first, last_place}
+use Rattle.kube_types_formats.specs.Offsets.{is_one_of, later_or_first, last_offset}
 
-pub last_place_step : (marks text : List ℕ) (i : ℕ) → i < length text → last_place marks (drop i text) ≡ later_or_first (last_place marks (drop (i + 1) text)) (is_one_of marks (get_or text i 0))
-unfolding last_place
-last_place_step marks text i h = rw add-one (ap (last_place marks) (drop-cons text i 0 h))
+pub last_place_step : (marks text : List ℕ) (i : ℕ) → i < length text → last_offset marks (drop i text) ≡ later_or_first (last_offset marks (drop (i + 1) text)) (is_one_of marks (get_or text i 0))
+unfolding last_offset
+last_place_step marks text i h = rw add-one (ap (last_offset marks) (drop-cons text i 0 h))
 
 -- no mark from here on
-pub last_place_more : (marks text : List ℕ) (i : ℕ) → i < length text → last_place marks (drop (i + 1) text) ≡ None → is_one_of marks (get_or text i 0) ≡ false → last_place marks (drop i text) ≡ None
+pub last_place_more : (marks text : List ℕ) (i : ℕ) → i < length text → last_offset marks (drop (i + 1) text) ≡ None → is_one_of marks (get_or text i 0) ≡ false → last_offset marks (drop i text) ≡ None
 last_place_more marks text i h none absent =
     last_place_step marks text i h ∙ (λ k. later_or_first (none k) (absent k))
 
-pub last_place_from : (marks text : List ℕ) (i k : ℕ) → last_place marks (drop i text) ≡ Some k → last_place marks text ≡ Some (i + k)
-unfolding last_place
+pub last_place_from : (marks text : List ℕ) (i k : ℕ) → last_offset marks (drop i text) ≡ Some k → last_offset marks text ≡ Some (i + k)
+unfolding last_offset
 last_place_from marks text zero k e = e ∙ ap Some (omega arith)
 last_place_from marks [] (suc i) k e = cc
 last_place_from marks (c ∷ cs) (suc i) k e =
     ap (λ found. later_or_first found (is_one_of marks c)) (last_place_from marks cs i k e) ∙ ap Some (omega arith)
 
-pub last_place_end : (marks text : List ℕ) (i : ℕ) → length text ≤ i → last_place marks (drop i text) ≡ None
-unfolding last_place
-last_place_end marks text i h = at_drop_all (last_place marks) text i h
+pub last_place_end : (marks text : List ℕ) (i : ℕ) → length text ≤ i → last_offset marks (drop i text) ≡ None
+unfolding last_offset
+last_place_end marks text i h = at_drop_all (last_offset marks) text i h
 
 -- a mark here, and none later
-pub last_place_here : (marks text : List ℕ) (i : ℕ) → i < length text → last_place marks (drop (i + 1) text) ≡ None → is_one_of marks (get_or text i 0) ≡ true → last_place marks text ≡ Some i
+pub last_place_here : (marks text : List ℕ) (i : ℕ) → i < length text → last_offset marks (drop (i + 1) text) ≡ None → is_one_of marks (get_or text i 0) ≡ true → last_offset marks text ≡ Some i
 last_place_here marks text i h none here =
     last_place_from marks text i 0 (last_place_step marks text i h ∙ (λ k. later_or_first (none k) (here k))) ∙ ap Some (omega arith)
 

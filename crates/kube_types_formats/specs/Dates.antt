@@ -9,7 +9,7 @@ use Rattle.jiff_core.specs.Calendar.{days_in_month}
 use Rattle.kube_types_formats.specs.declared.fault.Fault.{Fault}
 use Rattle.kube_types_formats.specs.declared.fault.Fault.TheVariants.{NotDate, NoSuchDay, NotDateTime, NoTimeZone}
 use Rattle.kube_types_formats.specs.Forms.{fits, two_digits}
-use Rattle.kube_types_formats.specs.Places.{is_one_of, last_place}
+use Rattle.kube_types_formats.specs.Offsets.{is_one_of, last_offset}
 
 -- the calendar has this day
 abbrev pub is_civil : ℕ → ℕ → ℕ → Bool
@@ -52,21 +52,21 @@ is_zone (c ∷ cs) =
 
 -- where the last sign stands, from the third byte on
 abbrev pub last_sign : List ℕ → Option ℕ
-last_sign rest = option_map (λ place. place + 2) (last_place (codes "+-") (drop 2 rest))
+last_sign rest = option_map (λ byte_offset. byte_offset + 2) (last_offset (codes "+-") (drop 2 rest))
 
 -- where the zone starts: at the last `Z` or `z`, else at the last sign
 abbrev pub else_sign : Option ℕ → List ℕ → Option ℕ
-else_sign (Some place) rest = Some place
+else_sign (Some byte_offset) rest = Some byte_offset
 else_sign None rest = last_sign rest
 
 unfoldable pub zone_start : List ℕ → Option ℕ
-zone_start rest = else_sign (last_place (codes "Zz") rest) rest
+zone_start rest = else_sign (last_offset (codes "Zz") rest) rest
 
 -- the time and the zone that starts at this place
 abbrev pub zoned_fault : Option ℕ → List ℕ → Option Fault
 zoned_fault None rest = Some NoTimeZone
-zoned_fault (Some place) rest =
-    if is_time (take place rest) && is_zone (drop place rest) then None else Some NotDateTime
+zoned_fault (Some byte_offset) rest =
+    if is_time (take byte_offset rest) && is_zone (drop byte_offset rest) then None else Some NotDateTime
 
 abbrev pub time_fault : List ℕ → Option Fault
 time_fault rest = if length rest == 0 then Some NotDateTime else zoned_fault (zone_start rest) rest
@@ -74,9 +74,9 @@ time_fault rest = if length rest == 0 then Some NotDateTime else zoned_fault (zo
 -- the date and the time around the first letter, which stands at this place
 abbrev pub around_letter : Option ℕ → List ℕ → Option Fault
 around_letter None text = Some NotDateTime
-around_letter (Some place) text =
-    if is_some (date_fault (take place text)) then Some NotDateTime
-    else time_fault (drop (place + 1) text)
+around_letter (Some byte_offset) text =
+    if is_some (date_fault (take byte_offset text)) then Some NotDateTime
+    else time_fault (drop (byte_offset + 1) text)
 
 unfoldable pub date_time_fault : List ℕ → Option Fault
 date_time_fault text = around_letter (position (is_one_of (codes "Tt")) text) text

@@ -1,6 +1,6 @@
 pub mod Faults
 pub mod Found
-pub mod Places
+pub mod Offsets
 pub mod Forms
 pub mod Labels
 pub mod Names

@@ -6,16 +6,16 @@ use Rattle.std.specs.Char.{is_ascii_alphanumeric}
 use Rattle.std.specs.List.{list_all}
 use Rattle.kube_types_formats.specs.declared.dns.Label.TheVariants.{Rfc1123}
 use Rattle.kube_types_formats.specs.declared.fault.Fault.TheVariants.{TooLong, NotName, FirstNotAlphanumeric, LastNotAlphanumeric, EmptyPrefix}
-use Rattle.kube_types_formats.specs.Found.{chosen, said}
+use Rattle.kube_types_formats.specs.Found.{faults_found, fault_line}
 use Rattle.kube_types_formats.specs.Labels.{first_byte, last_byte, unless_empty, subdomain_faults}
-use Rattle.kube_types_formats.specs.Places.{last_place}
+use Rattle.kube_types_formats.specs.Offsets.{last_offset}
 
 -- a letter, a digit, a hyphen (45), an underscore (95) or a dot (46)
 abbrev pub is_name_byte : ℕ → Bool
 is_name_byte c = is_ascii_alphanumeric c || (c == 45) || (c == 95) || (c == 46)
 
 unfoldable pub name_faults : List ℕ → List ℕ → List (List ℕ)
-name_faults place text = unless_empty place text (chosen place (
+name_faults byte_offset text = unless_empty byte_offset text (faults_found byte_offset (
     (nat_lt 63 (length text), TooLong 63 (length text))
     ∷ (not (list_all is_name_byte text), NotName)
     ∷ (not (is_ascii_alphanumeric (first_byte text)), FirstNotAlphanumeric)
@@ -29,7 +29,7 @@ label_value_faults text = if length text == 0 then [] else name_faults [] text
 -- what stands before the slash
 unfoldable pub name_prefix_faults : List ℕ → List (List ℕ)
 name_prefix_faults prefix =
-    if length prefix == 0 then said [] EmptyPrefix ∷ [] else subdomain_faults Rfc1123 (codes "prefix: ") prefix
+    if length prefix == 0 then fault_line [] EmptyPrefix ∷ [] else subdomain_faults Rfc1123 (codes "prefix: ") prefix
 
 -- the text, cut at the place of its last slash (47)
 unfoldable pub faults_around : Option ℕ → List ℕ → List (List ℕ)
@@ -39,4 +39,4 @@ faults_around (Some slash) text =
 
 unfoldable pub qualified_name_faults : List ℕ → List (List ℕ)
 qualified_name_faults text =
-    unless_empty [] text (faults_around (last_place (47 ∷ []) text) text)
+    unless_empty [] text (faults_around (last_offset (47 ∷ []) text) text)

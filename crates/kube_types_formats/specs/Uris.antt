@@ -6,7 +6,7 @@ use Rattle.std.specs.Char.{is_ascii_alphabetic, is_ascii_alphanumeric}
 use Rattle.std.specs.List.{list_all}
 use Rattle.kube_types_formats.specs.declared.fault.Fault.{Fault}
 use Rattle.kube_types_formats.specs.declared.fault.Fault.TheVariants.{Empty, NoScheme, InvalidScheme}
-use Rattle.kube_types_formats.specs.Places.{is_one_of}
+use Rattle.kube_types_formats.specs.Offsets.{is_one_of}
 
 -- a letter, a digit, a plus (43), a hyphen (45) or a dot (46)
 abbrev pub is_scheme_byte : ℕ → Bool

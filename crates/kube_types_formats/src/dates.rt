@@ -6,7 +6,7 @@ ghost use Rattle.kube_types_formats.specs.Dates.{is_civil, date_fault, is_clock,
 
 use crate::fault::Fault;
 use crate::forms::{fits, two_digits};
-use crate::places::{cut, first_place, last_place};
+use crate::offsets::{cut, first_offset, last_offset};
 use jiff::civil::Date;
 
 /// Whether the calendar has this day.
@@ -83,7 +83,7 @@ fn is_offset(text: &[u8]) -> bool
 }
 
 /// Whether a text is a time zone.
-#[tactic(auto, unfolding(crate::specs::Dates::is_zone, crate::specs::Places::is_one_of))]
+#[tactic(auto, unfolding(crate::specs::Dates::is_zone, crate::specs::Offsets::is_one_of))]
 fn is_zone(text: &[u8]) -> bool
     ensures { result ≡ is_zone text.now }
 {
@@ -96,23 +96,23 @@ fn is_zone(text: &[u8]) -> bool
 
 /// Where the last sign stands, from the third byte on.
 fn last_sign(rest: &[u8]) -> Option<usize>
-    ensures place { result ≡ last_sign rest.now }
-    ensures within { IfSome result (λ place. place < length rest.now) }
+    ensures byte_offset { result ≡ last_sign rest.now }
+    ensures within { IfSome result (λ byte_offset. byte_offset < length rest.now) }
 {
     if rest.len() < 2 {
         return None;
     }
-    Some(last_place(b"+-", &rest[2..])? + 2)
+    Some(last_offset(b"+-", &rest[2..])? + 2)
 }
 
 /// Where the zone of a time starts.
 #[tactic(auto, unfolding(crate::specs::Dates::zone_start))]
 fn zone_start(rest: &[u8]) -> Option<usize>
-    ensures place { result ≡ zone_start rest.now }
-    ensures within { IfSome result (λ place. place < length rest.now) }
+    ensures byte_offset { result ≡ zone_start rest.now }
+    ensures within { IfSome result (λ byte_offset. byte_offset < length rest.now) }
 {
-    match last_place(b"Zz", rest) {
-        Some(place) => Some(place),
+    match last_offset(b"Zz", rest) {
+        Some(byte_offset) => Some(byte_offset),
         None => last_sign(rest),
     }
 }
@@ -126,8 +126,8 @@ fn time_fault(rest: &[u8]) -> Option<Fault>
     }
     match zone_start(rest) {
         None => Some(Fault::NoTimeZone),
-        Some(place) => {
-            if is_time(&rest[..place]) && is_zone(&rest[place..]) {
+        Some(byte_offset) => {
+            if is_time(&rest[..byte_offset]) && is_zone(&rest[byte_offset..]) {
                 None
             } else {
                 Some(Fault::NotDateTime)
@@ -141,10 +141,10 @@ fn time_fault(rest: &[u8]) -> Option<Fault>
 pub(crate) fn date_time_fault(text: &[u8]) -> Option<Fault>
     ensures { result ≡ date_time_fault text.now }
 {
-    match first_place(b"Tt", text) {
+    match first_offset(b"Tt", text) {
         None => Some(Fault::NotDateTime),
-        Some(place) => {
-            let (date, rest) = cut(text, place);
+        Some(byte_offset) => {
+            let (date, rest) = cut(text, byte_offset);
             if date_fault(date).is_some() {
                 Some(Fault::NotDateTime)
             } else {

@@ -1,11 +1,11 @@
 //! DNS labels and subdomains, by RFC 1035 and RFC 1123.
 ghost use Rattle.std.specs.Prelude.{ℕ, List, ◌≡◌, ◌<◌, ◌++◌, length, nat_lt, OnOk, IfOk, IfErr};
 ghost use Rattle.std.specs.List.{list_all};
-ghost use Rattle.kube_types_formats.specs.Found.{chosen, texts_of};
+ghost use Rattle.kube_types_formats.specs.Found.{faults_found, texts_of};
 ghost use Rattle.kube_types_formats.specs.Labels.{is_label_byte, first_byte, last_byte, empty_fault, end_tests, label_faults, subdomain_faults, parts_of, faults_of_parts};
 
 use crate::fault::Fault;
-use crate::places::{cut, first_place};
+use crate::offsets::{cut, first_offset};
 use crate::report::Report;
 use kube_types_refused::Refused;
 
@@ -72,10 +72,16 @@ pub(crate) fn too_long(limit: usize, text: &[u8]) -> (bool, Fault)
 impl Report {
     /// Adds the faults of a label's ends.
     #[tactic(auto, unfolding(crate::specs::Labels::end_tests))]
-    fn add_end_faults(&mut self, label: Label, place: &str, text: &[u8]) -> Result<(), Refused>
+    fn add_end_faults(
+        &mut self,
+        label: Label,
+        byte_offset: &str,
+        text: &[u8],
+    ) -> Result<(), Refused>
         requires { 0 < length text.now }
         ensures added { OnOk result
-            (texts_of self.new ≡ texts_of self.old ++ chosen place.now (end_tests label text.now)) }
+            (texts_of self.new ≡ texts_of self.old
+            ++ faults_found byte_offset.now (end_tests label text.now)) }
         ensures memory { IfErr result (λ e. e ≡ Refused.Memory) }
     {
         let hyphen_first = first_byte(text) == b'-';
@@ -84,20 +90,20 @@ impl Report {
         match label {
             Label::Rfc1123 => {
                 let hyphen_ends = hyphen_first || hyphen_last;
-                self.add_chosen(place, &[(hyphen_ends, Fault::EndNotAlphanumeric)])
+                self.add_chosen(byte_offset, &[(hyphen_ends, Fault::EndNotAlphanumeric)])
             }
             Label::Rfc1123Prefix => {
-                self.add_chosen(place, &[(hyphen_first, Fault::FirstNotAlphanumeric)])
+                self.add_chosen(byte_offset, &[(hyphen_first, Fault::FirstNotAlphanumeric)])
             }
             Label::Rfc1035 => self.add_chosen(
-                place,
+                byte_offset,
                 &[
                     (no_letter_first, Fault::FirstNotLetter),
                     (hyphen_last, Fault::LastNotAlphanumeric),
                 ],
             ),
             Label::Rfc1035Prefix => {
-                self.add_chosen(place, &[(no_letter_first, Fault::FirstNotLetter)])
+                self.add_chosen(byte_offset, &[(no_letter_first, Fault::FirstNotLetter)])
             }
         }
     }
@@ -107,35 +113,39 @@ impl Report {
     pub(crate) fn add_label(
         &mut self,
         label: Label,
-        place: &str,
+        byte_offset: &str,
         text: &[u8],
     ) -> Result<(), Refused>
         ensures added { OnOk result
-            (texts_of self.new ≡ texts_of self.old ++ label_faults label place.now text.now) }
+            (texts_of self.new ≡ texts_of self.old ++ label_faults label byte_offset.now text.now) }
         ensures memory { IfErr result (λ e. e ≡ Refused.Memory) }
     {
         if text.is_empty() {
-            return self.add_found(place, empty_fault(label));
+            return self.add_found(byte_offset, empty_fault(label));
         }
         let not_label = !is_label_text(text);
         self.add_chosen(
-            place,
+            byte_offset,
             &[too_long(LABEL_LIMIT, text), (not_label, Fault::NotLabel)],
         )?;
-        self.add_end_faults(label, place, text)
+        self.add_end_faults(label, byte_offset, text)
     }
 
     /// Adds the faults of each part before the last dot, and gives the part after it.
-    fn add_front_parts<'a>(&mut self, place: &str, text: &'a [u8]) -> Result<&'a [u8], Refused>
+    fn add_front_parts<'a>(
+        &mut self,
+        byte_offset: &str,
+        text: &'a [u8],
+    ) -> Result<&'a [u8], Refused>
         ensures added { IfOk result (λ last_part.
             (last : List ℕ → List (List ℕ)) → texts_of self.new ++ last last_part.now
-            ≡ texts_of self.old ++ faults_of_parts (label_faults Label.Rfc1123 place.now) last (parts_of text.now)) }
+            ≡ texts_of self.old ++ faults_of_parts (label_faults Label.Rfc1123 byte_offset.now) last (parts_of text.now)) }
         ensures memory { IfErr result (λ e. e ≡ Refused.Memory) }
     {
         let mut rest = text;
-        while let Some(dot) = first_place(b".", rest) {
+        while let Some(dot) = first_offset(b".", rest) {
             let (part, after) = cut(rest, dot);
-            self.add_label(Label::Rfc1123, place, part)?;
+            self.add_label(Label::Rfc1123, byte_offset, part)?;
             rest = after;
         }
         Ok(rest)
@@ -146,18 +156,18 @@ impl Report {
     pub(crate) fn add_subdomain(
         &mut self,
         last: Label,
-        place: &str,
+        byte_offset: &str,
         text: &[u8],
     ) -> Result<(), Refused>
         ensures added { OnOk result
-            (texts_of self.new ≡ texts_of self.old ++ subdomain_faults last place.now text.now) }
+            (texts_of self.new ≡ texts_of self.old ++ subdomain_faults last byte_offset.now text.now) }
         ensures memory { IfErr result (λ e. e ≡ Refused.Memory) }
     {
         if text.is_empty() {
-            return self.add(place, Fault::Empty);
+            return self.add(byte_offset, Fault::Empty);
         }
-        self.add_chosen(place, &[too_long(SUBDOMAIN_LIMIT, text)])?;
-        let last_part = self.add_front_parts(place, text)?;
-        self.add_label(last, place, last_part)
+        self.add_chosen(byte_offset, &[too_long(SUBDOMAIN_LIMIT, text)])?;
+        let last_part = self.add_front_parts(byte_offset, text)?;
+        self.add_label(last, byte_offset, last_part)
     }
 }

@@ -24,8 +24,8 @@ pub(crate) fn fits(form: &[u8], text: &[u8]) -> bool
     if form.len() != text.len() {
         return false;
     }
-    for (place, mark) in form.iter().enumerate() {
-        if !fits_mark(*mark, text[place]) {
+    for (byte_offset, mark) in form.iter().enumerate() {
+        if !fits_mark(*mark, text[byte_offset]) {
             return false;
         }
     }
@@ -33,12 +33,12 @@ pub(crate) fn fits(form: &[u8], text: &[u8]) -> bool
 }
 
 /// The number that the two decimal digits at a place write.
-pub(crate) fn two_digits(text: &[u8], place: usize) -> u32
-    requires { place + 1 < length text.now }
-    ensures value { result ≡ two_digits text.now place }
+pub(crate) fn two_digits(text: &[u8], byte_offset: usize) -> u32
+    requires { byte_offset + 1 < length text.now }
+    ensures value { result ≡ two_digits text.now byte_offset }
     ensures few { result < 10_000 }
 {
-    let tens = text[place].saturating_sub(b'0');
-    let ones = text[place + 1].saturating_sub(b'0');
+    let tens = text[byte_offset].saturating_sub(b'0');
+    let ones = text[byte_offset + 1].saturating_sub(b'0');
     u32::from(tens) * 10 + u32::from(ones)
 }

@@ -11,7 +11,7 @@ mod forms;
 mod kind;
 pub mod laws;
 mod names;
-mod places;
+mod offsets;
 mod report;
 mod uris;
 

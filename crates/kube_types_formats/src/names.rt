@@ -6,7 +6,7 @@ ghost use Rattle.kube_types_formats.specs.Names.{is_name_byte, name_faults, name
 
 use crate::dns::{LABEL_LIMIT, Label, first_byte, last_byte, too_long};
 use crate::fault::Fault;
-use crate::places::{cut, last_place};
+use crate::offsets::{cut, last_offset};
 use crate::report::Report;
 use kube_types_refused::Refused;
 
@@ -20,18 +20,18 @@ fn is_name_text(text: &[u8]) -> bool
 impl Report {
     /// Adds the faults of a name.
     #[tactic(auto, unfolding(crate::specs::Names::name_faults))]
-    fn add_name(&mut self, place: &str, text: &[u8]) -> Result<(), Refused>
+    fn add_name(&mut self, byte_offset: &str, text: &[u8]) -> Result<(), Refused>
         ensures added { OnOk result
-            (texts_of self.new ≡ texts_of self.old ++ name_faults place.now text.now) }
+            (texts_of self.new ≡ texts_of self.old ++ name_faults byte_offset.now text.now) }
         ensures memory { IfErr result (λ e. e ≡ Refused.Memory) }
     {
         if text.is_empty() {
-            return self.add(place, Fault::Empty);
+            return self.add(byte_offset, Fault::Empty);
         }
         let first_fault = !first_byte(text).is_ascii_alphanumeric();
         let last_fault = !last_byte(text).is_ascii_alphanumeric();
         self.add_chosen(
-            place,
+            byte_offset,
             &[
                 too_long(LABEL_LIMIT, text),
                 (!is_name_text(text), Fault::NotName),
@@ -64,7 +64,7 @@ impl Report {
         if text.is_empty() {
             return self.add("", Fault::Empty);
         }
-        match last_place(b"/", text) {
+        match last_offset(b"/", text) {
             None => self.add_name("", text),
             Some(slash) => {
                 let (prefix, name) = cut(text, slash);

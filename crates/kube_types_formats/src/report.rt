@@ -1,6 +1,6 @@
 //! What is said of a text's faults, gathered in order.
 ghost use Rattle.std.specs.Prelude.{◌≡◌, [], ◌∷◌, ◌++◌, OnOk, IfErr, IfOk, map, string_bytes};
-ghost use Rattle.kube_types_formats.specs.Found.{said, chosen, only, texts_of};
+ghost use Rattle.kube_types_formats.specs.Found.{fault_line, faults_found, only, texts_of};
 ghost use Rattle.kube_types_refused.specs.declared.Refused.{Refused};
 
 use crate::fault::Fault;
@@ -33,51 +33,59 @@ impl Report {
     }
 
     /// Adds a fault of the part of the text that is named so.
-    pub(crate) fn add(&mut self, place: &str, fault: Fault) -> Result<(), Refused>
+    pub(crate) fn add(&mut self, byte_offset: &str, fault: Fault) -> Result<(), Refused>
         ensures added { OnOk result
-            (texts_of self.new ≡ texts_of self.old ++ (said place.now fault ∷ [])) }
+            (texts_of self.new ≡ texts_of self.old ++ (fault_line byte_offset.now fault ∷ [])) }
         ensures memory { IfErr result (λ e. e ≡ Refused.Memory) }
     {
-        let text = format!(in self.alloc; "{place}{fault}")?;
+        let text = format!(in self.alloc; "{byte_offset}{fault}")?;
         self.texts.push(text)?;
         Ok(())
     }
 
     /// Adds the fault, if there is one.
-    pub(crate) fn add_found(&mut self, place: &str, fault: Option<Fault>) -> Result<(), Refused>
+    pub(crate) fn add_found(
+        &mut self,
+        byte_offset: &str,
+        fault: Option<Fault>,
+    ) -> Result<(), Refused>
         ensures added { OnOk result
-            (texts_of self.new ≡ texts_of self.old ++ only place.now fault) }
+            (texts_of self.new ≡ texts_of self.old ++ only byte_offset.now fault) }
         ensures memory { IfErr result (λ e. e ≡ Refused.Memory) }
     {
         match fault {
-            Some(fault) => self.add(place, fault),
+            Some(fault) => self.add(byte_offset, fault),
             None => Ok(()),
         }
     }
 
     /// Adds the fault, if its test found it.
-    #[tactic(auto, unfolding(crate::specs::Found::chosen))]
-    fn add_if(&mut self, place: &str, found: bool, fault: Fault) -> Result<(), Refused>
+    #[tactic(auto, unfolding(crate::specs::Found::faults_found))]
+    fn add_if(&mut self, byte_offset: &str, found: bool, fault: Fault) -> Result<(), Refused>
         ensures added { OnOk result
-            (texts_of self.new ≡ texts_of self.old ++ chosen place.now ((found, fault) ∷ [])) }
+            (texts_of self.new ≡ texts_of self.old ++ faults_found byte_offset.now ((found, fault) ∷ [])) }
         ensures memory { IfErr result (λ e. e ≡ Refused.Memory) }
     {
         if found {
-            self.add(place, fault)
+            self.add(byte_offset, fault)
         } else {
             Ok(())
         }
     }
 
     /// Adds each fault of the table whose test found it.
-    pub(crate) fn add_chosen(&mut self, place: &str, rules: &[(bool, Fault)]) -> Result<(), Refused>
+    pub(crate) fn add_chosen(
+        &mut self,
+        byte_offset: &str,
+        rules: &[(bool, Fault)],
+    ) -> Result<(), Refused>
         ensures added { OnOk result
-            (texts_of self.new ≡ texts_of self.old ++ chosen place.now rules.now) }
+            (texts_of self.new ≡ texts_of self.old ++ faults_found byte_offset.now rules.now) }
         ensures memory { IfErr result (λ e. e ≡ Refused.Memory) }
     {
         for rule in rules {
             let (found, fault) = *rule;
-            self.add_if(place, found, fault)?;
+            self.add_if(byte_offset, found, fault)?;
         }
         Ok(())
     }

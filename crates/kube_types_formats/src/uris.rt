@@ -4,7 +4,7 @@ ghost use Rattle.std.specs.List.{list_all};
 ghost use Rattle.kube_types_formats.specs.Uris.{is_scheme_byte, is_scheme, uri_fault};
 
 use crate::fault::Fault;
-use crate::places::first_place;
+use crate::offsets::first_offset;
 
 /// Whether all bytes may follow the first letter of a scheme.
 fn is_scheme_rest(text: &[u8]) -> bool
@@ -31,7 +31,7 @@ pub(crate) fn uri_fault(text: &[u8]) -> Option<Fault>
     if text.is_empty() {
         return Some(Fault::Empty);
     }
-    match first_place(b":", text) {
+    match first_offset(b":", text) {
         None => Some(Fault::NoScheme),
         Some(colon) => {
             if is_scheme(&text[..colon]) {

@@ -7,8 +7,8 @@ use Rattle.std.specs.Int.{is_negative, w32, w128}
 use Rattle.std.specs.Prelude.{unsigned_abs, FitsSigned, Some, None}
 use borrow.Author.Differences.{up, down, same_in}
 use lib.Signed.{mag}
-use Rattle.kube_types_quantity.specs.Decimal.{Decimal, natural, times_ten_to, aligned, with_sign, SameNumber}
-use Rattle.kube_types_quantity.specs.Normal.{is_normal, IsNormal, shortened, trailing_zeros, normal_form, fits, held}
+use Rattle.kube_types_quantity.specs.Decimal.{Decimal, natural, times_ten_to, aligned_mantissa, with_sign, SameNumber}
+use Rattle.kube_types_quantity.specs.Normal.{is_normal, IsNormal, mantissa_without_zeros, trailing_zeros, normal_form, fits, quantity_holding}
 use Rattle.kube_types_quantity.specs.NormalLaws.{times_zero}
 use Rattle.kube_types_quantity.specs.Scales.{product_parts, scale_above, scale_gap}
 use Rattle.kube_types_quantity.specs.Sums.{decimal_at}
@@ -61,7 +61,7 @@ pub normal_form_is : (x : Decimal) (a z : ℕ) → unsigned_abs x.mantissa ≡ a
 unfolding normal_form
 normal_form_is x a z e last positive =
     let zeros : trailing_zeros (unsigned_abs x.mantissa) ≡ z = trailing_are (unsigned_abs x.mantissa) a z e last in
-    let m : shortened x.mantissa ≡ with_sign (is_negative x.mantissa) a =
+    let m : mantissa_without_zeros x.mantissa ≡ with_sign (is_negative x.mantissa) a =
     ap (λ k. with_sign (is_negative x.mantissa) (unsigned_abs x.mantissa / 10 ^ k)) zeros ∙ ap (with_sign (is_negative x.mantissa)) (shorter_is (unsigned_abs x.mantissa) a z e) in
     let some : eqb (unsigned_abs x.mantissa) 0 ≡ false = not_equal (unsigned_abs x.mantissa) 0 (λ none. absurd (omega arith)) in
     let s : cond (eqb (unsigned_abs x.mantissa) 0) (pos 0) (x.scale +ℤ pos (trailing_zeros (unsigned_abs x.mantissa))) ≡ x.scale +ℤ pos z =
@@ -72,7 +72,7 @@ pub normal_form_zero : (x : Decimal) → unsigned_abs x.mantissa ≡ 0 → norma
 unfolding normal_form
 normal_form_zero x e =
     let m_is : x.mantissa ≡ pos 0 = zero_is x.mantissa e in
-    let m : shortened x.mantissa ≡ pos 0 = ap shortened m_is ∙ ap (λ k. with_sign (is_negative (pos 0)) (0 / 10 ^ k)) trailing_of_zero in
+    let m : mantissa_without_zeros x.mantissa ≡ pos 0 = ap mantissa_without_zeros m_is ∙ ap (λ k. with_sign (is_negative (pos 0)) (0 / 10 ^ k)) trailing_of_zero in
     let s : cond (eqb (unsigned_abs x.mantissa) 0) (pos 0) (x.scale +ℤ pos (trailing_zeros (unsigned_abs x.mantissa))) ≡ pos 0 =
     ap (λ b. cond b (pos 0) (x.scale +ℤ pos (trailing_zeros (unsigned_abs x.mantissa)))) (eq-eqb (unsigned_abs x.mantissa) 0 e) in
     λ i. record { mantissa = m i; scale = s i }
@@ -121,15 +121,15 @@ pub normal_form-same : (x : Decimal) → SameNumber (normal_form x) x
 normal_form-same x = elim (cases_eq (unsigned_abs x.mantissa) 0) as (λ _. SameNumber (normal_form x) x) [
   | inl none ↦
       let zero_x : x.mantissa ≡ pos 0 = zero_is x.mantissa none in
-      ap (λ d. aligned d x) (normal_form_zero x none) ∙ zero_times (natural (pos 0 -ℤ x.scale))
-      ∙ sym (ap (λ d. aligned x d) (normal_form_zero x none) ∙ ap (λ m. times_ten_to m (natural (x.scale -ℤ pos 0))) zero_x ∙ zero_times (natural (x.scale -ℤ pos 0)))
+      ap (λ d. aligned_mantissa d x) (normal_form_zero x none) ∙ zero_times (natural (pos 0 -ℤ x.scale))
+      ∙ sym (ap (λ d. aligned_mantissa x d) (normal_form_zero x none) ∙ ap (λ m. times_ten_to m (natural (x.scale -ℤ pos 0))) zero_x ∙ zero_times (natural (x.scale -ℤ pos 0)))
   | inr some ↦
       let cut = split_of (unsigned_abs x.mantissa) (unsigned_abs x.mantissa) (omega arith) (omega arith) in
       let form = normal_form_is x cut.front cut.zeros cut.whole cut.last (omega arith) in
       let m = with_sign (is_negative x.mantissa) cut.front in
-      ap (λ d. aligned d x) form
+      ap (λ d. aligned_mantissa d x) form
       ∙ shifted_same x.mantissa m x.scale cut.zeros (sign_back x.mantissa cut.front cut.zeros cut.whole)
-      ∙ sym (ap (λ d. aligned x d) form)
+      ∙ sym (ap (λ d. aligned_mantissa x d) form)
 ]
 
 fits_true : (bits : ℕ) (z : ℤ) → mag z < 2 ^ bits → fits bits z ≡ true
@@ -147,8 +147,8 @@ beyond : (z : ℤ) → ¬ (FitsSigned w32 z) → 2 ^ 31 ≤ mag z
 beyond z out = elim (cases_lt (mag z) (2 ^ 31)) as (λ _. 2 ^ 31 ≤ mag z) [ inl h ↦ absurd (out (record { sfits = h })) | inr h ↦ h ]
 
 -- what holds a number that is zero
-pub held_zero : (m s : ℤ) → m ≡ pos 0 → held (decimal_at m s) ≡ Some (decimal_at (pos 0) (pos 0))
-unfolding held
+pub held_zero : (m s : ℤ) → m ≡ pos 0 → quantity_holding (decimal_at m s) ≡ Some (decimal_at (pos 0) (pos 0))
+unfolding quantity_holding
 held_zero m s e =
     let form = normal_form_zero (decimal_at m s) (ap unsigned_abs e) in
     ap (λ (d : Decimal). cond (fits 31 d.scale) (Some d) None) form
@@ -157,22 +157,22 @@ form_scale : (m s : ℤ) → 0 < unsigned_abs m → (normal_form (decimal_at m s
 unfolding normal_form
 form_scale m s positive = ap (λ b. cond b (pos 0) (s +ℤ pos (trailing_zeros (unsigned_abs m)))) (not_equal (unsigned_abs m) 0 (λ none. absurd (omega arith)))
 
-form_mantissa : (m s : ℤ) → (normal_form (decimal_at m s)).mantissa ≡ shortened m
+form_mantissa : (m s : ℤ) → (normal_form (decimal_at m s)).mantissa ≡ mantissa_without_zeros m
 unfolding normal_form
 form_mantissa m s = refl
 
 -- what holds another number, if anything does
-pub held_some : (m s r t : ℤ) (z : ℕ) → 0 < unsigned_abs m → r ≡ shortened m → z ≡ trailing_zeros (unsigned_abs m) → t ≡ s +ℤ pos z → FitsSigned w32 t
-    → Some (decimal_at r t) ≡ held (decimal_at m s)
-unfolding held
+pub held_some : (m s r t : ℤ) (z : ℕ) → 0 < unsigned_abs m → r ≡ mantissa_without_zeros m → z ≡ trailing_zeros (unsigned_abs m) → t ≡ s +ℤ pos z → FitsSigned w32 t
+    → Some (decimal_at r t) ≡ quantity_holding (decimal_at m s)
+unfolding quantity_holding
 held_some m s r t z positive r_is z_is t_is f =
     let scale : (normal_form (decimal_at m s)).scale ≡ t = form_scale m s positive ∙ ap (λ k. s +ℤ pos k) (sym z_is) ∙ sym t_is in
     let test : fits 31 (normal_form (decimal_at m s)).scale ≡ true = ap (fits 31) scale ∙ fits_true 31 t f.sfits in
     let same : normal_form (decimal_at m s) ≡ decimal_at r t = λ i. record { mantissa = (form_mantissa m s ∙ sym r_is) i; scale = scale i } in
     sym (ap (λ b. cond b (Some (normal_form (decimal_at m s))) None) test ∙ ap Some same)
 
-pub held_none : (m s : ℤ) (z : ℕ) → 0 < unsigned_abs m → z ≡ trailing_zeros (unsigned_abs m) → ¬ (FitsSigned w32 (s +ℤ pos z)) → None ≡ held (decimal_at m s)
-unfolding held
+pub held_none : (m s : ℤ) (z : ℕ) → 0 < unsigned_abs m → z ≡ trailing_zeros (unsigned_abs m) → ¬ (FitsSigned w32 (s +ℤ pos z)) → None ≡ quantity_holding (decimal_at m s)
+unfolding quantity_holding
 held_none m s z positive z_is out =
     let scale : (normal_form (decimal_at m s)).scale ≡ s +ℤ pos z = form_scale m s positive ∙ ap (λ k. s +ℤ pos k) (sym z_is) in
     let far : 2 ^ 31 ≤ mag (s +ℤ pos z) = beyond (s +ℤ pos z) out in

@@ -5,10 +5,10 @@ use Rattle.std.specs.Int.{w128, int_min}
 use Rattle.std.specs.Prelude.{FitsSigned, Some, None, option_and_then}
 use Rattle.std.specs.Str.{trim}
 use Rattle.std.specs.Str.Parse.{AllDigits, digits_value, starts_with_minus, without_leading_sign}
-use Rattle.kube_types_quantity.specs.Decimal.{Decimal, aligned, with_sign}
-use Rattle.kube_types_quantity.specs.Normal.{fits, held}
+use Rattle.kube_types_quantity.specs.Decimal.{Decimal, aligned_mantissa, with_sign}
+use Rattle.kube_types_quantity.specs.Normal.{fits, quantity_holding}
 use Rattle.kube_types_quantity.specs.Reading.{leading_digits, has_point, after_point, fraction_digits, suffix_of, factor_of, value_of, unsigned_quantity, quantity_of}
-use Rattle.kube_types_quantity.specs.Sums.{decimal_at, combined, sum_of, difference_of}
+use Rattle.kube_types_quantity.specs.Sums.{decimal_at, combination, sum_of, difference_of}
 use Rattle.kube_types_quantity.specs.declared.reading.Factor.{Factor}
 use Rattle.kube_types_quantity.proofs.Digits.{leading_are_digits}
 use Rattle.kube_types_quantity.proofs.Forms.{fits_128}
@@ -26,10 +26,10 @@ below : (a b : ℕ) → a < b → ltb a b ≡ true
 below a b h = grind (arith, nat_tests)
 
 value_is : (negative : Bool) (digits : List ℕ) (places : ℕ) (factor : Factor) → digits_value 10 digits * factor.times < 2 ^ 127
-    → value_of negative digits places factor ≡ held (decimal_at (with_sign negative (digits_value 10 digits * factor.times)) (factor.tens -ℤ pos places))
+    → value_of negative digits places factor ≡ quantity_holding (decimal_at (with_sign negative (digits_value 10 digits * factor.times)) (factor.tens -ℤ pos places))
 unfolding value_of
 value_is negative digits places factor h =
-    ap (λ b. cond b (held (decimal_at (with_sign negative (digits_value 10 digits * factor.times)) (factor.tens -ℤ pos places))) None) (below (digits_value 10 digits * factor.times) (2 ^ 127) h)
+    ap (λ b. cond b (quantity_holding (decimal_at (with_sign negative (digits_value 10 digits * factor.times)) (factor.tens -ℤ pos places))) None) (below (digits_value 10 digits * factor.times) (2 ^ 127) h)
 
 unsigned_is : (negative : Bool) (text : List ℕ) (factor : Factor) → length (leading_digits text) + length (fraction_digits text) ≢ 0 → Some factor ≡ factor_of (suffix_of text)
     → unsigned_quantity negative text ≡ value_of negative (leading_digits text ++ fraction_digits text) (length (fraction_digits text)) factor
@@ -51,7 +51,7 @@ pub record Parts (text : List ℕ) (negative : Bool) (unsigned whole fraction su
 pub meaning_is : (text : List ℕ) (negative : Bool) (unsigned whole fraction suffix : List ℕ) (factor : Factor) (size : ℕ) (mantissa scale : ℤ)
     → Parts text negative unsigned whole fraction suffix → length whole + length fraction ≢ 0 → Some factor ≡ factor_of suffix
     → size ≡ digits_value 10 (whole ++ fraction) * factor.times → size < 2 ^ 127 → mantissa ≡ with_sign negative size
-    → scale ≡ factor.tens -ℤ pos (length fraction) → held (decimal_at mantissa scale) ≡ quantity_of text
+    → scale ≡ factor.tens -ℤ pos (length fraction) → quantity_holding (decimal_at mantissa scale) ≡ quantity_of text
 unfolding quantity_of
 meaning_is text negative unsigned whole fraction suffix factor size mantissa scale p some e size_is bound mantissa_is scale_is =
     let here = leading_digits unsigned in
@@ -64,27 +64,27 @@ meaning_is text negative unsigned whole fraction suffix factor size mantissa sca
     let s : scale ≡ factor.tens -ℤ pos (length there) = scale_is ∙ ap (λ d. factor.tens -ℤ pos (length d)) p.after in
     let value = value_is negative (here ++ there) (length there) factor fitting in
     let parts = unsigned_is negative unsigned factor (λ none. some (lengths ∙ none)) (e ∙ ap factor_of p.last) in
-    (λ i. held (decimal_at (m i) (s i))) ∙ sym value ∙ sym parts
+    (λ i. quantity_holding (decimal_at (m i) (s i))) ∙ sym value ∙ sym parts
     ∙ (λ i. unsigned_quantity (p.sign i) (p.rest i))
 
 -- what an operation gives where it fits
-combined_is : (op : ℤ → ℤ → ℤ) (x y : Decimal) (left right result : ℤ) → FitsSigned w128 (aligned x y) → left ≡ aligned x y → FitsSigned w128 (aligned y x) → right ≡ aligned y x
-    → FitsSigned w128 (op left right) → result ≡ op left right → held (decimal_at result (int_min x.scale y.scale)) ≡ combined op x y
+combined_is : (op : ℤ → ℤ → ℤ) (x y : Decimal) (left right result : ℤ) → FitsSigned w128 (aligned_mantissa x y) → left ≡ aligned_mantissa x y → FitsSigned w128 (aligned_mantissa y x) → right ≡ aligned_mantissa y x
+    → FitsSigned w128 (op left right) → result ≡ op left right → quantity_holding (decimal_at result (int_min x.scale y.scale)) ≡ combination op x y
 combined_is op x y left right result f e g h k s =
-    let total : op left right ≡ op (aligned x y) (aligned y x) = λ i. op (e i) (h i) in
-    let all : (fits 127 (aligned x y) && (fits 127 (aligned y x) && fits 127 (op (aligned x y) (aligned y x)))) ≡ true =
-    λ i. fits_128 (aligned x y) f i && (fits_128 (aligned y x) g i && (ap (fits 127) (sym total) ∙ fits_128 (op left right) k) i) in
-    (λ i. held (decimal_at ((s ∙ total) i) (int_min x.scale y.scale)))
-    ∙ sym (ap (λ b. cond b (held (decimal_at (op (aligned x y) (aligned y x)) (int_min x.scale y.scale))) None) all)
+    let total : op left right ≡ op (aligned_mantissa x y) (aligned_mantissa y x) = λ i. op (e i) (h i) in
+    let all : (fits 127 (aligned_mantissa x y) && (fits 127 (aligned_mantissa y x) && fits 127 (op (aligned_mantissa x y) (aligned_mantissa y x)))) ≡ true =
+    λ i. fits_128 (aligned_mantissa x y) f i && (fits_128 (aligned_mantissa y x) g i && (ap (fits 127) (sym total) ∙ fits_128 (op left right) k) i) in
+    (λ i. quantity_holding (decimal_at ((s ∙ total) i) (int_min x.scale y.scale)))
+    ∙ sym (ap (λ b. cond b (quantity_holding (decimal_at (op (aligned_mantissa x y) (aligned_mantissa y x)) (int_min x.scale y.scale))) None) all)
 
 -- a sum whose parts fit
-pub sum_is : (x y : Decimal) (left right sum : ℤ) → FitsSigned w128 (aligned x y) → left ≡ aligned x y → FitsSigned w128 (aligned y x) → right ≡ aligned y x
-    → FitsSigned w128 (left +ℤ right) → sum ≡ left +ℤ right → held (decimal_at sum (int_min x.scale y.scale)) ≡ sum_of x y
+pub sum_is : (x y : Decimal) (left right sum : ℤ) → FitsSigned w128 (aligned_mantissa x y) → left ≡ aligned_mantissa x y → FitsSigned w128 (aligned_mantissa y x) → right ≡ aligned_mantissa y x
+    → FitsSigned w128 (left +ℤ right) → sum ≡ left +ℤ right → quantity_holding (decimal_at sum (int_min x.scale y.scale)) ≡ sum_of x y
 unfolding sum_of
 sum_is = combined_is (λ a b. a +ℤ b)
 
 -- a difference whose parts fit
-pub difference_is : (x y : Decimal) (left right difference : ℤ) → FitsSigned w128 (aligned x y) → left ≡ aligned x y → FitsSigned w128 (aligned y x) → right ≡ aligned y x
-    → FitsSigned w128 (left -ℤ right) → difference ≡ left -ℤ right → held (decimal_at difference (int_min x.scale y.scale)) ≡ difference_of x y
+pub difference_is : (x y : Decimal) (left right difference : ℤ) → FitsSigned w128 (aligned_mantissa x y) → left ≡ aligned_mantissa x y → FitsSigned w128 (aligned_mantissa y x) → right ≡ aligned_mantissa y x
+    → FitsSigned w128 (left -ℤ right) → difference ≡ left -ℤ right → quantity_holding (decimal_at difference (int_min x.scale y.scale)) ≡ difference_of x y
 unfolding difference_of
 difference_is = combined_is (λ a b. a -ℤ b)

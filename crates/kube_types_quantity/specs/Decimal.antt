@@ -21,16 +21,16 @@ abbrev pub times_ten_to : ℤ → ℕ → ℤ
 times_ten_to z k = z *ℤ pos (10 ^ k)
 
 -- The mantissa of x at the smaller of the two scales: x is this integer times 10 to that scale.
-abbrev pub aligned : Decimal → Decimal → ℤ
-aligned x y = times_ten_to x.mantissa (natural (x.scale -ℤ y.scale))
+abbrev pub aligned_mantissa : Decimal → Decimal → ℤ
+aligned_mantissa x y = times_ten_to x.mantissa (natural (x.scale -ℤ y.scale))
 
 -- The order of two numbers: that of their mantissas at the smaller scale.
 abbrev pub decimal_cmp : Decimal → Decimal → Ordering
-decimal_cmp x y = int_cmp (aligned x y) (aligned y x)
+decimal_cmp x y = int_cmp (aligned_mantissa x y) (aligned_mantissa y x)
 
 -- x and y are one number
 abbrev pub SameNumber : Decimal → Decimal → Type 0
-SameNumber x y = aligned x y ≡ aligned y x
+SameNumber x y = aligned_mantissa x y ≡ aligned_mantissa y x
 
 -- the number with this sign and size
 abbrev pub with_sign : Bool → ℕ → ℤ

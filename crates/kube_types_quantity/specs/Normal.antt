@@ -19,13 +19,13 @@ abbrev pub trailing_zeros : ℕ → ℕ
 trailing_zeros n = zeros_among n n
 
 -- z without the zeros that it ends in
-abbrev pub shortened : ℤ → ℤ
-shortened z = with_sign (is_negative z) (unsigned_abs z / 10 ^ trailing_zeros (unsigned_abs z))
+abbrev pub mantissa_without_zeros : ℤ → ℤ
+mantissa_without_zeros z = with_sign (is_negative z) (unsigned_abs z / 10 ^ trailing_zeros (unsigned_abs z))
 
 -- the same number in normal form: the zeros go into the scale
 unfoldable pub normal_form : Decimal → Decimal
 normal_form x = record {
-  mantissa = shortened x.mantissa;
+  mantissa = mantissa_without_zeros x.mantissa;
   scale = if unsigned_abs x.mantissa == 0 then pos 0 else x.scale +ℤ pos (trailing_zeros (unsigned_abs x.mantissa));
 }
 
@@ -35,8 +35,8 @@ fits bits (pos n) = nat_lt n (2 ^ bits)
 fits bits (negsuc n) = nat_lt n (2 ^ bits)
 
 -- the quantity that holds this number: its normal form, where 32 bits hold the scale
-unfoldable pub held : Decimal → Option Decimal
-held x = if fits 31 (normal_form x).scale then Some (normal_form x) else None
+unfoldable pub quantity_holding : Decimal → Option Decimal
+quantity_holding x = if fits 31 (normal_form x).scale then Some (normal_form x) else None
 
 -- x is in normal form
 abbrev pub IsNormal : Decimal → Type 0

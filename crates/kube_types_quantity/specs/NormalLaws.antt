@@ -8,7 +8,7 @@ use Rattle.std.proofs.lemmas.Int.{ints, unsigned_abs-mul}
 use Rattle.std.proofs.lemmas.Bool.{eqb-true, eq-eqb}
 use Rattle.std.specs.Cmp.{first_so, second_so}
 use lib.Signed.{mag}
-use Rattle.kube_types_quantity.specs.Decimal.{Decimal, times_ten_to, aligned, SameNumber}
+use Rattle.kube_types_quantity.specs.Decimal.{Decimal, times_ten_to, aligned_mantissa, SameNumber}
 use Rattle.kube_types_quantity.specs.Normal.{is_normal, IsNormal}
 use Rattle.kube_types_quantity.specs.Scales.{power_pos, scale_gap, scale_above}
 
@@ -55,8 +55,8 @@ normal_unique x y p q e =
     let n = mag x.scale + mag y.scale in
     let a = scale_above n x.scale (omega arith) in
     let b = scale_above n y.scale (omega arith) in
-    let left : aligned x y ≡ times_ten_to x.mantissa (a.0 - b.0) = ap (times_ten_to x.mantissa) (scale_gap (negsuc n) x.scale y.scale a.0 b.0 a.1 b.1) in
-    let right : aligned y x ≡ times_ten_to y.mantissa (b.0 - a.0) = ap (times_ten_to y.mantissa) (scale_gap (negsuc n) y.scale x.scale b.0 a.0 b.1 a.1) in
+    let left : aligned_mantissa x y ≡ times_ten_to x.mantissa (a.0 - b.0) = ap (times_ten_to x.mantissa) (scale_gap (negsuc n) x.scale y.scale a.0 b.0 a.1 b.1) in
+    let right : aligned_mantissa y x ≡ times_ten_to y.mantissa (b.0 - a.0) = ap (times_ten_to y.mantissa) (scale_gap (negsuc n) y.scale x.scale b.0 a.0 b.1 a.1) in
     let same : times_ten_to x.mantissa (a.0 - b.0) ≡ times_ten_to y.mantissa (b.0 - a.0) = sym left ∙ e ∙ right in
     elim (sides a.0 b.0) as (λ _. (x.mantissa ≡ y.mantissa) × (x.scale ≡ y.scale)) [
       | inl h ↦

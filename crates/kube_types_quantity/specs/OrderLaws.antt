@@ -7,7 +7,7 @@ use Rattle.std.specs.declared.cmp.Ordering.TheVariants.{Equal}
 use Rattle.std.specs.Cmp.{IsTotalOrder, IsPartialOrder, Agrees, both_ways, Equal-is, po, first_so, second_so}
 use Rattle.std.specs.FinMap.{int_cmp-IsAntisymmetric}
 use Rattle.std.proofs.lemmas.Cmp.{on_total, tied_itself, int_cmp_total, int_eq_equiv}
-use Rattle.kube_types_quantity.specs.Decimal.{Decimal, aligned, decimal_cmp, SameNumber}
+use Rattle.kube_types_quantity.specs.Decimal.{Decimal, aligned_mantissa, decimal_cmp, SameNumber}
 use Rattle.kube_types_quantity.specs.NormalLaws.{normal_unique}
 use Rattle.kube_types_quantity.specs.Scales.{decimal_cmp_total}
 use Rattle.kube_types_quantity.specs.Shown.{number}
@@ -21,10 +21,10 @@ same_int_eq a b e = ap (int_eq a) (sym e) ∙ int_eq_equiv.refl a
 
 -- numbers tie exactly where they are one number
 pub tied_same : (x y : Decimal) → decimal_cmp x y ≡ Equal → SameNumber x y
-tied_same x y e = int_cmp-IsAntisymmetric (aligned x y) (aligned y x) e
+tied_same x y e = int_cmp-IsAntisymmetric (aligned_mantissa x y) (aligned_mantissa y x) e
 
 pub same_tied : (x y : Decimal) → SameNumber x y → decimal_cmp x y ≡ Equal
-same_tied x y e = ap (int_cmp (aligned x y)) (sym e) ∙ tied_itself int_cmp_total (aligned x y)
+same_tied x y e = ap (int_cmp (aligned_mantissa x y)) (sym e) ∙ tied_itself int_cmp_total (aligned_mantissa x y)
 
 pub quantity_cmp_total : IsTotalOrder (on number decimal_cmp)
 quantity_cmp_total = on_total number decimal_cmp_total

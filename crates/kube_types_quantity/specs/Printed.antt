@@ -5,7 +5,7 @@ use Rattle.std.specs.Fmt.{decimal, signed_decimal, sign_text}
 use Rattle.std.specs.Int.{is_negative}
 use Rattle.kube_types_quantity.specs.Decimal.{Decimal}
 
--- so many decimal places, the last of which are the digits of n, and zeros (48) before them
+-- a number of decimal places, the last of which are the digits of n, and zeros (48) before them
 abbrev pub places_text : ℕ → ℕ → List ℕ
 places_text places n = replicate (places - length (decimal n)) 48 ++ decimal n
 

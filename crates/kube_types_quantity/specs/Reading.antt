@@ -10,7 +10,7 @@ use Rattle.std.specs.Option.{option_map}
 use Rattle.std.specs.Str.{trim}
 use Rattle.std.specs.Str.Parse.{starts_with_minus, without_leading_sign, digits_value}
 use Rattle.kube_types_quantity.specs.Decimal.{Decimal, with_sign}
-use Rattle.kube_types_quantity.specs.Normal.{fits, held}
+use Rattle.kube_types_quantity.specs.Normal.{fits, quantity_holding}
 use Rattle.kube_types_quantity.specs.Sums.{decimal_at}
 use Rattle.kube_types_quantity.specs.declared.reading.Factor.{Factor}
 
@@ -71,7 +71,7 @@ factor_of suffix = if length suffix == 0 then Some (power_of_ten (pos 0))
 -- number of the factor, and so the digits alone, are below 2 to the 127: a signed integer of 128 bits holds them before the sign.
 unfoldable pub value_of : Bool → List ℕ → ℕ → Factor → Option Decimal
 value_of negative digits places factor = if nat_lt (digits_value 10 digits * factor.times) (2 ^ 127)
-    then held (decimal_at (with_sign negative (digits_value 10 digits * factor.times)) (factor.tens -ℤ pos places)) else None
+    then quantity_holding (decimal_at (with_sign negative (digits_value 10 digits * factor.times)) (factor.tens -ℤ pos places)) else None
 
 -- the same of a text with no sign: at least one digit, at most one point, and a suffix
 unfoldable pub unsigned_quantity : Bool → List ℕ → Option Decimal

@@ -11,7 +11,7 @@ use Rattle.std.specs.declared.cmp.Ordering.{Ordering}
 use Rattle.std.specs.declared.cmp.Ordering.TheVariants.{Less, Equal, Greater}
 use borrow.Author.Differences.{up, down, same_in, lt_in, lt_out}
 use lib.Signed.{mag}
-use Rattle.kube_types_quantity.specs.Decimal.{Decimal, natural, times_ten_to, aligned, decimal_cmp}
+use Rattle.kube_types_quantity.specs.Decimal.{Decimal, natural, times_ten_to, aligned_mantissa, decimal_cmp}
 
 neg_parts : (n : ℕ) → (up (neg_ℤ (pos n)) ≡ 0) × (down (neg_ℤ (pos n)) ≡ n)
 neg_parts zero = (refl, refl)
@@ -68,7 +68,7 @@ scale_gap base s t a b p q = natural_up (s -ℤ t) ∙ one_part (s -ℤ t) a b (
 
 -- a mantissa brought down to the base
 pub aligned_at : (base : ℤ) (x y : Decimal) (a b : ℕ) → x.scale ≡ base +ℤ pos a → y.scale ≡ base +ℤ pos b
-    → times_ten_to (aligned x y) (min a b) ≡ times_ten_to x.mantissa a
+    → times_ten_to (aligned_mantissa x y) (min a b) ≡ times_ten_to x.mantissa a
 aligned_at base x y a b p q =
     ap (λ k. times_ten_to (times_ten_to x.mantissa k) (min a b)) (scale_gap base x.scale y.scale a b p q)
     ∙ times_times x.mantissa (a - b) (min a b) ∙ ap (times_ten_to x.mantissa) (omega arith)
@@ -80,9 +80,9 @@ compared_at base x y a b p q =
     let left = aligned_at base x y a b p q in
     let right = aligned_at base y x b a q p in
     let same : min b a ≡ min a b = min_comm b a in
-    sym (product_cmp (aligned x y) (aligned y x) (10 ^ min a b) (power_pos (min a b)))
-    ∙ ap (λ z. int_cmp z (times_ten_to (aligned y x) (min a b))) left
-    ∙ ap (int_cmp (times_ten_to x.mantissa a)) (ap (times_ten_to (aligned y x)) (sym same) ∙ right)
+    sym (product_cmp (aligned_mantissa x y) (aligned_mantissa y x) (10 ^ min a b) (power_pos (min a b)))
+    ∙ ap (λ z. int_cmp z (times_ten_to (aligned_mantissa y x) (min a b))) left
+    ∙ ap (int_cmp (times_ten_to x.mantissa a)) (ap (times_ten_to (aligned_mantissa y x)) (sym same) ∙ right)
 
 -- a scale, counted from a base far below
 pub scale_above : (n : ℕ) (s : ℤ) → mag s ≤ n → (a : ℕ) × (s ≡ negsuc n +ℤ pos a)
@@ -91,7 +91,7 @@ scale_above n (negsuc k) h = (n - k, same_in (negsuc k) (negsuc n +ℤ pos (n - 
 
 pub decimal_cmp_total : IsTotalOrder decimal_cmp
 decimal_cmp_total = record {
-  antisymm = λ x y. int_cmp_total.antisymm (aligned x y) (aligned y x);
+  antisymm = λ x y. int_cmp_total.antisymm (aligned_mantissa x y) (aligned_mantissa y x);
   trans = λ x y z p q.
       let n = mag x.scale + mag y.scale + mag z.scale in
       let a = scale_above n x.scale (omega arith) in

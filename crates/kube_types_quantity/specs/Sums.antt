@@ -2,8 +2,8 @@
 -- Sums and differences of quantities.
 use Rattle.std.specs.Prelude.{◌&&◌, ℤ, ◌+ℤ◌, ◌-ℤ◌, Option, None, if◌then◌else◌}
 use Rattle.std.specs.Int.{int_min}
-use Rattle.kube_types_quantity.specs.Decimal.{Decimal, aligned}
-use Rattle.kube_types_quantity.specs.Normal.{fits, held}
+use Rattle.kube_types_quantity.specs.Decimal.{Decimal, aligned_mantissa}
+use Rattle.kube_types_quantity.specs.Normal.{fits, quantity_holding}
 
 -- the number with this mantissa and this scale
 abbrev pub decimal_at : ℤ → ℤ → Decimal
@@ -11,14 +11,14 @@ decimal_at m s = record { mantissa = m; scale = s }
 
 -- The number whose mantissa this operation gives of both mantissas at the smaller scale, where 128 bits hold these and what it gives,
 -- and 32 bits the scale of the normal form.
-abbrev pub combined : (ℤ → ℤ → ℤ) → Decimal → Decimal → Option Decimal
-combined op x y = if fits 127 (aligned x y) && (fits 127 (aligned y x) && fits 127 (op (aligned x y) (aligned y x)))
-    then held (decimal_at (op (aligned x y) (aligned y x)) (int_min x.scale y.scale)) else None
+abbrev pub combination : (ℤ → ℤ → ℤ) → Decimal → Decimal → Option Decimal
+combination op x y = if fits 127 (aligned_mantissa x y) && (fits 127 (aligned_mantissa y x) && fits 127 (op (aligned_mantissa x y) (aligned_mantissa y x)))
+    then quantity_holding (decimal_at (op (aligned_mantissa x y) (aligned_mantissa y x)) (int_min x.scale y.scale)) else None
 
 -- the exact sum
 unfoldable pub sum_of : Decimal → Decimal → Option Decimal
-sum_of x y = combined (λ a b. a +ℤ b) x y
+sum_of x y = combination (λ a b. a +ℤ b) x y
 
 -- the exact difference
 unfoldable pub difference_of : Decimal → Decimal → Option Decimal
-difference_of x y = combined (λ a b. a -ℤ b) x y
+difference_of x y = combination (λ a b. a -ℤ b) x y

@@ -1,7 +1,7 @@
 //! Normal forms: the zeros that a mantissa ends in go into the scale.
 ghost use Rattle.std.specs.Option.{option_map};
 ghost use Rattle.std.specs.Prelude.{◌≡◌, ◌≢◌, ◌*◌, ◌^◌, ◌%◌, ◌<◌, unsigned_abs};
-ghost use Rattle.kube_types_quantity.specs.Normal.{shortened, trailing_zeros, held};
+ghost use Rattle.kube_types_quantity.specs.Normal.{mantissa_without_zeros, trailing_zeros, quantity_holding};
 ghost use Rattle.kube_types_quantity.specs.Shown.{number};
 ghost use Rattle.kube_types_quantity.specs.Sums.{decimal_at};
 
@@ -26,7 +26,7 @@ fn without_trailing_zeros(size: u128) -> (u128, u32)
 
 /// A mantissa without the zeros that it ends in, and how many they were.
 pub(crate) fn reduced(mantissa: i128) -> (i128, u32)
-    ensures value { result.0 ≡ shortened mantissa }
+    ensures value { result.0 ≡ mantissa_without_zeros mantissa }
     ensures zeros { result.1 ≡ trailing_zeros (unsigned_abs mantissa) }
     ensures zero { unsigned_abs mantissa ≡ 0 → (unsigned_abs result.0 ≡ 0) × (result.1 ≡ 0) }
     ensures last_digit { 0 < unsigned_abs mantissa → unsigned_abs result.0 % 10 ≢ 0 }
@@ -40,10 +40,10 @@ pub(crate) fn reduced(mantissa: i128) -> (i128, u32)
 }
 
 /// The quantity that holds `mantissa` times ten to the `scale`, if its normal form has a scale of 32 bits.
-#[tactic(auto, unfolding(crate::specs::Normal::held, crate::specs::Normal::normal_form))]
+#[tactic(auto, unfolding(crate::specs::Normal::quantity_holding, crate::specs::Normal::normal_form))]
 pub(crate) fn normalised(mantissa: i128, scale: i128) -> Option<KubeQuantity>
     requires { unsigned_abs scale < 2 ^ 66 }
-    ensures { option_map number result ≡ held (decimal_at mantissa scale) }
+    ensures { option_map number result ≡ quantity_holding (decimal_at mantissa scale) }
 {
     if mantissa == 0 {
         return Some(KubeQuantity {

@@ -5,7 +5,7 @@ ghost use Rattle.std.specs.Prelude.{◌≡◌, ◌/◌, ◌%◌, ◌^◌, length
 use crate::quantity::KubeQuantity;
 use std::fmt;
 
-/// So many zeros.
+/// A number of zeros.
 #[derive(Clone, Copy)]
 struct Zeros(u32);
 

@@ -2,7 +2,7 @@
 ghost use Rattle.std.specs.Int.{w128, int_min};
 ghost use Rattle.std.specs.Option.{option_map, SomeIff};
 ghost use Rattle.std.specs.Prelude.{◌≡◌, true, Some, pos, FitsSigned, is_ok};
-ghost use Rattle.kube_types_quantity.specs.Normal.{is_normal, held};
+ghost use Rattle.kube_types_quantity.specs.Normal.{is_normal, quantity_holding};
 ghost use Rattle.kube_types_quantity.specs.Sums.{decimal_at};
 
 use crate::integer::IntegerError;
@@ -22,7 +22,7 @@ pub struct KubeQuantity {
 
 impl KubeQuantity {
     ghost use Rattle.std.specs.Int.{int_signum};
-    ghost use Rattle.kube_types_quantity.specs.Decimal.{aligned};
+    ghost use Rattle.kube_types_quantity.specs.Decimal.{aligned_mantissa};
     ghost use Rattle.kube_types_quantity.specs.Integers.{integer_of};
     ghost use Rattle.kube_types_quantity.specs.Reading.{quantity_of};
     ghost use Rattle.kube_types_quantity.specs.Shown.{number};
@@ -49,9 +49,9 @@ impl KubeQuantity {
     }
 
     /// The quantity that is this integer.
-    #[tactic(auto, unfolding(crate::specs::Normal::held, crate::specs::Normal::normal_form))]
+    #[tactic(auto, unfolding(crate::specs::Normal::quantity_holding, crate::specs::Normal::normal_form))]
     pub fn from_integer(value: i128) -> KubeQuantity
-        ensures { Some (number result) ≡ held (decimal_at value (pos 0)) }
+        ensures { Some (number result) ≡ quantity_holding (decimal_at value (pos 0)) }
     {
         let (mantissa, zeros) = reduced(value);
         KubeQuantity {
@@ -121,8 +121,8 @@ impl KubeQuantity {
 
     /// The mantissa at the smaller of the two scales, if 128 bits hold it.
     fn aligned_to(&self, other: &KubeQuantity) -> Option<i128>
-        ensures { SomeIff result (FitsSigned w128 (aligned (number self.now) (number other.now)))
-            (aligned (number self.now) (number other.now)) }
+        ensures { SomeIff result (FitsSigned w128 (aligned_mantissa (number self.now) (number other.now)))
+            (aligned_mantissa (number self.now) (number other.now)) }
     {
         if self.scale <= other.scale {
             Some(self.mantissa)
@@ -133,7 +133,7 @@ impl KubeQuantity {
 
     /// The quantity of a mantissa at the smaller of the two scales, if its normal form has a scale of 32 bits.
     fn at_smaller_scale(&self, other: &KubeQuantity, mantissa: i128) -> Option<KubeQuantity>
-        ensures { option_map number result ≡ held (decimal_at mantissa (int_min (number self.now).scale (number other.now).scale)) }
+        ensures { option_map number result ≡ quantity_holding (decimal_at mantissa (int_min (number self.now).scale (number other.now).scale)) }
     {
         normalised(mantissa, i128::from(self.scale.min(other.scale)))
     }

@@ -193,7 +193,7 @@ pub(crate) fn numeral_size(whole: &[u8], fraction: &[u8], times: u64) -> Option<
     if size < 1 << 127 { Some(size) } else { None }
 }
 
-/// The scale of a numeral with so many digits after its point, under a factor of ten to the `tens`.
+/// The scale of a numeral with this number of digits after its point, under a factor of ten to the `tens`.
 pub(crate) fn scale_of(tens: i32, places: usize) -> i128
     ensures value { result ≡ tens -ℤ pos places }
     ensures bound { unsigned_abs result < 2 ^ 66 }

@@ -14,7 +14,7 @@ use Rattle.std.specs.Fmt.{decimal}
 use Rattle.std.specs.List.{list_all}
 use Rattle.std.specs.Prelude.{not, option_and_then}
 use Rattle.std.specs.Result.{result_ok}
-use Rattle.kube_types_semver.specs.Reading.{strictly, without_v, core_of, tail_of, is_number, number_text, full_text, normalized, version_of}
+use Rattle.kube_types_semver.specs.Reading.{strictly, without_v, core_of, tail_of, is_number, number_text, full_text, normal_text, version_of}
 
 abbrev AreDigits : List ℕ → Type 0
 AreDigits xs = list_all is_ascii_digit xs ≡ true
@@ -137,8 +137,8 @@ dotted-parts a b c rest x y = rw (parts-dot a (b ++ (46 ∷ (c ++ rest))) x, par
 
 -- three numbers with a hyphen after them, or with nothing
 numbers_stay : (k m n : ℕ) (rest : List ℕ) → k < 2 ^ 64 → m < 2 ^ 64 → n < 2 ^ 64 → core_of rest ≡ [] → tail_of rest ≡ rest
-    → normalized (dotted (decimal k) (decimal m) (decimal n) rest) ≡ Some (dotted (decimal k) (decimal m) (decimal n) rest)
-unfolding normalized full_text
+    → normal_text (dotted (decimal k) (decimal m) (decimal n) rest) ≡ Some (dotted (decimal k) (decimal m) (decimal n) rest)
+unfolding normal_text full_text
 numbers_stay k m n rest x y z core tail =
     let a = decimal-digits k x in
     let b = decimal-digits m y in
@@ -155,8 +155,8 @@ numbers_stay k m n rest x y z core tail =
 
 -- three numbers with a plus after them
 plus_stays : (k m n : ℕ) (rest : List ℕ) → k < 2 ^ 64 → m < 2 ^ 64 → n < 2 ^ 64
-    → normalized (dotted (decimal k) (decimal m) (decimal n) (43 ∷ rest)) ≡ Some (dotted (decimal k) (decimal m) (decimal n) (43 ∷ rest))
-unfolding normalized core_of
+    → normal_text (dotted (decimal k) (decimal m) (decimal n) (43 ∷ rest)) ≡ Some (dotted (decimal k) (decimal m) (decimal n) (43 ∷ rest))
+unfolding normal_text core_of
 plus_stays k m n rest x y z =
     let a = decimal-digits k x in
     let b = decimal-digits m y in
@@ -183,7 +183,7 @@ empty-tail = refl
 
 -- the text of a version stays
 version_stays : (k m n : ℕ) (pre build : List ℕ) → k < 2 ^ 64 → m < 2 ^ 64 → n < 2 ^ 64
-    → normalized (parts_text (k, m, n, pre, build)) ≡ Some (parts_text (k, m, n, pre, build))
+    → normal_text (parts_text (k, m, n, pre, build)) ≡ Some (parts_text (k, m, n, pre, build))
 version_stays k m n [] [] x y z = numbers_stay k m n [] x y z empty-core empty-tail
 version_stays k m n [] (b ∷ build) x y z = plus_stays k m n (b ∷ build) x y z
 version_stays k m n (b ∷ pre) build x y z =
@@ -208,7 +208,7 @@ lenient_version text p e =
     let valid = sound.1 in
     let bare : without_v text ≡ text = let P : List ℕ → Type 0 = λ t. without_v t ≡ t in
     subst P sound.0 (digits_keep_v (decimal p.0) (46 ∷ (decimal p.1 ++ (46 ∷ (decimal p.2 ++ (marked 45 p.3 ++ marked 43 p.4))))) (decimal-digits p.0 valid.0) (decimal_nonempty p.0 valid.0)) in
-    let stays : normalized text ≡ Some text = let P : List ℕ → Type 0 = λ t. normalized t ≡ Some t in
+    let stays : normal_text text ≡ Some text = let P : List ℕ → Type 0 = λ t. normal_text t ≡ Some t in
     subst P sound.0 (version_stays p.0 p.1 p.2 p.3 p.4 valid.0 valid.1 valid.2) in
-    ap (λ t. option_and_then (λ u. result_ok (version_parts u)) (normalized t)) bare
+    ap (λ t. option_and_then (λ u. result_ok (version_parts u)) (normal_text t)) bare
     ∙ ap (option_and_then (λ u. result_ok (version_parts u))) stays ∙ e

@@ -12,7 +12,7 @@ use Rattle.std.specs.Option.{IfSome}
 use Rattle.std.specs.Str.Pattern.{CutsPrefixes, FindsCharPrefix, IsTrimStartMatches}
 use Rattle.std.specs.Prelude.{Result, Ok, Err, IsOk}
 use Rattle.std.specs.Result.{result_ok}
-use Rattle.kube_types_semver.specs.Reading.{IsPlain, without_v, core_of, tail_of, is_number, number_text, full_text, normalized}
+use Rattle.kube_types_semver.specs.Reading.{IsPlain, without_v, core_of, tail_of, is_number, number_text, full_text, normal_text}
 
 -- a text with no leading `v` stays
 pub without_v-kept : (text : List ℕ) → ((rest : List ℕ) → text ≢ 118 ∷ rest) → ((rest : List ℕ) → text ≢ 86 ∷ rest) → text ≡ without_v text
@@ -134,18 +134,18 @@ unfolding full_text
 three_texts xs d tail major minor patch low high e f g = rw (three_parts (λ (p : Bor (List ℕ)). p.now) xs d low high, e, f, g) refl
 
 -- the two ways of a text with no leading `v`
-pub normalized-numbers : (text core tail : List ℕ) (ps : List (Bor (List ℕ))) → core ≡ core_of text → tail ≡ tail_of text → map (λ p. p.now) ps ≡ parts core
-    → list_all (λ p. is_number p.now) ps ≡ true → full_text (map (λ p. p.now) ps) tail ≡ normalized text
-unfolding normalized
-normalized-numbers text core tail ps at_core at_tail pieces numbers =
+pub normal_text-numbers : (text core tail : List ℕ) (ps : List (Bor (List ℕ))) → core ≡ core_of text → tail ≡ tail_of text → map (λ p. p.now) ps ≡ parts core
+    → list_all (λ p. is_number p.now) ps ≡ true → full_text (map (λ p. p.now) ps) tail ≡ normal_text text
+unfolding normal_text
+normal_text-numbers text core tail ps at_core at_tail pieces numbers =
     let cut : map (λ p. p.now) ps ≡ parts (core_of text) = pieces ∙ ap parts at_core in
     let all : list_all is_number (parts (core_of text)) ≡ true = ap (list_all is_number) (sym cut) ∙ list_all-map is_number (λ (p : Bor (List ℕ)). p.now) ps ∙ numbers in
     rw (cut, at_tail, all) refl
 
-pub normalized-other : (text core : List ℕ) (ps : List (Bor (List ℕ))) → core ≡ core_of text → map (λ p. p.now) ps ≡ parts core
-    → list_all (λ p. is_number p.now) ps ≡ false → Some text ≡ normalized text
-unfolding normalized
-normalized-other text core ps at_core pieces other =
+pub normal_text-other : (text core : List ℕ) (ps : List (Bor (List ℕ))) → core ≡ core_of text → map (λ p. p.now) ps ≡ parts core
+    → list_all (λ p. is_number p.now) ps ≡ false → Some text ≡ normal_text text
+unfolding normal_text
+normal_text-other text core ps at_core pieces other =
     let cut : map (λ p. p.now) ps ≡ parts (core_of text) = pieces ∙ ap parts at_core in
     let all : list_all is_number (parts (core_of text)) ≡ false = ap (list_all is_number) (sym cut) ∙ list_all-map is_number (λ (p : Bor (List ℕ)). p.now) ps ∙ other in
     rw all refl

@@ -1,6 +1,6 @@
 -- Trusted by the headline.
 -- Equality and order of versions.
--- Source: SemVer 2.0, semver.org, section 11: precedence goes by the three numbers and then by the pre-release. Build metadata
+-- Source: SemVer 2.0, semver.org, section 11: precedence compares the three numbers and then by the pre-release. Build metadata
 -- has no precedence there; it decides last, in the order that Cargo's crate `semver` gives it.
 use Rattle.semver.specs.Order.{pre_cmp, build_cmp}
 use Rattle.semver.specs.Parse.{Parts}

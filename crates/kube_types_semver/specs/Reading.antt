@@ -47,13 +47,13 @@ full_text (major ∷ minor ∷ patch ∷ []) tail =
 full_text (major ∷ minor ∷ patch ∷ next ∷ more) tail = None
 
 -- the same of a text with no leading `v`
-unfoldable pub normalized : List ℕ → Option (List ℕ)
-normalized text = if list_all is_number (parts (core_of text)) then full_text (parts (core_of text)) (tail_of text) else Some text
+unfoldable pub normal_text : List ℕ → Option (List ℕ)
+normal_text text = if list_all is_number (parts (core_of text)) then full_text (parts (core_of text)) (tail_of text) else Some text
 
 -- The text that a lenient reading gives to the strict one, if any: one leading `v` is dropped, and the numbers before the first
 -- hyphen are written in full. A text whose part before the first hyphen is anything else than numbers with dots between them stays.
 abbrev pub lenient_text : List ℕ → Option (List ℕ)
-lenient_text text = normalized (without_v text)
+lenient_text text = normal_text (without_v text)
 
 -- the version that a text is, read leniently or not, if it is one
 unfoldable pub version_of : Bool → List ℕ → Option Parts

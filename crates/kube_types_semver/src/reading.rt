@@ -4,7 +4,7 @@ ghost use Rattle.std.specs.List.{list_all};
 ghost use Rattle.std.specs.Option.{option_map};
 ghost use Rattle.std.specs.Prelude.{◌≡◌, map, IfOk, IfErr, IsOk, string_bytes};
 ghost use Rattle.kube_types_refused.specs.declared.Refused.TheVariants.{Memory};
-ghost use Rattle.kube_types_semver.specs.Reading.{core_of, tail_of, without_v, is_number, number_text, full_text, normalized, strictly, IsPlain};
+ghost use Rattle.kube_types_semver.specs.Reading.{core_of, tail_of, without_v, is_number, number_text, full_text, normal_text, strictly, IsPlain};
 ghost use Rattle.kube_types_semver.specs.Shown.{parts};
 
 use crate::version::KubeSemver;
@@ -50,7 +50,7 @@ fn split_at_hyphen(text: &str) -> (&str, &str)
     ensures tail { result.1.now ≡ tail_of text.now }
 {
     match text.find('-') {
-        Some(place) => text.split_at(place),
+        Some(offset) => text.split_at(offset),
         None => (text, ""),
     }
 }
@@ -110,8 +110,8 @@ fn full_text(alloc: Global, parts: &[&str], tail: &str) -> Result<Option<String>
 }
 
 /// The text in full that a text with no leading `v` stands for, if it stands for one.
-pub(crate) fn normalized(alloc: Global, text: &str) -> Result<Option<String>, Refused>
-    ensures answer { IfOk result (λ full. option_map string_bytes full ≡ normalized text.now) }
+pub(crate) fn normal_text(alloc: Global, text: &str) -> Result<Option<String>, Refused>
+    ensures answer { IfOk result (λ full. option_map string_bytes full ≡ normal_text text.now) }
     ensures memory { IfErr result (λ e. e ≡ Memory) }
 {
     let (core, tail) = split_at_hyphen(text);

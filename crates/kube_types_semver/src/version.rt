@@ -5,7 +5,7 @@ ghost use Rattle.kube_types_refused.specs.declared.Refused.TheVariants.{Memory};
 ghost use Rattle.kube_types_semver.specs.Reading.{version_of, integer_of, strictly, IsPlain};
 ghost use Rattle.kube_types_semver.specs.Shown.{parts};
 
-use crate::reading::{normalized, strict_version, without_v};
+use crate::reading::{normal_text, strict_version, without_v};
 use kube_types_refused::Refused;
 use semver::Version;
 use std::alloc::Global;
@@ -35,7 +35,7 @@ impl KubeSemver {
         if !lenient {
             return strict_version(alloc, text);
         }
-        match normalized(alloc, without_v(text))? {
+        match normal_text(alloc, without_v(text))? {
             Some(full) => strict_version(alloc, full.as_str()),
             None => Ok(None),
         }

@@ -10,7 +10,7 @@ use Rattle.std.specs.Option.{option_map}
 use Rattle.std.specs.Prelude.{Option, Vec, String, string_bytes}
 use Rattle.std.specs.declared.alloc.Global.{Global}
 use Rattle.kube_types_url.specs.Shown.{pair_texts, texts}
-use Rattle.kube_types_url.specs.Query.{decoded, name_of, value_of, pairs_of_pieces, values_of, values_or_none}
+use Rattle.kube_types_url.specs.Query.{decoded_text, name_of, value_of, pairs_of_pieces, values_of, values_or_none}
 
 abbrev Pair : Type 0
 Pair = List ℕ × List ℕ
@@ -85,11 +85,11 @@ values_step pairs name value other before after was step =
 
 -- one piece more
 pub piece_more : (pieces : List (List ℕ)) (piece : List ℕ) → 0 < length piece
-    → pairs_of_pieces (pieces ++ piece ∷ []) ≡ pairs_of_pieces pieces ++ (decoded (name_of piece), decoded (value_of piece)) ∷ []
+    → pairs_of_pieces (pieces ++ piece ∷ []) ≡ pairs_of_pieces pieces ++ (decoded_text (name_of piece), decoded_text (value_of piece)) ∷ []
 unfolding pairs_of_pieces
 piece_more [] piece some = rw (lt-ltb 0 (length piece) some) refl
 piece_more (p ∷ pieces) piece some = elim (cases_Bool (ltb 0 (length p))) [
-  | inl here ↦ rw here (ap (λ l. (decoded (name_of p), decoded (value_of p)) ∷ l) (piece_more pieces piece some))
+  | inl here ↦ rw here (ap (λ l. (decoded_text (name_of p), decoded_text (value_of p)) ∷ l) (piece_more pieces piece some))
   | inr empty ↦ rw empty (piece_more pieces piece some)
 ]
 
@@ -97,7 +97,7 @@ pub piece_empty : (pieces : List (List ℕ)) (piece : List ℕ) → length piece
 unfolding pairs_of_pieces
 piece_empty [] piece none = let e : piece ≡ [] = nil_from_length piece none in rw e refl
 piece_empty (p ∷ pieces) piece none = elim (cases_Bool (ltb 0 (length p))) [
-  | inl here ↦ rw here (ap (λ l. (decoded (name_of p), decoded (value_of p)) ∷ l) (piece_empty pieces piece none))
+  | inl here ↦ rw here (ap (λ l. (decoded_text (name_of p), decoded_text (value_of p)) ∷ l) (piece_empty pieces piece none))
   | inr empty ↦ rw empty (piece_empty pieces piece none)
 ]
 
@@ -113,13 +113,13 @@ piece_taken items i d low =
 
 -- a pair for a piece
 pub pair_pushed : (old new : List (String Global × String Global)) (n v : String Global) (name value piece : List ℕ) (pieces : List (List ℕ))
-    → new ≡ old ++ (n, v) ∷ [] → string_bytes n ≡ decoded name → string_bytes v ≡ decoded value → name ≡ name_of piece → value ≡ value_of piece
+    → new ≡ old ++ (n, v) ∷ [] → string_bytes n ≡ decoded_text name → string_bytes v ≡ decoded_text value → name ≡ name_of piece → value ≡ value_of piece
     → map pair_texts old ≡ pairs_of_pieces pieces → (length piece == 0) ≡ false → map pair_texts new ≡ pairs_of_pieces (pieces ++ piece ∷ [])
 pair_pushed old new n v name value piece pieces pushed n_is v_is name_is value_is was some =
     let differs = eqb-false (length piece) 0 some in
     let long : 0 < length piece = omega arith in
-    let first : string_bytes n ≡ decoded (name_of piece) = n_is ∙ ap decoded name_is in
-    let second : string_bytes v ≡ decoded (value_of piece) = v_is ∙ ap decoded value_is in
+    let first : string_bytes n ≡ decoded_text (name_of piece) = n_is ∙ ap decoded_text name_is in
+    let second : string_bytes v ≡ decoded_text (value_of piece) = v_is ∙ ap decoded_text value_is in
     ap (map pair_texts) pushed ∙ map-append pair_texts old ((n, v) ∷ [])
     ∙ (λ i. was i ++ (first i, second i) ∷ []) ∙ sym (piece_more pieces piece long)
 

@@ -9,8 +9,8 @@ use Rattle.std.specs.Str.{bytes_eq}
 use Rattle.std.specs.Str.Lossy.{utf8_lossy}
 
 -- The text that a name or a value stands for: `+` is a space, an escape is its byte, and what is not UTF-8 is replaced.
-abbrev pub decoded : List ℕ → List ℕ
-decoded text = utf8_lossy (decode text)
+abbrev pub decoded_text : List ℕ → List ℕ
+decoded_text text = utf8_lossy (decode text)
 
 -- what stands before the first `=` (61), or the whole piece
 abbrev pub name_of : List ℕ → List ℕ
@@ -22,7 +22,7 @@ value_of piece = after_first (λ b. b == 61) piece
 
 -- the names and values of pieces, in the order in which they stand; an empty piece has none
 unfoldable pub pairs_of_pieces : List (List ℕ) → List (List ℕ × List ℕ)
-pairs_of_pieces pieces = map (λ piece. (decoded (name_of piece), decoded (value_of piece))) (filter (λ piece. nat_lt 0 (length piece)) pieces)
+pairs_of_pieces pieces = map (λ piece. (decoded_text (name_of piece), decoded_text (value_of piece))) (filter (λ piece. nat_lt 0 (length piece)) pieces)
 
 -- the names and values of a query, whose pieces stand between `&` (38)
 abbrev pub pairs_of : List ℕ → List (List ℕ × List ℕ)

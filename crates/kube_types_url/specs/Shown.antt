@@ -17,8 +17,8 @@ use Rattle.kube_types_url.specs.declared.kube_url.KubeUrl.{KubeUrl}
 abbrev pub Shown : Type 0
 Shown = Parts × Bool
 
-abbrev pub shown : KubeUrl → Shown
-shown u = (u.url, u.is_path)
+abbrev pub url_view : KubeUrl → Shown
+url_view u = (u.url, u.is_path)
 
 abbrev pub scheme_of : Shown → List ℕ
 scheme_of u = if u.1 then [] else (u.0).scheme

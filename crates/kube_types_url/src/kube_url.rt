@@ -7,7 +7,7 @@ ghost use Rattle.kube_types_refused.specs.declared.Refused.TheVariants.{Memory, 
 ghost use Rattle.kube_types_url.specs.Equality.{same_url, same_url_equiv};
 ghost use Rattle.kube_types_url.specs.Query.{pairs_of, values_of};
 ghost use Rattle.kube_types_url.specs.Reading.{url_of};
-ghost use Rattle.kube_types_url.specs.Shown.{shown, scheme_of, host_of, hostname_of, port_text, texts};
+ghost use Rattle.kube_types_url.specs.Shown.{url_view, scheme_of, host_of, hostname_of, port_text, texts};
 
 use crate::query::{grouped, pairs};
 use crate::reading::{full_text, parsed, without_brackets};
@@ -29,9 +29,9 @@ impl KubeUrl {
     /// A text that begins with `/` is a path: it is read as `http://localhost` and the text.
     ///
     /// Answers `Refused::Memory` where memory is refused, and `Refused::TooLarge` where `url` answers `Overflow`: the text of
-    /// the URL would take 4 GB or more. No text of less than 256 MiB is told to be too large.
+    /// the URL would take 4 GB or more. No text of less than 256 MiB is reported as too large.
     pub fn read(alloc: Global, text: &str) -> Result<Option<KubeUrl>, Refused>
-        ensures url { IfOk result (λ url. option_map shown url ≡ url_of text.now) }
+        ensures url { IfOk result (λ url. option_map url_view url ≡ url_of text.now) }
         ensures large { IfErr result (λ e. e ≡ TooLarge → 268_435_456 ≤ length text.now) }
     {
         let is_path = text.starts_with('/');
@@ -44,7 +44,7 @@ impl KubeUrl {
 
     /// The scheme, and an empty text for a path.
     pub fn scheme(&self) -> &str
-        ensures { result.now ≡ scheme_of (shown self.now) }
+        ensures { result.now ≡ scheme_of (url_view self.now) }
     {
         if self.is_path { "" } else { self.url.scheme() }
     }
@@ -53,7 +53,7 @@ impl KubeUrl {
     ///
     /// A URL keeps no port that is the default of its scheme. Answers `Refused::Memory` where memory is refused.
     pub fn host(&self, alloc: Global) -> Result<String, Refused>
-        ensures answer { IfOk result (λ host. string_bytes host ≡ host_of (shown self.now)) }
+        ensures answer { IfOk result (λ host. string_bytes host ≡ host_of (url_view self.now)) }
         ensures memory { IfErr result (λ e. e ≡ Memory) }
     {
         if self.is_path {
@@ -68,7 +68,7 @@ impl KubeUrl {
 
     /// The host without a port, and without the brackets of an IPv6 address: `localhost` for a path, and an empty text for no host.
     pub fn hostname(&self) -> &str
-        ensures { result.now ≡ hostname_of (shown self.now) }
+        ensures { result.now ≡ hostname_of (url_view self.now) }
     {
         if self.is_path {
             return "localhost";
@@ -117,7 +117,7 @@ impl KubeUrl {
 
     /// A copy of this URL, or `Refused::Memory` where memory is refused.
     pub fn try_clone(&self) -> Result<KubeUrl, Refused>
-        ensures same { IfOk result (λ copy. shown copy ≡ shown self.now) }
+        ensures same { IfOk result (λ copy. url_view copy ≡ url_view self.now) }
         ensures memory { IfErr result (λ e. e ≡ Memory) }
     {
         Ok(KubeUrl {
@@ -129,9 +129,9 @@ impl KubeUrl {
 
 /// Two URLs are equal where their texts are, and both or neither were read from a path.
 impl PartialEq for KubeUrl {
-    ghost eq = { λ a b. same_url (shown a) (shown b) };
+    ghost eq = { λ a b. same_url (url_view a) (url_view b) };
 
-    ghost laws = { on_per shown (partial_equiv_from_equiv same_url_equiv) };
+    ghost laws = { on_per url_view (partial_equiv_from_equiv same_url_equiv) };
 
     fn eq(&self, other: &KubeUrl) -> bool {
         self.url == other.url && self.is_path == other.is_path
@@ -139,5 +139,5 @@ impl PartialEq for KubeUrl {
 }
 
 impl Eq for KubeUrl {
-    ghost laws = { on_equiv shown same_url_equiv };
+    ghost laws = { on_equiv url_view same_url_equiv };
 }

@@ -6,7 +6,7 @@ ghost use Rattle.std.specs.Option.{option_map};
 ghost use Rattle.std.specs.Prelude.{◌≡◌, ◌==◌, ◌++◌, ◌∷◌, [], ℕ, List, map, IfOk, IfErr, OnOk, Some, string_bytes, if◌then◌else◌};
 ghost use Rattle.std.specs.Str.{bytes_eq};
 ghost use Rattle.kube_types_refused.specs.declared.Refused.TheVariants.{Memory};
-ghost use Rattle.kube_types_url.specs.Query.{decoded, name_of, value_of, pairs_of, values_of, values_or_none};
+ghost use Rattle.kube_types_url.specs.Query.{decoded_text, name_of, value_of, pairs_of, values_of, values_or_none};
 ghost use Rattle.kube_types_url.specs.Shown.{pair_texts, texts};
 
 use kube_types_refused::Refused;
@@ -14,8 +14,8 @@ use std::alloc::{AllocError, Global};
 use std::collections::BTreeMap;
 
 /// What a name or a value stands for, in UTF-8.
-fn decoded(alloc: Global, text: &str) -> Result<String, AllocError>
-    ensures { IfOk result (λ plain. string_bytes plain ≡ decoded text.now) }
+fn decoded_text(alloc: Global, text: &str) -> Result<String, AllocError>
+    ensures { IfOk result (λ plain. string_bytes plain ≡ decoded_text text.now) }
 {
     form_urlencoded::decode(alloc, text.as_bytes())?.into_owned(alloc)
 }
@@ -48,7 +48,7 @@ pub(crate) fn pairs(alloc: Global, query: &str) -> Result<Vec<(String, String)>,
     for piece in &pieces {
         if !piece.is_empty() {
             let (name, value) = name_and_value(piece);
-            pairs.push((decoded(alloc, name)?, decoded(alloc, value)?))?;
+            pairs.push((decoded_text(alloc, name)?, decoded_text(alloc, value)?))?;
         }
     }
     Ok(pairs)

@@ -20,11 +20,11 @@ fn refusal(error: ParseError) -> Option<Refused>
     }
 }
 
-/// The least length of a text, in bytes, whose URL may be too large. `url` holds texts of less than 4 GB, and writes no byte as so many.
+/// The least length of a text, in bytes, whose URL may be too large. `url` holds texts of less than 4 GB, and writes no byte as that many.
 const LEAST_TOO_LARGE: usize = 268_435_456;
 
-/// What is told of a refusal of a text of this length: no short text is too large.
-fn told(refused: Refused, length: usize) -> Refused
+/// What is reported of a refusal of a text of this length: no short text is too large.
+fn exact_refusal(refused: Refused, length: usize) -> Refused
     ensures large { result ≡ TooLarge → 268_435_456 ≤ length }
     ensures short { length < 268_435_456 → result ≡ Memory }
     ensures same { 268_435_456 ≤ length → result ≡ refused }
@@ -55,7 +55,7 @@ pub(crate) fn parsed(alloc: Global, text: &str, length: usize) -> Result<Option<
     match Url::parse(alloc, text) {
         Ok(url) => Ok(Some(url)),
         Err(error) => match refusal(error) {
-            Some(refused) => Err(told(refused, length)),
+            Some(refused) => Err(exact_refusal(refused, length)),
             None => Ok(None),
         },
     }

@@ -1,6 +1,6 @@
 //! The real files.
 
-use kubecel_run::{Refused, Sources};
+use kubecel_cli::{Refused, Sources};
 use std::alloc::Global;
 use std::{fs, io};
 

@@ -8,7 +8,7 @@
 //!
 //! The status is 0 where all was judged and holds, 1 where some rule doesn't hold, and 2 where something couldn't be judged.
 //!
-//! All that it does stands in `kubecel_run`, whose `run` is proved for every kind of source and of writer, in the terms in which that
+//! All that it does stands in `kubecel_cli`, whose `run` is proved for every kind of source and of writer, in the terms in which that
 //! kind shows what it holds. The files of the machine and standard output show nothing of that, and `clap` reads the words: that this
 //! program reads the files that it names, and writes what `run` writes, is tested.
 #![tactic(auto)]
@@ -18,7 +18,7 @@ mod words;
 
 use clap::ArgMatches;
 use files::Files;
-use kubecel_run::{Form, run};
+use kubecel_cli::{ReportFormat, run};
 use std::io::{BufWriter, IsTerminal, Write};
 use std::process::ExitCode;
 use std::{env, io};
@@ -28,12 +28,12 @@ use words::{all_of, command_of, output_of, words};
 const STOPPED: u8 = 2;
 
 /// Does what a command's words ask for, and answers the status.
-fn obey(rt: &HostRuntime, name: &str, found: &ArgMatches<'_>) -> io::Result<u8> {
+fn dispatch(rt: &HostRuntime, name: &str, found: &ArgMatches<'_>) -> io::Result<u8> {
     let mut files = Files {
         rt,
         converted: all_of(found, "converted"),
     };
-    let form = Form {
+    let form = ReportFormat {
         output: output_of(found, rt.stdout().is_terminal()),
         progress: rt.stderr().is_terminal(),
     };
@@ -47,7 +47,7 @@ fn ran(rt: &HostRuntime) -> io::Result<u8> {
     let given: Vec<String> = env::args(rt)?.collect(rt.alloc())?;
     match words(rt.alloc())?.try_get_matches_from(given.as_slice()) {
         Ok(matches) => match matches.subcommand() {
-            Some((name, found)) => obey(rt, name, found),
+            Some((name, found)) => dispatch(rt, name, found),
             None => Ok(STOPPED),
         },
         Err(error) => {

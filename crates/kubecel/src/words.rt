@@ -1,7 +1,7 @@
 //! The words of the command line.
 
 use clap::{Arg, ArgAction, ArgMatches, Command as Words};
-use kubecel_run::{Admit, Check, Command, Output};
+use kubecel_cli::{Admit, Check, Command, Output};
 use std::alloc::{AllocError, Global};
 
 /// The forms of output, as they are named.

@@ -42,14 +42,14 @@ ends Within depth x = false
 ends Escaped depth x = false
 
 -- a piece, which is no document where it is white space alone
-abbrev pub kept : List ℕ → List (List ℕ) → List (List ℕ)
-kept piece rest = if list_all is_space piece then rest else piece ∷ rest
+abbrev pub with_piece : List ℕ → List (List ℕ) → List (List ℕ)
+with_piece piece rest = if list_all is_space piece then rest else piece ∷ rest
 
 -- the texts of the documents, of which the first has begun with this piece
 unfoldable pub pieces : Mode → ℕ → List ℕ → List ℕ → List (List ℕ)
-pieces mode depth piece [] = kept piece []
+pieces mode depth piece [] = with_piece piece []
 pieces mode depth piece (x ∷ xs) =
-    if ends mode depth x then kept (piece ++ x ∷ []) (pieces Outside 0 [] xs)
+    if ends mode depth x then with_piece (piece ++ x ∷ []) (pieces Outside 0 [] xs)
     else pieces (mode_after mode x) (depth_after mode depth x) (piece ++ x ∷ []) xs
 
 abbrev pub before : Option Data → Option (List Data) → Option (List Data)
@@ -67,9 +67,9 @@ documents text = all_read (pieces Outside 0 [] text)
 -- ---- for private clauses
 
 -- these, and then the others, if there are any
-abbrev pub joined : List Data → Option (List Data) → Option (List Data)
-joined xs ys = option_map (λ zs. xs ++ zs) ys
+abbrev pub with_documents : List Data → Option (List Data) → Option (List Data)
+with_documents xs ys = option_map (λ zs. xs ++ zs) ys
 
 -- all documents of a text of which this is left
-abbrev pub left : Reading → List ℕ → Option (List Data)
-left r xs = joined (map view r.found.items) (all_read (pieces r.mode r.depth r.piece.items xs))
+abbrev pub documents_left : Reading → List ℕ → Option (List Data)
+documents_left r xs = with_documents (map view r.found.items) (all_read (pieces r.mode r.depth r.piece.items xs))

@@ -20,9 +20,9 @@ pub record Found : Type 0 where
   pub value : Data
 
 -- values of one file, of which the first has this index
-unfoldable pub numbered : List ℕ → ℕ → List Data → List Found
-numbered file n [] = []
-numbered file n (d ∷ ds) = record { file = file; index = n; value = d } ∷ numbered file (n + 1) ds
+unfoldable pub with_indices : List ℕ → ℕ → List Data → List Found
+with_indices file n [] = []
+with_indices file n (d ∷ ds) = record { file = file; index = n; value = d } ∷ with_indices file (n + 1) ds
 
 module _ {S : Type 0} (reads : S → List ℕ → Option (List ℕ) → S → Type 0) where
   -- the file at the path is a text with these documents
@@ -36,7 +36,7 @@ module _ {S : Type 0} (reads : S → List ℕ → Option (List ℕ) → S → Ty
   AreRead before [] found after = (found ≡ []) × (before ≡ after)
   AreRead before (path ∷ paths) found after =
       (between : S) × (values : List Data) × (rest : List Found) × IsRead before path values between × AreRead between paths rest after
-      × (found ≡ numbered path 0 values ++ rest)
+      × (found ≡ with_indices path 0 values ++ rest)
 
 -- ---- what the code's values stand for
 

@@ -57,7 +57,7 @@ impl Mode {
         }
     }
 
-    /// Whether a document may end behind a byte that leaves so many brackets open.
+    /// Whether a document may end behind a byte that leaves this number of brackets open.
     pub(crate) fn ends(self, depth: usize, left: usize, byte: u8) -> bool
         requires { left ≡ depth_after self depth byte }
         ensures { result ≡ ends self depth byte }

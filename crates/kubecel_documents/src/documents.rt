@@ -1,5 +1,5 @@
 //! The documents of a text.
-ghost use Rattle.kubecel_documents.specs.Documents.{all_read, documents, is_space, joined, kept, left};
+ghost use Rattle.kubecel_documents.specs.Documents.{all_read, documents, is_space, with_documents, with_piece, documents_left};
 ghost use Rattle.kubecel_documents.specs.declared.cut.Mode.TheVariants.{Outside};
 ghost use Rattle.serde_json.specs.View.{view};
 ghost use Rattle.std.specs.List.{list_all};
@@ -36,7 +36,8 @@ impl Reading {
     /// # Errors
     /// Why the document that ended here is no JSON.
     fn take(&mut self, alloc: Global, byte: u8) -> Result<Result<(), Error>, Refused>
-        ensures { IfOk result (λ r. OnOk r ((xs : List ℕ) → left self.old (byte ∷ xs) ≡ left self.new xs)) }
+        ensures { IfOk result (λ r. OnOk r ((xs : List ℕ) → documents_left self.old (byte ∷ xs)
+            ≡ documents_left self.new xs)) }
     {
         let depth = self
             .mode
@@ -58,8 +59,8 @@ impl Reading {
     /// Why it is no JSON.
     fn end(&mut self, alloc: Global) -> Result<Result<(), Error>, Refused>
         ensures read { IfOk result (λ r. OnOk r ((rest : List (List ℕ))
-            → joined (map view self.old.found.items) (all_read (kept self.old.piece.items rest))
-            ≡ joined (map view self.new.found.items) (all_read rest))) }
+            → with_documents (map view self.old.found.items) (all_read (with_piece self.old.piece.items rest))
+            ≡ with_documents (map view self.new.found.items) (all_read rest))) }
         ensures begun { IfOk result (λ r. OnOk r ((self.new.mode ≡ Outside) × (self.new.depth ≡ 0) × (self.new.piece.items ≡ []))) }
     {
         if !is_blank(self.piece.as_slice()) {

@@ -7,7 +7,7 @@ ghost use Rattle.std.specs.Prelude.{◌≡◌, codes, map, nat_eq, option_map};
 use serde_json::Value;
 use std::slice;
 
-/// What tells objects apart.
+/// What distinguishes objects.
 #[derive(Clone, Copy)]
 pub struct Identity<'v> {
     pub group: &'v str,

@@ -1,5 +1,5 @@
 //! The files that a command names.
-ghost use Rattle.kubecel_documents.specs.Reads.{AreRead, IsRead, document_view, numbered, text_seen};
+ghost use Rattle.kubecel_documents.specs.Reads.{AreRead, IsRead, document_view, with_indices, text_seen};
 ghost use Rattle.serde_json.specs.View.{view};
 ghost use Rattle.std.specs.Prelude.{◌≡◌, ◌++◌, ⊤, ℕ, List, Option, IfOk, OnOk, map};
 
@@ -20,7 +20,7 @@ pub trait Sources {
         ensures { IfOk result (λ text. reads self.old path.now (text_seen text) self.new) };
 }
 
-/// Why a run stops before it has told what it found.
+/// Why a run stops before it has reported what it found.
 #[derive(Drop)]
 pub enum Stop {
     /// There was no memory, or a text is too long.
@@ -92,7 +92,7 @@ fn add_values(
     found: &mut Vec<Document>,
 ) -> Result<(), AllocError>
     ensures { OnOk result (map document_view found.new.items
-        ≡ map document_view found.old.items ++ numbered file.now 0 (map view values.items)) }
+        ≡ map document_view found.old.items ++ with_indices file.now 0 (map view values.items)) }
 {
     for (index, value) in values.into_iter().enumerate() {
         let file = String::from_str(alloc, file)?;

@@ -31,5 +31,5 @@ abbrev pub byte_or : ℕ → Option (List ℕ) → List ℕ
 byte_or x None = x ∷ []
 byte_or x (Some text) = text
 
-abbrev pub escaped : Escape → List ℕ → List ℕ
-escaped e text = flat_map (λ x. byte_or x (escape_of e x)) text
+abbrev pub escaped_text : Escape → List ℕ → List ℕ
+escaped_text e text = flat_map (λ x. byte_or x (escape_of e x)) text

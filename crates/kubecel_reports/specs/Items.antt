@@ -1,5 +1,5 @@
 -- Trusted by the clauses of kubecel.
--- What is told of each thing that was judged, and the status that stands for all of them.
+-- What is reported of each thing that was judged, and the status that stands for all of them.
 use Rattle.kubecel_reports.specs.declared.item.Finding.{Finding}
 use Rattle.kubecel_reports.specs.declared.item.Item.{Item}
 use Rattle.kubecel_reports.specs.declared.item.Verdict.{Verdict}
@@ -8,7 +8,7 @@ use Rattle.std.specs.Prelude.{ℕ, List, [], ◌∷◌, ◌++◌, map, codes, ma
 
 -- what was found at one place
 pub record FindingData : Type 0 where
-  pub place : List ℕ
+  pub location : List ℕ
   pub rule : List ℕ
   pub message : List ℕ
 
@@ -39,14 +39,14 @@ items_status (i ∷ is) = max (verdict_status i.verdict) (items_status is)
 -- ---- how it is named
 
 -- the first text and a mark where that isn't empty, and then the other
-abbrev pub marked : List ℕ → List ℕ → List ℕ → List ℕ
-marked [] mark text = text
-marked (b ∷ bs) mark text = (b ∷ bs) ++ (mark ++ text)
+abbrev pub prefixed_text : List ℕ → List ℕ → List ℕ → List ℕ
+prefixed_text [] mark text = text
+prefixed_text (b ∷ bs) mark text = (b ∷ bs) ++ (mark ++ text)
 
 -- the first text, and a mark and the other where that isn't empty
-abbrev pub followed : List ℕ → List ℕ → List ℕ → List ℕ
-followed text mark [] = text
-followed text mark (b ∷ bs) = text ++ (mark ++ (b ∷ bs))
+abbrev pub suffixed_text : List ℕ → List ℕ → List ℕ → List ℕ
+suffixed_text text mark [] = text
+suffixed_text text mark (b ∷ bs) = text ++ (mark ++ (b ∷ bs))
 
 abbrev pub kind_or_document : List ℕ → List ℕ
 kind_or_document [] = codes "document"
@@ -54,16 +54,16 @@ kind_or_document (b ∷ bs) = b ∷ bs
 
 -- KIND NAMESPACE/NAME
 abbrev pub title : ItemData → List ℕ
-title i = followed (kind_or_document i.kind) (codes " ") (marked i.namespace (codes "/") i.name)
+title i = suffixed_text (kind_or_document i.kind) (codes " ") (prefixed_text i.namespace (codes "/") i.name)
 
 -- PLACE: MESSAGE
-abbrev pub told : FindingData → List ℕ
-told f = marked f.place (codes ": ") f.message
+abbrev pub finding_text : FindingData → List ℕ
+finding_text f = prefixed_text f.location (codes ": ") f.message
 
 -- ---- what the code's values stand for
 
 abbrev pub finding_view : Finding → FindingData
-finding_view f = record { place = string_bytes f.place; rule = string_bytes f.rule; message = string_bytes f.message }
+finding_view f = record { location = string_bytes f.location; rule = string_bytes f.rule; message = string_bytes f.message }
 
 abbrev pub item_view : Item → ItemData
 item_view i = record {

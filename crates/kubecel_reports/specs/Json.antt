@@ -8,16 +8,16 @@ use Rattle.std.specs.List.{flat_map}
 use Rattle.std.specs.Prelude.{ℕ, List, [], ◌∷◌, ◌++◌, codes}
 
 -- a JSON string
-unfoldable pub quoted : List ℕ → List ℕ
-quoted text = compact_text (string text)
+unfoldable pub json_string : List ℕ → List ℕ
+json_string text = compact_text (string text)
 
 -- a member of an object
 unfoldable pub text_member : List ℕ → List ℕ → List ℕ
-text_member head text = head ++ quoted text
+text_member head text = head ++ json_string text
 
 unfoldable pub json_finding : FindingData → List ℕ
 json_finding f =
-    text_member (codes "{\"place\":") f.place ++ (text_member (codes ",\"rule\":") f.rule ++ (text_member (codes ",\"message\":") f.message ++ codes "}"))
+    text_member (codes "{\"place\":") f.location ++ (text_member (codes ",\"rule\":") f.rule ++ (text_member (codes ",\"message\":") f.message ++ codes "}"))
 
 -- with a comma between two
 abbrev pub later_finding : FindingData → List ℕ

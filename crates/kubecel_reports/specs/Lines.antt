@@ -1,7 +1,7 @@
 -- Trusted by the clauses of kubecel.
 -- What is written of each thing as text, as GitHub's annotations, and as test cases of JUnit.
-use Rattle.kubecel_reports.specs.Escapes.{escaped}
-use Rattle.kubecel_reports.specs.Items.{FindingData, ItemData, title, told}
+use Rattle.kubecel_reports.specs.Escapes.{escaped_text}
+use Rattle.kubecel_reports.specs.Items.{FindingData, ItemData, title, finding_text}
 use Rattle.kubecel_reports.specs.declared.escape.Escape.TheVariants as escape
 use Rattle.kubecel_reports.specs.declared.item.Verdict.{Verdict}
 use Rattle.kubecel_reports.specs.declared.item.Verdict.TheVariants.{Pass, Skip, Fail, NotJudged}
@@ -28,22 +28,22 @@ colour Fail = codes "\u{1b}[31m"
 colour NotJudged = codes "\u{1b}[33m"
 
 -- the word of a verdict, in its colour if colours are asked for
-abbrev pub painted : Bool → Verdict → List ℕ
-painted false v = verdict_word v
-painted true v = colour v ++ (verdict_word v ++ codes "\u{1b}[0m")
+abbrev pub coloured_word : Bool → Verdict → List ℕ
+coloured_word false v = verdict_word v
+coloured_word true v = colour v ++ (verdict_word v ++ codes "\u{1b}[0m")
 
 -- FILE, or FILE[INDEX] where it isn't the first document there
-abbrev pub place : List ℕ → ℕ → List ℕ
-place file zero = file
-place file (suc n) = file ++ (codes "[" ++ (decimal (suc n) ++ codes "]"))
+abbrev pub location : List ℕ → ℕ → List ℕ
+location file zero = file
+location file (suc n) = file ++ (codes "[" ++ (decimal (suc n) ++ codes "]"))
 
 -- VERDICT KIND NAMESPACE/NAME (FILE), and below it what was found
 abbrev pub text_finding : FindingData → List ℕ
-text_finding f = codes "  " ++ (told f ++ codes "\n")
+text_finding f = codes "  " ++ (finding_text f ++ codes "\n")
 
 unfoldable pub text_item : Bool → ItemData → List ℕ
 text_item colours i =
-    painted colours i.verdict ++ (codes " " ++ (title i ++ (codes " (" ++ (place i.file i.index ++ (codes ")\n" ++ flat_map text_finding i.findings)))))
+    coloured_word colours i.verdict ++ (codes " " ++ (title i ++ (codes " (" ++ (location i.file i.index ++ (codes ")\n" ++ flat_map text_finding i.findings)))))
 
 -- ---- GitHub
 
@@ -56,8 +56,8 @@ level NotJudged = codes "error"
 -- an annotation of the file
 unfoldable pub github_finding : ItemData → FindingData → List ℕ
 github_finding i f =
-    codes "::" ++ (level i.verdict ++ (codes " file=" ++ (escaped escape.Property i.file ++ (codes ",title=" ++ (escaped escape.Property (title i)
-    ++ (codes "::" ++ (escaped escape.Data (told f) ++ codes "\n")))))))
+    codes "::" ++ (level i.verdict ++ (codes " file=" ++ (escaped_text escape.Property i.file ++ (codes ",title=" ++ (escaped_text escape.Property (title i)
+    ++ (codes "::" ++ (escaped_text escape.Data (finding_text f) ++ codes "\n")))))))
 
 unfoldable pub github_item : ItemData → List ℕ
 github_item i = flat_map (github_finding i) i.findings
@@ -72,11 +72,11 @@ element Fail = codes "failure"
 element NotJudged = codes "error"
 
 abbrev pub junit_finding : FindingData → List ℕ
-junit_finding f = escaped escape.Xml (told f) ++ codes "\n"
+junit_finding f = escaped_text escape.Xml (finding_text f) ++ codes "\n"
 
 -- what stands before a text, and the text within quotation marks
 unfoldable pub xml_member : List ℕ → List ℕ → List ℕ
-xml_member head text = head ++ escaped escape.Xml text
+xml_member head text = head ++ escaped_text escape.Xml text
 
 -- a test case before what was found, and behind it
 unfoldable pub junit_open : ItemData → List ℕ

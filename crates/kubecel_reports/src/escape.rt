@@ -1,5 +1,5 @@
 //! Texts within XML, and within GitHub's commands.
-ghost use Rattle.kubecel_reports.specs.Escapes.{byte_or, data_escape, escape_of, escaped, is_control, property_escape, xml_escape};
+ghost use Rattle.kubecel_reports.specs.Escapes.{byte_or, data_escape, escape_of, escaped_text, is_control, property_escape, xml_escape};
 ghost use Rattle.std.specs.Io.KnownBytes.{Appends};
 ghost use Rattle.std.specs.Prelude.{◌≡◌, OnOk, option_map};
 
@@ -72,7 +72,7 @@ fn write_byte<O: Write>(byte: u8, escape: Escape, out: &mut O) -> io::Result<()>
 
 /// Writes a text with what has to be replaced in it.
 pub(crate) fn write_escaped<O: Write>(text: &str, escape: Escape, out: &mut O) -> io::Result<()>
-    ensures { OnOk result (Appends (O.contents out.old) (O.contents out.new) (escaped escape text.now)) }
+    ensures { OnOk result (Appends (O.contents out.old) (O.contents out.new) (escaped_text escape text.now)) }
 {
     for byte in text.as_bytes() {
         write_byte(*byte, escape, out)?;

@@ -1,6 +1,6 @@
-//! What is told of each thing that was judged.
-ghost use Rattle.kubecel_reports.specs.Items.{finding_view, followed, item_view, items_status, kind_or_document, marked, title, told, verdict_status};
-ghost use Rattle.kubecel_reports.specs.Lines.{colour, element, level, place, verdict_word};
+//! What is reported of each thing that was judged.
+ghost use Rattle.kubecel_reports.specs.Items.{finding_view, suffixed_text, item_view, items_status, kind_or_document, prefixed_text, title, finding_text, verdict_status};
+ghost use Rattle.kubecel_reports.specs.Lines.{colour, element, level, location, verdict_word};
 ghost use Rattle.std.specs.Prelude.{◌≡◌, ◌≤◌, IfOk, map, max, string_bytes};
 
 use std::alloc::{AllocError, Global};
@@ -22,7 +22,7 @@ pub enum Verdict {
 #[derive(Drop)]
 pub struct Finding {
     /// Where in the thing, empty at its root.
-    pub place: String,
+    pub location: String,
     /// The text of the rule that it is about, empty if it is about none.
     pub rule: String,
     /// What there is to say.
@@ -125,8 +125,8 @@ pub fn status_of(items: &[Item]) -> u8
 }
 
 /// The first text and a mark where it isn't empty, and then the other.
-fn marked(alloc: Global, first: &str, mark: &str, text: &str) -> Result<String, AllocError>
-    ensures { IfOk result (λ s. string_bytes s ≡ marked first.now mark.now text.now) }
+fn prefixed_text(alloc: Global, first: &str, mark: &str, text: &str) -> Result<String, AllocError>
+    ensures { IfOk result (λ s. string_bytes s ≡ prefixed_text first.now mark.now text.now) }
 {
     if first.is_empty() {
         String::from_str(alloc, text)
@@ -136,8 +136,8 @@ fn marked(alloc: Global, first: &str, mark: &str, text: &str) -> Result<String, 
 }
 
 /// The first text, and a mark and the other where that isn't empty.
-fn followed(alloc: Global, text: &str, mark: &str, other: &str) -> Result<String, AllocError>
-    ensures { IfOk result (λ s. string_bytes s ≡ followed text.now mark.now other.now) }
+fn suffixed_text(alloc: Global, text: &str, mark: &str, other: &str) -> Result<String, AllocError>
+    ensures { IfOk result (λ s. string_bytes s ≡ suffixed_text text.now mark.now other.now) }
 {
     if other.is_empty() {
         String::from_str(alloc, text)
@@ -154,10 +154,10 @@ fn kind_or_document(kind: &str) -> &str
 
 impl Finding {
     /// `PLACE: MESSAGE`.
-    pub(crate) fn told(&self, alloc: Global) -> Result<String, AllocError>
-        ensures { IfOk result (λ s. string_bytes s ≡ told (finding_view self.now)) }
+    pub(crate) fn finding_text(&self, alloc: Global) -> Result<String, AllocError>
+        ensures { IfOk result (λ s. string_bytes s ≡ finding_text (finding_view self.now)) }
     {
-        marked(alloc, self.place.as_str(), ": ", self.message.as_str())
+        prefixed_text(alloc, self.location.as_str(), ": ", self.message.as_str())
     }
 }
 
@@ -167,13 +167,13 @@ impl Item {
         ensures { IfOk result (λ s. string_bytes s ≡ title (item_view self.now)) }
     {
         let kind = kind_or_document(self.kind.as_str());
-        let name = marked(alloc, self.namespace.as_str(), "/", self.name.as_str())?;
-        followed(alloc, kind, " ", name.as_str())
+        let name = prefixed_text(alloc, self.namespace.as_str(), "/", self.name.as_str())?;
+        suffixed_text(alloc, kind, " ", name.as_str())
     }
 
     /// `FILE`, or `FILE[INDEX]` where it isn't the first document there.
-    pub(crate) fn place(&self, alloc: Global) -> Result<String, AllocError>
-        ensures { IfOk result (λ s. string_bytes s ≡ place (string_bytes self.now.file) self.now.index) }
+    pub(crate) fn location(&self, alloc: Global) -> Result<String, AllocError>
+        ensures { IfOk result (λ s. string_bytes s ≡ location (string_bytes self.now.file) self.now.index) }
     {
         match self.index {
             0 => self.file.clone(),

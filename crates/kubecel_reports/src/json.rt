@@ -1,6 +1,6 @@
 //! Things as JSON.
 ghost use Rattle.kubecel_reports.specs.Items.{finding_view, item_view};
-ghost use Rattle.kubecel_reports.specs.Json.{json_finding, json_findings, json_head, json_item, json_items, json_list, later_finding, later_item, quoted, text_member};
+ghost use Rattle.kubecel_reports.specs.Json.{json_finding, json_findings, json_head, json_item, json_items, json_list, later_finding, later_item, json_string, text_member};
 ghost use Rattle.std.specs.Io.KnownBytes.{Appends};
 ghost use Rattle.std.specs.List.{flat_map};
 ghost use Rattle.std.specs.Prelude.{◌≡◌, IfOk, OnOk, map, string_bytes};
@@ -13,9 +13,9 @@ use std::io;
 use std::io::Write;
 
 /// A text as a JSON string.
-#[tactic(auto, unfolding(crate::specs::Json::quoted))]
-fn quoted(alloc: Global, text: &str) -> Result<String, AllocError>
-    ensures { IfOk result (λ s. string_bytes s ≡ quoted text.now) }
+#[tactic(auto, unfolding(crate::specs::Json::json_string))]
+fn json_string(alloc: Global, text: &str) -> Result<String, AllocError>
+    ensures { IfOk result (λ s. string_bytes s ≡ json_string text.now) }
 {
     Value::String(String::from_str(alloc, text)?).to_string(alloc)
 }
@@ -25,7 +25,7 @@ fn quoted(alloc: Global, text: &str) -> Result<String, AllocError>
 fn write_member<O: Write>(alloc: Global, head: &str, text: &str, out: &mut O) -> io::Result<()>
     ensures { OnOk result (Appends (O.contents out.old) (O.contents out.new) (text_member head.now text.now)) }
 {
-    let text = quoted(alloc, text)?;
+    let text = json_string(alloc, text)?;
     write!(out, "{head}{text}")
 }
 
@@ -114,7 +114,7 @@ fn write_later_findings<O: Write>(
 fn write_json_finding<O: Write>(alloc: Global, finding: &Finding, out: &mut O) -> io::Result<()>
     ensures { OnOk result (Appends (O.contents out.old) (O.contents out.new) (json_finding (finding_view finding.now))) }
 {
-    write_member(alloc, "{\"place\":", finding.place.as_str(), out)?;
+    write_member(alloc, "{\"place\":", finding.location.as_str(), out)?;
     write_member(alloc, ",\"rule\":", finding.rule.as_str(), out)?;
     write_member(alloc, ",\"message\":", finding.message.as_str(), out)?;
     out.write_all(b"}")

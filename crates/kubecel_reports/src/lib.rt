@@ -1,4 +1,4 @@
-//! What `kubecel` tells of each thing that it judged, in each form of output.
+//! What `kubecel` reports of each thing that it judged, in each form of output.
 #![tactic(auto)]
 
 mod escape;

@@ -1,6 +1,6 @@
 //! Things as text, as GitHub's annotations, and as test cases of JUnit.
 ghost use Rattle.kubecel_reports.specs.Items.{finding_view, item_view, title};
-ghost use Rattle.kubecel_reports.specs.Lines.{github_finding, github_item, junit_finding, junit_item, junit_open, number_member, painted, text_finding, text_item, xml_member};
+ghost use Rattle.kubecel_reports.specs.Lines.{github_finding, github_item, junit_finding, junit_item, junit_open, number_member, coloured_word, text_finding, text_item, xml_member};
 ghost use Rattle.std.specs.Io.KnownBytes.{Appends};
 ghost use Rattle.std.specs.List.{flat_map};
 ghost use Rattle.std.specs.Prelude.{◌≡◌, ◌++◌, OnOk, codes, map};
@@ -21,7 +21,7 @@ pub(crate) fn write_number<O: Write>(head: &str, number: usize, out: &mut O) -> 
 
 /// Writes the word of a verdict and a blank, in its colour if colours are asked for.
 fn write_verdict<O: Write>(verdict: Verdict, colours: bool, out: &mut O) -> io::Result<()>
-    ensures { OnOk result (Appends (O.contents out.old) (O.contents out.new) (painted colours verdict ++ codes " ")) }
+    ensures { OnOk result (Appends (O.contents out.old) (O.contents out.new) (coloured_word colours verdict ++ codes " ")) }
 {
     let word = verdict.word();
     if colours {
@@ -43,9 +43,9 @@ pub(crate) fn write_text_item<O: Write>(
     ensures { OnOk result (Appends (O.contents out.old) (O.contents out.new) (text_item colours (item_view item.now))) }
 {
     let title = item.title(alloc)?;
-    let place = item.place(alloc)?;
+    let location = item.location(alloc)?;
     write_verdict(item.verdict, colours, out)?;
-    writeln!(out, "{title} ({place})")?;
+    writeln!(out, "{title} ({location})")?;
     write_text_findings(alloc, item.findings.as_slice(), out)
 }
 
@@ -53,8 +53,8 @@ fn write_text_findings<O: Write>(alloc: Global, findings: &[Finding], out: &mut 
     ensures { OnOk result (Appends (O.contents out.old) (O.contents out.new) (flat_map text_finding (map finding_view findings.now))) }
 {
     for finding in findings {
-        let told = finding.told(alloc)?;
-        writeln!(out, "  {told}")?;
+        let finding_text = finding.finding_text(alloc)?;
+        writeln!(out, "  {finding_text}")?;
     }
     Ok(())
 }
@@ -82,13 +82,13 @@ fn write_github_finding<O: Write>(
     requires { heading.now ≡ title (item_view item.now) }
     ensures { OnOk result (Appends (O.contents out.old) (O.contents out.new) (github_finding (item_view item.now) (finding_view finding.now))) }
 {
-    let told = finding.told(alloc)?;
+    let finding_text = finding.finding_text(alloc)?;
     write!(out, "::{} file=", item.verdict.level())?;
     write_escaped(item.file.as_str(), Escape::Property, out)?;
     out.write_all(b",title=")?;
     write_escaped(heading, Escape::Property, out)?;
     out.write_all(b"::")?;
-    write_escaped(told.as_str(), Escape::Data, out)?;
+    write_escaped(finding_text.as_str(), Escape::Data, out)?;
     out.write_all(b"\n")
 }
 
@@ -131,8 +131,8 @@ fn write_junit_findings<O: Write>(
     ensures { OnOk result (Appends (O.contents out.old) (O.contents out.new) (flat_map junit_finding (map finding_view findings.now))) }
 {
     for finding in findings {
-        let told = finding.told(alloc)?;
-        write_escaped(told.as_str(), Escape::Xml, out)?;
+        let finding_text = finding.finding_text(alloc)?;
+        write_escaped(finding_text.as_str(), Escape::Xml, out)?;
         out.write_all(b"\n")?;
     }
     Ok(())

@@ -1,4 +1,4 @@
-//! A run that is made twice, timed and told.
+//! A run that is made twice, timed and reported.
 
 use kube_cel::Refused;
 use kube_cel::cel::PatternBook;
@@ -12,7 +12,7 @@ fn printed<T: Debug + Drop>(alloc: Global, answer: Result<T, Refused>) -> Result
     Ok(format!(in alloc; "{:?}", answer?)?)
 }
 
-/// Makes a run twice, with one book of patterns lent to both, and tells what each came to and took.
+/// Makes a run twice, with one book of patterns lent to both, and reports what each came to and took.
 pub(crate) fn make_twice<T: Debug + Drop, F: Fn(&mut PatternBook) -> Result<T, Refused>>(
     rt: &HostRuntime,
     run: F,

@@ -1,7 +1,7 @@
 //! Lists.
 ghost use Rattle.std.specs.Prelude.{◌≡◌, ◌==◌, IfOk, IfErr, length, option_map, slice_get};
 ghost use Rattle.std.specs.Slice.Iter.{iter_rest};
-ghost use Rattle.cel_value.specs.Find.{listed};
+ghost use Rattle.cel_value.specs.Find.{list_of_items};
 ghost use Rattle.cel_value.specs.Levels.{items_levels};
 ghost use Rattle.cel_value.specs.Same.{items_have_double};
 ghost use Rattle.cel_value.specs.View.{view, items_view};
@@ -13,7 +13,7 @@ use std::slice::Iter;
 /// One of these items.
 #[tactic(auto, using(crate::proofs::Members::listed_get))]
 fn nth(items: &[Value], index: usize) -> Option<&Value>
-    ensures { option_map (λ v. view v.now) result ≡ slice_get (listed (items_view items.now)) index }
+    ensures { option_map (λ v. view v.now) result ≡ slice_get (list_of_items (items_view items.now)) index }
 {
     if index < items.len() {
         Some(&items[index])
@@ -66,7 +66,7 @@ impl List {
     /// How many items there are.
     #[tactic(auto, using(crate::proofs::Members::listed_length))]
     pub fn len(&self) -> usize
-        ensures { result ≡ length (listed self.now) }
+        ensures { result ≡ length (list_of_items self.now) }
     {
         self.items.len()
     }
@@ -74,14 +74,14 @@ impl List {
     /// Whether there are none.
     #[tactic(auto, using(crate::proofs::Members::listed_length))]
     pub fn is_empty(&self) -> bool
-        ensures { result ≡ (length (listed self.now) == 0) }
+        ensures { result ≡ (length (list_of_items self.now) == 0) }
     {
         self.items.len() == 0
     }
 
     /// The item at an index.
     pub fn get(&self, index: usize) -> Option<&Value>
-        ensures { option_map (λ v. view v.now) result ≡ slice_get (listed self.now) index }
+        ensures { option_map (λ v. view v.now) result ≡ slice_get (list_of_items self.now) index }
     {
         nth(self.items.as_slice(), index)
     }

@@ -1,7 +1,7 @@
 //! Maps.
 ghost use Rattle.std.specs.Prelude.{◌≡◌, IfOk, IfErr, OnOk, OnErr, None, max, length, option_map};
 ghost use Rattle.cel_value.specs.Data.{no_entries};
-ghost use Rattle.cel_value.specs.Find.{find, entries_listed};
+ghost use Rattle.cel_value.specs.Find.{find, list_of_entries};
 ghost use Rattle.cel_value.specs.Keys.{key_order, key_view, put};
 ghost use Rattle.std.specs.List.Sorted.{IsStrictlySortedBy};
 ghost use Rattle.std.specs.Map.{keys_of};
@@ -97,7 +97,7 @@ impl Map {
     /// How many entries there are.
     #[tactic(auto, using(crate::proofs::Members::entries_length))]
     pub fn len(&self) -> usize
-        ensures { result ≡ length (entries_listed self.now) }
+        ensures { result ≡ length (list_of_entries self.now) }
     {
         self.entries.len()
     }

@@ -5,7 +5,7 @@ use Rattle.kube_types_formats.specs.Formats.{kind_of}
 use Rattle.kube_types_semver.specs.Order.{same_parts}
 use Rattle.kube_types_semver.specs.Shown.{parts}
 use Rattle.kube_types_url.specs.Equality.{same_url}
-use Rattle.kube_types_url.specs.Shown.{shown}
+use Rattle.kube_types_url.specs.Shown.{url_view}
 use Rattle.cel_value.proofs.Views.{view_quantity, view_semver, view_url, view_format}
 use Rattle.cel_value.proofs.Equal.{same_fields, same_quantities, same_versions, same_urls, same_formats}
 use Rattle.cel_value.proofs.same.+same.Goals as goal
@@ -25,8 +25,8 @@ is_same-returns-in-Some-as_semver t c =
 pub is_same-returns-in-Some-as_url : goal.is_same-returns-in-Some-as_url
 is_same-returns-in-Some-as_url t c =
     let y = c.in-Some-as_url.y.now in
-    c.eq-in-Some-as_url.ensures ∙ ap (λ u. same_url (shown u) (shown y)) c.as_ref-in-Some-as_url.ensures
-    ∙ sym (ap (λ d. same d (view c.args.b.now)) (ap view c.in-Url.is ∙ view_url c.in-Url.x) ∙ same_urls (shown c.in-Url.x.value) (view c.args.b.now) (shown y) c.in-Some-as_url.ensures)
+    c.eq-in-Some-as_url.ensures ∙ ap (λ u. same_url (url_view u) (url_view y)) c.as_ref-in-Some-as_url.ensures
+    ∙ sym (ap (λ d. same d (view c.args.b.now)) (ap view c.in-Url.is ∙ view_url c.in-Url.x) ∙ same_urls (url_view c.in-Url.x.value) (view c.args.b.now) (url_view y) c.in-Some-as_url.ensures)
 
 pub is_same-returns-in-Some-as_format : goal.is_same-returns-in-Some-as_format
 is_same-returns-in-Some-as_format t c =

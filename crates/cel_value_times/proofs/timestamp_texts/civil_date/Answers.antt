@@ -9,5 +9,5 @@ returns-clause-succeeds c =
     let year : to_z w16 c.args.year ≡ pos c.args.year = omega (arith, ints) in
     let month : to_z w8 c.args.month ≡ pos c.args.month = omega (arith, ints) in
     let day : to_z w8 c.args.day ≡ pos c.args.day = omega (arith, ints) in
-    let told = simp (year, month, day) at c.new.ensures.succeeds in
-    (λ ok. civil_from_date c.args.year c.args.month c.args.day (told.0 ok), λ date. told.1 (date_from_civil c.args.year c.args.month c.args.day date))
+    let reported = simp (year, month, day) at c.new.ensures.succeeds in
+    (λ ok. civil_from_date c.args.year c.args.month c.args.day (reported.0 ok), λ date. reported.1 (date_from_civil c.args.year c.args.month c.args.day date))

@@ -1,9 +1,9 @@
-use Rattle.cel_book.specs.Book.{Agrees, Book}
-use Rattle.cel_book.specs.Entries.{entries_of}
-use Rattle.cel_meaning.specs.Bindings.{bindings_of}
+use Rattle.cel_patterns.specs.Book.{Extends, Book}
+use Rattle.cel_patterns.specs.Entries.{entries_of}
+use Rattle.cel_semantics.specs.Bindings.{bindings_of}
 use Rattle.kube_cel.proofs.raw.add_verdicts.Given as goal
 use Rattle.kube_cel_errors.specs.Errors.{error_view}
-use Rattle.kube_cel_verdicts.specs.Verdicts.{listed, verdict}
+use Rattle.kube_cel_verdicts.specs.Verdicts.{list_of_option, verdict}
 use Rattle.kube_schema_rules.specs.Compilation.{compiled_rule}
 use Rattle.serde_json.specs.View.{view}
 use Rattle.std.proofs.Common.{◌≡◌, ◌++◌, map, option_map, take}
@@ -11,7 +11,7 @@ use Rattle.std.specs.List.{flat_map}
 
 abbrev pub invariant-loop-rule : goal.invariant-loop-rule
 invariant-loop-rule l = record {
-  keeps : (b : Book) → Agrees b (entries_of l.book) → Agrees b (entries_of l.initial.book);
-  found : (b : Book) → Agrees b (entries_of l.book) → map error_view l.errors.items ≡ map error_view l.initial.errors.items
-      ++ flat_map (λ rule. listed (verdict b (bindings_of l.context) (option_map (λ v. view v.now) l.old) l.path (compiled_rule (view rule)))) (take l.rule-index l.rules);
+  keeps : (b : Book) → Extends b (entries_of l.book) → Extends b (entries_of l.initial.book);
+  found : (b : Book) → Extends b (entries_of l.book) → map error_view l.errors.items ≡ map error_view l.initial.errors.items
+      ++ flat_map (λ rule. list_of_option (verdict b (bindings_of l.context) (option_map (λ v. view v.now) l.old) l.path (compiled_rule (view rule)))) (take l.rule-index l.rules);
 }

@@ -1,6 +1,6 @@
 use Rattle.kube_cel.proofs.raw.named_nodes.Goals as goal
 use Rattle.kube_cel.proofs.RawNodes.{entry_shown, key_sought, members_named}
-use Rattle.kube_cel.specs.declared.raw.RawNode.{RawNode}
+use Rattle.kube_cel.specs.declared.raw.JsonNode.{JsonNode}
 use Rattle.kube_cel_places.specs.Inside.{in_order, keys_in}
 use Rattle.serde_json.proofs.Views.{Entry}
 use Rattle.serde_json.specs.Data.{Data}
@@ -24,7 +24,7 @@ loop-key-preserved c =
     let done = l.invariant.done in
     let e : Entry = (c.in-Some.key.now, c.in-Some.schema.now) in
     let left = c.next.new.self in
-    let f : Bor (List ℕ) × RawNode → List ℕ × Option Data = λ p. (p.0.now, Some (view p.1.schema.now)) in
+    let f : Bor (List ℕ) × JsonNode → List ℕ × Option Data = λ p. (p.0.now, Some (view p.1.schema.now)) in
     let moved : done ++ l.key-iterator ≡ (done ++ e ∷ []) ++ left = ap (λ es. done ++ es) c.in-Some.ensures.steps ∙ sym (append_assoc done (e ∷ []) left) in
     record {
       done = done ++ e ∷ [];

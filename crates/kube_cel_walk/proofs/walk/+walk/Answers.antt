@@ -1,15 +1,15 @@
 use Rattle.kube_cel_errors.specs.Errors.{error_view}
 use Rattle.kube_cel_places.specs.declared.branches.BranchKind.TheVariants.{AllOf, OneOf, AnyOf}
 use Rattle.kube_cel_places.specs.Inside.{in_order, up_to}
-use Rattle.kube_cel_places.specs.Spot.{spot, further, unless_there, member_path, item_path, goes, property_steps, item_steps, extra_steps, branch_steps}
-use Rattle.kube_cel_places.specs.Step.{property, item, extra, branch}
+use Rattle.kube_cel_places.specs.Visit.{visit, further, unless_there, member_path, item_path, goes, property_steps, item_steps, additional_steps, branch_steps}
+use Rattle.kube_cel_places.specs.Step.{property, item, additional_property, branch}
 use Rattle.kube_cel_verdicts.specs.Roots.{root_view}
 use Rattle.kube_cel_walk.proofs.Cut.{member_path_cut, member_path_splits, item_path_cut, item_path_splits}
 use Rattle.kube_cel_walk.proofs.Entries.{names_of, names_more, names_taken, shown, sought, declared_at, declared_names}
-use Rattle.kube_cel_walk.proofs.Gathered.{answer_last, gathered, through_none, no_item, no_extra, one_more, none_up, one_more_up, property_steps_are, extra_steps_none, extra_steps_are, item_steps_none, item_steps_are, branch_steps_are, property_goes, extra_goes, item_goes, branch_goes}
+use Rattle.kube_cel_walk.proofs.Gathered.{answer_last, gathered, through_none, no_item, no_additional_property, one_more, none_up, one_more_up, property_steps_are, additional_steps_none, additional_steps_are, item_steps_none, item_steps_are, branch_steps_are, property_goes, additional_goes, item_goes, branch_goes}
 use Rattle.kube_cel_walk.proofs.walk.+walk.Goals as goal
-use Rattle.kube_cel_walk.specs.Answers.{answer, reached, verdicts, found_through, found_by}
-use Rattle.kube_cel_walk.specs.Places.{spot_at}
+use Rattle.kube_cel_walk.specs.Answers.{answer, answer_if_reached, verdicts, found_through, found_by}
+use Rattle.kube_cel_walk.specs.Visits.{visit_at}
 use Rattle.serde_json.proofs.Views.{Entry, get_item_within}
 use Rattle.serde_json.specs.Data.{Data}
 use Rattle.serde_json.specs.Find.{get, at}
@@ -20,21 +20,21 @@ use Rattle.std.specs.List.Sorted.{IsStrictlySortedBy}
 use Rattle.std.specs.Map.{keys_of}
 use Rattle.std.specs.String.Boundary.{IsSplitPoint}
 
-pub walk_node-returns-then-place-eq-TOO_DEEP-clause-found : goal.walk_node-returns-then-place-eq-TOO_DEEP-clause-found
-walk_node-returns-then-place-eq-TOO_DEEP-clause-found g t c = λ b h.
-    let full : 65 - c.args.place.now.depth ≡ 0 = omega arith in
+pub walk_node-returns-then-state-eq-TOO_DEEP-clause-found : goal.walk_node-returns-then-state-eq-TOO_DEEP-clause-found
+walk_node-returns-then-state-eq-TOO_DEEP-clause-found g t c = λ b h.
+    let full : 65 - c.args.state.now.depth ≡ 0 = omega arith in
     let old = map error_view c.args.errors.now.items in
-    c.in_ok-judge.ensures.found b h
-    ∙ ap (λ p. old ++ verdicts g.N.Node.form b (spot_at g.N.Node.seen c.args.place.now p)) c.as_str.ensures.value
-    ∙ sym (ap (λ r. old ++ r) (answer_last g.N.Node.form b (65 - c.args.place.now.depth) (spot_at g.N.Node.seen c.args.place.now (string_bytes c.args.path.now)) full))
+    c.in_ok-validate_at.ensures.found b h
+    ∙ ap (λ p. old ++ verdicts g.N.Node.form b (visit_at g.N.Node.seen c.args.state.now p)) c.as_str.ensures.value
+    ∙ sym (ap (λ r. old ++ r) (answer_last g.N.Node.form b (65 - c.args.state.now.depth) (visit_at g.N.Node.seen c.args.state.now (string_bytes c.args.path.now)) full))
 
 pub walk_node-returns-clause-found : goal.walk_node-returns-clause-found
 walk_node-returns-clause-found g t c = λ b h.
-    let full : 65 - c.args.place.now.depth ≡ suc (64 - c.args.place.now.depth) = omega arith in
-    let place = c.args.place.now in
-    let n = 64 - c.args.place.now.depth in
+    let full : 65 - c.args.state.now.depth ≡ suc (64 - c.args.state.now.depth) = omega arith in
+    let state = c.args.state.now in
+    let n = 64 - c.args.state.now.depth in
     let e0 = map error_view c.args.errors.now.items in
-    let e1 = map error_view c.judge.new.errors.items in
+    let e1 = map error_view c.validate_at.new.errors.items in
     let e2 = map error_view c.walk_properties.new.errors.items in
     let e3 = map error_view c.walk_items.new.errors.items in
     let e4 = map error_view c.walk_extras.new.errors.items in
@@ -52,14 +52,14 @@ walk_node-returns-clause-found g t c = λ b h.
     let h3 = c.in_ok-walk_extras.ensures.keeps b h4 in
     let h2 = c.in_ok-walk_items.ensures.keeps b h3 in
     let h1 = c.in_ok-walk_properties.ensures.keeps b h2 in
-    gathered g.N.Node.form b (65 - c.args.place.now.depth) n (spot_at g.N.Node.seen place (string_bytes c.args.path.now)) e0 e1 e2 e3 e4 e5 e6 e7 full
-    (c.in_ok-judge.ensures.found b h1 ∙ ap (λ p. e0 ++ verdicts g.N.Node.form b (spot_at g.N.Node.seen place p)) c.as_str.ensures.value)
+    gathered g.N.Node.form b (65 - c.args.state.now.depth) n (visit_at g.N.Node.seen state (string_bytes c.args.path.now)) e0 e1 e2 e3 e4 e5 e6 e7 full
+    (c.in_ok-validate_at.ensures.found b h1 ∙ ap (λ p. e0 ++ verdicts g.N.Node.form b (visit_at g.N.Node.seen state p)) c.as_str.ensures.value)
     (c.in_ok-walk_properties.ensures.found b h2)
-    (c.in_ok-walk_items.ensures.found b h3 ∙ ap (λ p. e2 ++ found_by g.N.Node.form (item_steps g.N.Node.form.shape) b n (spot_at g.N.Node.seen place p)) p2)
-    (c.in_ok-walk_extras.ensures.found b h4 ∙ ap (λ p. e3 ++ found_by g.N.Node.form (extra_steps g.N.Node.form.shape) b n (spot_at g.N.Node.seen place p)) p3)
-    (c.in_ok-walk_branches.ensures.found b h5 ∙ ap (λ p. e4 ++ found_by g.N.Node.form (branch_steps g.N.Node.form.shape AllOf) b n (spot_at g.N.Node.seen place p)) p4)
-    (c.in_ok-walk_branches-2.ensures.found b h6 ∙ ap (λ p. e5 ++ found_by g.N.Node.form (branch_steps g.N.Node.form.shape OneOf) b n (spot_at g.N.Node.seen place p)) p5)
-    (c.in_ok-walk_branches-3.ensures.found b h ∙ ap (λ p. e6 ++ found_by g.N.Node.form (branch_steps g.N.Node.form.shape AnyOf) b n (spot_at g.N.Node.seen place p)) p6)
+    (c.in_ok-walk_items.ensures.found b h3 ∙ ap (λ p. e2 ++ found_by g.N.Node.form (item_steps g.N.Node.form.shape) b n (visit_at g.N.Node.seen state p)) p2)
+    (c.in_ok-walk_extras.ensures.found b h4 ∙ ap (λ p. e3 ++ found_by g.N.Node.form (additional_steps g.N.Node.form.shape) b n (visit_at g.N.Node.seen state p)) p3)
+    (c.in_ok-walk_branches.ensures.found b h5 ∙ ap (λ p. e4 ++ found_by g.N.Node.form (branch_steps g.N.Node.form.shape AllOf) b n (visit_at g.N.Node.seen state p)) p4)
+    (c.in_ok-walk_branches-2.ensures.found b h6 ∙ ap (λ p. e5 ++ found_by g.N.Node.form (branch_steps g.N.Node.form.shape OneOf) b n (visit_at g.N.Node.seen state p)) p5)
+    (c.in_ok-walk_branches-3.ensures.found b h ∙ ap (λ p. e6 ++ found_by g.N.Node.form (branch_steps g.N.Node.form.shape AnyOf) b n (visit_at g.N.Node.seen state p)) p6)
 
 -- ---- declared members
 
@@ -67,7 +67,7 @@ pub walk_properties-loop-property-init : goal.walk_properties-loop-property-init
 walk_properties-loop-property-init g t c = record {
   path = refl;
   keeps = λ b h. h;
-  found = λ b h. through_none g.N.Node.form b (64 - c.args.place.now.depth) (spot_at g.N.Node.seen c.args.place.now (string_bytes c.args.path.now)) (map error_view c.args.errors.now.items) [] refl;
+  found = λ b h. through_none g.N.Node.form b (64 - c.args.state.now.depth) (visit_at g.N.Node.seen c.args.state.now (string_bytes c.args.path.now)) (map error_view c.args.errors.now.items) [] refl;
 }
 
 pub walk_properties-loop-property-preserved : goal.walk_properties-loop-property-preserved
@@ -75,32 +75,32 @@ walk_properties-loop-property-preserved g t c =
     let l = c.loop-property in
     let form = g.N.Node.form in
     let seen = g.N.Node.seen in
-    let s = spot_at seen c.args.place.now (string_bytes c.args.path.now) in
-    let n = 64 - c.args.place.now.depth in
-    let d = c.args.place.now.depth in
-    let v = view c.args.place.now.value.now in
-    let o = option_map (λ x. view x.now) c.args.place.now.old in
+    let s = visit_at seen c.args.state.now (string_bytes c.args.path.now) in
+    let n = 64 - c.args.state.now.depth in
+    let d = c.args.state.now.depth in
+    let v = view c.args.state.now.value.now in
+    let o = option_map (λ x. view x.now) c.args.state.now.old in
     let old = map error_view c.args.errors.now.items in
     let had = map error_view l.errors.items in
     let xs = c.deref-property-items.result.now in
     let x = c.property-item.result in
     let k = x.0.now in
     let within : l.property-index < length xs = omega arith in
-    let here = declared_at seen (λ k. form.shape.property k (seen c.args.place.now.node)) xs (in_order (form.shape.keys (seen c.args.place.now.node))) l.property-index x
-    (subst (λ ys. map (shown seen (λ k. form.shape.property k (seen c.args.place.now.node))) ys ≡ map (sought seen (λ k. form.shape.property k (seen c.args.place.now.node))) (in_order (form.shape.keys (seen c.args.place.now.node))))
+    let here = declared_at seen (λ k. form.shape.property k (seen c.args.state.now.node)) xs (in_order (form.shape.keys (seen c.args.state.now.node))) l.property-index x
+    (subst (λ ys. map (shown seen (λ k. form.shape.property k (seen c.args.state.now.node))) ys ≡ map (sought seen (λ k. form.shape.property k (seen c.args.state.now.node))) (in_order (form.shape.keys (seen c.args.state.now.node))))
     (sym c.deref-property-items.ensures.value) c.in_ok-properties.ensures) within in
-    let there : form.shape.property k (seen c.args.place.now.node) ≡ Some (seen x.1) =
-    subst (λ y. form.shape.property y.0.now (seen c.args.place.now.node) ≡ Some (seen y.1)) (sym c.property-item.is) here in
+    let there : form.shape.property k (seen c.args.state.now.node) ≡ Some (seen x.1) =
+    subst (λ y. form.shape.property y.0.now (seen c.args.state.now.node) ≡ Some (seen y.1)) (sym c.property-item.is) here in
     let goes_there = property_goes form.shape s k (Some (seen x.1)) there in
     record {
       path = c.in_ok-walk_member.ensures.path ∙ l.invariant.path;
       keeps = λ b h. l.invariant.keeps b (c.in_ok-walk_member.ensures.keeps b h);
       found = λ b h.
-          let more : map error_view c.walk_member.new.errors.items ≡ had ++ reached form b n (further None d (member_path (string_bytes c.args.path.now) k) (Some (seen x.1)) (get k v) (option_and_then (get k) o)) =
+          let more : map error_view c.walk_member.new.errors.items ≡ had ++ answer_if_reached form b n (further None d (member_path (string_bytes c.args.path.now) k) (Some (seen x.1)) (get k v) (option_and_then (get k) o)) =
           c.in_ok-walk_member.ensures.found b h
-          ∙ ap (λ q. had ++ reached form b n (further None d (member_path q k) (Some (seen x.1)) (get k v) (option_and_then (get k) o))) l.invariant.path in
+          ∙ ap (λ q. had ++ answer_if_reached form b n (further None d (member_path q k) (Some (seen x.1)) (get k v) (option_and_then (get k) o))) l.invariant.path in
           one_more form b n s property (map (λ p. p.0.now) (take l.property-index xs)) k old had (map error_view c.walk_member.new.errors.items)
-          (l.invariant.found b (c.in_ok-walk_member.ensures.keeps b h)) (more ∙ ap (λ r. had ++ reached form b n r) (sym goes_there))
+          (l.invariant.found b (c.in_ok-walk_member.ensures.keeps b h)) (more ∙ ap (λ r. had ++ answer_if_reached form b n r) (sym goes_there))
           ∙ ap (λ ks. old ++ found_through form b n s (map property ks)) (sym (names_taken xs l.property-index x c.property-item.is within));
     }
 
@@ -109,13 +109,13 @@ walk_properties-returns-clause-found g t c = λ b h.
     let l = c.loop-property in
     let form = g.N.Node.form in
     let seen = g.N.Node.seen in
-    let s = spot_at seen c.args.place.now (string_bytes c.args.path.now) in
-    let n = 64 - c.args.place.now.depth in
+    let s = visit_at seen c.args.state.now (string_bytes c.args.path.now) in
+    let n = 64 - c.args.state.now.depth in
     let old = map error_view c.args.errors.now.items in
     let xs = c.deref-property-items.result.now in
     let all = take_all l.property-index xs c.loop-property-test.false in
-    let named = declared_names seen (λ k. form.shape.property k (seen c.args.place.now.node)) xs (in_order (form.shape.keys (seen c.args.place.now.node)))
-    (subst (λ ys. map (shown seen (λ k. form.shape.property k (seen c.args.place.now.node))) ys ≡ map (sought seen (λ k. form.shape.property k (seen c.args.place.now.node))) (in_order (form.shape.keys (seen c.args.place.now.node))))
+    let named = declared_names seen (λ k. form.shape.property k (seen c.args.state.now.node)) xs (in_order (form.shape.keys (seen c.args.state.now.node)))
+    (subst (λ ys. map (shown seen (λ k. form.shape.property k (seen c.args.state.now.node))) ys ≡ map (sought seen (λ k. form.shape.property k (seen c.args.state.now.node))) (in_order (form.shape.keys (seen c.args.state.now.node))))
     (sym c.deref-property-items.ensures.value) c.in_ok-properties.ensures) in
     l.invariant.found b h
     ∙ ap (λ ys. old ++ found_through form b n s (map property (map (λ p. p.0.now) ys))) all
@@ -126,12 +126,12 @@ walk_properties-returns-clause-found g t c = λ b h.
 
 pub walk_extras-returns-in_default-clause-found : goal.walk_extras-returns-in_default-clause-found
 walk_extras-returns-in_default-clause-found g t c = λ b h.
-    no_extra g.N.Node.form b (64 - c.args.place.now.depth) (spot_at g.N.Node.seen c.args.place.now (string_bytes c.args.path.now)) (map error_view c.args.errors.now.items) c.in_default.ensures
+    no_additional_property g.N.Node.form b (64 - c.args.state.now.depth) (visit_at g.N.Node.seen c.args.state.now (string_bytes c.args.path.now)) (map error_view c.args.errors.now.items) c.in_default.ensures
 
 pub walk_extras-returns-in_default-as_object-clause-found : goal.walk_extras-returns-in_default-as_object-clause-found
 walk_extras-returns-in_default-as_object-clause-found g t c = λ b h.
-    let s = spot_at g.N.Node.seen c.args.place.now (string_bytes c.args.path.now) in
-    through_none g.N.Node.form b (64 - c.args.place.now.depth) s (map error_view c.args.errors.now.items) (extra_steps g.N.Node.form.shape s) (extra_steps_none g.N.Node.form.shape s c.in_default-as_object.ensures)
+    let s = visit_at g.N.Node.seen c.args.state.now (string_bytes c.args.path.now) in
+    through_none g.N.Node.form b (64 - c.args.state.now.depth) s (map error_view c.args.errors.now.items) (additional_steps g.N.Node.form.shape s) (additional_steps_none g.N.Node.form.shape s c.in_default-as_object.ensures)
 
 pub walk_extras-loop-key-init : goal.walk_extras-loop-key-init
 walk_extras-loop-key-init g t c = record {
@@ -140,7 +140,7 @@ walk_extras-loop-key-init g t c = record {
   ordered = search rules;
   path = refl;
   keeps = λ b h. h;
-  found = λ b h. through_none g.N.Node.form b (64 - c.args.place.now.depth) (spot_at g.N.Node.seen c.args.place.now (string_bytes c.args.path.now)) (map error_view c.args.errors.now.items) [] refl;
+  found = λ b h. through_none g.N.Node.form b (64 - c.args.state.now.depth) (visit_at g.N.Node.seen c.args.state.now (string_bytes c.args.path.now)) (map error_view c.args.errors.now.items) [] refl;
 }
 
 pub walk_extras-loop-key-preserved : goal.walk_extras-loop-key-preserved
@@ -150,16 +150,16 @@ walk_extras-loop-key-preserved g t c =
     let e : Entry = (c.in-Some-2.key.now, c.in-Some-2._member.now) in
     let k = string_bytes e.0 in
     let left = c.next.new.self in
-    let s = spot_at g.N.Node.seen c.args.place.now (string_bytes c.args.path.now) in
-    let n = 64 - c.args.place.now.depth in
-    let d = c.args.place.now.depth in
-    let v = view c.args.place.now.value.now in
-    let o = option_map (λ x. view x.now) c.args.place.now.old in
+    let s = visit_at g.N.Node.seen c.args.state.now (string_bytes c.args.path.now) in
+    let n = 64 - c.args.state.now.depth in
+    let d = c.args.state.now.depth in
+    let v = view c.args.state.now.value.now in
+    let o = option_map (λ x. view x.now) c.args.state.now.old in
     let other = g.N.Node.seen c.in-Some.other in
     let had = map error_view l.errors.items in
     let joined : done ++ l.key-iterator ≡ done ++ e ∷ left = ap (λ es. done ++ es) c.in-Some-2.ensures.steps in
     let moved : done ++ l.key-iterator ≡ (done ++ e ∷ []) ++ left = joined ∙ sym (append_assoc done (e ∷ []) left) in
-    let goes_there = extra_goes g.N.Node.form.shape s k other c.in-Some.ensures in
+    let goes_there = additional_goes g.N.Node.form.shape s k other c.in-Some.ensures in
     record {
       done = done ++ e ∷ [];
       all = ap (λ es. Some (members_view es)) (sym moved) ∙ l.invariant.all;
@@ -168,45 +168,45 @@ walk_extras-loop-key-preserved g t c =
       keeps = λ b h. l.invariant.keeps b (c.in_ok-walk_member.ensures.keeps b h);
       found = λ b h.
           let name = c.as_str-name.result.now in
-          let node = g.N.Node.seen c.args.place.now.node in
-          let more : map error_view c.walk_member.new.errors.items ≡ had ++ reached g.N.Node.form b n (further None d (member_path (string_bytes c.args.path.now) k) (unless_there (g.N.Node.form.shape.property k node) (Some other)) (get k v) (option_and_then (get k) o)) =
+          let node = g.N.Node.seen c.args.state.now.node in
+          let more : map error_view c.walk_member.new.errors.items ≡ had ++ answer_if_reached g.N.Node.form b n (further None d (member_path (string_bytes c.args.path.now) k) (unless_there (g.N.Node.form.shape.property k node) (Some other)) (get k v) (option_and_then (get k) o)) =
           c.in_ok-walk_member.ensures.found b h
-          ∙ ap (λ w. had ++ reached g.N.Node.form b n (further None d (member_path (string_bytes l.path) name) w (get name v) (option_and_then (get name) o))) c.unless_declared-node.ensures
-          ∙ ap (λ q. had ++ reached g.N.Node.form b n (further None d (member_path (string_bytes l.path) q) (unless_there (g.N.Node.form.shape.property q node) (Some other)) (get q v) (option_and_then (get q) o))) c.as_str-name.ensures.value
-          ∙ ap (λ q. had ++ reached g.N.Node.form b n (further None d (member_path q k) (unless_there (g.N.Node.form.shape.property k node) (Some other)) (get k v) (option_and_then (get k) o))) l.invariant.path in
-          one_more g.N.Node.form b n s extra (names_of done) k (map error_view c.args.errors.now.items) had (map error_view c.walk_member.new.errors.items)
-          (l.invariant.found b (c.in_ok-walk_member.ensures.keeps b h)) (more ∙ ap (λ r. had ++ reached g.N.Node.form b n r) (sym goes_there))
-          ∙ ap (λ ks. map error_view c.args.errors.now.items ++ found_through g.N.Node.form b n s (map extra ks)) (sym (names_more done e));
+          ∙ ap (λ w. had ++ answer_if_reached g.N.Node.form b n (further None d (member_path (string_bytes l.path) name) w (get name v) (option_and_then (get name) o))) c.unless_declared-node.ensures
+          ∙ ap (λ q. had ++ answer_if_reached g.N.Node.form b n (further None d (member_path (string_bytes l.path) q) (unless_there (g.N.Node.form.shape.property q node) (Some other)) (get q v) (option_and_then (get q) o))) c.as_str-name.ensures.value
+          ∙ ap (λ q. had ++ answer_if_reached g.N.Node.form b n (further None d (member_path q k) (unless_there (g.N.Node.form.shape.property k node) (Some other)) (get k v) (option_and_then (get k) o))) l.invariant.path in
+          one_more g.N.Node.form b n s additional_property (names_of done) k (map error_view c.args.errors.now.items) had (map error_view c.walk_member.new.errors.items)
+          (l.invariant.found b (c.in_ok-walk_member.ensures.keeps b h)) (more ∙ ap (λ r. had ++ answer_if_reached g.N.Node.form b n r) (sym goes_there))
+          ∙ ap (λ ks. map error_view c.args.errors.now.items ++ found_through g.N.Node.form b n s (map additional_property ks)) (sym (names_more done e));
     }
 
 pub walk_extras-returns-clause-found : goal.walk_extras-returns-clause-found
 walk_extras-returns-clause-found g t c = λ b h.
     let l = c.loop-key in
-    let s = spot_at g.N.Node.seen c.args.place.now (string_bytes c.args.path.now) in
+    let s = visit_at g.N.Node.seen c.args.state.now (string_bytes c.args.path.now) in
     let ended : l.invariant.done ++ l.key-iterator ≡ l.invariant.done = ap (λ es. l.invariant.done ++ es) c.in-None.ensures.steps.0 ∙ append-nil l.invariant.done in
-    let steps = extra_steps_are g.N.Node.form.shape s l.invariant.done (ap (λ es. Some (members_view es)) (sym ended) ∙ l.invariant.all) (subst (λ es. IsStrictlySortedBy string_cmp (keys_of es)) ended l.invariant.ordered) in
-    l.invariant.found b h ∙ ap (λ ps. map error_view c.args.errors.now.items ++ found_through g.N.Node.form b (64 - c.args.place.now.depth) s ps) (sym steps)
+    let steps = additional_steps_are g.N.Node.form.shape s l.invariant.done (ap (λ es. Some (members_view es)) (sym ended) ∙ l.invariant.all) (subst (λ es. IsStrictlySortedBy string_cmp (keys_of es)) ended l.invariant.ordered) in
+    l.invariant.found b h ∙ ap (λ ps. map error_view c.args.errors.now.items ++ found_through g.N.Node.form b (64 - c.args.state.now.depth) s ps) (sym steps)
 
 -- ---- one member
 
 pub walk_member-returns-in_default-clause-found : goal.walk_member-returns-in_default-clause-found
-unfolding reached
+unfolding answer_if_reached
 walk_member-returns-in_default-clause-found g t c = λ b h.
     let old = map error_view c.args.errors.now.items in
     let k = c.args.key.now in
-    let there = λ (node : Option _). further None c.args.place.now.depth (member_path (string_bytes c.args.path.now) k) (option_map g.N.Node.seen node) (get k (view c.args.place.now.value.now))
-    (option_and_then (get k) (option_map (λ x. view x.now) c.args.place.now.old)) in
-    sym (ap (λ (node : Option _). old ++ reached g.N.Node.form b (64 - c.args.place.now.depth) (there node)) c.in_default.is ∙ append-nil old)
+    let there = λ (node : Option _). further None c.args.state.now.depth (member_path (string_bytes c.args.path.now) k) (option_map g.N.Node.seen node) (get k (view c.args.state.now.value.now))
+    (option_and_then (get k) (option_map (λ x. view x.now) c.args.state.now.old)) in
+    sym (ap (λ (node : Option _). old ++ answer_if_reached g.N.Node.form b (64 - c.args.state.now.depth) (there node)) c.in_default.is ∙ append-nil old)
 
 pub walk_member-returns-in_default-get-clause-found : goal.walk_member-returns-in_default-get-clause-found
-unfolding reached
+unfolding answer_if_reached
 walk_member-returns-in_default-get-clause-found g t c = λ b h.
     let old = map error_view c.args.errors.now.items in
     let k = c.args.key.now in
-    let there = λ (node : Option _) (value : Option Data). further None c.args.place.now.depth (member_path (string_bytes c.args.path.now) k) (option_map g.N.Node.seen node) value
-    (option_and_then (get k) (option_map (λ x. view x.now) c.args.place.now.old)) in
-    sym (ap (λ (node : Option _). old ++ reached g.N.Node.form b (64 - c.args.place.now.depth) (there node (get k (view c.args.place.now.value.now)))) c.in-Some.is
-    ∙ ap (λ (value : Option Data). old ++ reached g.N.Node.form b (64 - c.args.place.now.depth) (there (Some c.in-Some.node) value)) (sym c.in_default-get.ensures) ∙ append-nil old)
+    let there = λ (node : Option _) (value : Option Data). further None c.args.state.now.depth (member_path (string_bytes c.args.path.now) k) (option_map g.N.Node.seen node) value
+    (option_and_then (get k) (option_map (λ x. view x.now) c.args.state.now.old)) in
+    sym (ap (λ (node : Option _). old ++ answer_if_reached g.N.Node.form b (64 - c.args.state.now.depth) (there node (get k (view c.args.state.now.value.now)))) c.in-Some.is
+    ∙ ap (λ (value : Option Data). old ++ answer_if_reached g.N.Node.form b (64 - c.args.state.now.depth) (there (Some c.in-Some.node) value)) (sym c.in_default-get.ensures) ∙ append-nil old)
 
 pub walk_member-truncate-requires : goal.walk_member-truncate-requires
 walk_member-truncate-requires g t c = λ _.
@@ -221,9 +221,9 @@ walk_member-returns-clause-path g t c =
     ∙ ap (λ n. take n (member_path (string_bytes c.args.path.now) c.args.key.now)) len ∙ member_path_cut (string_bytes c.args.path.now) c.args.key.now
 
 pub walk_member-returns-clause-found : goal.walk_member-returns-clause-found
-unfolding reached
+unfolding answer_if_reached
 walk_member-returns-clause-found g t c = λ b h.
-    let d = c.args.place.now.depth in
+    let d = c.args.state.now.depth in
     let full : 65 - (d + 1) ≡ 64 - d = omega arith in
     let old = map error_view c.args.errors.now.items in
     let k = c.args.key.now in
@@ -231,35 +231,35 @@ walk_member-returns-clause-found g t c = λ b h.
     let m = view c.in-Some-get.value.now in
     let o = option_map (λ x. view x.now) c.old_member.result in
     c.in_ok-walk_node.ensures.found b h
-    ∙ ap (λ n. old ++ answer g.N.Node.form b n (spot p m o None (string_bytes c.push_member.new.path) (d + 1))) full
-    ∙ ap (λ u. old ++ answer g.N.Node.form b (64 - d) (spot p m o None u (d + 1))) c.in_ok-push_member.ensures
-    ∙ ap (λ o. old ++ answer g.N.Node.form b (64 - d) (spot p m o None (member_path (string_bytes c.args.path.now) k) (d + 1))) c.old_member.ensures
-    ∙ ap (λ v. old ++ reached g.N.Node.form b (64 - d) (further None d (member_path (string_bytes c.args.path.now) k) (Some p) v (option_and_then (get k) (option_map (λ x. view x.now) c.args.place.now.old)))) c.in-Some-get.ensures
-    ∙ ap (λ (node : Option _). old ++ reached g.N.Node.form b (64 - d) (further None d (member_path (string_bytes c.args.path.now) k) (option_map g.N.Node.seen node) (get k (view c.args.place.now.value.now)) (option_and_then (get k) (option_map (λ x. view x.now) c.args.place.now.old)))) (sym c.in-Some.is)
+    ∙ ap (λ n. old ++ answer g.N.Node.form b n (visit p m o None (string_bytes c.push_member.new.path) (d + 1))) full
+    ∙ ap (λ u. old ++ answer g.N.Node.form b (64 - d) (visit p m o None u (d + 1))) c.in_ok-push_member.ensures
+    ∙ ap (λ o. old ++ answer g.N.Node.form b (64 - d) (visit p m o None (member_path (string_bytes c.args.path.now) k) (d + 1))) c.old_member.ensures
+    ∙ ap (λ v. old ++ answer_if_reached g.N.Node.form b (64 - d) (further None d (member_path (string_bytes c.args.path.now) k) (Some p) v (option_and_then (get k) (option_map (λ x. view x.now) c.args.state.now.old)))) c.in-Some-get.ensures
+    ∙ ap (λ (node : Option _). old ++ answer_if_reached g.N.Node.form b (64 - d) (further None d (member_path (string_bytes c.args.path.now) k) (option_map g.N.Node.seen node) (get k (view c.args.state.now.value.now)) (option_and_then (get k) (option_map (λ x. view x.now) c.args.state.now.old)))) (sym c.in-Some.is)
 
 -- ---- items
 
 pub walk_items-returns-in_default-clause-found : goal.walk_items-returns-in_default-clause-found
 walk_items-returns-in_default-clause-found g t c = λ b h.
-    no_item g.N.Node.form b (64 - c.args.place.now.depth) (spot_at g.N.Node.seen c.args.place.now (string_bytes c.args.path.now)) (map error_view c.args.errors.now.items) c.in_default.ensures
+    no_item g.N.Node.form b (64 - c.args.state.now.depth) (visit_at g.N.Node.seen c.args.state.now (string_bytes c.args.path.now)) (map error_view c.args.errors.now.items) c.in_default.ensures
 
 pub walk_items-returns-in_default-as_array-clause-found : goal.walk_items-returns-in_default-as_array-clause-found
 walk_items-returns-in_default-as_array-clause-found g t c = λ b h.
-    let s = spot_at g.N.Node.seen c.args.place.now (string_bytes c.args.path.now) in
-    through_none g.N.Node.form b (64 - c.args.place.now.depth) s (map error_view c.args.errors.now.items) (item_steps g.N.Node.form.shape s) (item_steps_none g.N.Node.form.shape s c.in_default-as_array.ensures)
+    let s = visit_at g.N.Node.seen c.args.state.now (string_bytes c.args.path.now) in
+    through_none g.N.Node.form b (64 - c.args.state.now.depth) s (map error_view c.args.errors.now.items) (item_steps g.N.Node.form.shape s) (item_steps_none g.N.Node.form.shape s c.in_default-as_array.ensures)
 
 pub walk_items-loop-index-init : goal.walk_items-loop-index-init
 walk_items-loop-index-init g t c = record {
   path = refl;
   keeps = λ b h. h;
-  found = λ b h. none_up g.N.Node.form b (64 - c.args.place.now.depth) (spot_at g.N.Node.seen c.args.place.now (string_bytes c.args.path.now)) item (map error_view c.args.errors.now.items);
+  found = λ b h. none_up g.N.Node.form b (64 - c.args.state.now.depth) (visit_at g.N.Node.seen c.args.state.now (string_bytes c.args.path.now)) item (map error_view c.args.errors.now.items);
 }
 
 pub walk_items-loop-index-preserved : goal.walk_items-loop-index-preserved
 walk_items-loop-index-preserved g t c =
     let l = c.loop-index in
-    let s = spot_at g.N.Node.seen c.args.place.now (string_bytes c.args.path.now) in
-    let n = 64 - c.args.place.now.depth in
+    let s = visit_at g.N.Node.seen c.args.state.now (string_bytes c.args.path.now) in
+    let n = 64 - c.args.state.now.depth in
     let had = map error_view l.errors.items in
     let vs = c.in-Some-as_array.items.now.items in
     let node = g.N.Node.seen c.in-Some.node in
@@ -273,15 +273,15 @@ walk_items-loop-index-preserved g t c =
       found = λ b h. one_more_up g.N.Node.form b n s item l.index (map error_view c.args.errors.now.items) had (map error_view c.walk_item.new.errors.items)
           (l.invariant.found b (c.in_ok-walk_item.ensures.keeps b h))
           (c.in_ok-walk_item.ensures.found b h
-          ∙ ap (λ q. had ++ reached g.N.Node.form b n (further None c.args.place.now.depth (item_path q l.index) (Some node) (Some v) (option_and_then (at l.index) (option_map (λ x. view x.now) c.args.place.now.old)))) l.invariant.path
-          ∙ ap (λ r. had ++ reached g.N.Node.form b n r) (sym there));
+          ∙ ap (λ q. had ++ answer_if_reached g.N.Node.form b n (further None c.args.state.now.depth (item_path q l.index) (Some node) (Some v) (option_and_then (at l.index) (option_map (λ x. view x.now) c.args.state.now.old)))) l.invariant.path
+          ∙ ap (λ r. had ++ answer_if_reached g.N.Node.form b n r) (sym there));
     }
 
 pub walk_items-returns-clause-found : goal.walk_items-returns-clause-found
 walk_items-returns-clause-found g t c = λ b h.
-    let s = spot_at g.N.Node.seen c.args.place.now (string_bytes c.args.path.now) in
+    let s = visit_at g.N.Node.seen c.args.state.now (string_bytes c.args.path.now) in
     let old = map error_view c.args.errors.now.items in
-    let n = 64 - c.args.place.now.depth in
+    let n = 64 - c.args.state.now.depth in
     let ended : c.loop-index.index ≡ length c.in-Some-as_array.items.now.items = omega arith in
     c.loop-index.invariant.found b h
     ∙ ap (λ m. old ++ found_through g.N.Node.form b n s (map item (up_to m))) ended
@@ -300,18 +300,18 @@ walk_item-returns-clause-path g t c =
     ∙ ap (λ n. take n (item_path (string_bytes c.args.path.now) c.args.index)) len ∙ item_path_cut (string_bytes c.args.path.now) c.args.index
 
 pub walk_item-returns-clause-found : goal.walk_item-returns-clause-found
-unfolding reached
+unfolding answer_if_reached
 walk_item-returns-clause-found g t c = λ b h.
-    let d = c.args.place.now.depth in
+    let d = c.args.state.now.depth in
     let full : 65 - (d + 1) ≡ 64 - d = omega arith in
     let old = map error_view c.args.errors.now.items in
     let p = g.N.Node.seen c.args.node in
     let m = view c.args.value.now in
     let o = option_map (λ x. view x.now) c.old_item.result in
     c.in_ok-walk_node.ensures.found b h
-    ∙ ap (λ n. old ++ answer g.N.Node.form b n (spot p m o None (string_bytes c.push_item.new.path) (d + 1))) full
-    ∙ ap (λ u. old ++ answer g.N.Node.form b (64 - d) (spot p m o None u (d + 1))) c.in_ok-push_item.ensures
-    ∙ ap (λ o. old ++ answer g.N.Node.form b (64 - d) (spot p m o None (item_path (string_bytes c.args.path.now) c.args.index) (d + 1))) c.old_item.ensures
+    ∙ ap (λ n. old ++ answer g.N.Node.form b n (visit p m o None (string_bytes c.push_item.new.path) (d + 1))) full
+    ∙ ap (λ u. old ++ answer g.N.Node.form b (64 - d) (visit p m o None u (d + 1))) c.in_ok-push_item.ensures
+    ∙ ap (λ o. old ++ answer g.N.Node.form b (64 - d) (visit p m o None (item_path (string_bytes c.args.path.now) c.args.index) (d + 1))) c.old_item.ensures
 
 -- ---- branches
 
@@ -319,14 +319,14 @@ pub walk_branches-loop-index-init : goal.walk_branches-loop-index-init
 walk_branches-loop-index-init g t c = record {
   path = refl;
   keeps = λ b h. h;
-  found = λ b h. none_up g.N.Node.form b (64 - c.args.place.now.depth) (spot_at g.N.Node.seen c.args.place.now (string_bytes c.args.path.now)) (branch c.args.kind) (map error_view c.args.errors.now.items);
+  found = λ b h. none_up g.N.Node.form b (64 - c.args.state.now.depth) (visit_at g.N.Node.seen c.args.state.now (string_bytes c.args.path.now)) (branch c.args.kind) (map error_view c.args.errors.now.items);
 }
 
 pub walk_branches-loop-index-preserved : goal.walk_branches-loop-index-preserved
 walk_branches-loop-index-preserved g t c =
     let l = c.loop-index in
-    let s = spot_at g.N.Node.seen c.args.place.now (string_bytes c.args.path.now) in
-    let n = 64 - c.args.place.now.depth in
+    let s = visit_at g.N.Node.seen c.args.state.now (string_bytes c.args.path.now) in
+    let n = 64 - c.args.state.now.depth in
     let had = map error_view l.errors.items in
     record {
       path = c.in_ok-walk_branch.ensures.path ∙ l.invariant.path;
@@ -334,37 +334,37 @@ walk_branches-loop-index-preserved g t c =
       found = λ b h. one_more_up g.N.Node.form b n s (branch c.args.kind) l.index (map error_view c.args.errors.now.items) had (map error_view c.walk_branch.new.errors.items)
           (l.invariant.found b (c.in_ok-walk_branch.ensures.keeps b h))
           (c.in_ok-walk_branch.ensures.found b h
-          ∙ ap (λ q. had ++ reached g.N.Node.form b n (goes g.N.Node.form.shape (branch c.args.kind l.index) (spot_at g.N.Node.seen c.args.place.now q))) l.invariant.path);
+          ∙ ap (λ q. had ++ answer_if_reached g.N.Node.form b n (goes g.N.Node.form.shape (branch c.args.kind l.index) (visit_at g.N.Node.seen c.args.state.now q))) l.invariant.path);
     }
 
 pub walk_branches-returns-clause-found : goal.walk_branches-returns-clause-found
 walk_branches-returns-clause-found g t c = λ b h.
-    let s = spot_at g.N.Node.seen c.args.place.now (string_bytes c.args.path.now) in
+    let s = visit_at g.N.Node.seen c.args.state.now (string_bytes c.args.path.now) in
     let old = map error_view c.args.errors.now.items in
-    let n = 64 - c.args.place.now.depth in
+    let n = 64 - c.args.state.now.depth in
     let ended : c.loop-index.index ≡ c.branch_count-index-end.result = omega arith in
     c.loop-index.invariant.found b h
     ∙ ap (λ m. old ++ found_through g.N.Node.form b n s (map (branch c.args.kind) (up_to m))) (ended ∙ c.branch_count-index-end.ensures)
     ∙ ap (λ ps. old ++ found_through g.N.Node.form b n s ps) (sym (branch_steps_are g.N.Node.form.shape c.args.kind s))
 
 pub walk_branch-returns-in_default-node-clause-found : goal.walk_branch-returns-in_default-node-clause-found
-unfolding reached
+unfolding answer_if_reached
 walk_branch-returns-in_default-node-clause-found g t c = λ b h.
-    let s = spot_at g.N.Node.seen c.args.place.now (string_bytes c.args.path.now) in
+    let s = visit_at g.N.Node.seen c.args.state.now (string_bytes c.args.path.now) in
     let old = map error_view c.args.errors.now.items in
-    sym (ap (λ o. old ++ reached g.N.Node.form b (64 - c.args.place.now.depth) o) (branch_goes g.N.Node.form.shape c.args.kind s c.args.index None c.in_default-node.ensures) ∙ append-nil old)
+    sym (ap (λ o. old ++ answer_if_reached g.N.Node.form b (64 - c.args.state.now.depth) o) (branch_goes g.N.Node.form.shape c.args.kind s c.args.index None c.in_default-node.ensures) ∙ append-nil old)
 
 pub walk_branch-returns-clause-found : goal.walk_branch-returns-clause-found
-unfolding reached
+unfolding answer_if_reached
 walk_branch-returns-clause-found g t c = λ b h.
-    let d = c.args.place.now.depth in
+    let d = c.args.state.now.depth in
     let full : 65 - (d + 1) ≡ 64 - d = omega arith in
-    let s = spot_at g.N.Node.seen c.args.place.now (string_bytes c.args.path.now) in
+    let s = visit_at g.N.Node.seen c.args.state.now (string_bytes c.args.path.now) in
     let old = map error_view c.args.errors.now.items in
     let p = g.N.Node.seen c.in_Some-node.node in
-    let v = view c.args.place.now.value.now in
-    let o = option_map (λ x. view x.now) c.args.place.now.old in
-    let r = option_map (λ x. root_view x.now) c.args.place.now.root in
+    let v = view c.args.state.now.value.now in
+    let o = option_map (λ x. view x.now) c.args.state.now.old in
+    let r = option_map (λ x. root_view x.now) c.args.state.now.root in
     c.in_ok-walk_node.ensures.found b h
-    ∙ ap (λ m. old ++ answer g.N.Node.form b m (spot p v o r (string_bytes c.args.path.now) (d + 1))) full
-    ∙ ap (λ x. old ++ reached g.N.Node.form b (64 - d) x) (sym (branch_goes g.N.Node.form.shape c.args.kind s c.args.index (Some p) c.in_Some-node.ensures))
+    ∙ ap (λ m. old ++ answer g.N.Node.form b m (visit p v o r (string_bytes c.args.path.now) (d + 1))) full
+    ∙ ap (λ x. old ++ answer_if_reached g.N.Node.form b (64 - d) x) (sym (branch_goes g.N.Node.form.shape c.args.kind s c.args.index (Some p) c.in_Some-node.ensures))

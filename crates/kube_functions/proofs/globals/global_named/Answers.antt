@@ -1,6 +1,6 @@
 use Rattle.std.proofs.Common.{◌∙◌}
 use Rattle.kube_functions.specs.Globals.{globals}
-use Rattle.cel_standard.proofs.ByLength.{named_by_length}
+use Rattle.cel_stdlib.proofs.ByLength.{named_by_length}
 use Rattle.kube_functions.proofs.globals.global_named.Goals as goal
 
 pub returns-in-2 : goal.returns-in-2

@@ -1,6 +1,6 @@
 use Rattle.std.proofs.Common.{◌∙◌}
 use Rattle.kube_functions.specs.Methods.{methods}
-use Rattle.cel_standard.proofs.ByLength.{named_by_length}
+use Rattle.cel_stdlib.proofs.ByLength.{named_by_length}
 use Rattle.kube_functions.proofs.methods.method_named.Goals as goal
 
 pub returns-in-2 : goal.returns-in-2

@@ -1,4 +1,4 @@
-use Rattle.cel_meaning.proofs.Items.{lent_item}
+use Rattle.cel_semantics.proofs.Items.{lent_item}
 use Rattle.kube_functions.proofs.operands.nth.Goals as goal
 
 pub returns : goal.returns

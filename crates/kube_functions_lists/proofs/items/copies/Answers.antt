@@ -1,7 +1,7 @@
 use Rattle.std.proofs.Common.{[], ap, map, ◌∙◌}
 use Rattle.std.proofs.lemmas.List.{take_all}
 use Rattle.cel_value.specs.View.{view}
-use Rattle.cel_meaning.proofs.Lookups.{copied_more}
+use Rattle.cel_semantics.proofs.Lookups.{copied_more}
 use Rattle.kube_functions_lists.proofs.items.copies.Goals as goal
 
 pub loop-item-preserved : goal.loop-item-preserved

@@ -1,5 +1,5 @@
 use Rattle.cel_value.specs.View.{view}
-use Rattle.cel_standard.proofs.Leading.{listed}
+use Rattle.cel_stdlib.proofs.Leading.{listed}
 use Rattle.kube_functions_lists.proofs.items.items_of.Goals as goal
 
 pub returns-in-Some : goal.returns-in-Some

@@ -2,14 +2,14 @@ use Rattle.std.proofs.Common.{◌≡◌, ◌<◌, ◌≤◌, length, map, Ok, Er
 use Rattle.kube_manifests.proofs.Each.{each_ends, each_on, each_stops}
 use Rattle.kube_manifests.proofs.documents.add_versions.Goals as goal
 use Rattle.kube_manifests.specs.Documents.{add_version}
-use Rattle.kube_manifests.specs.Parts.{crd_view, place_view}
+use Rattle.kube_manifests.specs.Parts.{crd_view, location_view}
 use Rattle.kube_manifests.specs.Sets.{added_view, error_view, version_view}
-use Rattle.kube_schema_table.specs.View.{view_of}
+use Rattle.kube_schema_compiled.specs.View.{view_of}
 use Rattle.serde_json.specs.View.{view}
 
 pub returns-in-Err-clause-added : goal.returns-in-Err-clause-added
 returns-in-Err-clause-added c =
-    let step = add_version (view_of 65) (place_view c.args.place) (crd_view c.args.crd) in
+    let step = add_version (view_of 65) (location_view c.args.location) (crd_view c.args.crd) in
     let had = map version_view c.loop-index.versions.items in
     let below : c.loop-index.index < length c.args.entries.now = omega arith in
     let stops : Err (error_view c.in-Err.error) ≡ step c.loop-index.index (view c.index-entries-index.result) had =
@@ -18,7 +18,7 @@ returns-in-Err-clause-added c =
 
 pub loop-index-preserved : goal.loop-index-preserved
 loop-index-preserved c =
-    let step = add_version (view_of 65) (place_view c.args.place) (crd_view c.args.crd) in
+    let step = add_version (view_of 65) (location_view c.args.location) (crd_view c.args.crd) in
     let had = map version_view c.loop-index.versions.items in
     let new = map version_view c.add_version.new.versions.items in
     let below : c.loop-index.index < length c.args.entries.now = omega arith in
@@ -28,6 +28,6 @@ loop-index-preserved c =
 
 pub returns-clause-added : goal.returns-clause-added
 returns-clause-added c =
-    let step = add_version (view_of 65) (place_view c.args.place) (crd_view c.args.crd) in
+    let step = add_version (view_of 65) (location_view c.args.location) (crd_view c.args.crd) in
     let past : length c.args.entries.now ≤ c.loop-index.index = omega arith in
     each_ends step c.args.entries.now c.loop-index.index (map version_view c.loop-index.versions.items) past ∙ c.loop-index.invariant

@@ -1,4 +1,4 @@
-use Rattle.cel_meaning.specs.Bindings.{bindings_of}
+use Rattle.cel_semantics.specs.Bindings.{bindings_of}
 use Rattle.kube_manifests_policies.proofs.Alike.{condition_names}
 use Rattle.kube_manifests_policies.proofs.context.condition_scope.Goals as goal
 use Rattle.kube_manifests_policies.specs.Inputs.{inputs_view}

@@ -1,6 +1,6 @@
-use Rattle.cel_meaning.specs.Bindings.{bindings_of}
+use Rattle.cel_semantics.specs.Bindings.{bindings_of}
 use Rattle.cel_value.specs.View.{view}
-use Rattle.kube_cel_policies.proofs.Bound.{always}
+use Rattle.kube_cel_vap.proofs.Bound.{always}
 use Rattle.kube_manifests_policies.proofs.context.context_always.Goals as goal
 use Rattle.kube_manifests_policies.specs.Inputs.{inputs_view}
 

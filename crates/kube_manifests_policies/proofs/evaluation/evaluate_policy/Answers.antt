@@ -1,11 +1,11 @@
-use Rattle.cel_book.proofs.Books.{Agrees-refl}
-use Rattle.cel_book.proofs.Entries.{entries-IsBook}
-use Rattle.cel_book.specs.Entries.{entries_of}
+use Rattle.cel_patterns.proofs.Books.{Extends-refl}
+use Rattle.cel_patterns.proofs.Entries.{entries-IsBook}
+use Rattle.cel_patterns.specs.Entries.{entries_of}
 use Rattle.kube_manifests_policies.proofs.Decided.{no_entries, no_entries-IsBook, of_fault, of_policy}
 use Rattle.kube_manifests_policies.proofs.evaluation.evaluate_policy.Goals as goal
 use Rattle.kube_manifests_policies.specs.Faults.{fault_seen}
 use Rattle.kube_manifests_policies.specs.Inputs.{inputs_view}
-use Rattle.kube_manifests_policies.specs.Policies.{policy_view, read}
+use Rattle.kube_manifests_policies.specs.Policies.{policy_view, reading_view}
 use Rattle.serde_json.specs.View.{view}
 use Rattle.std.proofs.Common.{Err, Ok, sym, ap, ◌∙◌}
 
@@ -13,8 +13,8 @@ pub returns-in-Err-clause-verdict : goal.returns-in-Err-clause-verdict
 returns-in-Err-clause-verdict c = (
   no_entries,
   no_entries-IsBook,
-  ap Err c.in_ok-told-in-Err.ensures
-      ∙ of_fault no_entries (inputs_view c.args.inputs.now) (view c.args.policy.now) (fault_seen c.in-Err.found) (sym (ap (read policy_view) c.in-Err.is) ∙ c.in_ok-policy.ensures.policy),
+  ap Err c.in_ok-reported-in-Err.ensures
+      ∙ of_fault no_entries (inputs_view c.args.inputs.now) (view c.args.policy.now) (fault_seen c.in-Err.found) (sym (ap (reading_view policy_view) c.in-Err.is) ∙ c.in_ok-policy.ensures.policy),
 )
 
 pub returns-clause-verdict : goal.returns-clause-verdict
@@ -22,6 +22,6 @@ returns-clause-verdict c =
     let b = entries_of c.policy_verdict.new.book in (
       b,
       entries-IsBook c.policy_verdict.new.book,
-      ap Ok (c.in_ok-verdict.ensures.verdict.under b (Agrees-refl b))
-          ∙ of_policy b (inputs_view c.args.inputs.now) (view c.args.policy.now) (policy_view c.in-Ok.policy) (sym (ap (read policy_view) c.in-Ok.is) ∙ c.in_ok-policy.ensures.policy),
+      ap Ok (c.in_ok-verdict.ensures.verdict.under b (Extends-refl b))
+          ∙ of_policy b (inputs_view c.args.inputs.now) (view c.args.policy.now) (policy_view c.in-Ok.policy) (sym (ap (reading_view policy_view) c.in-Ok.is) ∙ c.in_ok-policy.ensures.policy),
     )

@@ -1,4 +1,4 @@
-use Rattle.cel_syntax_tree.specs.Term.{term}
+use Rattle.cel_syntax_ast.specs.Term.{term}
 use Rattle.kube_manifests_policies.proofs.inputs.first_of.Given as goal
 use Rattle.kube_manifests_policies.specs.Inputs.{first_asked}
 use Rattle.std.proofs.Common.{◌≡◌, drop}

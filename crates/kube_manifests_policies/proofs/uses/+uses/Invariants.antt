@@ -1,4 +1,4 @@
-use Rattle.cel_syntax_tree.specs.Term.{pairs_of, term, terms_of}
+use Rattle.cel_syntax_ast.specs.Term.{pairs_of, term, terms_of}
 use Rattle.kube_manifests_policies.proofs.uses.+uses.Given as goal
 use Rattle.kube_manifests_policies.specs.Uses.{asks_in_any, asks_in_pairs}
 use Rattle.std.proofs.Common.{◌≡◌, drop, map}

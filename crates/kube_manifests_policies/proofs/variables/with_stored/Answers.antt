@@ -1,4 +1,4 @@
-use Rattle.cel_meaning.specs.Outcome.{outcome_view}
+use Rattle.cel_semantics.specs.Outcome.{outcome_view}
 use Rattle.kube_manifests_policies.proofs.variables.with_stored.Goals as goal
 use Rattle.kube_manifests_policies.specs.Scopes.{Alike, scope_view, with_stored, without_value}
 use Rattle.kube_manifests_policies.specs.Verdicts.{erred}

@@ -1,5 +1,5 @@
 use Rattle.std.proofs.Common.{◌≡◌, ◌++◌, map, drop}
-use Rattle.cel_syntax_tree.specs.Term.{term, terms_of, pairs_of}
+use Rattle.cel_syntax_ast.specs.Term.{term, terms_of, pairs_of}
 use Rattle.kube_manifests_review.specs.Nodes.{nodes_of_all, nodes_of_pairs}
 use Rattle.kube_manifests_review.proofs.nodes.+nodes.Given as goal
 

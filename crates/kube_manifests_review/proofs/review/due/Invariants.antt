@@ -1,11 +1,11 @@
 use Rattle.std.proofs.Common.{◌≡◌, map}
-use Rattle.cel_book.specs.Book.{Agrees, Book}
-use Rattle.cel_book.specs.Entries.{entries_of}
+use Rattle.cel_patterns.specs.Book.{Extends, Book}
+use Rattle.cel_patterns.specs.Entries.{entries_of}
 use Rattle.kube_manifests_review.specs.Doubts.{doubt_view, due, finding_view}
 use Rattle.kube_manifests_review.proofs.review.due.Given as goal
 
 abbrev pub invariant-loop-doubt : goal.invariant-loop-doubt
 invariant-loop-doubt l = record {
-  keeps : (b : Book) → Agrees b (entries_of l.book) → Agrees b (entries_of l.fn.book);
-  found : (b : Book) → Agrees b (entries_of l.book) → map finding_view l.found.items ≡ due (map doubt_view l.yielded) b;
+  keeps : (b : Book) → Extends b (entries_of l.book) → Extends b (entries_of l.fn.book);
+  found : (b : Book) → Extends b (entries_of l.book) → map finding_view l.found.items ≡ due (map doubt_view l.yielded) b;
 }

@@ -3,7 +3,7 @@ use Rattle.std.proofs.lemmas.Int.{ints, to_z-of_z}
 use Rattle.std.specs.Int.{is_negative, w128}
 use Rattle.std.specs.Prelude.{unsigned_abs}
 use Rattle.kube_types_quantity.specs.Decimal.{with_sign}
-use Rattle.kube_types_quantity.specs.Normal.{trailing_zeros, shortened}
+use Rattle.kube_types_quantity.specs.Normal.{trailing_zeros, mantissa_without_zeros}
 use Rattle.kube_types_quantity.proofs.Zeros.{trailing_are, trailing_of_zero, shorter_is}
 use Rattle.kube_types_quantity.proofs.normal.reduced.Goals as goal
 
@@ -27,7 +27,7 @@ returns-clause-value c =
     let back : to_z w128 (of_z w128 m) ≡ m = to_z-of_z w128 m c.ranges.mantissa in
     let whole : unsigned_abs m ≡ cut.result.0 * 10 ^ cut.result.1 = ap unsigned_abs (sym back) ∙ sym c.unsigned_abs.ensures.value ∙ cut.ensures.product in
     let zeros = trailing_are (unsigned_abs m) cut.result.0 cut.result.1 whole cut.ensures.last_digit in
-    let short : shortened m ≡ with_sign (is_negative m) cut.result.0 =
+    let short : mantissa_without_zeros m ≡ with_sign (is_negative m) cut.result.0 =
     ap (λ k. with_sign (is_negative m) (unsigned_abs m / 10 ^ k)) zeros
     ∙ ap (with_sign (is_negative m)) (shorter_is (unsigned_abs m) cut.result.0 cut.result.1 whole) in
     let flag : c.is_negative.result ≡ is_negative m = c.is_negative.ensures ∙ ap is_negative back in

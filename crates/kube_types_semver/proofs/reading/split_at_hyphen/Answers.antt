@@ -8,14 +8,14 @@ use Rattle.kube_types_semver.proofs.reading.split_at_hyphen.Goals as goal
 pub returns-in-Some-clause-core : goal.returns-in-Some-clause-core
 returns-in-Some-clause-core c =
     let text = c.args.text.now in
-    let found = find_char 45 text (Some c.in-Some.place) c.in-Some.ensures.cases (lit< tt) in
-    c.split_at.ensures.front ∙ (core_tail_at text c.in-Some.place (omega (arith, found.0)) found.2 (λ _. found.1)).0
+    let found = find_char 45 text (Some c.in-Some.offset) c.in-Some.ensures.cases (lit< tt) in
+    c.split_at.ensures.front ∙ (core_tail_at text c.in-Some.offset (omega (arith, found.0)) found.2 (λ _. found.1)).0
 
 pub returns-in-Some-clause-tail : goal.returns-in-Some-clause-tail
 returns-in-Some-clause-tail c =
     let text = c.args.text.now in
-    let found = find_char 45 text (Some c.in-Some.place) c.in-Some.ensures.cases (lit< tt) in
-    c.split_at.ensures.back ∙ (core_tail_at text c.in-Some.place (omega (arith, found.0)) found.2 (λ _. found.1)).1
+    let found = find_char 45 text (Some c.in-Some.offset) c.in-Some.ensures.cases (lit< tt) in
+    c.split_at.ensures.back ∙ (core_tail_at text c.in-Some.offset (omega (arith, found.0)) found.2 (λ _. found.1)).1
 
 pub returns-in-None-clause-core : goal.returns-in-None-clause-core
 returns-in-None-clause-core c =

@@ -3,7 +3,7 @@ use Rattle.kube_types_url.specs.Query.{pairs_of_pieces}
 use Rattle.kube_types_url.specs.Shown.{pair_texts}
 use Rattle.kube_types_url.proofs.Queries.{no_pieces, piece_taken, pair_pushed, piece_skipped}
 use Rattle.kube_types_url.proofs.query.pairs.Goals as goal
-use Rattle.kube_types_url.proofs.query.pairs.Goals.{then-not-is_empty+in_ok-decoded+in_ok-decoded-2+in_ok-push, else-not-is_empty}
+use Rattle.kube_types_url.proofs.query.pairs.Goals.{then-not-is_empty+in_ok-decoded_text+in_ok-decoded_text-2+in_ok-push, else-not-is_empty}
 
 pub loop-piece-init : goal.loop-piece-init
 loop-piece-init c = ap (map pair_texts) c.new-pairs.ensures.items ∙ no_pieces
@@ -16,11 +16,11 @@ loop-piece-preserved c =
     let before = map (λ (p : Bor (List ℕ)). p.now) (take i items) in
     let taken = piece_taken items i d c.loop-piece-test.true in
     elim c.if-not-is_empty.branch [
-      | then-not-is_empty+in_ok-decoded+in_ok-decoded-2+in_ok-push w ↦
+      | then-not-is_empty+in_ok-decoded_text+in_ok-decoded_text-2+in_ok-push w ↦
           let some : (length (get_or items i d).now == 0) ≡ false = sym c.is_empty.ensures ∙ w.if-not-is_empty.true in
-          pair_pushed c.loop-piece.pairs.items c.if-not-is_empty.pairs.items w.in_ok-decoded.field-0 w.in_ok-decoded-2.field-0
+          pair_pushed c.loop-piece.pairs.items c.if-not-is_empty.pairs.items w.in_ok-decoded_text.field-0 w.in_ok-decoded_text-2.field-0
           w.name_and_value.result.0.now w.name_and_value.result.1.now (get_or items i d).now before
-          (ap (λ v. v.items) w.pairs-is ∙ w.in_ok-push.ensures.items) w.in_ok-decoded.ensures w.in_ok-decoded-2.ensures
+          (ap (λ v. v.items) w.pairs-is ∙ w.in_ok-push.ensures.items) w.in_ok-decoded_text.ensures w.in_ok-decoded_text-2.ensures
           w.name_and_value.ensures.name w.name_and_value.ensures.value c.loop-piece.invariant some
           ∙ ap pairs_of_pieces (sym taken)
       | else-not-is_empty w ↦

@@ -2,7 +2,7 @@ use Rattle.kubecel_documents.proofs.Cuts.{left_over}
 use Rattle.kubecel_documents.proofs.documents.documents_of.Goals as goal
 use Rattle.std.proofs.Common.{◌≤◌, length, ◌∙◌, arith}
 use Rattle.std.proofs.lemmas.List.{at_drop_all}
-use Rattle.kubecel_documents.specs.Documents.{left}
+use Rattle.kubecel_documents.specs.Documents.{documents_left}
 
 pub returns : goal.returns
 returns c =
@@ -10,4 +10,4 @@ returns c =
     let bytes = c.as_bytes-bytes.result.now in
     let past : length bytes ≤ c.loop-i.i = omega arith in
     let read = rw c.in_default-2.is at c.in_ok-error-2.ensures.read in
-    c.loop-i.invariant ∙ at_drop_all (left r) bytes c.loop-i.i past ∙ left_over r c.end.new.self read
+    c.loop-i.invariant ∙ at_drop_all (documents_left r) bytes c.loop-i.i past ∙ left_over r c.end.new.self read

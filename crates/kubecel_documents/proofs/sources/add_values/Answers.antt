@@ -1,6 +1,6 @@
 use Rattle.kubecel_documents.proofs.Files.{fewer_left, no_document_left, one_more_document}
 use Rattle.kubecel_documents.proofs.sources.add_values.Goals as goal
-use Rattle.kubecel_documents.specs.Reads.{document_view, numbered}
+use Rattle.kubecel_documents.specs.Reads.{document_view, with_indices}
 use Rattle.serde_json.specs.View.{view}
 use Rattle.std.proofs.Common.{◌++◌, map, sym, ap, refl, ◌∙◌}
 use Rattle.std.specs.Vec.Iter.{into_iter_items}
@@ -16,8 +16,8 @@ loop-index-preserved c =
     let grown = one_more_document file it.count c.in-Some.value (map view left) (record { file = c.in_ok-file.file; index = c.in-Some.index; value = c.in-Some.value }) done after
     c.in_ok-file.ensures.ok steps.1 refl c.in_ok-push.ensures.items in
     record {
-      found = ap (λ n. map document_view after ++ numbered file n (map view left)) steps.2 ∙ sym grown
-          ∙ ap (λ vs. map document_view done ++ numbered file it.count (map view vs)) (sym steps.0.0) ∙ c.loop-index.invariant.found;
+      found = ap (λ n. map document_view after ++ with_indices file n (map view left)) steps.2 ∙ sym grown
+          ∙ ap (λ vs. map document_view done ++ with_indices file it.count (map view vs)) (sym steps.0.0) ∙ c.loop-index.invariant.found;
       left = fewer_left (into_iter_items it.iter) left c.in-Some.value _ _ steps.0.0 steps.0.1 c.loop-index.invariant.left;
     }
 

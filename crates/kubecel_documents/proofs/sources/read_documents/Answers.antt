@@ -1,6 +1,6 @@
 use Rattle.kubecel_documents.proofs.Files.{none_read, one_more_path, one_more_read}
 use Rattle.kubecel_documents.proofs.sources.read_documents.Goals as goal
-use Rattle.kubecel_documents.specs.Reads.{AreRead, document_view, numbered}
+use Rattle.kubecel_documents.specs.Reads.{AreRead, document_view, with_indices}
 use Rattle.serde_json.specs.View.{view}
 use Rattle.std.proofs.Common.{◌+◌, ◌<◌, ℕ, List, [], ◌++◌, get_or, length, map, take, sym, subst, arith}
 use denote.Ref.{Bor}
@@ -20,4 +20,4 @@ loop-path-preserved g c =
     let before = map (λ p. p.now) (take i paths) in
     let more = one_more_read reads c.args.files.now c.loop-path.files c.read_file.new.files before path (map document_view c.loop-path.found.items) values c.loop-path.invariant c.in_ok-values.ensures in
     subst (λ fs. AreRead reads c.args.files.now (map (λ p. p.now) (take (i + 1) paths)) fs c.read_file.new.files) (sym c.in_ok-add_values.ensures)
-    (subst (λ ps. AreRead reads c.args.files.now ps (map document_view c.loop-path.found.items ++ numbered path 0 values) c.read_file.new.files) (one_more_path paths i none below) more)
+    (subst (λ ps. AreRead reads c.args.files.now ps (map document_view c.loop-path.found.items ++ with_indices path 0 values) c.read_file.new.files) (one_more_path paths i none below) more)

@@ -9,6 +9,6 @@ returns-clause-succeeds c =
     let instant : FitsSigned w128 c.instant_after.result = search rules in
     let offset : FitsSigned w16 c.args.self.offset_minutes = omega (arith, signed_arith) in
     let nanoseconds : FitsSigned w64 c.args.duration.nanoseconds = search rules in
-    let told = simp to_z-of_z at c.at.ensures.succeeds in
-    let there = rw c.instant_after.ensures at told in
+    let reported = simp to_z-of_z at c.at.ensures.succeeds in
+    let there = rw c.instant_after.ensures at reported in
     simp to_z-of_z at there

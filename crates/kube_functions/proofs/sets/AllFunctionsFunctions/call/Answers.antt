@@ -1,12 +1,12 @@
 use Rattle.std.proofs.Common.{◌≡◌, Some, None, option_map, map, length, ap, sym, ◌∙◌, subst}
 use Rattle.std.specs.Prelude.{IfOk, is_some}
-use Rattle.cel_book.specs.Entries.{entries_of}
-use Rattle.cel_book.specs.Settled.{Settles}
+use Rattle.cel_patterns.specs.Entries.{entries_of}
+use Rattle.cel_patterns.specs.Extensions.{HoldsForExtensions}
 use Rattle.cel_value.specs.View.{view}
-use Rattle.cel_meaning.specs.Outcome.{outcome_view}
-use Rattle.cel_meaning.specs.declared.functions.Form.{Form}
-use Rattle.cel_standard.specs.Table.{known_function}
-use Rattle.cel_standard.proofs.Known.{known_is_named, known_is_known, unless_known}
+use Rattle.cel_semantics.specs.Outcome.{outcome_view}
+use Rattle.cel_semantics.specs.declared.functions.Form.{Form}
+use Rattle.cel_stdlib.specs.Table.{known_function}
+use Rattle.cel_stdlib.proofs.Known.{known_is_named, known_is_known, unless_known}
 use Rattle.kube_functions.specs.Kube.{answer_by}
 use Rattle.kube_functions.proofs.Forms.{same_count}
 use Rattle.kube_functions.proofs.sets.AllFunctionsFunctions.call.Goals as goal
@@ -16,7 +16,7 @@ kept_answer-requires c = known_is_named c.args.name.now c.is_some.result (length
 
 pub returns-in-Some-clause-value : goal.returns-in-Some-clause-value
 returns-in-Some-clause-value c =
-    let P : Form → Type 0 = λ form. IfOk c.kept_answer.result (λ r. Settles (entries_of c.kept_answer.new.book) (outcome_view r)
+    let P : Form → Type 0 = λ form. IfOk c.kept_answer.result (λ r. HoldsForExtensions (entries_of c.kept_answer.new.book) (outcome_view r)
     (λ b. answer_by form c.args.name.now (option_map (λ v. view v.now) c.args.receiver) (map view c.args.args.now) b))
     in let known : known_function c.args.name.now (is_some c.args.receiver) (length c.args.args.now) ≡ Some c.in-Some.function =
     ap (λ b. known_function c.args.name.now b (length c.args.args.now)) (sym c.is_some.ensures) ∙ sym c.in-Some.ensures
@@ -25,7 +25,7 @@ returns-in-Some-clause-value c =
 
 pub returns-in-None-clause-value : goal.returns-in-None-clause-value
 returns-in-None-clause-value c =
-    let P : Form → Type 0 = λ form. IfOk c.added_answer.result (λ r. Settles (entries_of c.added_answer.new.book) (outcome_view r)
+    let P : Form → Type 0 = λ form. IfOk c.added_answer.result (λ r. HoldsForExtensions (entries_of c.added_answer.new.book) (outcome_view r)
     (λ b. answer_by form c.args.name.now (option_map (λ v. view v.now) c.args.receiver) (map view c.args.args.now) b))
     in let other : known_function c.args.name.now (is_some c.args.receiver) (length c.args.args.now) ≡ None =
     ap (λ b. known_function c.args.name.now b (length c.args.args.now)) (sym c.is_some.ensures) ∙ sym c.in-None.ensures

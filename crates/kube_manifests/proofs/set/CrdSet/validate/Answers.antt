@@ -2,24 +2,24 @@ use Rattle.std.proofs.Common.{map, option_map, ap, ◌∙◌}
 use Rattle.kube_manifests.proofs.Judged.{judged, not_judged}
 use Rattle.kube_manifests.proofs.set.CrdSet.validate.Goals as goal
 use Rattle.kube_manifests.specs.Sets.{set_view, version_view, why_not}
-use Rattle.kube_manifests.specs.Versions.{chosen}
+use Rattle.kube_manifests.specs.Versions.{chosen_version}
 use Rattle.serde_json.specs.View.{view}
 
 pub returns-in-Err-clause-reason : goal.returns-in-Err-clause-reason
 returns-in-Err-clause-reason c =
-    ap why_not (c.in-Err.ensures ∙ ap (λ vs. chosen (map version_view vs) (view c.args.object.now)) c.deref.ensures.value)
+    ap why_not (c.in-Err.ensures ∙ ap (λ vs. chosen_version (map version_view vs) (view c.args.object.now)) c.deref.ensures.value)
 
 pub returns-clause-reason : goal.returns-clause-reason
 returns-clause-reason c =
-    ap why_not (c.in-Ok.ensures ∙ ap (λ vs. chosen (map version_view vs) (view c.args.object.now)) c.deref.ensures.value)
+    ap why_not (c.in-Ok.ensures ∙ ap (λ vs. chosen_version (map version_view vs) (view c.args.object.now)) c.deref.ensures.value)
 
 pub returns-in-Err-clause-judgement : goal.returns-in-Err-clause-judgement
 returns-in-Err-clause-judgement c = λ versions same.
     not_judged (set_view c.args.self.now) versions same (view c.args.object.now) (option_map (λ v. view v.now) c.args.old) c.in-Err.reason
-    (c.in-Err.ensures ∙ ap (λ vs. chosen (map version_view vs) (view c.args.object.now)) c.deref.ensures.value)
+    (c.in-Err.ensures ∙ ap (λ vs. chosen_version (map version_view vs) (view c.args.object.now)) c.deref.ensures.value)
 
 pub returns-clause-judgement : goal.returns-clause-judgement
 returns-clause-judgement c = λ versions same.
     judged (set_view c.args.self.now) versions same (view c.args.object.now) (option_map (λ v. view v.now) c.args.old) c.in-Ok.version.now c.in_ok-answer.answer
-    (c.in-Ok.ensures ∙ ap (λ vs. chosen (map version_view vs) (view c.args.object.now)) c.deref.ensures.value)
+    (c.in-Ok.ensures ∙ ap (λ vs. chosen_version (map version_view vs) (view c.args.object.now)) c.deref.ensures.value)
     c.in_ok-answer.ensures.answer

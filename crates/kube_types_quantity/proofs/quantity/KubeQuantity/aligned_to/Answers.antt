@@ -1,7 +1,7 @@
 use Rattle.std.proofs.Common.{◌≡◌, ◌≤ℤ◌, ℤ, sym, ◌∙◌, subst, arith, rules, FitsSigned}
 use Rattle.std.proofs.lemmas.Int.{ints, to_z-of_z}
 use Rattle.std.specs.Int.{w128}
-use Rattle.kube_types_quantity.specs.Decimal.{aligned}
+use Rattle.kube_types_quantity.specs.Decimal.{aligned_mantissa}
 use Rattle.kube_types_quantity.specs.Shown.{number}
 use Rattle.kube_types_quantity.proofs.Gaps.{aligned_low}
 use Rattle.kube_types_quantity.proofs.quantity.KubeQuantity.aligned_to.Goals as goal
@@ -12,6 +12,6 @@ returns-then-self-other c =
     let b = c.args.other.now in
     let fits : FitsSigned w128 a.mantissa = search rules in
     let below : a.scale ≤ℤ b.scale = omega (arith, ints) in
-    let e : aligned (number a) (number b) ≡ a.mantissa = aligned_low (number a) (number b) below in
+    let e : aligned_mantissa (number a) (number b) ≡ a.mantissa = aligned_low (number a) (number b) below in
     let P : ℤ → Type 0 = λ z. FitsSigned w128 z in
     (subst P (sym e) fits, to_z-of_z w128 a.mantissa fits ∙ sym e)

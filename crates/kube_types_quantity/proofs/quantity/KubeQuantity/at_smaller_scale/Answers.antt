@@ -1,7 +1,7 @@
 use Rattle.std.proofs.Common.{ap, ◌∙◌, rules, FitsSigned}
 use Rattle.std.proofs.lemmas.Int.{to_z-of_z}
 use Rattle.std.specs.Int.{w32, w128}
-use Rattle.kube_types_quantity.specs.Normal.{held}
+use Rattle.kube_types_quantity.specs.Normal.{quantity_holding}
 use Rattle.kube_types_quantity.specs.Sums.{decimal_at}
 use Rattle.kube_types_quantity.proofs.quantity.KubeQuantity.at_smaller_scale.Goals as goal
 
@@ -15,4 +15,4 @@ returns c =
     let result = simp to_z-of_z at c.normalised.ensures in
     let least = simp to_z-of_z at c.min.ensures.value in
     let scale = simp to_z-of_z at c.from.ensures in
-    result ∙ ap (λ s. held (decimal_at c.args.mantissa s)) (scale ∙ least)
+    result ∙ ap (λ s. quantity_holding (decimal_at c.args.mantissa s)) (scale ∙ least)

@@ -1,6 +1,6 @@
 use Rattle.kubecel_documents.proofs.Cuts.{if_both, left_ended, left_goes}
 use Rattle.kubecel_documents.proofs.documents.Reading.take.Goals as goal
-use Rattle.kubecel_documents.specs.Documents.{all_read, joined, kept, left}
+use Rattle.kubecel_documents.specs.Documents.{all_read, with_documents, with_piece, documents_left}
 use Rattle.kubecel_documents.specs.declared.cut.Mode.TheVariants.{Outside}
 use Rattle.serde_json.specs.View.{view}
 use Rattle.std.proofs.Common.{◌≡◌, ◌∷◌, [], List, ℕ, map, refl, sym, arith}
@@ -11,9 +11,9 @@ returns-then-ends c =
     let s = c.end.new.self in
     let p = c.push.new.self.items in
     if_both
-    ((rest : List (List ℕ)) → joined (map view r.found.items) (all_read (kept p rest)) ≡ joined (map view s.found.items) (all_read rest))
+    ((rest : List (List ℕ)) → with_documents (map view r.found.items) (all_read (with_piece p rest)) ≡ with_documents (map view s.found.items) (all_read rest))
     ((s.mode ≡ Outside) × (s.depth ≡ 0) × (s.piece.items ≡ []))
-    ((xs : List ℕ) → left r (c.args.byte ∷ xs) ≡ left s xs)
+    ((xs : List ℕ) → documents_left r (c.args.byte ∷ xs) ≡ documents_left s xs)
     c.end.result
     (λ read begun xs. left_ended r s p c.args.byte xs (sym (c.if-ends.ensures)) c.in_ok-push.ensures.items read begun)
     c.end.ensures.read c.end.ensures.begun

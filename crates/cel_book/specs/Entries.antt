@@ -1,8 +1,0 @@
--- Trusted by the headline.
--- The book that a `PatternBook` shows.
-use Rattle.cel_book.specs.Book.{Book}
-use Rattle.cel_book.specs.Built.{book_of}
-use Rattle.cel_book.specs.declared.book.PatternBook.{PatternBook}
-
-unfoldable pub entries_of : PatternBook → Book
-entries_of book = book_of book.answers

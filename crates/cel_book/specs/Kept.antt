@@ -1,8 +1,0 @@
--- Scaffolding: only proofs and private clauses cite it.
--- The patterns that a `PatternBook` keeps.
-use Rattle.std.specs.Prelude.{◌≡◌, ℕ, ◌<◌, List, length, slice_index_or, string_bytes}
-use Rattle.cel_book.specs.declared.pattern.Pattern.{Pattern}
-
--- the pattern of the text is kept at the place
-abbrev pub IsKeptAt : List Pattern → ℕ → List ℕ → Type 0
-IsKeptAt patterns place text = (place < length patterns) × ((other : Pattern) → string_bytes (slice_index_or patterns place other).text ≡ text)

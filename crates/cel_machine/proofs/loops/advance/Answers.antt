@@ -1,9 +1,0 @@
-use Rattle.cel_machine.specs.State.{values_of, aside_of, loops_of}
-use Rattle.cel_machine.proofs.Rounds.{advance_passes}
-use Rattle.cel_machine.proofs.loops.advance.Goals as goal
-
-pub returns-in-Some-clause-value : goal.returns-in-Some-clause-value
-returns-in-Some-clause-value c =
-    let s = c.args.stacks.now in
-    let e = c.in-Some.ensures in
-    advance_passes c.next_item.result c.args.end.kind c.args.end.filtered c.in-Some.way c.args.place e.1 (values_of s) e.2 _ _ (aside_of s) _ (loops_of s) _ e.0 e.3 (c.drop_answer.ensures e.1 e.2 e.3) e.4 c.next_item.ensures.value

@@ -1,8 +1,0 @@
-use Rattle.cel_machine.specs.State.{at_end, values_of, aside_of, loops_of}
-use Rattle.cel_machine.proofs.Rounds.{next_inside}
-use Rattle.cel_machine.proofs.loops.next_item.Goals as goal
-
-pub returns-then-go_on-clause-value : goal.returns-then-go_on-clause-value
-returns-then-go_on-clause-value c = λ body k ab l ls a o s f.
-    let t = c.args.stacks.now in
-    next_inside (at_end c.args.way k l.given) c.args.place body k l (values_of t) ab (aside_of t) ls _ (loops_of t) o c.if-go_on.ensures s f a

@@ -1,9 +1,0 @@
-use Rattle.std.proofs.Common.{◌∙◌, ap, neg_ℤ}
-use Rattle.std.specs.Int.{w64}
-use Rattle.std.proofs.lemmas.Int.{to_z-of_z}
-use Rattle.cel_meaning.specs.Arithmetic.{int_or_overflow}
-use Rattle.cel_meaning.proofs.Numbers.{int_checked}
-use Rattle.cel_meaning.proofs.arithmetic.negate_int.Goals as goal
-
-pub returns : goal.returns
-returns c = c.checked_int.ensures ∙ int_checked _ _ c.checked_neg.ensures ∙ ap (λ n. int_or_overflow (neg_ℤ n)) (to_z-of_z w64 c.args.n c.ranges.n)

@@ -1,0 +1,102 @@
+//! What the names of an expression are bound to, and which functions it may call.
+ghost use Rattle.std.specs.Prelude.{◌≡◌, List, [], ℕ, Some, IfOk, IfErr, option_map, if◌then◌else◌};
+ghost use Rattle.std.specs.Str.{bytes_eq};
+ghost use Rattle.cel_value.specs.View.{view};
+ghost use Rattle.cel_semantics.specs.Bindings.{binding, bindings_of, functions_of};
+
+use crate::functions::Functions;
+use crate::names::Names;
+use crate::scope::Scope;
+use cel_value::{Refused, Value};
+use std::alloc::Global;
+
+/// Variables, inside those of the scopes around it, and a set of functions.
+#[derive(Drop)]
+pub struct Context<'a, F> {
+    alloc: Global,
+    functions: F,
+    names: Names,
+    outer: Scope<'a>,
+}
+
+impl<'a, F: Functions> Context<'a, F> {
+    /// A context with no variable and the functions that its set starts with. Its memory comes from `alloc`.
+    pub fn default(alloc: Global) -> Context<'a, F>
+        ensures variables { bindings_of result ≡ [] }
+        ensures functions { functions_of result ≡ F.first }
+    {
+        Context {
+            alloc,
+            functions: F::start(),
+            names: Names::new(alloc),
+            outer: Scope::Empty,
+        }
+    }
+
+    /// Takes another set of functions.
+    pub fn set_functions(&mut self, functions: F)
+        ensures functions { functions_of self.new ≡ functions }
+        ensures variables { bindings_of self.new ≡ bindings_of self.old }
+    {
+        self.functions = functions;
+    }
+
+    /// Binds a name to a value, in place of what it was bound to here. No other name changes.
+    ///
+    /// # Errors
+    /// `Memory` alone. The value is dropped then, and the context is as it was.
+    pub fn add_variable(&mut self, name: &str, value: Value) -> Result<(), Refused>
+        ensures functions { functions_of self.new ≡ functions_of self.old }
+        ensures variables { IfOk result (λ _. (x : List ℕ) → binding x (bindings_of self.new)
+            ≡ (if bytes_eq name.now x then Some (view value) else binding x (bindings_of self.old))) }
+        ensures refused { IfErr result (λ _. bindings_of self.new ≡ bindings_of self.old) }
+        ensures memory { IfErr result (λ e. e ≡ Refused.Memory) }
+    {
+        self.names.set(self.alloc, name, value)?;
+        Ok(())
+    }
+
+    /// The same as `add_variable`.
+    ///
+    /// # Errors
+    /// `Memory` alone. The value is dropped then, and the context is as it was.
+    pub fn add_variable_from_value(&mut self, name: &str, value: Value) -> Result<(), Refused>
+        ensures functions { functions_of self.new ≡ functions_of self.old }
+        ensures variables { IfOk result (λ _. (x : List ℕ) → binding x (bindings_of self.new)
+            ≡ (if bytes_eq name.now x then Some (view value) else binding x (bindings_of self.old))) }
+        ensures refused { IfErr result (λ _. bindings_of self.new ≡ bindings_of self.old) }
+        ensures memory { IfErr result (λ e. e ≡ Refused.Memory) }
+    {
+        self.add_variable(name, value)
+    }
+
+    /// A scope inside this one: it begins with this one's variables and functions, and what is bound there stays there.
+    pub fn new_inner_scope(&self) -> Context<'_, F>
+        ensures variables { bindings_of result ≡ bindings_of self.now }
+        ensures functions { functions_of result ≡ functions_of self.now }
+    {
+        Context {
+            alloc: self.alloc,
+            functions: self.functions,
+            names: Names::new(self.alloc),
+            outer: Scope::Named(&self.names, &self.outer),
+        }
+    }
+
+    /// What the name is bound to.
+    pub fn get(&self, name: &str) -> Option<&Value>
+        ensures { option_map (λ v. view v.now) result ≡ binding name.now (bindings_of self.now) }
+    {
+        match self.names.find(name) {
+            Some(value) => Some(value),
+            None => self.outer.get(name),
+        }
+    }
+
+    /// Its set of functions.
+    pub fn functions(&self) -> &F
+        ensures { result.now ≡ functions_of self.now }
+    {
+        &self.functions
+    }
+}

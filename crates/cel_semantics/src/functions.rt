@@ -1,0 +1,59 @@
+//! The functions that an expression may call.
+ghost use Rattle.std.specs.Prelude.{◌≡◌, length, map, option_map, is_some, IfOk, IfErr};
+ghost use Rattle.cel_patterns.specs.Book.{Extends};
+ghost use Rattle.cel_patterns.specs.Entries.{entries_of};
+ghost use Rattle.cel_patterns.specs.Extensions.{HoldsForExtensions};
+ghost use Rattle.cel_value.specs.View.{view};
+ghost use Rattle.cel_semantics.specs.Library.{Library};
+ghost use Rattle.cel_semantics.specs.Outcome.{outcome_view};
+
+use cel_patterns::PatternBook;
+use cel_value::{ExecutionError, Refused, Value};
+use std::alloc::Global;
+
+/// How a name may be called.
+#[derive(Clone, Copy, Debug, PartialEq, Eq)]
+pub enum Form {
+    /// There is no function of this name.
+    Unknown,
+    /// There is one, but not with or without a receiver as asked, or not with this number of arguments.
+    Wrong,
+    /// It may be called like this.
+    Known,
+}
+
+/// A set of functions.
+///
+/// `library` is its definition: which forms are known, and what a call gives.
+pub trait Functions: Copy {
+    ghost library: { Self → Library };
+
+    ghost first: { Self };
+
+    /// The set that a context starts with.
+    fn start() -> Self
+        ensures { result ≡ first };
+
+    /// How the name may be called, with a receiver or without, with this number of arguments.
+    fn form(&self, name: &str, receiver: bool, count: usize) -> Form
+        ensures { result ≡ (library self.now).form_of name.now receiver count };
+
+    /// The answer of a call whose form is known. The book keeps its entries, also where the call is refused memory.
+    ///
+    /// # Errors
+    /// `Memory` alone.
+    fn call(
+        &self,
+        alloc: Global,
+        name: &str,
+        receiver: Option<&Value>,
+        args: &[Value],
+        book: &mut PatternBook,
+    ) -> Result<Result<Value, ExecutionError>, Refused>
+        requires { (library self.now).form_of name.now (is_some receiver) (length args.now)
+            ≡ Form.Known }
+        ensures keeps { Extends (entries_of book.new) (entries_of book.old) }
+        ensures value { IfOk result (λ r. HoldsForExtensions (entries_of book.new) (outcome_view r)
+            ((library self.now).answer_of name.now (option_map (λ v. view v.now) receiver.entry) (map view args.now))) }
+        ensures memory { IfErr result (λ e. e ≡ Refused.Memory) };
+}

@@ -1,0 +1,109 @@
+//! The names of one scope.
+ghost use Rattle.std.specs.Prelude.{◌≡◌, ◌<◌, [], ℕ, List, length, IfSome, Some, None, IfErr, OnOk, OnErr, MatchOption, option_map, if◌then◌else◌};
+ghost use Rattle.std.specs.Str.{bytes_eq};
+ghost use Rattle.cel_value.specs.View.{view};
+ghost use Rattle.cel_semantics.specs.Bindings.{binding, named_bindings, names_of, IsFirst};
+
+use cel_value::{Refused, Value};
+use std::alloc::Global;
+use std::collections::BTreeMap;
+
+/// How many names are looked for one by one.
+const FEW: usize = 16;
+
+/// Names with their values. The first few stand in a list, which is quicker than a map while there are no others.
+#[derive(Drop)]
+pub struct Names {
+    first: Vec<(String, Value)>,
+    others: BTreeMap<String, Value>,
+}
+
+impl Names {
+    /// No name. What is bound takes its memory from `alloc`.
+    pub(crate) fn new(alloc: Global) -> Names
+        ensures { names_of result ≡ [] }
+    {
+        Names {
+            first: Vec::new(alloc),
+            others: BTreeMap::new(alloc),
+        }
+    }
+
+    /// What the name is bound to.
+    pub(crate) fn find(&self, name: &str) -> Option<&Value>
+        ensures { option_map (λ v. view v.now) result ≡ binding name.now (names_of self.now) }
+    {
+        match listed(&self.first, name) {
+            Some(value) => Some(value),
+            None => mapped(&self.others, name),
+        }
+    }
+
+    /// Binds a name to a value, in place of what it was bound to. No other name changes.
+    ///
+    /// # Errors
+    /// `Memory` alone. The value is dropped then, and no name has changed.
+    pub(crate) fn set(&mut self, alloc: Global, name: &str, value: Value) -> Result<(), Refused>
+        ensures bound { OnOk result ((x : List ℕ) → binding x (names_of self.new)
+            ≡ (if bytes_eq name.now x then Some (view value) else binding x (names_of self.old))) }
+        ensures refused { OnErr result (names_of self.new ≡ names_of self.old) }
+        ensures memory { IfErr result (λ e. e ≡ Refused.Memory) }
+    {
+        match index_of(&self.first, name) {
+            Some(slot) => {
+                self.first[slot].1 = value;
+                Ok(())
+            }
+            None => self.add(alloc, name, value),
+        }
+    }
+
+    /// Binds a name that isn't among the first.
+    fn add(&mut self, alloc: Global, name: &str, value: Value) -> Result<(), Refused>
+        requires { binding name.now (named_bindings self.old.first.items) ≡ None }
+        ensures bound { OnOk result ((x : List ℕ) → binding x (names_of self.new)
+            ≡ (if bytes_eq name.now x then Some (view value) else binding x (names_of self.old))) }
+        ensures refused { OnErr result (names_of self.new ≡ names_of self.old) }
+        ensures memory { IfErr result (λ e. e ≡ Refused.Memory) }
+    {
+        let key = String::from_str(alloc, name)?;
+        if self.first.len() < FEW {
+            self.first.push((key, value))?;
+        } else {
+            self.others.insert(key, value)?;
+        }
+        Ok(())
+    }
+}
+
+/// What a list binds the name to.
+fn listed<'n>(names: &'n Vec<(String, Value)>, name: &str) -> Option<&'n Value>
+    ensures { option_map (λ v. view v.now) result ≡ binding name.now (named_bindings names.now.items) }
+{
+    for entry in names {
+        if entry.0.as_str() == name {
+            return Some(&entry.1);
+        }
+    }
+    None
+}
+
+/// What a map binds the name to.
+fn mapped<'n>(names: &'n BTreeMap<String, Value>, name: &str) -> Option<&'n Value>
+    ensures { option_map (λ v. view v.now) result ≡ binding name.now (named_bindings names.now.entries) }
+{
+    names.get(name)
+}
+
+/// Where the name stands first in a list.
+fn index_of(names: &Vec<(String, Value)>, name: &str) -> Option<usize>
+    ensures slot { MatchOption result (binding name.now (named_bindings names.now.items) ≡ None) (λ i. IsFirst name.now names.now.items i) }
+    ensures within { IfSome result (λ i. i < length names.now.items) }
+{
+    for i in 0..names.len() {
+        if names[i].0.as_str() == name {
+            return Some(i);
+        }
+    }
+    None
+}

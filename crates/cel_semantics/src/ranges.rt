@@ -1,0 +1,83 @@
+//! What a macro goes over.
+ghost use Rattle.std.specs.Prelude.{◌≡◌, ◌++◌, IfOk, IfErr, OnOk, map};
+ghost use Rattle.cel_value.specs.Keys.{key_view};
+ghost use Rattle.cel_value.specs.View.{view};
+ghost use Rattle.cel_semantics.specs.Ranges.{key_data, keys_list, range_of, range_list, range_view};
+
+use crate::operators::no_such_overload;
+use cel_value::{ExecutionError, Key, List, Map, Refused, Value};
+use std::alloc::Global;
+use std::rc::Rc;
+
+/// Copies of the items, at the end.
+pub(crate) fn push_copies(values: &mut Vec<Value>, items: &[Value]) -> Result<(), Refused>
+    ensures pushed { OnOk result (map view values.new.items ≡ map view values.old.items ++ map view items.now) }
+    ensures memory { IfErr result (λ e. e ≡ Refused.Memory) }
+{
+    for item in items {
+        values.push(item.try_clone()?)?;
+    }
+    Ok(())
+}
+
+fn key_value(key: &Key) -> Result<Value, Refused>
+    ensures value { IfOk result (λ v. view v ≡ key_data (key_view key.now)) }
+    ensures memory { IfErr result (λ e. e ≡ Refused.Memory) }
+{
+    match key {
+        Key::Bool(b) => Ok(Value::Bool(*b)),
+        Key::Int(n) => Ok(Value::Int(*n)),
+        Key::Uint(n) => Ok(Value::UInt(*n)),
+        Key::String(text) => Ok(Value::String(text.clone()?)),
+    }
+}
+
+fn key_values(alloc: Global, entries: &Map) -> Result<Vec<Value>, Refused>
+    ensures value { IfOk result (λ v. map view v.items ≡ keys_list entries.now) }
+    ensures memory { IfErr result (λ e. e ≡ Refused.Memory) }
+{
+    let mut values = Vec::with_capacity(alloc, entries.len())?;
+    for (key, _) in entries.iter() {
+        values.push(key_value(key)?)?;
+    }
+    Ok(values)
+}
+
+/// What a macro goes over: the items of a list, which stay where they are, or a map's keys in key order.
+#[derive(Drop)]
+pub enum Range {
+    Items(Rc<List>),
+    Keys(Vec<Value>),
+}
+
+impl Range {
+    /// The items, the first one first.
+    #[tactic(auto, using(crate::proofs::Lookups::listed_items))]
+    pub fn as_slice(&self) -> &[Value]
+        ensures { map view result.now ≡ range_list self.now }
+    {
+        match self {
+            Range::Items(items) => items.as_slice(),
+            Range::Keys(keys) => keys.as_slice(),
+        }
+    }
+}
+
+/// What a macro of this name goes over.
+///
+/// # Errors
+/// `Memory` alone.
+pub fn range_in(
+    alloc: Global,
+    name: &str,
+    value: Value,
+) -> Result<Result<Range, ExecutionError>, Refused>
+    ensures value { IfOk result (λ r. range_view r ≡ range_of name.now (view value)) }
+    ensures memory { IfErr result (λ e. e ≡ Refused.Memory) }
+{
+    match value {
+        Value::List(items) => Ok(Ok(Range::Items(items))),
+        Value::Map(entries) => Ok(Ok(Range::Keys(key_values(alloc, entries.as_ref())?))),
+        _ => Ok(Err(no_such_overload(alloc, name)?)),
+    }
+}

@@ -1,6 +1,0 @@
-use Rattle.cel_value.specs.View.{view}
-use Rattle.cel_standard.proofs.Leading.{listed}
-use Rattle.cel_standard.proofs.extremes.items_of.Goals as goal
-
-pub returns-in-Some : goal.returns-in-Some
-returns-in-Some c = listed (view c.args.value.now) c.as_slice.result.now c.in-Some.items.now c.as_slice.ensures c.in-Some.ensures

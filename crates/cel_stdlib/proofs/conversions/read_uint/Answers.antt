@@ -1,0 +1,6 @@
+use Rattle.std.proofs.Common.{◌∙◌}
+use Rattle.cel_stdlib.proofs.Numerals.{uint_read}
+use Rattle.cel_stdlib.proofs.conversions.read_uint.Goals as goal
+
+pub returns : goal.returns
+returns c = c.ok.ensures.value ∙ uint_read c.args.text.now c.parse.result c.parse.ensures.value.0

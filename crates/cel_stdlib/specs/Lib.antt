@@ -1,0 +1,7 @@
+pub mod Sizes
+pub mod Strings
+pub mod Conversions
+pub mod Optionals
+pub mod Extremes
+pub mod Table
+pub mod Standard

@@ -1,0 +1,135 @@
+//! `int`, `uint`, `string` and `bytes`: values of one kind as values of another.
+ghost use Rattle.std.specs.Prelude.{◌≡◌, Ok, pos, IfOk, IfErr, string_bytes};
+ghost use Rattle.cel_value.specs.Data as plain;
+ghost use Rattle.cel_value.specs.View.{view};
+ghost use Rattle.cel_semantics.specs.Arithmetic.{int_or_overflow};
+ghost use Rattle.cel_semantics.specs.Outcome.{outcome_view};
+ghost use Rattle.cel_stdlib.specs.Conversions as spec;
+
+use crate::faults::function_error;
+use cel_semantics::operators::{Answer, no_such_overload};
+use cel_value::{ExecutionError, Refused, Value};
+use std::alloc::Global;
+use std::rc::Rc;
+
+fn read_int(text: &str) -> Option<i64>
+    ensures { result ≡ spec.int_text text.now }
+{
+    text.parse::<i64>().ok()
+}
+
+fn read_uint(text: &str) -> Option<u64>
+    ensures { result ≡ spec.uint_text text.now }
+{
+    text.parse::<u64>().ok()
+}
+
+fn signed(number: u64) -> Answer
+    ensures { outcome_view result ≡ int_or_overflow (pos number) }
+{
+    match i64::try_from(number) {
+        Ok(n) => Ok(Value::Int(n)),
+        Err(_) => Err(ExecutionError::Overflow),
+    }
+}
+
+fn unsigned(number: i64) -> Answer
+    ensures { outcome_view result ≡ spec.natural number }
+{
+    match u64::try_from(number) {
+        Ok(n) => Ok(Value::UInt(n)),
+        Err(_) => Err(ExecutionError::Overflow),
+    }
+}
+
+fn int_from_text(alloc: Global, text: &str) -> Result<Answer, Refused>
+    ensures value { IfOk result (λ r. outcome_view r ≡ spec.int_of (plain.text text.now)) }
+    ensures memory { IfErr result (λ e. e ≡ Refused.Memory) }
+{
+    match read_int(text) {
+        Some(n) => Ok(Ok(Value::Int(n))),
+        None => Ok(Err(function_error(alloc, "int", "invalid integer text")?)),
+    }
+}
+
+fn uint_from_text(alloc: Global, text: &str) -> Result<Answer, Refused>
+    ensures value { IfOk result (λ r. outcome_view r ≡ spec.uint_of (plain.text text.now)) }
+    ensures memory { IfErr result (λ e. e ≡ Refused.Memory) }
+{
+    match read_uint(text) {
+        Some(n) => Ok(Ok(Value::UInt(n))),
+        None => Ok(Err(function_error(alloc, "uint", "invalid integer text")?)),
+    }
+}
+
+/// The int of an int, a uint or a text.
+pub(crate) fn int(alloc: Global, value: &Value) -> Result<Answer, Refused>
+    ensures value { IfOk result (λ r. outcome_view r ≡ spec.int_of (view value.now)) }
+    ensures memory { IfErr result (λ e. e ≡ Refused.Memory) }
+{
+    match value {
+        Value::Int(n) => Ok(Ok(Value::Int(*n))),
+        Value::UInt(n) => Ok(signed(*n)),
+        Value::String(text) => int_from_text(alloc, text.as_str()),
+        _ => Ok(Err(no_such_overload(alloc, "int")?)),
+    }
+}
+
+/// The uint of a uint, an int or a text.
+pub(crate) fn uint(alloc: Global, value: &Value) -> Result<Answer, Refused>
+    ensures value { IfOk result (λ r. outcome_view r ≡ spec.uint_of (view value.now)) }
+    ensures memory { IfErr result (λ e. e ≡ Refused.Memory) }
+{
+    match value {
+        Value::UInt(n) => Ok(Ok(Value::UInt(*n))),
+        Value::Int(n) => Ok(unsigned(*n)),
+        Value::String(text) => uint_from_text(alloc, text.as_str()),
+        _ => Ok(Err(no_such_overload(alloc, "uint")?)),
+    }
+}
+
+fn text_answer(alloc: Global, text: String) -> Result<Answer, Refused>
+    ensures value { IfOk result (λ r. outcome_view r ≡ Ok (plain.text (string_bytes text))) }
+    ensures memory { IfErr result (λ e. e ≡ Refused.Memory) }
+{
+    Ok(Ok(Value::from_text(alloc, text)?))
+}
+
+/// The string of a string, an int, a uint, bytes, a timestamp or a duration.
+pub(crate) fn string(alloc: Global, value: &Value) -> Result<Answer, Refused>
+    ensures value { IfOk result (λ r. outcome_view r ≡ spec.string_of (view value.now)) }
+    ensures memory { IfErr result (λ e. e ≡ Refused.Memory) }
+{
+    match value {
+        Value::String(text) => Ok(Ok(Value::String(text.clone()?))),
+        Value::Int(n) => text_answer(alloc, n.to_string(alloc)?),
+        Value::UInt(n) => text_answer(alloc, n.to_string(alloc)?),
+        Value::Bytes(bytes) => text_answer(
+            alloc,
+            String::from_utf8_lossy(alloc, bytes.as_slice())?,
+        ),
+        Value::Timestamp(moment) => text_answer(alloc, moment.text(alloc)?),
+        Value::Duration(length) => text_answer(alloc, length.text(alloc)?),
+        _ => Ok(Err(no_such_overload(alloc, "string")?)),
+    }
+}
+
+fn bytes_answer(alloc: Global, bytes: &[u8]) -> Result<Answer, Refused>
+    ensures value { IfOk result (λ r. outcome_view r ≡ Ok (plain.bytes bytes.now)) }
+    ensures memory { IfErr result (λ e. e ≡ Refused.Memory) }
+{
+    let copy = Vec::from_slice(alloc, bytes)?;
+    Ok(Ok(Value::Bytes(Rc::new(alloc, copy)?)))
+}
+
+/// The bytes of bytes or of a string in UTF-8.
+pub(crate) fn bytes(alloc: Global, value: &Value) -> Result<Answer, Refused>
+    ensures value { IfOk result (λ r. outcome_view r ≡ spec.bytes_of (view value.now)) }
+    ensures memory { IfErr result (λ e. e ≡ Refused.Memory) }
+{
+    match value {
+        Value::Bytes(bytes) => Ok(Ok(Value::Bytes(bytes.clone()?))),
+        Value::String(text) => bytes_answer(alloc, text.as_str().as_bytes()),
+        _ => Ok(Err(no_such_overload(alloc, "bytes")?)),
+    }
+}

@@ -1,0 +1,192 @@
+//! The names of the standard functions, and how they are called.
+ghost use Rattle.std.specs.Prelude.{◌≡◌, Some, None, if◌then◌else◌};
+ghost use Rattle.std.specs.Map.{lookup};
+ghost use Rattle.std.specs.Str.{bytes_eq};
+ghost use Rattle.cel_stdlib.specs.Table.{of_length};
+ghost use Rattle.cel_stdlib.specs.Table as spec;
+
+use crate::extremes::Extreme;
+
+/// A function of one value.
+#[derive(Clone, Copy, Debug, PartialEq, Eq)]
+pub enum OfOne {
+    /// `size`.
+    Size,
+    /// `int`.
+    Int,
+    /// `uint`.
+    Uint,
+    /// `string`.
+    String,
+    /// `bytes`.
+    Bytes,
+    /// `timestamp`.
+    Timestamp,
+    /// `duration`.
+    Duration,
+    /// `hasValue`.
+    HasValue,
+    /// `value`.
+    Value,
+}
+
+/// A function of two values.
+#[derive(Clone, Copy, Debug, PartialEq, Eq)]
+pub enum OfTwo {
+    /// `contains`.
+    Contains,
+    /// `startsWith`.
+    StartsWith,
+    /// `endsWith`.
+    EndsWith,
+    /// `matches`.
+    Matches,
+}
+
+/// A standard function.
+#[derive(Clone, Copy, Debug, PartialEq, Eq)]
+pub enum Function {
+    /// Of one value.
+    One(OfOne),
+    /// Of two values.
+    Two(OfTwo),
+    /// Of one value or more.
+    Many(Extreme),
+}
+
+// The function, if that is its name.
+fn only(name: &str, wanted: &str, function: Function) -> Option<Function>
+    ensures { result ≡ (if bytes_eq name.now wanted.now then Some function else None) }
+{
+    if name == wanted { Some(function) } else { None }
+}
+
+fn functions_of_three(name: &str) -> Option<Function>
+    ensures { result ≡ lookup (bytes_eq name.now) (of_length 3 spec.standard_functions) }
+{
+    match name {
+        "int" => Some(Function::One(OfOne::Int)),
+        "min" => Some(Function::Many(Extreme::Least)),
+        "max" => Some(Function::Many(Extreme::Greatest)),
+        _ => None,
+    }
+}
+
+fn functions_of_four(name: &str) -> Option<Function>
+    ensures { result ≡ lookup (bytes_eq name.now) (of_length 4 spec.standard_functions) }
+{
+    match name {
+        "size" => Some(Function::One(OfOne::Size)),
+        "uint" => Some(Function::One(OfOne::Uint)),
+        _ => None,
+    }
+}
+
+fn functions_of_five(name: &str) -> Option<Function>
+    ensures { result ≡ lookup (bytes_eq name.now) (of_length 5 spec.standard_functions) }
+{
+    match name {
+        "bytes" => Some(Function::One(OfOne::Bytes)),
+        "value" => Some(Function::One(OfOne::Value)),
+        _ => None,
+    }
+}
+
+fn functions_of_eight(name: &str) -> Option<Function>
+    ensures { result ≡ lookup (bytes_eq name.now) (of_length 8 spec.standard_functions) }
+{
+    match name {
+        "duration" => Some(Function::One(OfOne::Duration)),
+        "hasValue" => Some(Function::One(OfOne::HasValue)),
+        "contains" => Some(Function::Two(OfTwo::Contains)),
+        "endsWith" => Some(Function::Two(OfTwo::EndsWith)),
+        _ => None,
+    }
+}
+
+/// The function of that name, looked for among the names of its length.
+pub(crate) fn function_named(name: &str) -> Option<Function>
+    ensures { result ≡ spec.function_named name.now }
+{
+    match name.len() {
+        3 => functions_of_three(name),
+        4 => functions_of_four(name),
+        5 => functions_of_five(name),
+        6 => only(name, "string", Function::One(OfOne::String)),
+        7 => only(name, "matches", Function::Two(OfTwo::Matches)),
+        8 => functions_of_eight(name),
+        9 => only(name, "timestamp", Function::One(OfOne::Timestamp)),
+        10 => only(name, "startsWith", Function::Two(OfTwo::StartsWith)),
+        _ => None,
+    }
+}
+
+// As `v.f(..)`, with this number of arguments.
+fn is_method(wanted: usize, receiver: bool, count: usize) -> bool
+    ensures { result ≡ spec.method wanted receiver count }
+{
+    receiver && count == wanted
+}
+
+// As `f(..)`.
+fn is_global(wanted: usize, receiver: bool, count: usize) -> bool
+    ensures { result ≡ spec.global wanted receiver count }
+{
+    !receiver && count == wanted
+}
+
+fn one_takes(function: OfOne, receiver: bool, count: usize) -> bool
+    ensures { result ≡ spec.takes_one function receiver count }
+{
+    match function {
+        OfOne::Size | OfOne::String => {
+            is_method(0, receiver, count) || is_global(1, receiver, count)
+        }
+        OfOne::Int | OfOne::Uint | OfOne::Bytes | OfOne::Timestamp | OfOne::Duration => {
+            is_global(1, receiver, count)
+        }
+        OfOne::HasValue | OfOne::Value => is_method(0, receiver, count),
+    }
+}
+
+fn two_takes(function: OfTwo, receiver: bool, count: usize) -> bool
+    ensures { result ≡ spec.takes_two function receiver count }
+{
+    match function {
+        OfTwo::Matches => is_method(1, receiver, count) || is_global(2, receiver, count),
+        _ => is_method(1, receiver, count),
+    }
+}
+
+fn many_takes(receiver: bool, count: usize) -> bool
+    ensures { result ≡ spec.takes_many receiver count }
+{
+    !receiver && count > 0
+}
+
+/// Whether the function is called so, with a receiver or without, with this number of arguments.
+pub(crate) fn takes(function: Function, receiver: bool, count: usize) -> bool
+    ensures { result ≡ spec.takes function receiver count }
+{
+    match function {
+        Function::One(function) => one_takes(function, receiver, count),
+        Function::Two(function) => two_takes(function, receiver, count),
+        Function::Many(_) => many_takes(receiver, count),
+    }
+}
+
+/// The function that is called so, if one is.
+pub fn known_function(name: &str, receiver: bool, count: usize) -> Option<Function>
+    ensures { result ≡ spec.known_function name.now receiver count }
+{
+    match function_named(name) {
+        Some(function) => {
+            if takes(function, receiver, count) {
+                Some(function)
+            } else {
+                None
+            }
+        }
+        None => None,
+    }
+}

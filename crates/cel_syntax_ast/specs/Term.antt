@@ -1,0 +1,80 @@
+-- Trusted by the headline.
+-- The tree of an expression as plain data, without its memory (abstract syntax of the CEL language definition).
+use Rattle.std.specs.Prelude.{ℕ, suc, zero, List, [], ◌∷◌, Option, Some, None, string_bytes, Box}
+use Rattle.std.specs.declared.alloc.Global.{Global}
+use Rattle.cel_value.specs.Data.{Data}
+use Rattle.cel_value.specs.View.{view}
+use Rattle.cel_syntax_ast.specs.declared.expr.UnaryOperator.{UnaryOperator}
+use Rattle.cel_syntax_ast.specs.declared.expr.BinaryOperator.{BinaryOperator}
+use Rattle.cel_syntax_ast.specs.declared.expr.MacroKind.{MacroKind}
+use Rattle.cel_syntax_ast.specs.declared.expr.Expr.{Expr, fold-Expr}
+use Rattle.cel_syntax_ast.specs.declared.expr.Expr.TheOpen.{Expr-F}
+
+mutual
+  pub data Term : Type 0 where
+    literal : Data → Term
+    ident : List ℕ → Term
+    select : Term → List ℕ → Term
+    -- whether the operand has the member
+    has : Term → List ℕ → Term
+    -- the operand, then the index
+    index : Term → Term → Term
+    unary : UnaryOperator → Term → Term
+    binary : BinaryOperator → Term → Term → Term
+    -- the condition, the branch where it is true, the other one
+    conditional : Term → Term → Term → Term
+    list_of : Terms → Term
+    map_with : Pairs → Term
+    -- the target, if there is one, the name, the arguments
+    call : Terms → List ℕ → Terms → Term
+    -- a name with a dot, the arguments
+    qualified : List ℕ → Terms → Term
+    -- the range, the variable, at most one filter, the body
+    macro : MacroKind → Term → List ℕ → Terms → Term → Term
+
+  pub data Terms : Type 0 where
+    no_terms : Terms
+    term_and : Term → Terms → Terms
+
+  -- keys with their values
+  pub data Pairs : Type 0 where
+    no_pairs : Pairs
+    pair_and : Term → Term → Pairs → Pairs
+
+-- a term that may be there
+abbrev pub one_of : Option (Box Term Global) → Terms
+one_of None = no_terms
+one_of (Some b) = term_and b.value no_terms
+
+abbrev pub terms_of : List Term → Terms
+terms_of [] = no_terms
+terms_of (t ∷ ts) = term_and t (terms_of ts)
+
+abbrev pub pairs_of : List (Term × Term) → Pairs
+pairs_of [] = no_pairs
+pairs_of (p ∷ ps) = pair_and p.0 p.1 (pairs_of ps)
+
+-- how many there are
+abbrev pub count_of : Terms → ℕ
+count_of no_terms = zero
+count_of (term_and t ts) = suc (count_of ts)
+
+-- one level, with each tree inside already seen as its term
+abbrev pub term_step : Expr-F Term → Term
+term_step (Expr-F.Literal v) = literal (view v)
+term_step (Expr-F.Ident x) = ident (string_bytes x.value)
+term_step (Expr-F.Select a x) = select a.value (string_bytes x.value)
+term_step (Expr-F.Has a x) = has a.value (string_bytes x.value)
+term_step (Expr-F.Index a b) = index a.value b.value
+term_step (Expr-F.Unary op a) = unary op a.value
+term_step (Expr-F.Binary op a b) = binary op a.value b.value
+term_step (Expr-F.Cond a b c) = conditional a.value b.value c.value
+term_step (Expr-F.List ts) = list_of (terms_of ts.items)
+term_step (Expr-F.Map ps) = map_with (pairs_of ps.items)
+term_step (Expr-F.Call a x ts) = call (one_of a) (string_bytes x.value) (terms_of ts.items)
+term_step (Expr-F.Qualified x ts) = qualified (string_bytes x.value) (terms_of ts.items)
+term_step (Expr-F.Macro k r x f b) = macro k r.value (string_bytes x.value) (one_of f) b.value
+
+-- the term that an expression stands for
+abbrev pub term : Expr → Term
+term = fold-Expr Term term_step

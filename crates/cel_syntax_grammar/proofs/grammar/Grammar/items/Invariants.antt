@@ -1,9 +1,0 @@
-use Rattle.std.proofs.Common.{◌≡◌, ◌-◌, map}
-use Rattle.cel_syntax_tree.specs.Term.{term}
-use Rattle.cel_syntax_grammar.specs.Parser as spec
-use Rattle.cel_syntax_cursor.specs.Ahead.{left}
-use Rattle.cel_syntax_grammar.proofs.grammar.Grammar.items.Given as goal
-
-abbrev pub invariant-loop-turn : goal.invariant-loop-turn
-invariant-loop-turn g l = spec.items l.self.limit (spec.below l.self.limit) (left l.fn.tokens)
-    ≡ spec.items_from (spec.below l.self.limit) (l._turn-end - l._turn) (map term l.found.items) l.high (left l.tokens)

@@ -1,0 +1,142 @@
+//! A scan from token to token.
+
+ghost use Rattle.std.specs.Prelude.{◌≡◌, ◌≤◌, ℕ, length, MatchOption, MatchResult, drop, map};
+ghost use Rattle.kube_types_refused.specs.declared.Refused.TheVariants.{Memory};
+ghost use Rattle.cel_syntax_lexer.specs.Token.{Token as SpecToken, token_of};
+ghost use Rattle.cel_syntax_lexer.specs.Tokens as spec;
+ghost use Rattle.cel_syntax_lexer.specs.Tokens.{Longest, CutsInto, CutsIntoNone};
+
+use crate::bytes::{after, is_letter, is_quote, is_white_space, line_length, word_length};
+use crate::number::number_length;
+use crate::punctuator::Punctuator;
+use crate::string_literal::{prefixed_length, string_length};
+use crate::token::Token;
+use kube_types_refused::Refused;
+use std::alloc::Global;
+
+#[tactic(auto, unfolding(crate::specs::Tokens::one_byte))]
+fn one_byte(byte: u8) -> Option<Punctuator>
+    ensures { result ≡ spec.one_byte byte }
+{
+    match byte {
+        b'(' => Some(Punctuator::OpenRound),
+        b')' => Some(Punctuator::CloseRound),
+        b'[' => Some(Punctuator::OpenSquare),
+        b']' => Some(Punctuator::CloseSquare),
+        b'{' => Some(Punctuator::OpenBrace),
+        b'}' => Some(Punctuator::CloseBrace),
+        b',' => Some(Punctuator::Comma),
+        b'.' => Some(Punctuator::Dot),
+        b':' => Some(Punctuator::Colon),
+        b'?' => Some(Punctuator::Question),
+        b'!' => Some(Punctuator::Not),
+        b'-' => Some(Punctuator::Minus),
+        b'+' => Some(Punctuator::Plus),
+        b'*' => Some(Punctuator::Star),
+        b'/' => Some(Punctuator::Slash),
+        b'%' => Some(Punctuator::Percent),
+        b'<' => Some(Punctuator::Less),
+        b'>' => Some(Punctuator::Greater),
+        _ => None,
+    }
+}
+
+#[tactic(auto, unfolding(crate::specs::Tokens::two_bytes))]
+fn two_bytes(first: u8, second: u8) -> Option<Punctuator>
+    ensures { result ≡ spec.two_bytes first second }
+{
+    match (first, second) {
+        (b'<', b'=') => Some(Punctuator::LessOrEqual),
+        (b'>', b'=') => Some(Punctuator::GreaterOrEqual),
+        (b'=', b'=') => Some(Punctuator::Equal),
+        (b'!', b'=') => Some(Punctuator::NotEqual),
+        (b'&', b'&') => Some(Punctuator::And),
+        (b'|', b'|') => Some(Punctuator::Or),
+        _ => None,
+    }
+}
+
+fn two_at_front(text: &[u8]) -> Option<Punctuator>
+    ensures { result ≡ spec.two_at_front text.now }
+{
+    match text {
+        [first, second, ..] => two_bytes(*first, *second),
+        _ => None,
+    }
+}
+
+fn begins_comment(text: &[u8]) -> bool
+    ensures { result ≡ spec.begins_comment text.now }
+{
+    match text {
+        [first, second, ..] => *first == b'/' && *second == b'/',
+        _ => false,
+    }
+}
+
+/// The longest token at the front, and its length in bytes.
+fn first_token(text: &[u8]) -> Option<(Token<'_>, usize)>
+    ensures { MatchOption result ((n : ℕ) (t : SpecToken) → Longest text.now n t → ⊥) (λ found. Longest text.now found.1 (token_of found.0)) }
+{
+    if text.is_empty() {
+        return None;
+    }
+    let first = text[0];
+    if is_letter(first) {
+        let word = 1 + word_length(after(text, 1));
+        let prefixed = prefixed_length(text);
+        if prefixed > word {
+            return Some((Token::Quoted(&text[..prefixed]), prefixed));
+        }
+        return Some((Token::Word(&text[..word]), word));
+    }
+    if is_quote(first) {
+        let quoted = string_length(false, text);
+        if quoted > 0 {
+            return Some((Token::Quoted(&text[..quoted]), quoted));
+        }
+        return None;
+    }
+    let number = number_length(text);
+    if number > 0 {
+        return Some((Token::Number(&text[..number]), number));
+    }
+    match two_at_front(text) {
+        Some(punctuator) => Some((Token::Punctuator(punctuator), 2)),
+        None => match one_byte(first) {
+            Some(punctuator) => Some((Token::Punctuator(punctuator), 1)),
+            None => None,
+        },
+    }
+}
+
+/// The tokens of a text, in their order, or `None` where it cuts into none.
+///
+/// Tokens are cut by longest match. Between them stand white space (tab, newline, form feed,
+/// carriage return, space) and comments (`//` to the newline or the text's end). A string with an
+/// escape that means nothing is a token. The only error is [`Refused::Memory`]. Source: the section
+/// "Syntax" of the CEL language definition.
+pub fn tokens(alloc: Global, text: &[u8]) -> Result<Option<Vec<Token<'_>>>, Refused>
+    ensures { MatchResult result
+        (λ answer. MatchOption answer (CutsIntoNone text.now) (λ found. CutsInto text.now (map token_of found.items)))
+        (λ refused. refused ≡ Memory) }
+{
+    let mut found = Vec::new(alloc);
+    let mut rest = text;
+    while !rest.is_empty() {
+        if begins_comment(rest) {
+            rest = after(rest, line_length(rest));
+        } else if is_white_space(rest[0]) {
+            rest = after(rest, 1);
+        } else {
+            match first_token(rest) {
+                Some((token, length)) => {
+                    found.push(token)?;
+                    rest = after(rest, length);
+                }
+                None => return Ok(None),
+            }
+        }
+    }
+    Ok(Some(found))
+}

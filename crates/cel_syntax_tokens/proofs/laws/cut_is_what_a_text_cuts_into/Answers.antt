@@ -1,5 +1,0 @@
-use Rattle.cel_syntax_tokens.proofs.CutOf.{cut_is}
-use Rattle.cel_syntax_tokens.proofs.laws.cut_is_what_a_text_cuts_into.Goals as goal
-
-pub returns : goal.returns
-returns c = λ z. cut_is z

@@ -1,5 +1,0 @@
-use Rattle.cel_syntax_tokens.proofs.Cut.{cuts_once}
-use Rattle.cel_syntax_tokens.proofs.laws.one_cut.Goals as goal
-
-pub returns : goal.returns
-returns c = λ z ts us d e. cuts_once d e

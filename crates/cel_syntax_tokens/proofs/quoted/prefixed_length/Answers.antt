@@ -1,6 +1,0 @@
-use Rattle.cel_syntax_tokens.proofs.Strings.{longest_prefixed}
-use Rattle.cel_syntax_tokens.proofs.quoted.prefixed_length.Goals as goal
-
-pub returns-clause-spelling : goal.returns-clause-spelling
-returns-clause-spelling c =
-    rw c.max.ensures (longest_prefixed c.args.text.now c.raw_string_length.result c.bytes_length.result c.raw_string_length.ensures.spelling c.bytes_length.ensures.spelling)

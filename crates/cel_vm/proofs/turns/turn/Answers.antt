@@ -1,0 +1,14 @@
+use Rattle.std.proofs.Common.{sym, ap, ◌∙◌, true≢false}
+use Rattle.cel_semantics.specs.Bindings.{bindings_of, functions_of}
+use Rattle.cel_vm.specs.Machine.{may_lead_to}
+use Rattle.cel_vm.specs.Op.{op}
+use Rattle.cel_vm.specs.State.{values_of, pending_of, loops_of}
+use Rattle.cel_vm.proofs.Walks.{apply_reaches}
+use Rattle.cel_vm.proofs.turns.turn.Goals as goal
+
+pub unreachable-requires-in-Next : goal.unreachable-requires-in-Next
+unreachable-requires-in-Next g c = true≢false (sym (ap (λ i. may_lead_to (op i) 0 0) c.in-Next.is) ∙ c.requires.ordinary 0 0)
+
+pub returns-in-Apply-clause-value : goal.returns-in-Apply-clause-value
+returns-in-Apply-clause-value g c =
+    apply_reaches (g.F.Functions.library (functions_of c.args.context.now)) (bindings_of c.args.context.now) _ c.args.pc c.args.end (values_of c.args.stacks.now) _ (pending_of c.args.stacks.now) (loops_of c.args.stacks.now) c.args.instr.now _ _ c.apply.result (ap op c.in-Apply.is) c.apply.ensures.value

@@ -1,0 +1,489 @@
+//! What the start and the end of a loop do.
+ghost use Rattle.std.specs.Prelude.{◌≡◌, ◌≢◌, ◌∷◌, [], ◌<◌, ◌+◌, ℕ, IfOk, IfErr, IfSome, List, Option, Ok, Some, false, option_map, map, nat_lt, MatchOption};
+ghost use Rattle.cel_value.specs.Data.{bool};
+ghost use Rattle.cel_value.specs.Faults.{Fault, fault_view};
+ghost use Rattle.cel_value.specs.View.{view};
+ghost use Rattle.cel_semantics.specs.Macros.{iteration_result_view};
+ghost use Rattle.cel_semantics.specs.Outcome.{Outcome, and_then, outcome_view};
+ghost use Rattle.cel_semantics.specs.Ranges.{range_list};
+ghost use Rattle.cel_vm.specs.Machine.{Loop, go, after_begin, after_next, may_lead_to, limit, loop_name, next_iteration, first_iteration, over_none, result_in_optional, iteration_result_at, after_deciding_item, after_collected_item, after_iteration};
+ghost use Rattle.cel_vm.specs.Op.{op, next};
+ghost use Rattle.cel_vm.specs.State.{at_end, outcomes, values_of, pending_of, loops_of};
+ghost use Rattle.cel_vm.specs.Correct.{Enters, Advances, Top};
+ghost use Rattle.cel_vm.specs.declared.state.LoopStep.TheVariants.{AfterLoop};
+ghost use Rattle.cel_vm.specs.declared.state.ResultRule.TheVariants.{Collected};
+
+use crate::instr::Instr;
+use crate::items::{give, go_on, top_item};
+use crate::stack::{
+    drop_answer, keeps_none, pop_answer, pop_loop, pop_pending, push_answer, push_loop,
+    push_pending, top,
+};
+use crate::state::{End, LoopState, LoopStep, ResultRule, Stacks};
+use cel_semantics::macros::{finish, iteration_result, name_of};
+use cel_semantics::operators::{Answer, Progress, absorb, no_such_overload, undecided_answer};
+use cel_semantics::ranges::{Range, range_in};
+use cel_syntax_ast::MacroKind;
+use cel_value::{ExecutionError, Refused, Value};
+use std::alloc::{AllocError, Global};
+
+/// The name of the macro whose loop stops at this bool.
+fn loop_text(stop: bool) -> &'static str
+    ensures { result.now ≡ loop_name stop }
+{
+    if stop { "exists" } else { "all" }
+}
+
+/// Past a loop, with its outcome.
+fn leave(
+    answer: Answer,
+    offset: usize,
+    pc: usize,
+    end: usize,
+    values: &mut Vec<Answer>,
+) -> Result<LoopStep, AllocError>
+    requires { pc < end }
+    ensures { IfOk result (λ e. (size : ℕ) (ab : List (Option Fault)) (ls : List Loop) → limit size ls ≡ end
+        → Enters size end (go (pc + 1 + offset) (outcome_view answer ∷ outcomes values.old.items) ab ls) pc offset e (outcomes values.new.items) ab ls ls) }
+{
+    push_answer(values, answer)?;
+    if offset < end - pc {
+        Ok(LoopStep::AfterLoop)
+    } else {
+        Ok(LoopStep::OutOfRange)
+    }
+}
+
+/// The outcome of a macro over no items.
+fn answer_over_none(alloc: Global, kind: MacroKind) -> Result<Answer, Refused>
+    ensures value { IfOk result (λ r. outcome_view r ≡ over_none kind) }
+    ensures memory { IfErr result (λ e. e ≡ Refused.Memory) }
+{
+    match kind {
+        MacroKind::All => Ok(Ok(Value::Bool(true))),
+        MacroKind::Exists => Ok(Ok(Value::Bool(false))),
+        MacroKind::ExistsOne => finish(alloc, MacroKind::ExistsOne, Vec::new(alloc)),
+        MacroKind::Map => finish(alloc, MacroKind::Map, Vec::new(alloc)),
+        MacroKind::Filter => finish(alloc, MacroKind::Filter, Vec::new(alloc)),
+    }
+}
+
+/// Into a loop over these items, with the first of them, or past it where there is none.
+fn enter(
+    alloc: Global,
+    kind: MacroKind,
+    offset: usize,
+    pc: usize,
+    end: usize,
+    range: Range,
+    stacks: &mut Stacks,
+) -> Result<LoopStep, Refused>
+    requires { pc < end }
+    ensures value { IfOk result (λ e. (size : ℕ) → limit size (loops_of stacks.old) ≡ end →
+        Enters size end (first_iteration size kind offset pc (Ok (range_list range)) (values_of stacks.old) (pending_of stacks.old) (loops_of stacks.old))
+        pc offset e (values_of stacks.new) (pending_of stacks.new) (loops_of stacks.old) (loops_of stacks.new)) }
+    ensures memory { IfErr result (λ e. e ≡ Refused.Memory) }
+{
+    let count = range.as_slice().len();
+    if count == 0 {
+        let answer = answer_over_none(alloc, kind)?;
+        return Ok(leave(answer, offset, pc, end, &mut stacks.values)?);
+    }
+    if offset == 0 {
+        return Ok(LoopStep::OutOfRange);
+    }
+    if offset < end - pc {
+        let results = Vec::new(alloc);
+        push_loop(
+            &mut stacks.loops,
+            LoopState {
+                range,
+                index: 0,
+                results,
+                start: pc + 1,
+                finish: pc + offset,
+            },
+        )?;
+        push_pending(&mut stacks.absorbed, None)?;
+        Ok(LoopStep::Inside)
+    } else {
+        Ok(LoopStep::OutOfRange)
+    }
+}
+
+/// The start of a loop.
+#[inline(never)]
+pub(crate) fn begin(
+    alloc: Global,
+    kind: MacroKind,
+    offset: usize,
+    pc: usize,
+    end: usize,
+    stacks: &mut Stacks,
+) -> Result<LoopStep, Refused>
+    requires { pc < end }
+    ensures value { IfOk result (λ e. (size : ℕ) → limit size (loops_of stacks.old) ≡ end →
+        Enters size end (after_begin size kind offset pc (values_of stacks.old) (pending_of stacks.old) (loops_of stacks.old))
+        pc offset e (values_of stacks.new) (pending_of stacks.new) (loops_of stacks.old) (loops_of stacks.new)) }
+    ensures memory { IfErr result (λ e. e ≡ Refused.Memory) }
+{
+    match pop_answer(&mut stacks.values) {
+        None => Ok(LoopStep::OutOfRange),
+        Some(answer) => match answer {
+            Err(e) => Ok(leave(Err(e), offset, pc, end, &mut stacks.values)?),
+            Ok(value) => match range_in(alloc, name_of(kind), value)? {
+                Err(e) => Ok(leave(Err(e), offset, pc, end, &mut stacks.values)?),
+                Ok(range) => enter(alloc, kind, offset, pc, end, range, stacks),
+            },
+        },
+    }
+}
+
+/// The outcome of a macro after its items, with the pending error and their results.
+fn outcome_after(
+    alloc: Global,
+    rule: ResultRule,
+    kept: Option<ExecutionError>,
+    results: Vec<Value>,
+) -> Result<Answer, Refused>
+    ensures value { IfOk result (λ r. outcome_view r ≡ at_end rule (option_map fault_view kept) (map view results.items)) }
+    ensures memory { IfErr result (λ e. e ≡ Refused.Memory) }
+{
+    match rule {
+        ResultRule::Decided(stop) => Ok(undecided_answer(stop, kept)),
+        ResultRule::Collected(kind) => finish(alloc, kind, results),
+    }
+}
+
+/// Out of the innermost loop, with this outcome.
+#[inline(never)]
+fn close(answer: Answer, stacks: &mut Stacks) -> Result<LoopStep, AllocError>
+    ensures { IfOk result (λ e. (k : Option Fault) (ab : List (Option Fault)) (l : Loop) (ls : List Loop)
+        → pending_of stacks.old ≡ k ∷ ab → loops_of stacks.old ≡ l ∷ ls
+        → (e ≡ AfterLoop) × (values_of stacks.new ≡ outcome_view answer ∷ values_of stacks.old) × (pending_of stacks.new ≡ ab) × (loops_of stacks.new ≡ ls)) }
+{
+    let _ = pop_loop(&mut stacks.loops);
+    let _ = pop_pending(&mut stacks.absorbed);
+    push_answer(&mut stacks.values, answer)?;
+    Ok(LoopStep::AfterLoop)
+}
+
+/// Past the last item of the innermost loop, with its outcome.
+#[inline(never)]
+fn end_loop(alloc: Global, rule: ResultRule, stacks: &mut Stacks) -> Result<LoopStep, Refused>
+    ensures value { IfOk result (λ e. (k : Option Fault) (ab : List (Option Fault)) (l : Loop) (ls : List Loop)
+        → pending_of stacks.old ≡ k ∷ ab → loops_of stacks.old ≡ l ∷ ls
+        → (e ≡ AfterLoop) × (values_of stacks.new ≡ at_end rule k l.results ∷ values_of stacks.old) × (pending_of stacks.new ≡ ab) × (loops_of stacks.new ≡ ls)) }
+    ensures memory { IfErr result (λ e. e ≡ Refused.Memory) }
+{
+    match pop_pending(&mut stacks.absorbed) {
+        None => Ok(LoopStep::OutOfRange),
+        Some(kept) => match pop_loop(&mut stacks.loops) {
+            None => Ok(LoopStep::OutOfRange),
+            Some(state) => {
+                let answer = outcome_after(alloc, rule, kept, state.results)?;
+                push_answer(&mut stacks.values, answer)?;
+                Ok(LoopStep::AfterLoop)
+            }
+        },
+    }
+}
+
+/// The next item of the innermost loop, or its end.
+#[inline(always)]
+fn next_item(
+    alloc: Global,
+    rule: ResultRule,
+    pc: usize,
+    stacks: &mut Stacks,
+) -> Result<LoopStep, Refused>
+    ensures value { IfOk result (λ e. (body : ℕ) (k : Option Fault) (ab : List (Option Fault)) (l : Loop) (ls : List Loop)
+        → pending_of stacks.old ≡ k ∷ ab → loops_of stacks.old ≡ l ∷ ls → l.start ≡ body → l.finish ≡ pc →
+        Advances (next_iteration (at_end rule k l.results) pc k l l.rest (values_of stacks.old) ab ls)
+        body pc e (values_of stacks.new) (pending_of stacks.new) (l ∷ ls) (loops_of stacks.new)) }
+    ensures memory { IfErr result (λ e. e ≡ Refused.Memory) }
+{
+    if go_on(&mut stacks.loops) {
+        Ok(LoopStep::Inside)
+    } else {
+        end_loop(alloc, rule, stacks)
+    }
+}
+
+/// After an item of a loop that the bool `stop` ends.
+#[inline(never)]
+fn take_outcome(
+    alloc: Global,
+    stop: bool,
+    pc: usize,
+    answer: Answer,
+    stacks: &mut Stacks,
+) -> Result<LoopStep, Refused>
+    ensures value { IfOk result (λ e. (body : ℕ) (k : Option Fault) (ab : List (Option Fault)) (l : Loop) (ls : List Loop)
+        → pending_of stacks.old ≡ k ∷ ab → loops_of stacks.old ≡ l ∷ ls → l.start ≡ body → l.finish ≡ pc →
+        Advances (after_deciding_item stop pc (outcome_view answer) (values_of stacks.old) k ab l ls)
+        body pc e (values_of stacks.new) (pending_of stacks.new) (l ∷ ls) (loops_of stacks.new)) }
+    ensures memory { IfErr result (λ e. e ≡ Refused.Memory) }
+{
+    match pop_pending(&mut stacks.absorbed) {
+        None => Ok(LoopStep::OutOfRange),
+        Some(kept) => match absorb(alloc, stop, loop_text(stop), kept, answer)? {
+            Progress::Decided => {
+                let _ = pop_loop(&mut stacks.loops);
+                push_answer(&mut stacks.values, Ok(Value::Bool(stop)))?;
+                Ok(LoopStep::AfterLoop)
+            }
+            Progress::Open(last) => {
+                push_pending(&mut stacks.absorbed, last)?;
+                next_item(alloc, ResultRule::Decided(stop), pc, stacks)
+            }
+        },
+    }
+}
+
+/// What an optional value holds, or an error.
+#[inline(never)]
+fn held(alloc: Global, answer: Answer) -> Result<Result<Option<Value>, ExecutionError>, Refused>
+    ensures value { IfOk result (λ g. iteration_result_view g ≡ result_in_optional (outcome_view answer)) }
+    ensures memory { IfErr result (λ e. e ≡ Refused.Memory) }
+{
+    match answer {
+        Err(e) => Ok(Err(e)),
+        Ok(Value::Optional(optional)) => match optional.value() {
+            Some(value) => Ok(Ok(Some(value.try_clone()?))),
+            None => Ok(Ok(None)),
+        },
+        Ok(_) => Ok(Err(no_such_overload(alloc, "map")?)),
+    }
+}
+
+/// What an item gives.
+fn iteration_result_from(
+    alloc: Global,
+    end: End,
+    item: &Value,
+    answer: Answer,
+) -> Result<Result<Option<Value>, ExecutionError>, Refused>
+    ensures value { IfOk result (λ g. iteration_result_view g ≡ iteration_result_at end.kind end.filtered (view item.now) (outcome_view answer)) }
+    ensures memory { IfErr result (λ e. e ≡ Refused.Memory) }
+{
+    if end.filtered {
+        held(alloc, answer)
+    } else {
+        iteration_result(alloc, end.kind, item, answer)
+    }
+}
+
+/// Into the innermost loop what its item gives, then its next item or its end.
+fn gather(
+    alloc: Global,
+    kind: MacroKind,
+    pc: usize,
+    iteration_result: Result<Option<Value>, ExecutionError>,
+    stacks: &mut Stacks,
+) -> Result<LoopStep, Refused>
+    ensures value { IfOk result (λ e. (body : ℕ) (k : Option Fault) (ab : List (Option Fault)) (l : Loop) (ls : List Loop)
+        → pending_of stacks.old ≡ k ∷ ab → loops_of stacks.old ≡ l ∷ ls → l.start ≡ body → l.finish ≡ pc →
+        Advances (after_collected_item kind pc (iteration_result_view iteration_result) (values_of stacks.old) k ab l ls)
+        body pc e (values_of stacks.new) (pending_of stacks.new) (l ∷ ls) (loops_of stacks.new)) }
+    ensures memory { IfErr result (λ e. e ≡ Refused.Memory) }
+{
+    match iteration_result {
+        Err(e) => Ok(close(Err(e), stacks)?),
+        Ok(None) => next_item(alloc, ResultRule::Collected(kind), pc, stacks),
+        Ok(Some(value)) => {
+            give(&mut stacks.loops, value)?;
+            next_item(alloc, ResultRule::Collected(kind), pc, stacks)
+        }
+    }
+}
+
+/// After an item of a loop that gathers.
+#[inline(never)]
+fn collect(
+    alloc: Global,
+    end: End,
+    pc: usize,
+    answer: Answer,
+    stacks: &mut Stacks,
+) -> Result<LoopStep, Refused>
+    ensures value { IfOk result (λ e. (body : ℕ) (k : Option Fault) (ab : List (Option Fault)) (l : Loop) (ls : List Loop)
+        → pending_of stacks.old ≡ k ∷ ab → loops_of stacks.old ≡ l ∷ ls → l.start ≡ body → l.finish ≡ pc →
+        Advances (after_collected_item end.kind pc (iteration_result_at end.kind end.filtered l.item (outcome_view answer)) (values_of stacks.old) k ab l ls)
+        body pc e (values_of stacks.new) (pending_of stacks.new) (l ∷ ls) (loops_of stacks.new)) }
+    ensures memory { IfErr result (λ e. e ≡ Refused.Memory) }
+{
+    match top_item(&stacks.loops) {
+        None => Ok(LoopStep::OutOfRange),
+        Some(item) => {
+            let iteration_result = iteration_result_from(alloc, end, item, answer)?;
+            gather(alloc, end.kind, pc, iteration_result, stacks)
+        }
+    }
+}
+
+/// After an item of a `map` without a filter.
+#[inline(always)]
+fn take_image(
+    alloc: Global,
+    pc: usize,
+    answer: Answer,
+    stacks: &mut Stacks,
+) -> Result<LoopStep, Refused>
+    ensures value { IfOk result (λ e. (body : ℕ) (k : Option Fault) (ab : List (Option Fault)) (l : Loop) (ls : List Loop)
+        → pending_of stacks.old ≡ k ∷ ab → loops_of stacks.old ≡ l ∷ ls → l.start ≡ body → l.finish ≡ pc →
+        Advances (after_collected_item MacroKind.Map pc (and_then (outcome_view answer) (λ v. Ok (Some v))) (values_of stacks.old) k ab l ls)
+        body pc e (values_of stacks.new) (pending_of stacks.new) (l ∷ ls) (loops_of stacks.new)) }
+    ensures memory { IfErr result (λ e. e ≡ Refused.Memory) }
+{
+    match answer {
+        Err(e) => Ok(close(Err(e), stacks)?),
+        Ok(image) => {
+            give(&mut stacks.loops, image)?;
+            next_item(alloc, ResultRule::Collected(MacroKind::Map), pc, stacks)
+        }
+    }
+}
+
+/// After an item.
+#[inline(always)]
+fn turn_back(
+    alloc: Global,
+    end: End,
+    pc: usize,
+    answer: Answer,
+    stacks: &mut Stacks,
+) -> Result<LoopStep, Refused>
+    ensures value { IfOk result (λ e. (body : ℕ) (k : Option Fault) (ab : List (Option Fault)) (l : Loop) (ls : List Loop)
+        → pending_of stacks.old ≡ k ∷ ab → loops_of stacks.old ≡ l ∷ ls → l.start ≡ body → l.finish ≡ pc →
+        Advances (after_iteration end.kind end.filtered pc (outcome_view answer) (values_of stacks.old) k ab l ls)
+        body pc e (values_of stacks.new) (pending_of stacks.new) (l ∷ ls) (loops_of stacks.new)) }
+    ensures memory { IfErr result (λ e. e ≡ Refused.Memory) }
+{
+    match end.kind {
+        MacroKind::All => take_outcome(alloc, false, pc, answer, stacks),
+        MacroKind::Exists => take_outcome(alloc, true, pc, answer, stacks),
+        MacroKind::ExistsOne => collect(alloc, end, pc, answer, stacks),
+        MacroKind::Map => {
+            if end.filtered {
+                collect(alloc, end, pc, answer, stacks)
+            } else {
+                take_image(alloc, pc, answer, stacks)
+            }
+        }
+        MacroKind::Filter => collect(alloc, end, pc, answer, stacks),
+    }
+}
+
+/// How a macro that keeps items comes to its outcome, where this bool gives none to it.
+#[inline(always)]
+fn passing_by(kind: MacroKind, filtered: bool, outcome: bool) -> Option<ResultRule>
+    ensures { IfSome result (λ rule. (rule ≡ Collected kind) × (filtered ≡ false) × (outcome ≡ false)) }
+{
+    if filtered || outcome {
+        None
+    } else {
+        Some(ResultRule::Collected(kind))
+    }
+}
+
+/// How a loop comes to its outcome, where this bool at an item neither decides it nor gives anything to it.
+#[inline(always)]
+fn passing(end: End, outcome: bool) -> Option<ResultRule>
+    ensures { IfSome result (λ rule. (p : ℕ) (vs : List Outcome) (k : Option Fault) (ab : List (Option Fault)) (l : Loop) (ls : List Loop)
+        → after_iteration end.kind end.filtered p (Ok (bool outcome)) vs k ab l ls ≡ next_iteration (at_end rule k l.results) p k l l.rest vs ab ls) }
+{
+    match end.kind {
+        MacroKind::All => {
+            if outcome {
+                Some(ResultRule::Decided(false))
+            } else {
+                None
+            }
+        }
+        MacroKind::Exists => {
+            if outcome {
+                None
+            } else {
+                Some(ResultRule::Decided(true))
+            }
+        }
+        MacroKind::ExistsOne => passing_by(MacroKind::ExistsOne, end.filtered, outcome),
+        MacroKind::Filter => passing_by(MacroKind::Filter, end.filtered, outcome),
+        MacroKind::Map => None,
+    }
+}
+
+/// How the loop comes to its outcome, where its end finds a bool that neither decides it nor gives anything to it.
+#[inline(always)]
+fn passing_on_top(end: End, stacks: &Stacks) -> Option<ResultRule>
+    ensures { IfSome result (λ rule. (pending_of stacks.now ≢ []) × (r : Outcome) × (vs : List Outcome) × (values_of stacks.now ≡ r ∷ vs)
+        × ((p : ℕ) (k : Option Fault) (ab : List (Option Fault)) (l : Loop) (ls : List Loop)
+        → after_iteration end.kind end.filtered p r vs k ab l ls ≡ next_iteration (at_end rule k l.results) p k l l.rest vs ab ls)) }
+{
+    match top(&stacks.values) {
+        Some(Ok(Value::Bool(outcome))) => {
+            if keeps_none(&stacks.absorbed) {
+                None
+            } else {
+                passing(end, *outcome)
+            }
+        }
+        _ => None,
+    }
+}
+
+/// The end of a loop's body.
+#[inline(always)]
+pub(crate) fn advance(
+    alloc: Global,
+    end: End,
+    pc: usize,
+    stacks: &mut Stacks,
+) -> Result<LoopStep, Refused>
+    ensures value { IfOk result (λ e. (body : ℕ) → Top body pc (loops_of stacks.old) →
+        Advances (after_next end.kind end.filtered pc (values_of stacks.old) (pending_of stacks.old) (loops_of stacks.old))
+        body pc e (values_of stacks.new) (pending_of stacks.new) (loops_of stacks.old) (loops_of stacks.new)) }
+    ensures memory { IfErr result (λ e. e ≡ Refused.Memory) }
+{
+    match passing_on_top(end, stacks) {
+        Some(rule) => {
+            drop_answer(&mut stacks.values);
+            next_item(alloc, rule, pc, stacks)
+        }
+        None => take_item(alloc, end, pc, stacks),
+    }
+}
+
+/// The end of a loop's body, whatever it finds.
+#[inline(always)]
+fn take_item(alloc: Global, end: End, pc: usize, stacks: &mut Stacks) -> Result<LoopStep, Refused>
+    ensures value { IfOk result (λ e. (body : ℕ) → Top body pc (loops_of stacks.old) →
+        Advances (after_next end.kind end.filtered pc (values_of stacks.old) (pending_of stacks.old) (loops_of stacks.old))
+        body pc e (values_of stacks.new) (pending_of stacks.new) (loops_of stacks.old) (loops_of stacks.new)) }
+    ensures memory { IfErr result (λ e. e ≡ Refused.Memory) }
+{
+    match pop_answer(&mut stacks.values) {
+        None => Ok(LoopStep::OutOfRange),
+        Some(answer) => {
+            if keeps_none(&stacks.absorbed) {
+                Ok(LoopStep::OutOfRange)
+            } else {
+                turn_back(alloc, end, pc, answer, stacks)
+            }
+        }
+    }
+}
+
+/// Which loop's end an instruction is, if any.
+pub(crate) fn end_of(instr: &Instr) -> Option<End>
+    ensures { MatchOption result ((p m : ℕ) → may_lead_to (op instr.now) p m ≡ nat_lt p m) (λ end. op instr.now ≡ next end.kind end.filtered) }
+{
+    match instr {
+        Instr::Next { kind, filtered } => Some(End {
+            kind: *kind,
+            filtered: *filtered,
+        }),
+        _ => None,
+    }
+}

@@ -1,0 +1,131 @@
+-- Trusted by the clauses of celcheck.
+-- What `eval` and `vap` report, and with which status.
+use Rattle.cel.specs.Program.{program_term}
+use Rattle.cel_patterns.specs.Book.{Book, IsBook}
+use Rattle.cel_semantics.specs.Meaning.{meaning}
+use Rattle.cel_semantics.specs.Outcome.{Outcome}
+use Rattle.cel_syntax.specs.Reading.{tree_of}
+use Rattle.cel_syntax_ast.specs.Term.{Term}
+use Rattle.cel_value.specs.Data.{Data as Value}
+use Rattle.cel_value.specs.Faults.{fault_view}
+use Rattle.cel_value.specs.Kinds.{kind_name}
+use Rattle.cel_value.specs.Texts.{printed_text, fault_text}
+use Rattle.cel_value.specs.View.{kind_of}
+use Rattle.cel_value.specs.declared.kind.Kind.{Kind}
+use Rattle.celcheck_cli.specs.declared.eval.Found.{Found}
+use Rattle.celcheck_cli.specs.declared.eval.Found.TheVariants as found
+use Rattle.celcheck_cli.specs.declared.status.Stop.{Stop}
+use Rattle.celcheck_cli.specs.declared.status.Stop.TheVariants as stop
+use Rattle.celcheck_cli.specs.Policies.{validations_in}
+use Rattle.celcheck_cli.specs.Runs.{IsRead}
+use Rattle.kube_cel_vap_types.specs.declared.expression.VapResult.{VapResult}
+use Rattle.kube_cel_vap_types.specs.Validations.{ExpressionData, ResultData, result_view}
+use Rattle.kube_cel_vap.specs.CallResults.{AreResultsOf}
+use Rattle.kube_cel_vap.specs.Variables.{Variables, no_variables}
+use Rattle.kube_functions.specs.Kube.{all_library}
+use Rattle.kube_types_refused.specs.declared.Refused.TheVariants.{Memory}
+use Rattle.serde_json.specs.Data.{Data}
+use Rattle.std.specs.declared.io.Error.{Error}
+use Rattle.std.specs.List.{flat_map}
+use Rattle.std.specs.Prelude.{◌≡◌, ℕ, List, [], ◌∷◌, ◌++◌, Bool, true, false, if◌then◌else◌, map, Option, Some, None, option_map, Result, Ok, Err, codes, string_bytes}
+
+-- the status after what was found with this status was written, or could not be
+abbrev pub status_after : ℕ → Result (Unit {0}) Error → ℕ
+status_after n (Ok u) = n
+status_after n (Err e) = 2
+
+-- the command stops because of this path, unless there is no memory to say so
+abbrev pub IsOfPath : List ℕ → Stop → Type 0
+IsOfPath path (stop.Refused r) = r ≡ Memory
+IsOfPath path (stop.Unreadable p) = string_bytes p ≡ path
+IsOfPath path stop.BadPolicy = ⊥
+
+-- ---- `eval`
+
+-- what a text means with all functions and no variable; none where it is no expression
+abbrev pub evaluation : Book → List ℕ → Option Outcome
+evaluation b text = option_map (λ t. meaning all_library b t []) (tree_of text)
+
+-- the text that `%s` shows, or the kind of the whole value where it shows none
+abbrev pub shown_line : Kind → Result (List ℕ) Kind → List ℕ
+shown_line kind (Ok text) = text
+shown_line kind (Err part) = codes "<" ++ (kind_name kind ++ codes ">")
+
+abbrev pub outcome_line : Option Outcome → List ℕ
+outcome_line None = codes "error: invalid CEL expression"
+outcome_line (Some (Ok v)) = shown_line (kind_of v) (printed_text v)
+outcome_line (Some (Err e)) = codes "error: " ++ fault_text e
+
+abbrev pub outcome_status : Option Outcome → ℕ
+outcome_status None = 1
+outcome_status (Some (Ok v)) = 0
+outcome_status (Some (Err e)) = 1
+
+-- this status stands for what the text comes to under some book, and its line was written
+pub record IsEvaluated (text : List ℕ) (status : ℕ) (Writes : List ℕ → Type 0) : Type 0 where
+  pub book : Book
+  pub is_book : IsBook book
+  pub status_is : status ≡ outcome_status (evaluation book text)
+  pub written : Writes (outcome_line (evaluation book text) ++ 10 ∷ [])
+
+-- ---- `vap`
+
+-- the line of a result, with its line feed
+abbrev pub report_line : List ℕ → Option (List ℕ) → List ℕ
+report_line expression None = codes "pass " ++ (expression ++ 10 ∷ [])
+report_line expression (Some message) = codes "fail " ++ (expression ++ (codes ": " ++ (message ++ 10 ∷ [])))
+
+abbrev pub result_line : ResultData → List ℕ
+result_line r = report_line r.expression r.message
+
+-- 0 where all passed, else 1
+unfoldable pub results_status : List ResultData → ℕ
+results_status [] = 0
+results_status (r ∷ rs) = if r.passed then results_status rs else 1
+
+-- an object is set, and nothing else
+abbrev pub with_object : Data → Variables
+with_object d = record no_variables { object = Some d }
+
+module _ {S : Type 0} (reads : S → List ℕ → Option (List ℕ) → S → Type 0) where
+  -- policy and object were read in order, nothing else was, and these are the results of the policy's validations
+  pub record AreResults (before : S) (policy object : List ℕ) (after : S) (results : List VapResult) : Type 0 where
+    pub policy_read : Data
+    pub object_read : Data
+    pub between : S
+    pub first : IsRead reads before policy policy_read between
+    pub second : IsRead reads between object object_read after
+    pub validations : List ExpressionData
+    pub shaped : validations_in policy_read ≡ Some validations
+    pub judged : AreResultsOf (with_object object_read) validations results
+
+  -- so they were, this status stands for the results, and a line of each was written
+  pub record IsReviewed (before : S) (policy object : List ℕ) (after : S) (status : ℕ) (Writes : List ℕ → Type 0) : Type 0 where
+    pub results : List VapResult
+    pub found : AreResults before policy object after results
+    pub status_is : status ≡ results_status (map result_view results)
+    pub written : Writes (flat_map result_line (map result_view results))
+
+-- ---- for private clauses
+
+abbrev pub found_status : Found → ℕ
+found_status (found.Shown text) = 0
+found_status (found.Textless kind) = 0
+found_status (found.Fault fault) = 1
+found_status (found.Unread errors) = 1
+
+abbrev pub found_line : Found → List ℕ
+found_line (found.Shown text) = string_bytes text
+found_line (found.Textless kind) = codes "<" ++ (kind_name kind ++ codes ">")
+found_line (found.Fault fault) = codes "error: " ++ fault_text (fault_view fault)
+found_line (found.Unread errors) = codes "error: invalid CEL expression"
+
+-- this is reported of the outcome
+abbrev pub IsReportedAs : Option Outcome → Found → Type 0
+IsReportedAs outcome f = (found_status f ≡ outcome_status outcome) × (found_line f ≡ outcome_line outcome)
+
+-- this is reported of what the text comes to under some book
+pub record IsFound (text : List ℕ) (f : Found) : Type 0 where
+  pub book : Book
+  pub is_book : IsBook book
+  pub reported : IsReportedAs (evaluation book text) f

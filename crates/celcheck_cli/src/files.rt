@@ -1,0 +1,55 @@
+//! The files that a command names.
+ghost use Rattle.celcheck_cli.specs.Runs.{IsRead, IsReadWhereNamed, text_seen};
+ghost use Rattle.serde_json.specs.View.{view};
+ghost use Rattle.std.specs.Prelude.{⊤, ℕ, List, Option, IfOk, option_map};
+
+use crate::status::{Stop, unreadable};
+use kube_cel::Refused;
+use serde_json::Value;
+use std::alloc::Global;
+use std::io;
+
+/// The files that a command names.
+pub trait Sources {
+    // That a read at a path, from the first state on, may give this text, or none where it can't be read, and leave the second
+    // state. Of real files nothing is said.
+    ghost reads: { Self → List ℕ → Option (List ℕ) → Self → Type 0 } = { λ _ _ _ _. ⊤ };
+
+    /// The text of a file, or why it can't be read.
+    fn read(&mut self, alloc: Global, path: &str) -> Result<io::Result<String>, Refused>
+        ensures { IfOk result (λ text. reads self.old path.now (text_seen text) self.new) };
+}
+
+/// The JSON of a file that may not be named.
+pub(crate) fn read_where_named<S: Sources>(
+    alloc: Global,
+    path: Option<&str>,
+    files: &mut S,
+) -> Result<Option<Value>, Stop>
+    ensures { IfOk result (λ value. IsReadWhereNamed S.reads files.old (option_map (λ s. s.now) path.entry) (option_map view value) files.new) }
+{
+    match path {
+        Some(path) => Ok(Some(read_json(alloc, path, files)?)),
+        None => Ok(None),
+    }
+}
+
+/// The JSON of a file.
+pub(crate) fn read_json<S: Sources>(alloc: Global, path: &str, files: &mut S) -> Result<Value, Stop>
+    ensures { IfOk result (λ value. IsRead S.reads files.old path.now (view value) files.new) }
+{
+    let text = match files.read(alloc, path)? {
+        Ok(text) => text,
+        Err(_) => return Err(unreadable(alloc, path)),
+    };
+    match Value::from_str(alloc, text.as_str()) {
+        Ok(value) => Ok(value),
+        Err(error) => {
+            if error.is_memory() {
+                Err(Stop::Refused(Refused::Memory))
+            } else {
+                Err(unreadable(alloc, path))
+            }
+        }
+    }
+}

@@ -1,0 +1,98 @@
+//! The commands of `celcheck`: what the words of a command line ask for, over any source of files and any writers.
+#![tactic(auto)]
+
+mod check;
+mod eval;
+mod files;
+mod lint;
+mod policy;
+mod status;
+mod vap;
+mod words;
+
+ghost use Rattle.celcheck_cli.specs.Linted.{IsLinted};
+ghost use Rattle.celcheck_cli.specs.Runs.{IsAnswered};
+ghost use Rattle.celcheck_cli.specs.Reports.{IsEvaluated, IsReviewed};
+ghost use Rattle.celcheck_cli.specs.Words.{command_of, command_view, IfCheck, IfEval, IfLint, IfVap};
+ghost use Rattle.kube_cel_errors.specs.declared.error.ValidationErrors.{ValidationErrors};
+ghost use Rattle.kube_cel_errors.specs.ErrorLists.{errors_in};
+ghost use Rattle.kube_cel_errors.specs.Texts.{errors_text};
+ghost use Rattle.std.specs.Io.KnownBytes.{Appends};
+ghost use Rattle.std.specs.Prelude.{◌≡◌, ◌≤◌, ◌++◌, ◌∷◌, [], None, Some, Ok, Err, map, string_bytes};
+
+use crate::check::run_check;
+use crate::eval::run_eval;
+use crate::lint::run_lint;
+use crate::status::stop_status;
+use crate::vap::run_vap;
+use crate::words::{Command, command_in};
+pub use files::Sources;
+use std::alloc::Global;
+use std::io::Write;
+
+const USAGE: &str =
+    "usage: celcheck check SCHEMA OBJECT [OLD] | eval TEXT | vap POLICY OBJECT | lint SCHEMA";
+
+/// Does what the words after the program's name ask for, and answers the exit status.
+///
+/// `check` answers 0 where all its files were read, in order, before the object was judged, and the answer is `Ok`, which
+/// writes nothing to `out`, and 1 where it is errors, which were written to `out` whole, and a line feed. `eval` answers 0 where the expression came to
+/// a value and 1 where it didn't, `vap` 0 where each validation of the policy passed and 1 where one didn't, and `lint` 0 where nothing is wrong with the
+/// rules of the schema and 1 where something is; what is found is written to `out`. Every other case ends with 2: other words, a file that can't be read or holds no JSON, a policy of another shape, no memory, a failed
+/// write. No contract can say that 2 comes in no further case, since whether there is memory, and whether a write succeeds, is
+/// known to no caller.
+pub fn run<S: Sources, O: Write, E: Write>(
+    alloc: Global,
+    words: &[String],
+    files: &mut S,
+    out: &mut O,
+    err: &mut E,
+) -> u8
+    ensures passed { IfCheck (command_of (map string_bytes words.now)) (λ named. result ≡ 0 → IsAnswered S.reads files.old named files.new (Ok tt)) }
+    ensures silent { IfCheck (command_of (map string_bytes words.now)) (λ _. result ≡ 0 → O.contents out.new ≡ O.contents out.old) }
+    ensures failed { IfCheck (command_of (map string_bytes words.now)) (λ named. result ≡ 1 → (errors : ValidationErrors)
+        × IsAnswered S.reads files.old named files.new (Err errors)
+        × Appends (O.contents out.old) (O.contents out.new) (errors_text (errors_in errors) ++ 10 ∷ [])) }
+    ensures evaluated { IfEval (command_of (map string_bytes words.now)) (λ text. result ≤ 1
+        → IsEvaluated text result (Appends (O.contents out.old) (O.contents out.new))) }
+    ensures reviewed { IfVap (command_of (map string_bytes words.now)) (λ policy object. result ≤ 1
+        → IsReviewed S.reads files.old policy object files.new result (Appends (O.contents out.old) (O.contents out.new))) }
+    ensures linted { IfLint (command_of (map string_bytes words.now)) (λ schema. result ≤ 1
+        → IsLinted S.reads files.old schema files.new result (Appends (O.contents out.old) (O.contents out.new))) }
+    ensures unasked { command_of (map string_bytes words.now) ≡ None → (result ≡ 2) × (O.contents out.new ≡ O.contents out.old) }
+    ensures statuses { result ≤ 2 }
+{
+    match command_in(words) {
+        Some(command) => dispatch(alloc, command, files, out, err),
+        None => stop_status(writeln!(err, "{USAGE}")),
+    }
+}
+
+/// Does what a command asks for.
+fn dispatch<S: Sources, O: Write, E: Write>(
+    alloc: Global,
+    command: Command<'_>,
+    files: &mut S,
+    out: &mut O,
+    err: &mut E,
+) -> u8
+    ensures passed { IfCheck (Some (command_view command.entry)) (λ named. result ≡ 0 → IsAnswered S.reads files.old named files.new (Ok tt)) }
+    ensures silent { IfCheck (Some (command_view command.entry)) (λ _. result ≡ 0 → O.contents out.new ≡ O.contents out.old) }
+    ensures failed { IfCheck (Some (command_view command.entry)) (λ named. result ≡ 1 → (errors : ValidationErrors)
+        × IsAnswered S.reads files.old named files.new (Err errors)
+        × Appends (O.contents out.old) (O.contents out.new) (errors_text (errors_in errors) ++ 10 ∷ [])) }
+    ensures evaluated { IfEval (Some (command_view command.entry)) (λ text. result ≤ 1
+        → IsEvaluated text result (Appends (O.contents out.old) (O.contents out.new))) }
+    ensures reviewed { IfVap (Some (command_view command.entry)) (λ policy object. result ≤ 1
+        → IsReviewed S.reads files.old policy object files.new result (Appends (O.contents out.old) (O.contents out.new))) }
+    ensures linted { IfLint (Some (command_view command.entry)) (λ schema. result ≤ 1
+        → IsLinted S.reads files.old schema files.new result (Appends (O.contents out.old) (O.contents out.new))) }
+    ensures statuses { result ≤ 2 }
+{
+    match command {
+        Command::Check(named) => run_check(alloc, named, files, out, err),
+        Command::Eval(text) => run_eval(alloc, text, out, err),
+        Command::Vap { policy, object } => run_vap(alloc, policy, object, files, out, err),
+        Command::Lint(schema) => run_lint(alloc, schema, files, out, err),
+    }
+}

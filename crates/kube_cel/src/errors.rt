@@ -1,0 +1,45 @@
+//! The answer of a walk from the root on.
+ghost use Rattle.cel_patterns.specs.Book.{Extends, Book};
+ghost use Rattle.cel_patterns.specs.Entries.{entries_of};
+ghost use Rattle.kube_cel.specs.Answers.{report_of, answer_view};
+ghost use Rattle.kube_cel.specs.Starts.{start_without_defaults};
+ghost use Rattle.kube_cel_walk.specs.Answers.{answer};
+ghost use Rattle.std.specs.Prelude.{◌≡◌, IfErr, IfOk};
+
+use cel::PatternBook;
+use kube_cel_errors::ValidationErrors;
+use kube_cel_verdicts::RootContext;
+use kube_cel_walk::{Node, WalkState, walk_node};
+use kube_types::Refused;
+use serde_json::Value;
+use std::alloc::Global;
+
+/// Judges an object that has its defaults, and its old state where there is one, by a schema with this root.
+pub(crate) fn validation_of<N: Node>(
+    alloc: Global,
+    node: N,
+    object: &Value,
+    old: Option<&Value>,
+    root: Option<&RootContext>,
+    book: &mut PatternBook,
+) -> Result<Result<(), ValidationErrors>, Refused>
+    ensures kept { Extends (entries_of book.new) (entries_of book.old) }
+    ensures memory { IfErr result (λ e. e ≡ Refused.Memory) }
+    ensures answer { IfOk result (λ r. (b : Book) → Extends b (entries_of book.new)
+        → answer_view r ≡ report_of (answer N.form b 65 (start_without_defaults (N.seen node) object.now old.entry root.entry))) }
+{
+    let mut path = String::new(alloc);
+    let mut errors = Vec::new(alloc);
+    let state = WalkState {
+        node,
+        value: object,
+        old,
+        root,
+        depth: 0,
+    };
+    walk_node(&state, &mut path, book, &mut errors)?;
+    if errors.is_empty() {
+        return Ok(Ok(()));
+    }
+    Ok(Err(ValidationErrors::from(errors)))
+}

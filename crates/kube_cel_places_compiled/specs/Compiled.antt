@@ -1,0 +1,23 @@
+-- Trusted by the clauses of other library calls.
+-- What a walk asks of the tree of a schema: the same as of the schema itself.
+use Rattle.std.specs.Prelude.{if◌then◌else◌, None}
+use Rattle.kube_cel_places.specs.declared.branches.BranchKind.{BranchKind}
+use Rattle.kube_cel_places.specs.declared.branches.BranchKind.TheVariants.{AllOf, OneOf, AnyOf}
+use Rattle.kube_cel_places.specs.StepAccessors.{StepAccessors}
+use Rattle.kube_schema_compiled.specs.Tree.{Node, Nodes, own, named_of, names, items_of, additional_of, property_of, all_of, one_of, any_of, nth_node, nodes_length}
+
+-- the branches of a keyword
+abbrev pub branches_of : BranchKind → Node → Nodes
+branches_of AllOf n = all_of n
+branches_of OneOf n = one_of n
+branches_of AnyOf n = any_of n
+
+unfoldable pub compiled_shape : StepAccessors Node
+compiled_shape = record {
+  keys = λ n. names (named_of n);
+  property = property_of;
+  items = items_of;
+  additional_property = λ n. if (own n).preserves then None else additional_of n;
+  branch_count = λ kind n. nodes_length (branches_of kind n);
+  branch = λ kind i n. nth_node i (branches_of kind n);
+}

@@ -1,8 +1,0 @@
-use Rattle.kube_cel_places_table.proofs.Same.{tree_places, tree_leads}
-use Rattle.kube_cel_places_table.proofs.laws.the_tree_has_the_same_places.Goals as goal
-
-pub returns-clause-places : goal.returns-clause-places
-returns-clause-places c = tree_places
-
-pub returns-clause-spots : goal.returns-clause-spots
-returns-clause-spots c = λ n s p. tree_leads n p s

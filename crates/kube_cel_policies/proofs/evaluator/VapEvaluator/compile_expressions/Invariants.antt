@@ -1,7 +1,0 @@
-use Rattle.kube_cel_admission.specs.Validations.{expression_view}
-use Rattle.kube_cel_policies.proofs.evaluator.VapEvaluator.compile_expressions.Given as goal
-use Rattle.kube_cel_policies.specs.Expressions.{compiled, compiled_seen}
-use Rattle.std.proofs.Common.{◌≡◌, map, take}
-
-abbrev pub invariant-loop-expression : goal.invariant-loop-expression
-invariant-loop-expression l = map compiled_seen l.all.items ≡ map compiled (map expression_view (take l.expression-index l.expressions))

@@ -1,4 +1,0 @@
-pub mod Expressions
-pub mod Results
-pub mod Told
-pub mod Variables

@@ -1,0 +1,95 @@
+-- Results of lists of expressions, and of expressions whose names are bound alike.
+use Rattle.cel_patterns.specs.Book.{Book}
+use Rattle.cel_semantics.specs.Bindings.{Bindings, binding}
+use Rattle.cel_semantics.specs.Outcome.{Outcome}
+use Rattle.cel_syntax.specs.Reading.{tree_of}
+use Rattle.cel_syntax_ast.specs.Term.{Term}
+use Rattle.cel_value.specs.Data.{Data}
+use Rattle.cel_value.specs.Faults.{Fault}
+use Rattle.cel_value.specs.Parts.{bool_in}
+use Rattle.cel_value.specs.Texts.{fault_text}
+use Rattle.kube_cel_vap_types.specs.Validations.{ExpressionData}
+use Rattle.kube_cel_vap.proofs.Bound.{meaning_same}
+use Rattle.kube_cel_vap.specs.Expressions.{Compiled, Unread, compile_result, message_tree_in, required_tree, with_tree, with_trees, ◌>>=◌}
+use Rattle.kube_cel_vap.specs.Results.{compiled_result, compiled_results, false_message, message_in, outcome_in, outcome_message, policy_library, policy_results, result_in, result_with, value_message}
+use Rattle.kube_cel_vap.specs.Variables.{Variables, policy_bindings}
+use Rattle.std.proofs.Common.{◌≡◌, ℕ, List, [], ◌∷◌, ◌++◌, map, codes, Option, Some, None, is_none, option_map, Result, Ok, Err, refl, sym, ap, ◌∙◌}
+use Rattle.std.proofs.lemmas.List.{map-append}
+
+-- ---- laws
+
+pub results_of_joined : (b : Book) (v : Variables) (xs ys : List ExpressionData) → policy_results b v (xs ++ ys) ≡ policy_results b v xs ++ policy_results b v ys
+unfolding policy_results
+results_of_joined b v xs ys = map-append (result_in b v) xs ys
+
+text_kept : (b : Book) (e : Bindings) (x : ExpressionData) (t : Term) (s : List ℕ) (o : Option Term)
+    → (compiled_result b e ((required_tree (record { text = s; original = x.expression }) o >>= (λ u. Ok (Some u))) >>= (λ m. Ok (with_trees x t m)))).expression ≡ x.expression
+text_kept b e x t s (Some u) = refl
+text_kept b e x t s None = refl
+
+message_kept : (b : Book) (e : Bindings) (x : ExpressionData) (t : Term) (o : Option (List ℕ)) → (compiled_result b e (message_tree_in x o >>= (λ m. Ok (with_trees x t m)))).expression ≡ x.expression
+message_kept b e x t None = refl
+message_kept b e x t (Some m) = text_kept b e x t m (tree_of m)
+
+expression_kept : (b : Book) (e : Bindings) (x : ExpressionData) (s : List ℕ) (o : Option Term)
+    → (compiled_result b e (required_tree (record { text = s; original = x.expression }) o >>= with_tree x)).expression ≡ x.expression
+expression_kept b e x s (Some t) = message_kept b e x t x.message_expression
+expression_kept b e x s None = refl
+
+pub results_in_order : (b : Book) (v : Variables) (xs : List ExpressionData) → map (λ r. r.expression) (policy_results b v xs) ≡ map (λ x. x.expression) xs
+unfolding policy_results result_in compile_result
+results_in_order b v [] = refl
+results_in_order b v (x ∷ xs) = λ i. expression_kept b (policy_bindings v) x x.expression (tree_of x.expression) i ∷ results_in_order b v xs i
+
+pub results_of_compiled : (b : Book) (v : Variables) (xs : List ExpressionData) → compiled_results b v (map compile_result xs) ≡ policy_results b v xs
+unfolding compiled_results policy_results result_in
+results_of_compiled b v [] = refl
+results_of_compiled b v (x ∷ xs) = ap (λ r. compiled_result b (policy_bindings v) (compile_result x) ∷ r) (results_of_compiled b v xs)
+
+reported_unless_passed : (b : Book) (e : Bindings) (c : Result Compiled Unread) → (compiled_result b e c).passed ≡ is_none (compiled_result b e c).message
+reported_unless_passed b e (Ok c) = refl
+reported_unless_passed b e (Err u) = refl
+
+pub messages_reported : (b : Book) (v : Variables) (xs : List ExpressionData) → map (λ r. r.passed) (policy_results b v xs) ≡ map (λ r. is_none r.message) (policy_results b v xs)
+unfolding policy_results result_in
+messages_reported b v [] = refl
+messages_reported b v (x ∷ xs) = λ i. reported_unless_passed b (policy_bindings v) (compile_result x) i ∷ messages_reported b v xs i
+
+-- ---- names that are bound alike
+
+outcome_same : (b : Book) (t : Term) (e f : Bindings) → ((x : List ℕ) → binding x e ≡ binding x f) → outcome_in b e t ≡ outcome_in b f t
+unfolding outcome_in
+outcome_same b t e f h = meaning_same policy_library b t e f h
+
+reported_same : (b : Book) (o : Option Term) (e f : Bindings) → ((x : List ℕ) → binding x e ≡ binding x f) → option_map (outcome_in b e) o ≡ option_map (outcome_in b f) o
+reported_same b None e f h = refl
+reported_same b (Some t) e f h = ap Some (outcome_same b t e f h)
+
+message_same : (b : Book) (c : Compiled) (e f : Bindings) → ((x : List ℕ) → binding x e ≡ binding x f) → message_in b e c ≡ message_in b f c
+unfolding message_in
+message_same b c e f h = λ i. outcome_message (false_message c (reported_same b c.message_tree e f h i)) (outcome_same b c.tree e f h i)
+
+result_same : (b : Book) (c : Result Compiled Unread) (e f : Bindings) → ((x : List ℕ) → binding x e ≡ binding x f) → compiled_result b e c ≡ compiled_result b f c
+result_same b (Err u) e f h = refl
+result_same b (Ok c) e f h = ap (result_with c.expression) (message_same b c e f h)
+
+pub results_same : (b : Book) (v : Variables) (cs : List (Result Compiled Unread)) (e : Bindings) → ((x : List ℕ) → binding x e ≡ binding x (policy_bindings v))
+    → map (compiled_result b e) cs ≡ compiled_results b v cs
+unfolding compiled_results
+results_same b v [] e h = refl
+results_same b v (c ∷ cs) e h = λ i. result_same b c e (policy_bindings v) h i ∷ results_same b v cs e h i
+
+-- ---- what is reported of one expression
+
+pub message_reported : (b : Book) (e : Bindings) (c : Compiled) (o : Option Term) (t : Term) (s : List ℕ) (outcome : Outcome) → o ≡ Some t → outcome ≡ outcome_in b e t
+    → s ≡ false_message c (Some outcome) → s ≡ false_message c (option_map (outcome_in b e) o)
+message_reported b e c o t s outcome k q p = p ∙ ap (λ r. false_message c (Some r)) q ∙ sym (ap (λ o. false_message c (option_map (outcome_in b e) o)) k)
+
+pub fault_reported : (b : Book) (e : Bindings) (c : Compiled) (f : Fault) (s : List ℕ) → Err f ≡ outcome_in b e c.tree → s ≡ codes "evaluation error: " ++ fault_text f → Some s ≡ message_in b e c
+unfolding message_in
+fault_reported b e c f s q p = ap Some p ∙ ap (outcome_message (false_message c (option_map (outcome_in b e) c.message_tree))) q
+
+pub value_reported : (b : Book) (e : Bindings) (c : Compiled) (v : Data) (o : Option (List ℕ)) → Ok v ≡ outcome_in b e c.tree
+    → o ≡ value_message (false_message c (option_map (outcome_in b e) c.message_tree)) v (bool_in v) → o ≡ message_in b e c
+unfolding message_in
+value_reported b e c v o q p = p ∙ ap (outcome_message (false_message c (option_map (outcome_in b e) c.message_tree))) q

@@ -1,0 +1,4 @@
+pub mod Expressions
+pub mod Results
+pub mod CallResults
+pub mod Variables

@@ -1,0 +1,158 @@
+//! The expressions of a policy with the programs of their texts.
+ghost use Rattle.cel.specs.Program.{program_term};
+ghost use Rattle.kube_cel_vap_types.specs.Validations.{expression_view};
+ghost use Rattle.kube_cel_vap.specs.Expressions.{compile_result, compiled_seen, compiled_view, error_view, message_program_seen, message_tree_in, program_seen, tree_in, unread_text, with_tree, with_trees};
+ghost use Rattle.std.specs.Prelude.{◌≡◌, IfErr, IfOk, option_map, Some, string_bytes};
+
+use cel::{ParseErrors, Program};
+use kube_cel_vap_types::{VapExpression, clone_text};
+use kube_types_refused::Refused;
+use std::alloc::{AllocError, Global};
+use std::fmt;
+
+/// An expression of a policy that was read, with its programs.
+#[derive(Debug, Drop)]
+pub struct CompiledVapExpression {
+    expression: String,
+    pub(crate) message: Option<String>,
+    pub(crate) program: Program,
+    pub(crate) message_program: Option<Program>,
+}
+
+/// Why an expression of a policy was not compiled: one of its texts is no CEL expression.
+#[derive(Debug, Drop)]
+pub struct VapError {
+    /// The text that was not read: the expression or, where that was read, its messageExpression.
+    pub expression: String,
+    /// The text of the expression.
+    pub original: String,
+    /// Why the text was not read.
+    pub source: ParseErrors,
+}
+
+impl fmt::Display for VapError {
+    ghost output = { λ e. Some (unread_text (error_view e)) };
+
+    fn fmt<W: fmt::Write>(&self, f: &mut fmt::Formatter<W>) -> fmt::Result {
+        write!(
+            f,
+            "failed to compile VAP expression \"{}\": {}",
+            self.expression, self.source
+        )
+    }
+}
+
+impl CompiledVapExpression {
+    /// The text of the expression.
+    pub(crate) fn text(&self) -> &str
+        ensures { result.now ≡ (compiled_view self.now).expression }
+    {
+        self.expression.as_str()
+    }
+}
+
+/// Compiles an expression, then its messageExpression, where it has one. The first text that isn't read counts.
+#[tactic(auto, unfolding(crate::specs::Expressions::compile_result))]
+pub(crate) fn compile_expression(
+    alloc: Global,
+    expression: &VapExpression,
+) -> Result<Result<CompiledVapExpression, VapError>, Refused>
+    ensures compiled { IfOk result (λ r. compiled_seen r ≡ compile_result (expression_view expression.now)) }
+    ensures memory { IfErr result (λ e. e ≡ Refused.Memory) }
+{
+    match read(alloc, expression, expression.expression.as_str())? {
+        Err(error) => Ok(Err(error)),
+        Ok(program) => compile_message(alloc, expression, program),
+    }
+}
+
+/// Compiles the messageExpression of an expression that has this program.
+fn compile_message(
+    alloc: Global,
+    expression: &VapExpression,
+    program: Program,
+) -> Result<Result<CompiledVapExpression, VapError>, Refused>
+    ensures compiled { IfOk result (λ r. compiled_seen r ≡ with_tree (expression_view expression.now) (program_term program)) }
+    ensures memory { IfErr result (λ e. e ≡ Refused.Memory) }
+{
+    match read_message(alloc, expression)? {
+        Err(error) => Ok(Err(error)),
+        Ok(message) => Ok(Ok(with_programs(expression, program, message)?)),
+    }
+}
+
+/// The program of the messageExpression of an expression, where it has one.
+fn read_message(
+    alloc: Global,
+    expression: &VapExpression,
+) -> Result<Result<Option<Program>, VapError>, Refused>
+    ensures read { IfOk result (λ r. message_program_seen r
+        ≡ message_tree_in (expression_view expression.now) (expression_view expression.now).message_expression) }
+    ensures memory { IfErr result (λ e. e ≡ Refused.Memory) }
+{
+    let Some(text) = &expression.message_expression else {
+        return Ok(Ok(None));
+    };
+    match read(alloc, expression, text.as_str())? {
+        Ok(program) => Ok(Ok(Some(program))),
+        Err(unread) => Ok(Err(unread)),
+    }
+}
+
+/// The program of a text of an expression.
+fn read(
+    alloc: Global,
+    expression: &VapExpression,
+    text: &str,
+) -> Result<Result<Program, VapError>, Refused>
+    ensures read { IfOk result (λ r. program_seen r ≡ tree_in (expression_view expression.now) text.now) }
+    ensures memory { IfErr result (λ e. e ≡ Refused.Memory) }
+{
+    match Program::compile(alloc, text)? {
+        Ok(program) => Ok(Ok(program)),
+        Err(source) => Ok(Err(error_of(alloc, text, expression, source)?)),
+    }
+}
+
+/// An expression with the programs of its texts.
+fn with_programs(
+    expression: &VapExpression,
+    program: Program,
+    message_program: Option<Program>,
+) -> Result<CompiledVapExpression, AllocError>
+    ensures { IfOk result (λ c. compiled_view c
+        ≡ with_trees (expression_view expression.now) (program_term program) (option_map program_term message_program)) }
+{
+    let (text, message) = texts_of(expression)?;
+    Ok(CompiledVapExpression {
+        expression: text,
+        message,
+        program,
+        message_program,
+    })
+}
+
+/// The text of an expression, and its message.
+fn texts_of(expression: &VapExpression) -> Result<(String, Option<String>), AllocError>
+    ensures { IfOk result (λ t. (string_bytes t.0 ≡ (expression_view expression.now).expression)
+        × (option_map string_bytes t.1 ≡ (expression_view expression.now).message)) }
+{
+    let text = expression.expression.clone()?;
+    Ok((text, clone_text(&expression.message)?))
+}
+
+/// The error of a text that was not read, of this expression.
+fn error_of(
+    alloc: Global,
+    text: &str,
+    expression: &VapExpression,
+    source: ParseErrors,
+) -> Result<VapError, AllocError>
+    ensures { IfOk result (λ e. error_view e ≡ record { text = text.now; original = string_bytes expression.now.expression }) }
+{
+    Ok(VapError {
+        expression: String::from_str(alloc, text)?,
+        original: expression.expression.clone()?,
+        source,
+    })
+}

@@ -1,0 +1,119 @@
+//! The names that the expressions of a policy may use, and the functions that they may call.
+ghost use Rattle.cel.specs.Program.{program_term};
+ghost use Rattle.cel_patterns.specs.Book.{Extends};
+ghost use Rattle.cel_patterns.specs.Entries.{entries_of};
+ghost use Rattle.cel_patterns.specs.Extensions.{HoldsForExtensions};
+ghost use Rattle.cel_semantics.specs.Bindings.{binding, bindings_of};
+ghost use Rattle.cel_semantics.specs.Outcome.{outcome_view};
+ghost use Rattle.cel_value.specs.View.{view};
+ghost use Rattle.kube_cel_vap_types.specs.Requests.{request_value, request_view, empty_request};
+ghost use Rattle.kube_cel_vap.specs.Results.{outcome_in};
+ghost use Rattle.kube_cel_vap.specs.Variables.{bindings_always, given_view, policy_bindings, value_or_null, with_given};
+ghost use Rattle.serde_json.specs.View.{view as json_view};
+ghost use Rattle.std.specs.Prelude.{◌≡◌, [], ℕ, IfErr, IfOk, List, OnOk, option_map, unwrap_or};
+
+use crate::variables::Given;
+use cel::{Answer, Context, PatternBook, Program};
+use cel_value::Value;
+use kube_cel_vap_types::{AdmissionRequest, request_value};
+use kube_functions::AllFunctions;
+use kube_schema_values::bind_plain;
+use kube_types_refused::Refused;
+use serde_json::Value as Json;
+use std::alloc::Global;
+
+/// The context of a policy's expressions. They may call all functions of Kubernetes.
+pub(crate) type PolicyContext<'a> = Context<'a, AllFunctions>;
+
+/// A context with no name and all functions that the expressions of a policy may call.
+fn empty_context<'a>(alloc: Global) -> PolicyContext<'a>
+    ensures { bindings_of result ≡ [] }
+{
+    Context::default(alloc)
+}
+
+/// What a program means in a context.
+#[tactic(auto, unfolding(crate::specs::Results::outcome_in))]
+pub(crate) fn outcome_of(
+    alloc: Global,
+    program: &Program,
+    context: &PolicyContext<'_>,
+    book: &mut PatternBook,
+) -> Result<Answer, Refused>
+    ensures keeps { Extends (entries_of book.new) (entries_of book.old) }
+    ensures value { IfOk result (λ r. HoldsForExtensions (entries_of book.new) (outcome_view r)
+        (λ b. outcome_in b (bindings_of context.now) (program_term program.now))) }
+    ensures memory { IfErr result (λ e. e ≡ Refused.Memory) }
+{
+    program.execute_with(alloc, context, book)
+}
+
+/// The value of what was set, else null.
+fn value_or_null(alloc: Global, value: &Option<Json>) -> Result<Value, Refused>
+    ensures value { IfOk result (λ v. view v ≡ value_or_null (option_map json_view value.now)) }
+    ensures memory { IfErr result (λ e. e ≡ Refused.Memory) }
+{
+    match value {
+        Some(value) => bind_plain(alloc, value),
+        None => Ok(Value::Null),
+    }
+}
+
+/// The value of the request that was set, else of one of which nothing is known.
+fn request_or_empty(alloc: Global, request: &Option<AdmissionRequest>) -> Result<Value, Refused>
+    ensures value { IfOk result (λ v. view v
+        ≡ request_value (unwrap_or (option_map request_view request.now) empty_request)) }
+    ensures memory { IfErr result (λ e. e ≡ Refused.Memory) }
+{
+    match request {
+        Some(request) => request_value(alloc, request),
+        None => request_value(alloc, &AdmissionRequest::default(alloc)),
+    }
+}
+
+/// Binds a name to what was set, if it was.
+fn bind_given(
+    alloc: Global,
+    context: &mut PolicyContext<'_>,
+    name: &str,
+    value: &Option<Json>,
+) -> Result<(), Refused>
+    ensures bound { OnOk result ((x : List ℕ) → binding x (bindings_of context.new)
+        ≡ binding x (with_given name.now (option_map json_view value.now) (bindings_of context.old))) }
+    ensures memory { IfErr result (λ e. e ≡ Refused.Memory) }
+{
+    let Some(value) = value else {
+        return Ok(());
+    };
+    context.add_variable(name, bind_plain(alloc, value)?)
+}
+
+/// A context with the names that are always bound.
+fn context_always<'a>(alloc: Global, given: &Given) -> Result<PolicyContext<'a>, Refused>
+    ensures bound { IfOk result (λ c. (x : List ℕ) → binding x (bindings_of c)
+        ≡ binding x (bindings_always (given_view given.now))) }
+    ensures memory { IfErr result (λ e. e ≡ Refused.Memory) }
+{
+    let mut context = empty_context(alloc);
+    context.add_variable("object", value_or_null(alloc, &given.object)?)?;
+    context.add_variable("oldObject", value_or_null(alloc, &given.old_object)?)?;
+    context.add_variable("request", request_or_empty(alloc, &given.request)?)?;
+    Ok(context)
+}
+
+/// The context of a policy's expressions, where this was set.
+pub(crate) fn context_of<'a>(alloc: Global, given: &Given) -> Result<PolicyContext<'a>, Refused>
+    ensures bound { IfOk result (λ c. (x : List ℕ) → binding x (bindings_of c)
+        ≡ binding x (policy_bindings (given_view given.now))) }
+    ensures memory { IfErr result (λ e. e ≡ Refused.Memory) }
+{
+    let mut context = context_always(alloc, given)?;
+    bind_given(alloc, &mut context, "params", &given.params)?;
+    bind_given(
+        alloc,
+        &mut context,
+        "namespaceObject",
+        &given.namespace_object,
+    )?;
+    Ok(context)
+}

@@ -1,0 +1,9 @@
+pub mod Operands
+pub mod Offsets
+pub mod Letters
+pub mod Escapes
+pub mod Encoders
+pub mod Regex
+pub mod Pieces
+pub mod Cuts
+pub mod Joins

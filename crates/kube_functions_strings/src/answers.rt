@@ -1,0 +1,40 @@
+//! Answers that several functions give.
+ghost use Rattle.std.specs.Prelude.{◌≡◌, IfOk, IfErr, Ok, Err, string_bytes};
+ghost use Rattle.std.specs.Str.{chars};
+ghost use Rattle.cel_value.specs.Data as plain;
+ghost use Rattle.cel_value.specs.Faults as fault;
+ghost use Rattle.cel_semantics.specs.Outcome.{outcome_view};
+
+use cel_semantics::operators::Answer;
+use cel_value::{ExecutionError, Refused, Value};
+use std::alloc::{AllocError, Global};
+
+/// The characters of a text.
+pub(crate) fn characters(alloc: Global, text: &str) -> Result<Vec<char>, AllocError>
+    ensures { IfOk result (λ v. v.items ≡ chars text.now) }
+{
+    text.chars().collect(alloc)
+}
+
+/// A string as an answer.
+pub(crate) fn text_answer(alloc: Global, text: String) -> Result<Answer, Refused>
+    ensures value { IfOk result (λ r. outcome_view r ≡ Ok (plain.text (string_bytes text))) }
+    ensures memory { IfErr result (λ e. e ≡ Refused.Memory) }
+{
+    Ok(Ok(Value::from_text(alloc, text)?))
+}
+
+/// The fault of a function that refuses its arguments, with its message.
+pub(crate) fn function_fault(
+    alloc: Global,
+    function: &str,
+    message: String,
+) -> Result<Answer, Refused>
+    ensures value { IfOk result (λ r. outcome_view r ≡ Err (fault.function_error function.now (string_bytes message))) }
+    ensures memory { IfErr result (λ e. e ≡ Refused.Memory) }
+{
+    Ok(Err(ExecutionError::FunctionError {
+        function: String::from_str(alloc, function)?,
+        message,
+    }))
+}

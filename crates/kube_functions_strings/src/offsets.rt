@@ -1,0 +1,313 @@
+//! `charAt`, `substring`, `indexOf` and `lastIndexOf`: characters by their places, and places of parts.
+ghost use Rattle.std.specs.Prelude.{◌≡◌, ◌≤◌, ◌<◌, ◌^◌, ℕ, suc, min, pos, List, length, take, drop, slice_get, slice_range, IfOk, IfErr, IfSome, option_map, string_bytes};
+ghost use Rattle.std.specs.Option.{unwrap_or};
+ghost use Rattle.std.specs.Str.{chars};
+ghost use Rattle.cel_value.specs.View.{view};
+ghost use Rattle.cel_semantics.specs.Outcome.{outcome_view};
+ghost use Rattle.kube_functions_strings.specs.Cuts as cuts;
+ghost use Rattle.kube_functions_strings.specs.Offsets as spec;
+
+use crate::answers::{function_fault, text_answer};
+use crate::cuts::{around_first, around_last, around_offset, character_count, copied};
+use crate::operands::{both_texts, optional_int, text_and_int};
+use cel_semantics::operators::{Answer, no_such_overload};
+use cel_value::{Refused, Value};
+use std::alloc::{AllocError, Global};
+
+// The place that an int is.
+fn as_offset(index: i64) -> Option<usize>
+    ensures value { result ≡ cuts.place_of index }
+    ensures small { IfSome result (λ k. k < 2 ^ 63) }
+{
+    match usize::try_from(index) {
+        Ok(offset) => Some(offset),
+        Err(_) => None,
+    }
+}
+
+// The place in a text that an int is, with what stands from there on.
+fn from_index(text: &str, index: i64) -> Option<(usize, &str)>
+    ensures { option_map (λ p. (p.0, chars p.1.now)) result ≡ cuts.from_index (chars text.now) index }
+{
+    match as_offset(index) {
+        Some(offset) => match around_offset(text, offset) {
+            Some((_, rest)) => Some((offset, rest)),
+            None => None,
+        },
+        None => None,
+    }
+}
+
+// The first character of a text, or an empty one.
+fn first_character(alloc: Global, text: &str) -> Result<String, AllocError>
+    ensures { IfOk result (λ t. string_bytes t ≡ spec.character_text (slice_get (chars text.now) 0)) }
+{
+    let mut first = String::new(alloc);
+    match text.chars().next() {
+        Some(character) => {
+            first.push(character)?;
+            Ok(first)
+        }
+        None => Ok(first),
+    }
+}
+
+fn past_length(alloc: Global, what: &str, index: i64, length: usize) -> Result<String, AllocError>
+    ensures { IfOk result (λ t. string_bytes t ≡ spec.past_length what.now index length) }
+{
+    format!(in alloc; "{what} {index} out of range for string of length {length}")
+}
+
+fn character_at(alloc: Global, text: &str, index: i64) -> Result<Answer, Refused>
+    ensures value { IfOk result (λ r. outcome_view r ≡ spec.character_at (chars text.now) index) }
+    ensures memory { IfErr result (λ e. e ≡ Refused.Memory) }
+{
+    match from_index(text, index) {
+        Some((_, rest)) => text_answer(alloc, first_character(alloc, rest)?),
+        None => {
+            let message = past_length(alloc, "index", index, character_count(text))?;
+            function_fault(alloc, "charAt", message)
+        }
+    }
+}
+
+/// The character of a string at a place, as a string; an empty one at the end.
+///
+/// # Errors
+/// `Memory` alone.
+pub fn char_at(alloc: Global, value: &Value, index: &Value) -> Result<Answer, Refused>
+    ensures value { IfOk result (λ r. outcome_view r ≡ spec.char_at (view value.now) (view index.now)) }
+    ensures memory { IfErr result (λ e. e ≡ Refused.Memory) }
+{
+    match text_and_int(value, index) {
+        Some((text, index)) => character_at(alloc, text, index),
+        None => Ok(Err(no_such_overload(alloc, "charAt")?)),
+    }
+}
+
+// What stands at the front of the rest of a text, which begins at a place, up to the place that an int is.
+fn up_to(rest: &str, offset: usize, end: i64) -> Option<&str>
+    ensures { (cs : List ℕ) → offset ≤ length cs → chars rest.now ≡ drop offset cs
+        → option_map (λ t. chars t.now) result
+        ≡ option_map (λ m. slice_range cs offset m) (spec.offset_within offset (length cs) end) }
+{
+    match as_offset(end) {
+        Some(end) if offset <= end => match around_offset(rest, end - offset) {
+            Some((front, _)) => Some(front),
+            None => None,
+        },
+        _ => None,
+    }
+}
+
+fn characters_up_to(alloc: Global, rest: &str, offset: usize, end: i64) -> Result<Answer, Refused>
+    ensures value { IfOk result (λ r. (cs : List ℕ) → offset ≤ length cs → chars rest.now ≡ drop offset cs
+        → outcome_view r ≡ spec.characters_up_to cs offset end) }
+    ensures memory { IfErr result (λ e. e ≡ Refused.Memory) }
+{
+    match up_to(rest, offset, end) {
+        Some(part) => text_answer(alloc, copied(alloc, part)?),
+        None => {
+            let message = format!(in alloc; "end index {end} out of range")?;
+            function_fault(alloc, "substring", message)
+        }
+    }
+}
+
+fn characters_between(
+    alloc: Global,
+    text: &str,
+    start: i64,
+    end: Option<i64>,
+) -> Result<Answer, Refused>
+    ensures value { IfOk result (λ r. outcome_view r ≡ spec.characters_between (chars text.now) start end) }
+    ensures memory { IfErr result (λ e. e ≡ Refused.Memory) }
+{
+    match from_index(text, start) {
+        Some((offset, rest)) => match end {
+            Some(end) => characters_up_to(alloc, rest, offset, end),
+            None => text_answer(alloc, copied(alloc, rest)?),
+        },
+        None => {
+            let message = past_length(alloc, "start index", start, character_count(text))?;
+            function_fault(alloc, "substring", message)
+        }
+    }
+}
+
+/// The characters of a string from a place up to another one, or up to the end.
+///
+/// # Errors
+/// `Memory` alone.
+pub fn substring(
+    alloc: Global,
+    value: &Value,
+    start: &Value,
+    end: Option<&Value>,
+) -> Result<Answer, Refused>
+    ensures value { IfOk result (λ r. outcome_view r
+        ≡ spec.substring (view value.now) (view start.now) (option_map (λ v. view v.now) end.entry)) }
+    ensures memory { IfErr result (λ e. e ≡ Refused.Memory) }
+{
+    match text_and_int(value, start) {
+        Some((text, start)) => match optional_int(end) {
+            Some(end) => characters_between(alloc, text, start, end),
+            None => Ok(Err(no_such_overload(alloc, "substring")?)),
+        },
+        None => Ok(Err(no_such_overload(alloc, "substring")?)),
+    }
+}
+
+// The least place from `start` on at which the part stands.
+fn offset_from(text: &str, part: &str, start: usize) -> Option<usize>
+    ensures value { result ≡ spec.offset_from (chars text.now) (chars part.now) start }
+    ensures within { IfSome result (λ k. k ≤ length text.now) }
+{
+    match around_offset(text, start) {
+        Some((_, rest)) => match around_first(rest, part) {
+            Some((before, _)) => Some(start + character_count(before)),
+            None => None,
+        },
+        None => None,
+    }
+}
+
+// The first `count` characters of a text, or all of them.
+fn first_characters(text: &str, count: usize) -> &str
+    ensures { chars result.now ≡ take count (chars text.now) }
+{
+    match around_offset(text, count) {
+        Some((front, _)) => front,
+        None => text,
+    }
+}
+
+// The greatest place up to `most` at which the part stands, which is not empty.
+fn offset_up_to(text: &str, part: &str, most: usize) -> Option<usize>
+    requires some { 0 < length part.now }
+    requires small { most < 2 ^ 63 }
+    ensures value { result ≡ spec.greatest_below (spec.stands_at (chars text.now) (chars part.now))
+        (suc (min most (length (chars text.now)))) }
+    ensures within { IfSome result (λ k. k ≤ length text.now) }
+{
+    let front = first_characters(text, most + character_count(part));
+    match around_last(front, part) {
+        Some((before, _)) => Some(character_count(before)),
+        None => None,
+    }
+}
+
+fn at_least_zero(index: i64) -> usize
+    ensures { result ≡ spec.at_least_zero index }
+{
+    match usize::try_from(index) {
+        Ok(offset) => offset,
+        Err(_) => 0,
+    }
+}
+
+fn or_no_offset(offset: Option<usize>) -> i64
+    requires { IfSome offset (λ k. k < 2 ^ 63) }
+    ensures { result ≡ spec.or_no_offset offset }
+{
+    match offset {
+        Some(offset) => offset as i64,
+        None => -1,
+    }
+}
+
+fn first_index(text: &str, part: &str, start: i64) -> i64
+    ensures { result ≡ spec.first_index (chars text.now) (chars part.now) start }
+{
+    let start = at_least_zero(start);
+    if part.is_empty() {
+        start as i64
+    } else {
+        or_no_offset(offset_from(text, part, start))
+    }
+}
+
+// The greatest place up to `start` at which the part stands, which is not empty.
+fn last_offset(text: &str, part: &str, start: i64) -> Option<usize>
+    requires { 0 < length part.now }
+    ensures value { result ≡ spec.greatest_below (spec.stands_at (chars text.now) (chars part.now))
+        (spec.offsets_up_to (length (chars text.now)) start) }
+    ensures within { IfSome result (λ k. k ≤ length text.now) }
+{
+    match as_offset(start) {
+        Some(most) => offset_up_to(text, part, most),
+        None => None,
+    }
+}
+
+fn last_index(text: &str, part: &str, start: i64) -> i64
+    ensures { result ≡ spec.last_index (chars text.now) (chars part.now) start }
+{
+    if part.is_empty() {
+        at_least_zero(start).min(character_count(text)) as i64
+    } else {
+        or_no_offset(last_offset(text, part, start))
+    }
+}
+
+/// The least place from an int on at which a string has another one, or -1. An int that is absent or negative counts as 0.
+///
+/// # Errors
+/// `Memory` alone.
+pub fn index_of(
+    alloc: Global,
+    value: &Value,
+    part: &Value,
+    start: Option<&Value>,
+) -> Result<Answer, Refused>
+    ensures value { IfOk result (λ r. outcome_view r
+        ≡ spec.index_of (view value.now) (view part.now) (option_map (λ v. view v.now) start.entry)) }
+    ensures memory { IfErr result (λ e. e ≡ Refused.Memory) }
+{
+    match both_texts(value, part) {
+        Some((text, part)) => match optional_int(start) {
+            Some(start) => {
+                let index = first_index(text, part, start.unwrap_or(0));
+                Ok(Ok(Value::Int(index)))
+            }
+            None => Ok(Err(no_such_overload(alloc, "indexOf")?)),
+        },
+        None => Ok(Err(no_such_overload(alloc, "indexOf")?)),
+    }
+}
+
+// The int, or where the text ends.
+fn or_end(start: Option<i64>, text: &str) -> i64
+    ensures { result ≡ unwrap_or start (pos (length (chars text.now))) }
+{
+    match start {
+        Some(start) => start,
+        None => character_count(text) as i64,
+    }
+}
+
+/// The greatest place up to an int at which a string has another one, or -1. The length stands for an int that is absent.
+///
+/// # Errors
+/// `Memory` alone.
+pub fn last_index_of(
+    alloc: Global,
+    value: &Value,
+    part: &Value,
+    start: Option<&Value>,
+) -> Result<Answer, Refused>
+    ensures value { IfOk result (λ r. outcome_view r
+        ≡ spec.last_index_of (view value.now) (view part.now) (option_map (λ v. view v.now) start.entry)) }
+    ensures memory { IfErr result (λ e. e ≡ Refused.Memory) }
+{
+    match both_texts(value, part) {
+        Some((text, part)) => match optional_int(start) {
+            Some(start) => {
+                let index = last_index(text, part, or_end(start, text));
+                Ok(Ok(Value::Int(index)))
+            }
+            None => Ok(Err(no_such_overload(alloc, "lastIndexOf")?)),
+        },
+        None => Ok(Err(no_such_overload(alloc, "lastIndexOf")?)),
+    }
+}

@@ -1,0 +1,56 @@
+//! What a function takes of its operands.
+ghost use Rattle.std.specs.Prelude.{◌≡◌, option_map};
+ghost use Rattle.cel_value.specs.View.{view};
+ghost use Rattle.cel_semantics.specs.Arithmetic.{int_in};
+ghost use Rattle.kube_functions_strings.specs.Operands as spec;
+
+use cel_value::Value;
+
+/// The int that a value is.
+pub(crate) fn as_int(value: &Value) -> Option<i64>
+    ensures { result ≡ int_in (view value.now) }
+{
+    match value {
+        Value::Int(n) => Some(*n),
+        _ => None,
+    }
+}
+
+/// The texts of two strings.
+pub(crate) fn both_texts<'a>(value: &'a Value, other: &'a Value) -> Option<(&'a str, &'a str)>
+    ensures { option_map (λ p. (p.0.now, p.1.now)) result ≡ spec.texts_in (view value.now) (view other.now) }
+{
+    match value.as_str() {
+        Some(text) => match other.as_str() {
+            Some(part) => Some((text, part)),
+            None => None,
+        },
+        None => None,
+    }
+}
+
+/// The text of a string and an int.
+pub(crate) fn text_and_int<'a>(value: &'a Value, number: &Value) -> Option<(&'a str, i64)>
+    ensures { option_map (λ p. (p.0.now, p.1)) result ≡ spec.text_and_int_in (view value.now) (view number.now) }
+{
+    match value.as_str() {
+        Some(text) => match as_int(number) {
+            Some(n) => Some((text, n)),
+            None => None,
+        },
+        None => None,
+    }
+}
+
+/// The int of an argument that may be absent. None where it is there and no int.
+pub(crate) fn optional_int(value: Option<&Value>) -> Option<Option<i64>>
+    ensures { result ≡ spec.optional_int_in (option_map (λ v. view v.now) value.entry) }
+{
+    match value {
+        None => Some(None),
+        Some(value) => match as_int(value) {
+            Some(n) => Some(Some(n)),
+            None => None,
+        },
+    }
+}

@@ -1,0 +1,109 @@
+//! `jsonpatch.escapeKey` and `strings.quote`: strings in which some characters are escaped.
+ghost use Rattle.std.specs.Prelude.{◌≡◌, ◌++◌, IfOk, IfErr, OnOk, option_map, string_bytes};
+ghost use Rattle.cel_value.specs.View.{view};
+ghost use Rattle.cel_semantics.specs.Outcome.{outcome_view};
+ghost use Rattle.kube_functions_strings.specs.Escapes as spec;
+
+use crate::answers::text_answer;
+use cel_semantics::operators::{Answer, no_such_overload};
+use cel_value::{Refused, Value};
+use std::alloc::{AllocError, Global};
+
+/// Which characters are escaped, and how.
+#[derive(Clone, Copy, Debug, PartialEq, Eq)]
+pub enum Escaping {
+    /// Those of a JSON Pointer's key.
+    Pointer,
+    /// Those of a text in quotation marks.
+    Quoted,
+}
+
+impl Escaping {
+    fn escape(self, character: char) -> Option<&'static str>
+        ensures { option_map (λ s. s.now) result ≡ spec.escape_of self character }
+    {
+        match self {
+            Escaping::Pointer => match character {
+                '~' => Some("~0"),
+                '/' => Some("~1"),
+                _ => None,
+            },
+            Escaping::Quoted => match character {
+                '"' => Some("\\\""),
+                '\\' => Some("\\\\"),
+                '\u{7}' => Some("\\a"),
+                '\u{8}' => Some("\\b"),
+                '\u{c}' => Some("\\f"),
+                '\n' => Some("\\n"),
+                '\r' => Some("\\r"),
+                '\t' => Some("\\t"),
+                '\u{b}' => Some("\\v"),
+                _ => None,
+            },
+        }
+    }
+}
+
+fn push_escaped(out: &mut String, form: Escaping, character: char) -> Result<(), AllocError>
+    ensures { OnOk result (string_bytes out.new ≡ string_bytes out.old ++ spec.escaped_character form character) }
+{
+    match form.escape(character) {
+        Some(escape) => out.push_str(escape),
+        None => out.push(character),
+    }
+}
+
+// The characters, each escaped, at the end of a text.
+fn push_all_escaped(out: &mut String, form: Escaping, text: &str) -> Result<(), AllocError>
+    ensures { OnOk result (string_bytes out.new ≡ string_bytes out.old ++ spec.escaped_text form text.now) }
+{
+    for character in text.chars() {
+        push_escaped(out, form, character)?;
+    }
+    Ok(())
+}
+
+fn escaped_text(alloc: Global, form: Escaping, text: &str) -> Result<String, AllocError>
+    ensures { IfOk result (λ t. string_bytes t ≡ spec.escaped_text form text.now) }
+{
+    let mut out = String::new(alloc);
+    push_all_escaped(&mut out, form, text)?;
+    Ok(out)
+}
+
+fn quoted_text(alloc: Global, text: &str) -> Result<String, AllocError>
+    ensures { IfOk result (λ t. string_bytes t ≡ spec.quoted_text text.now) }
+{
+    let mut out = String::from_str(alloc, "\"")?;
+    push_all_escaped(&mut out, Escaping::Quoted, text)?;
+    out.push_str("\"")?;
+    Ok(out)
+}
+
+/// A string as a key of a JSON Pointer: `~0` for each `~`, and `~1` for each `/`.
+///
+/// # Errors
+/// `Memory` alone.
+pub fn escape_key(alloc: Global, value: &Value) -> Result<Answer, Refused>
+    ensures value { IfOk result (λ r. outcome_view r ≡ spec.escaped_key (view value.now)) }
+    ensures memory { IfErr result (λ e. e ≡ Refused.Memory) }
+{
+    match value.as_str() {
+        Some(text) => text_answer(alloc, escaped_text(alloc, Escaping::Pointer, text)?),
+        None => Ok(Err(no_such_overload(alloc, "jsonpatch.escapeKey")?)),
+    }
+}
+
+/// A string in quotation marks, with a backslash before each character that is not written as it is.
+///
+/// # Errors
+/// `Memory` alone.
+pub fn quote(alloc: Global, value: &Value) -> Result<Answer, Refused>
+    ensures value { IfOk result (λ r. outcome_view r ≡ spec.quote (view value.now)) }
+    ensures memory { IfErr result (λ e. e ≡ Refused.Memory) }
+{
+    match value.as_str() {
+        Some(text) => text_answer(alloc, quoted_text(alloc, text)?),
+        None => Ok(Err(no_such_overload(alloc, "strings.quote")?)),
+    }
+}

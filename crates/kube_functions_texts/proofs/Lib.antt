@@ -1,8 +1,0 @@
-pub mod Past
-pub mod Occurring
-pub mod Standing
-pub mod Between
-pub mod CutSteps
-pub mod Joining
-pub mod KeysApart
-pub mod Decoded

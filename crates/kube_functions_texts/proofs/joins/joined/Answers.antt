@@ -1,6 +1,0 @@
-use Rattle.std.proofs.Common.{◌∙◌}
-use Rattle.kube_functions_texts.proofs.Joining.{join-lent}
-use Rattle.kube_functions_texts.proofs.joins.joined.Goals as goal
-
-pub returns : goal.returns
-returns c = c.in_ok-text.ensures.ok ∙ join-lent c.args.between.now c.args.texts.now

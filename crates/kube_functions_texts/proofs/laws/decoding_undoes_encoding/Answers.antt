@@ -1,5 +1,0 @@
-use Rattle.kube_functions_texts.proofs.Decoded.{decodes}
-use Rattle.kube_functions_texts.proofs.laws.decoding_undoes_encoding.Goals as goal
-
-pub returns : goal.returns
-returns c = decodes

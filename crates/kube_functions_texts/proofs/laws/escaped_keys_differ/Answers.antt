@@ -1,5 +1,0 @@
-use Rattle.kube_functions_texts.proofs.KeysApart.{keys_apart}
-use Rattle.kube_functions_texts.proofs.laws.escaped_keys_differ.Goals as goal
-
-pub returns : goal.returns
-returns c = keys_apart

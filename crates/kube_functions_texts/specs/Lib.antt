@@ -1,9 +1,0 @@
-pub mod Operands
-pub mod Places
-pub mod Letters
-pub mod Escapes
-pub mod Encodings
-pub mod Found
-pub mod Pieces
-pub mod Cuts
-pub mod Joins

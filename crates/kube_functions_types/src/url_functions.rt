@@ -1,0 +1,213 @@
+//! Calls on URLs.
+ghost use Rattle.std.specs.Prelude.{◌≡◌, ◌∷◌, [], ℕ, List, Ok, map, codes, is_some, option_map, unwrap_or, string_bytes, OnOk, IfOk, IfErr};
+ghost use Rattle.std.specs.BTreeMap.{get_by_text};
+ghost use Rattle.cel_value.specs.Data as plain;
+ghost use Rattle.cel_value.specs.Keys.{put};
+ghost use Rattle.cel_value.specs.View.{view, entries_view};
+ghost use Rattle.cel_semantics.specs.Outcome.{outcome_view};
+ghost use Rattle.kube_types_url.specs.Query.{values_of};
+ghost use Rattle.kube_types_url.specs.Reading.{url_of};
+ghost use Rattle.kube_types_url.specs.Shown.{url_view, texts};
+ghost use Rattle.kube_functions_types.specs.Answers.{refusal, bool_answer, value_or};
+ghost use Rattle.kube_functions_types.specs.Lists.{text_list};
+ghost use Rattle.kube_functions_types.specs.Url as spec;
+
+use crate::answers::{refusal, text_answer, text_values, wrong_kind};
+use cel_semantics::Answer;
+use cel_value::{Entries, Key, Refused, Value};
+use kube_types::KubeUrl;
+use std::alloc::Global;
+use std::collections::BTreeMap;
+use std::rc::Rc;
+
+// The URL that a text is. Where the text of a URL would be too large to be held, memory is refused.
+fn read(alloc: Global, text: &str) -> Result<Option<KubeUrl>, Refused>
+    ensures value { IfOk result (λ url. option_map url_view url ≡ url_of text.now) }
+    ensures memory { IfErr result (λ e. e ≡ Refused.Memory) }
+{
+    match KubeUrl::read(alloc, text) {
+        Ok(url) => Ok(url),
+        Err(_) => Err(Refused::Memory),
+    }
+}
+
+fn url_or(alloc: Global, url: Option<KubeUrl>) -> Result<Answer, Refused>
+    ensures value { IfOk result (λ r. outcome_view r
+        ≡ value_or (refusal (codes "url") (codes "invalid URL")) plain.url (option_map url_view url)) }
+    ensures memory { IfErr result (λ e. e ≡ Refused.Memory) }
+{
+    match url {
+        Some(url) => Ok(Ok(Value::Url(Rc::new(alloc, url)?))),
+        None => refusal(alloc, "url", "invalid URL"),
+    }
+}
+
+/// `url`: the URL, or the absolute path, that a string is.
+///
+/// # Errors
+/// `Memory` alone, also where the text of the URL would be too large to be held.
+pub fn url(alloc: Global, value: &Value) -> Result<Answer, Refused>
+    ensures value { IfOk result (λ r. outcome_view r ≡ spec.url_from (view value.now)) }
+    ensures memory { IfErr result (λ e. e ≡ Refused.Memory) }
+{
+    match value {
+        Value::String(text) => {
+            let url = read(alloc, text.as_str())?;
+            url_or(alloc, url)
+        }
+        _ => wrong_kind(alloc, "url"),
+    }
+}
+
+/// `isURL`: whether a string is a URL or an absolute path.
+///
+/// # Errors
+/// `Memory` alone, also where the text of the URL would be too large to be held.
+pub fn is_url(alloc: Global, value: &Value) -> Result<Answer, Refused>
+    ensures value { IfOk result (λ r. outcome_view r ≡ spec.is_url (view value.now)) }
+    ensures memory { IfErr result (λ e. e ≡ Refused.Memory) }
+{
+    match value {
+        Value::String(text) => {
+            let url = read(alloc, text.as_str())?;
+            Ok(Ok(Value::Bool(url.is_some())))
+        }
+        _ => wrong_kind(alloc, "isURL"),
+    }
+}
+
+// A part that stands in the URL's text, as an answer.
+fn lent_answer(alloc: Global, part: &str) -> Result<Answer, Refused>
+    ensures value { IfOk result (λ r. outcome_view r ≡ Ok (plain.text part.now)) }
+    ensures memory { IfErr result (λ e. e ≡ Refused.Memory) }
+{
+    text_answer(alloc, String::from_str(alloc, part)?)
+}
+
+/// `getScheme`: the scheme of a URL, empty for a path.
+///
+/// # Errors
+/// `Memory` alone.
+pub fn scheme(alloc: Global, value: &Value) -> Result<Answer, Refused>
+    ensures value { IfOk result (λ r. outcome_view r ≡ spec.get_scheme (view value.now)) }
+    ensures memory { IfErr result (λ e. e ≡ Refused.Memory) }
+{
+    match value {
+        Value::Url(url) => lent_answer(alloc, url.as_ref().scheme()),
+        _ => wrong_kind(alloc, "getScheme"),
+    }
+}
+
+/// `getHost`: the host of a URL, with its port where it keeps one.
+///
+/// # Errors
+/// `Memory` alone.
+pub fn host(alloc: Global, value: &Value) -> Result<Answer, Refused>
+    ensures value { IfOk result (λ r. outcome_view r ≡ spec.get_host (view value.now)) }
+    ensures memory { IfErr result (λ e. e ≡ Refused.Memory) }
+{
+    match value {
+        Value::Url(url) => text_answer(alloc, url.as_ref().host(alloc)?),
+        _ => wrong_kind(alloc, "getHost"),
+    }
+}
+
+/// `getHostname`: the host of a URL, without port and brackets.
+///
+/// # Errors
+/// `Memory` alone.
+pub fn hostname(alloc: Global, value: &Value) -> Result<Answer, Refused>
+    ensures value { IfOk result (λ r. outcome_view r ≡ spec.get_hostname (view value.now)) }
+    ensures memory { IfErr result (λ e. e ≡ Refused.Memory) }
+{
+    match value {
+        Value::Url(url) => lent_answer(alloc, url.as_ref().hostname()),
+        _ => wrong_kind(alloc, "getHostname"),
+    }
+}
+
+/// `getPort`: the port of a URL in decimal, empty where it keeps none.
+///
+/// # Errors
+/// `Memory` alone.
+pub fn port(alloc: Global, value: &Value) -> Result<Answer, Refused>
+    ensures value { IfOk result (λ r. outcome_view r ≡ spec.get_port (view value.now)) }
+    ensures memory { IfErr result (λ e. e ≡ Refused.Memory) }
+{
+    match value {
+        Value::Url(url) => text_answer(alloc, url.as_ref().port(alloc)?),
+        _ => wrong_kind(alloc, "getPort"),
+    }
+}
+
+/// `getEscapedPath`: the path of a URL, percent-encoded.
+///
+/// # Errors
+/// `Memory` alone.
+pub fn escaped_path(alloc: Global, value: &Value) -> Result<Answer, Refused>
+    ensures value { IfOk result (λ r. outcome_view r ≡ spec.get_escaped_path (view value.now)) }
+    ensures memory { IfErr result (λ e. e ≡ Refused.Memory) }
+{
+    match value {
+        Value::Url(url) => lent_answer(alloc, url.as_ref().escaped_path()),
+        _ => wrong_kind(alloc, "getEscapedPath"),
+    }
+}
+
+// Adds a name with the list of its values.
+fn add_values(
+    entries: &mut Entries,
+    alloc: Global,
+    name: String,
+    values: Vec<String>,
+) -> Result<(), Refused>
+    ensures written { OnOk result (entries_view entries.new.entries
+        ≡ put (plain.text_key (string_bytes name)) (text_list (texts values)) (entries_view entries.old.entries)) }
+    ensures memory { IfErr result (λ e. e ≡ Refused.Memory) }
+{
+    let name = Rc::new(alloc, name)?;
+    let items = text_values(alloc, values)?;
+    let list = Value::from_items(alloc, items)?;
+    entries.insert(Key::String(name), list)?;
+    Ok(())
+}
+
+// The same map, of values.
+fn map_of(alloc: Global, query: BTreeMap<String, Vec<String>>) -> Result<Entries, Refused>
+    ensures value { IfOk result (λ m. (pairs : List (List ℕ × List ℕ))
+        → ((name : List ℕ) → option_map texts (get_by_text query name) ≡ values_of pairs name)
+        → entries_view m.entries ≡ spec.entries_among pairs pairs) }
+    ensures memory { IfErr result (λ e. e ≡ Refused.Memory) }
+{
+    let mut entries = BTreeMap::new(alloc);
+    for (name, values) in query {
+        add_values(&mut entries, alloc, name, values)?;
+    }
+    Ok(entries)
+}
+
+fn query_map(alloc: Global, url: &KubeUrl) -> Result<Entries, Refused>
+    ensures value { IfOk result (λ m. entries_view m.entries ≡ spec.entries_among (spec.query_pairs (url_view url.now)) (spec.query_pairs (url_view url.now))) }
+    ensures memory { IfErr result (λ e. e ≡ Refused.Memory) }
+{
+    let query = url.query(alloc)?;
+    let entries = map_of(alloc, query)?;
+    Ok(entries)
+}
+
+/// `getQuery`: the map from each name of a URL's query to the list of its values, in order.
+///
+/// # Errors
+/// `Memory` alone.
+pub fn query(alloc: Global, value: &Value) -> Result<Answer, Refused>
+    ensures value { IfOk result (λ r. outcome_view r ≡ spec.get_query (view value.now)) }
+    ensures memory { IfErr result (λ e. e ≡ Refused.Memory) }
+{
+    match value {
+        Value::Url(url) => {
+            let entries = query_map(alloc, url.as_ref())?;
+            Ok(Ok(Value::from_entries(alloc, entries)?))
+        }
+        _ => wrong_kind(alloc, "getQuery"),
+    }
+}

@@ -1,0 +1,65 @@
+//! Which version judges an object.
+ghost use Rattle.kube_manifests.specs.Parts.{choice_view};
+ghost use Rattle.kube_manifests.specs.Sets.{version_view};
+ghost use Rattle.kube_manifests.specs.Versions.{chosen_version, is_of_kind, is_of_version};
+ghost use Rattle.serde_json.specs.View.{view};
+ghost use Rattle.std.specs.List.{find, list_any};
+ghost use Rattle.std.specs.Prelude.{◌≡◌, map, option_map};
+
+use crate::definition::text_at;
+use crate::judgement::NotJudged;
+use crate::version::CrdVersion;
+use serde_json::Value;
+
+/// The version whose schema judges an object, or why none does.
+#[tactic(auto, unfolding(crate::specs::Versions::chosen_version))]
+pub(crate) fn chosen<'s>(
+    versions: &'s [CrdVersion],
+    object: &Value,
+) -> Result<&'s CrdVersion, NotJudged>
+    ensures { choice_view result ≡ chosen_version (map version_view versions.now) (view object.now) }
+{
+    if !object.is_object() {
+        return Err(NotJudged::NotAnObject);
+    }
+    let Some(api_version) = text_at(object, "apiVersion") else {
+        return Err(NotJudged::NoApiVersion);
+    };
+    let Some(kind) = text_at(object, "kind") else {
+        return Err(NotJudged::NoKind);
+    };
+    match version_of(versions, api_version, kind) {
+        Some(version) if version.served => Ok(version),
+        Some(_) => Err(NotJudged::NotServed),
+        None if has_kind(versions, api_version, kind) => Err(NotJudged::NoSuchVersion),
+        None => Err(NotJudged::NoSuchKind),
+    }
+}
+
+/// The version of this apiVersion and kind.
+fn version_of<'s>(
+    versions: &'s [CrdVersion],
+    api_version: &str,
+    kind: &str,
+) -> Option<&'s CrdVersion>
+    ensures { option_map (λ v. version_view v.now) result ≡ find (is_of_version api_version.now kind.now) (map version_view versions.now) }
+{
+    for version in versions {
+        if version.is_of_version(api_version, kind) {
+            return Some(version);
+        }
+    }
+    None
+}
+
+/// Whether there is a version, of whichever name, of the group in this apiVersion and of this kind.
+fn has_kind(versions: &[CrdVersion], api_version: &str, kind: &str) -> bool
+    ensures { result ≡ list_any (is_of_kind api_version.now kind.now) (map version_view versions.now) }
+{
+    for version in versions {
+        if version.is_of_kind(api_version, kind) {
+            return true;
+        }
+    }
+    false
+}

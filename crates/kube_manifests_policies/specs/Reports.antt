@@ -1,0 +1,177 @@
+-- Trusted by the clauses of policies.
+-- What the match conditions, the validations and the audit annotations of a policy come to, and the policy (Kubernetes API reference,
+-- ValidatingAdmissionPolicySpec; Kubernetes documentation, "Validating Admission Policy").
+use Rattle.cel.specs.Program.{program_term}
+use Rattle.cel.specs.declared.program.Program.{Program}
+use Rattle.cel_patterns.specs.Book.{Book, IsBook}
+use Rattle.cel_semantics.specs.Outcome.{Outcome}
+use Rattle.cel_syntax_ast.specs.Term.{Term}
+use Rattle.cel_value.specs.Data.{Data}
+use Rattle.cel_value.specs.Kinds.{kind_name}
+use Rattle.cel_value.specs.Parts.{bool_in, text_in}
+use Rattle.cel_value.specs.Texts.{fault_text}
+use Rattle.cel_value.specs.View.{kind_of}
+use Rattle.cel_value.specs.declared.kind.Kind.{Kind}
+use Rattle.cel_value.specs.declared.kind.Kind.TheVariants.{Null}
+use Rattle.kube_cel_vap.specs.Expressions.{◌>>=◌}
+use Rattle.kube_cel_vap.specs.Results as results
+use Rattle.kube_cel_vap.specs.Variables.{Variables}
+use Rattle.kube_manifests_policies.specs.Faults.{FaultData, fault_view}
+use Rattle.kube_manifests_policies.specs.Inputs.{without_namespace}
+use Rattle.kube_manifests_policies.specs.Policies.{ItemData, PolicyData, policy_of}
+use Rattle.kube_manifests_policies.specs.Scopes.{Reach, evaluation, fault_report, first_scope, outcome_or_reason, scope_for, tree_report, variables_after}
+use Rattle.kube_manifests_policies.specs.Verdicts.{Labelled, ItemReportData, VerdictData, after_conditions, decision_of, erred, fails, holds, is_problem, nothing, says, report_text, report_view, verdict_view, with_report}
+use Rattle.kube_manifests_policies.specs.declared.fault.PolicyFault.{PolicyFault}
+use Rattle.kube_manifests_policies.specs.declared.reports.Subject.{Subject}
+use Rattle.kube_manifests_policies.specs.declared.reports.Subject.TheVariants.{Annotation, Condition, Validation}
+use Rattle.kube_manifests_policies.specs.declared.verdict.Problem.TheVariants as problem
+use Rattle.kube_manifests_policies.specs.declared.verdict.PolicyDecision.{PolicyDecision}
+use Rattle.kube_manifests_policies.specs.declared.verdict.PolicyVerdict.{PolicyVerdict}
+use Rattle.kube_manifests_policies.specs.declared.verdict.ItemReport.{ItemReport}
+use Rattle.serde_json.specs.Data.{Data as Json}
+use Rattle.std.specs.Prelude.{◌≡◌, ℕ, List, [], ◌∷◌, ◌++◌, map, Bool, true, false, if◌then◌else◌, Option, Some, None, option_map, Result, Ok, Err, codes, unwrap_or}
+
+-- what is reported in the end
+abbrev pub final_report : Result ItemReportData ItemReportData → ItemReportData
+final_report (Ok reported) = reported
+final_report (Err reported) = reported
+
+-- ---- match conditions and validations
+
+abbrev pub truth_report : Data → Option Bool → ItemReportData
+truth_report v (Some true) = holds
+truth_report v (Some false) = fails []
+truth_report v None = erred (codes "expression returned non-boolean: " ++ kind_name (kind_of v))
+
+-- true, false (with nothing reported yet), or neither
+abbrev pub outcome_report : Outcome → ItemReportData
+outcome_report (Ok v) = truth_report v (bool_in v)
+outcome_report (Err f) = fault_report (fault_text f)
+
+-- what is false is reported with this message
+abbrev pub with_message : List ℕ → ItemReportData → ItemReportData
+with_message m reported = if is_problem problem.False reported then fails m else reported
+
+abbrev pub condition_message : List ℕ → List ℕ
+condition_message name = codes "match condition '" ++ (name ++ codes "' is false")
+
+unfoldable pub condition_report : Reach → ItemData → ItemReportData
+condition_report r x = final_report (do
+  outcome ← evaluation r x.expression
+  Ok (with_message (condition_message x.label) (outcome_report outcome)))
+
+-- the validation's own message, else its text
+abbrev pub own_message : ItemData → List ℕ
+own_message x = unwrap_or x.message (codes "validation expression '" ++ (x.expression ++ codes "' evaluated to false"))
+
+-- The string that a messageExpression comes to, else the validation's own message. Where the messageExpression can't be judged, that is reported
+-- with it.
+abbrev pub message_from : ItemData → Result Outcome ItemReportData → List ℕ
+message_from x (Ok o) = unwrap_or (results.message_text o) (own_message x)
+message_from x (Err reported) = own_message x ++ (codes " (messageExpression: " ++ (report_text reported ++ codes ")"))
+
+abbrev pub false_message : ItemData → Option (Result Outcome ItemReportData) → List ℕ
+false_message x None = own_message x
+false_message x (Some r) = message_from x r
+
+abbrev pub message_tree_report : Option (List ℕ) → Result (Option Term) ItemReportData
+message_tree_report None = Ok None
+message_tree_report (Some s) = tree_report s >>= (λ t. Ok (Some t))
+
+unfoldable pub validation_with : Reach → ItemData → Term → Option Term → ItemReportData
+validation_with r x tree message_tree = final_report (do
+  outcome ← r tree
+  Ok (with_message (false_message x (option_map r message_tree)) (outcome_report outcome)))
+
+unfoldable pub validation_report : Reach → ItemData → ItemReportData
+validation_report r x = final_report (do
+  tree ← tree_report x.expression
+  message_tree ← message_tree_report x.message_expression
+  Ok (validation_with r x tree message_tree))
+
+-- ---- audit annotations
+
+abbrev pub text_or_nothing : List ℕ → ItemReportData
+text_or_nothing [] = nothing
+text_or_nothing (c ∷ cs) = says (c ∷ cs)
+
+abbrev pub is_null : Kind → Bool
+is_null Null = true
+is_null _ = false
+
+abbrev pub text_report : Option (List ℕ) → Kind → ItemReportData
+text_report (Some s) k = text_or_nothing s
+text_report None k = if is_null k then nothing else erred (codes "expression returned neither a string nor null: " ++ kind_name k)
+
+-- a string is published, unless it is empty; null is left out
+abbrev pub annotation_value : Data → ItemReportData
+annotation_value v = text_report (text_in v) (kind_of v)
+
+abbrev pub annotation_outcome : Outcome → ItemReportData
+annotation_outcome (Ok v) = annotation_value v
+annotation_outcome (Err f) = fault_report (fault_text f)
+
+unfoldable pub annotation_report : Reach → ItemData → ItemReportData
+annotation_report r x = final_report (do
+  outcome ← evaluation r x.expression
+  Ok (annotation_outcome outcome))
+
+-- ---- all of a policy
+
+abbrev pub report_as : Subject → Reach → ItemData → ItemReportData
+report_as Condition r x = condition_report r x
+report_as Validation r x = validation_report r x
+report_as Annotation r x = annotation_report r x
+
+-- what is reported of an entry of such a list
+unfoldable pub result_as : Subject → Reach → ItemData → Labelled
+result_as subject r x = with_report x.label (report_as subject r x)
+
+unfoldable pub results_as : Subject → Reach → List ItemData → List Labelled
+results_as subject r xs = map (result_as subject r) xs
+
+-- the verdict that match conditions give alone
+abbrev pub verdict_of_conditions : List Labelled → PolicyDecision → VerdictData
+verdict_of_conditions conditions d = record { decision = d; conditions = conditions; variables = []; validations = []; annotations = [] }
+
+-- the verdict where the match conditions let the policy be evaluated, among its variables
+unfoldable pub verdict_in : Reach → List Labelled → PolicyData → List Labelled → VerdictData
+verdict_in r missing p conditions =
+    let validations = results_as Validation r p.validations in
+    let annotations = results_as Annotation r p.annotations in
+    record {
+      decision = decision_of p.ignores validations annotations;
+      conditions = conditions;
+      variables = missing;
+      validations = validations;
+      annotations = annotations;
+    }
+
+abbrev pub verdict_after : Book → Variables → PolicyData → List Labelled → Option PolicyDecision → VerdictData
+verdict_after b v p conditions (Some d) = verdict_of_conditions conditions d
+verdict_after b v p conditions None =
+    let s = variables_after b (scope_for v p.variables) p.variables in verdict_in (outcome_or_reason b s) s.missing p conditions
+
+-- the verdict of a policy
+unfoldable pub policy_verdict : Book → Variables → PolicyData → VerdictData
+policy_verdict b v p =
+    let conditions = results_as Condition (outcome_or_reason b (first_scope (without_namespace v))) p.conditions in
+    verdict_after b v p conditions (after_conditions p.ignores conditions)
+
+-- the verdict of the policy that a document is, or its first fault
+unfoldable pub verdict_of : Book → Variables → Json → Result VerdictData FaultData
+verdict_of b v d = policy_of d >>= (λ p. Ok (policy_verdict b v p))
+
+-- ---- what the code's values stand for
+
+abbrev pub message_tree_seen : Result (Option Program) ItemReport → Result (Option Term) ItemReportData
+message_tree_seen (Ok o) = Ok (option_map program_term o)
+message_tree_seen (Err reported) = Err (report_view reported)
+
+abbrev pub verdict_seen : Result PolicyVerdict PolicyFault → Result VerdictData FaultData
+verdict_seen (Ok v) = Ok (verdict_view v)
+verdict_seen (Err f) = Err (fault_view f)
+
+-- the verdict under some book
+abbrev pub IsVerdictOf : Variables → Json → Result PolicyVerdict PolicyFault → Type 0
+IsVerdictOf v d r = (b : Book) × IsBook b × (verdict_seen r ≡ verdict_of b v d)

@@ -1,0 +1,372 @@
+//! What the expressions of a policy come to.
+ghost use Rattle.cel.specs.Program.{program_term};
+ghost use Rattle.cel_patterns.specs.Book.{Extends};
+ghost use Rattle.cel_patterns.specs.Entries.{entries_of};
+ghost use Rattle.cel_patterns.specs.Extensions.{HoldsForExtensions};
+ghost use Rattle.cel_semantics.specs.Outcome.{outcome_view};
+ghost use Rattle.cel_value.specs.Parts.{bool_in};
+ghost use Rattle.cel_value.specs.View.{view};
+ghost use Rattle.kube_cel_vap.specs.Results as results;
+ghost use Rattle.kube_manifests_policies.specs.Reports.{annotation_outcome, annotation_report, annotation_value, condition_message, condition_report, false_message, is_null, message_from, message_tree_seen, message_tree_report, outcome_report, own_message, result_as, results_as, text_or_nothing, report_as, truth_report, validation_report, validation_with, with_message};
+ghost use Rattle.kube_manifests_policies.specs.Policies.{item_view};
+ghost use Rattle.kube_manifests_policies.specs.Scopes.{outcome_or_reason, outcome_seen, scope_view};
+ghost use Rattle.kube_manifests_policies.specs.Verdicts.{result_view, report_view};
+ghost use Rattle.std.specs.Prelude.{◌≡◌, IfErr, IfOk, map, option_map, Some, string_bytes};
+
+use crate::item::Item;
+use crate::scope::{Scope, evaluate, reach, read};
+use crate::verdict::{ItemReport, PolicyResult, Problem, with_report};
+use cel::{Answer, Kind, PatternBook, Program, Value};
+use kube_types_refused::Refused;
+use std::alloc::{AllocError, Global};
+
+/// What an expression belongs to.
+#[derive(Clone, Copy, Drop)]
+pub(crate) enum Subject {
+    /// A match condition.
+    Condition,
+    /// A validation.
+    Validation,
+    /// An audit annotation.
+    Annotation,
+}
+
+/// What is reported of a value that should be true; where it is false, nothing yet.
+fn truth_report(alloc: Global, value: &Value) -> Result<ItemReport, AllocError>
+    ensures { IfOk result (λ t. report_view t ≡ truth_report (view value.now) (bool_in (view value.now))) }
+{
+    match value.as_bool() {
+        Some(true) => Ok(ItemReport::True),
+        Some(false) => Ok(ItemReport::False(String::new(alloc))),
+        None => {
+            let kind = value.type_of();
+            let message = format!(in alloc; "expression returned non-boolean: {kind}")?;
+            Ok(ItemReport::Error(message))
+        }
+    }
+}
+
+/// What is reported of an outcome that should be true; where it is false, nothing yet.
+fn outcome_report(alloc: Global, answer: Answer) -> Result<ItemReport, AllocError>
+    ensures { IfOk result (λ t. report_view t ≡ outcome_report (outcome_view answer)) }
+{
+    match answer {
+        Ok(value) => truth_report(alloc, &value),
+        Err(fault) => {
+            let message = format!(in alloc; "evaluation error: {fault}")?;
+            Ok(ItemReport::Error(message))
+        }
+    }
+}
+
+fn is_null(kind: Kind) -> bool
+    ensures { result ≡ is_null kind }
+{
+    matches!(kind, Kind::Null)
+}
+
+/// The text of an audit annotation that isn't empty.
+fn text_or_nothing(alloc: Global, text: &str) -> Result<ItemReport, AllocError>
+    ensures { IfOk result (λ t. report_view t ≡ text_or_nothing text.now) }
+{
+    if text.is_empty() {
+        return Ok(ItemReport::Null);
+    }
+    Ok(ItemReport::Text(String::from_str(alloc, text)?))
+}
+
+/// What is reported of an audit annotation with this value.
+fn annotation_value(alloc: Global, value: &Value) -> Result<ItemReport, AllocError>
+    ensures { IfOk result (λ t. report_view t ≡ annotation_value (view value.now)) }
+{
+    if let Some(text) = value.as_str() {
+        return text_or_nothing(alloc, text);
+    }
+    let kind = value.type_of();
+    if is_null(kind) {
+        return Ok(ItemReport::Null);
+    }
+    let message = format!(in alloc; "expression returned neither a string nor null: {kind}")?;
+    Ok(ItemReport::Error(message))
+}
+
+/// What is reported of an audit annotation with this outcome.
+fn annotation_outcome(alloc: Global, answer: Answer) -> Result<ItemReport, AllocError>
+    ensures { IfOk result (λ t. report_view t ≡ annotation_outcome (outcome_view answer)) }
+{
+    match answer {
+        Ok(value) => annotation_value(alloc, &value),
+        Err(fault) => {
+            let message = format!(in alloc; "evaluation error: {fault}")?;
+            Ok(ItemReport::Error(message))
+        }
+    }
+}
+
+/// What an audit annotation comes to.
+#[tactic(auto, unfolding(crate::specs::Reports::annotation_report))]
+fn annotation_report(
+    alloc: Global,
+    item: &Item<'_>,
+    scope: &Scope<'_>,
+    book: &mut PatternBook,
+) -> Result<ItemReport, Refused>
+    ensures keeps { Extends (entries_of book.new) (entries_of book.old) }
+    ensures reported { IfOk result (λ t. HoldsForExtensions (entries_of book.new) (report_view t)
+        (λ b. annotation_report (outcome_or_reason b (scope_view scope.now)) (item_view item.now))) }
+    ensures memory { IfErr result (λ e. e ≡ Refused.Memory) }
+{
+    match evaluate(alloc, item.expression, scope, book)? {
+        Err(reported) => Ok(reported),
+        Ok(answer) => {
+            let reported = annotation_outcome(alloc, answer)?;
+            Ok(reported)
+        }
+    }
+}
+
+/// What a match condition with this outcome comes to.
+fn condition_outcome(alloc: Global, name: &str, answer: Answer) -> Result<ItemReport, AllocError>
+    ensures { IfOk result (λ t. report_view t ≡ with_message (condition_message name.now) (outcome_report (outcome_view answer))) }
+{
+    let reported = outcome_report(alloc, answer)?;
+    if !Problem::False.is_of(&reported) {
+        return Ok(reported);
+    }
+    let message = format!(in alloc; "match condition '{name}' is false")?;
+    Ok(ItemReport::False(message))
+}
+
+/// What a match condition comes to.
+#[tactic(auto, unfolding(crate::specs::Reports::condition_report))]
+fn condition_report(
+    alloc: Global,
+    item: &Item<'_>,
+    scope: &Scope<'_>,
+    book: &mut PatternBook,
+) -> Result<ItemReport, Refused>
+    ensures keeps { Extends (entries_of book.new) (entries_of book.old) }
+    ensures reported { IfOk result (λ t. HoldsForExtensions (entries_of book.new) (report_view t)
+        (λ b. condition_report (outcome_or_reason b (scope_view scope.now)) (item_view item.now))) }
+    ensures memory { IfErr result (λ e. e ≡ Refused.Memory) }
+{
+    match evaluate(alloc, item.expression, scope, book)? {
+        Err(reported) => Ok(reported),
+        Ok(answer) => {
+            let reported = condition_outcome(alloc, item.label, answer)?;
+            Ok(reported)
+        }
+    }
+}
+
+/// What a validation that is false says itself: its message, else its text.
+fn own_message(alloc: Global, item: &Item<'_>) -> Result<String, AllocError>
+    ensures { IfOk result (λ s. string_bytes s ≡ own_message (item_view item.now)) }
+{
+    let text = item.expression;
+    match item.message {
+        Some(message) => String::from_str(alloc, message),
+        None => format!(in alloc; "validation expression '{text}' evaluated to false"),
+    }
+}
+
+/// The string that a messageExpression came to, else what the validation says itself.
+fn outcome_message(alloc: Global, item: &Item<'_>, answer: &Answer) -> Result<String, AllocError>
+    ensures { IfOk result (λ s. string_bytes s ≡ message_from (item_view item.now) (Ok (outcome_view answer.now))) }
+{
+    match answer {
+        Ok(Value::String(text)) => String::from_str(alloc, text.as_str()),
+        Ok(_) => own_message(alloc, item),
+        Err(_) => own_message(alloc, item),
+    }
+}
+
+/// What a validation that is false says itself, and why its messageExpression can't be judged.
+fn message_with(alloc: Global, item: &Item<'_>, reported: &ItemReport) -> Result<String, AllocError>
+    ensures { IfOk result (λ s. string_bytes s ≡ message_from (item_view item.now) (Err (report_view reported.now))) }
+{
+    let own = own_message(alloc, item)?;
+    format!(in alloc; "{own} (messageExpression: {reported})")
+}
+
+/// What is reported of a validation that is false, where its messageExpression came to this.
+fn message_from(
+    alloc: Global,
+    item: &Item<'_>,
+    reached: &Result<Answer, ItemReport>,
+) -> Result<String, AllocError>
+    ensures { IfOk result (λ s. string_bytes s ≡ message_from (item_view item.now) (outcome_seen reached.now)) }
+{
+    match reached {
+        Ok(answer) => outcome_message(alloc, item, answer),
+        Err(reported) => message_with(alloc, item, reported),
+    }
+}
+
+/// What is reported of a validation that is false.
+fn false_message(
+    alloc: Global,
+    item: &Item<'_>,
+    message: &Option<Program>,
+    scope: &Scope<'_>,
+    book: &mut PatternBook,
+) -> Result<String, Refused>
+    ensures keeps { Extends (entries_of book.new) (entries_of book.old) }
+    ensures reported { IfOk result (λ s. HoldsForExtensions (entries_of book.new) (string_bytes s) (λ b. false_message (item_view item.now)
+        (option_map (outcome_or_reason b (scope_view scope.now)) (option_map program_term message.now)))) }
+    ensures memory { IfErr result (λ e. e ≡ Refused.Memory) }
+{
+    let Some(program) = message else {
+        return Ok(own_message(alloc, item)?);
+    };
+    let reached = reach(alloc, program, scope, book)?;
+    Ok(message_from(alloc, item, &reached)?)
+}
+
+/// What is reported of a validation whose expression came to this.
+fn with_message(
+    alloc: Global,
+    item: &Item<'_>,
+    reported: ItemReport,
+    message: &Option<Program>,
+    scope: &Scope<'_>,
+    book: &mut PatternBook,
+) -> Result<ItemReport, Refused>
+    ensures keeps { Extends (entries_of book.new) (entries_of book.old) }
+    ensures reported { IfOk result (λ t. HoldsForExtensions (entries_of book.new) (report_view t) (λ b. with_message (false_message (item_view item.now)
+        (option_map (outcome_or_reason b (scope_view scope.now)) (option_map program_term message.now))) (report_view reported))) }
+    ensures memory { IfErr result (λ e. e ≡ Refused.Memory) }
+{
+    if !Problem::False.is_of(&reported) {
+        return Ok(reported);
+    }
+    let message = false_message(alloc, item, message, scope, book)?;
+    Ok(ItemReport::False(message))
+}
+
+/// What a validation with these programs comes to.
+#[tactic(auto, unfolding(crate::specs::Reports::validation_with))]
+fn validation_with(
+    alloc: Global,
+    item: &Item<'_>,
+    program: &Program,
+    message: &Option<Program>,
+    scope: &Scope<'_>,
+    book: &mut PatternBook,
+) -> Result<ItemReport, Refused>
+    ensures keeps { Extends (entries_of book.new) (entries_of book.old) }
+    ensures reported { IfOk result (λ t. HoldsForExtensions (entries_of book.new) (report_view t) (λ b. validation_with (outcome_or_reason b (scope_view scope.now))
+        (item_view item.now) (program_term program.now) (option_map program_term message.now))) }
+    ensures memory { IfErr result (λ e. e ≡ Refused.Memory) }
+{
+    match reach(alloc, program, scope, book)? {
+        Err(reported) => Ok(reported),
+        Ok(answer) => {
+            let reported = outcome_report(alloc, answer)?;
+            let settled = with_message(alloc, item, reported, message, scope, book)?;
+            Ok(settled)
+        }
+    }
+}
+
+/// The program of a messageExpression, where there is one.
+fn read_message(
+    alloc: Global,
+    text: Option<&str>,
+) -> Result<Result<Option<Program>, ItemReport>, Refused>
+    ensures read { IfOk result (λ r. message_tree_seen r ≡ message_tree_report (option_map (λ s. s.now) text.entry)) }
+    ensures memory { IfErr result (λ e. e ≡ Refused.Memory) }
+{
+    let Some(text) = text else {
+        return Ok(Ok(None));
+    };
+    match read(alloc, text)? {
+        Ok(program) => Ok(Ok(Some(program))),
+        Err(reported) => Ok(Err(reported)),
+    }
+}
+
+/// What a validation comes to.
+#[tactic(auto, unfolding(crate::specs::Reports::validation_report))]
+fn validation_report(
+    alloc: Global,
+    item: &Item<'_>,
+    scope: &Scope<'_>,
+    book: &mut PatternBook,
+) -> Result<ItemReport, Refused>
+    ensures keeps { Extends (entries_of book.new) (entries_of book.old) }
+    ensures reported { IfOk result (λ t. HoldsForExtensions (entries_of book.new) (report_view t)
+        (λ b. validation_report (outcome_or_reason b (scope_view scope.now)) (item_view item.now))) }
+    ensures memory { IfErr result (λ e. e ≡ Refused.Memory) }
+{
+    let program = match read(alloc, item.expression)? {
+        Ok(program) => program,
+        Err(reported) => return Ok(reported),
+    };
+    let message = match read_message(alloc, item.message_expression)? {
+        Ok(message) => message,
+        Err(reported) => return Ok(reported),
+    };
+    let reported = validation_with(alloc, item, &program, &message, scope, book)?;
+    Ok(reported)
+}
+
+/// What an entry comes to.
+fn report_as(
+    alloc: Global,
+    subject: Subject,
+    item: &Item<'_>,
+    scope: &Scope<'_>,
+    book: &mut PatternBook,
+) -> Result<ItemReport, Refused>
+    ensures keeps { Extends (entries_of book.new) (entries_of book.old) }
+    ensures reported { IfOk result (λ t. HoldsForExtensions (entries_of book.new) (report_view t)
+        (λ b. report_as subject (outcome_or_reason b (scope_view scope.now)) (item_view item.now))) }
+    ensures memory { IfErr result (λ e. e ≡ Refused.Memory) }
+{
+    match subject {
+        Subject::Condition => condition_report(alloc, item, scope, book),
+        Subject::Validation => validation_report(alloc, item, scope, book),
+        Subject::Annotation => annotation_report(alloc, item, scope, book),
+    }
+}
+
+/// What is reported of an entry.
+#[tactic(auto, unfolding(crate::specs::Reports::result_as))]
+fn result_as(
+    alloc: Global,
+    subject: Subject,
+    item: &Item<'_>,
+    scope: &Scope<'_>,
+    book: &mut PatternBook,
+) -> Result<PolicyResult, Refused>
+    ensures keeps { Extends (entries_of book.new) (entries_of book.old) }
+    ensures reported { IfOk result (λ r. HoldsForExtensions (entries_of book.new) (result_view r)
+        (λ b. result_as subject (outcome_or_reason b (scope_view scope.now)) (item_view item.now))) }
+    ensures memory { IfErr result (λ e. e ≡ Refused.Memory) }
+{
+    let reported = report_as(alloc, subject, item, scope, book)?;
+    let judged = with_report(alloc, item.label, reported)?;
+    Ok(judged)
+}
+
+/// What is reported of entries, one for each, in order.
+pub(crate) fn results_as(
+    alloc: Global,
+    subject: Subject,
+    items: &[Item<'_>],
+    scope: &Scope<'_>,
+    book: &mut PatternBook,
+) -> Result<Vec<PolicyResult>, Refused>
+    ensures keeps { Extends (entries_of book.new) (entries_of book.old) }
+    ensures reported { IfOk result (λ v. HoldsForExtensions (entries_of book.new) (map result_view v.items)
+        (λ b. results_as subject (outcome_or_reason b (scope_view scope.now)) (map item_view items.now))) }
+    ensures memory { IfErr result (λ e. e ≡ Refused.Memory) }
+{
+    let mut results = Vec::with_capacity(alloc, items.len())?;
+    for item in items {
+        let judged = result_as(alloc, subject, item, scope, book)?;
+        results.push(judged)?;
+    }
+    Ok(results)
+}

@@ -1,0 +1,145 @@
+//! The schemas within a schema.
+ghost use Rattle.std.specs.Prelude.{◌≡◌, ◌++◌, OnOk, codes, map, option_map};
+ghost use Rattle.kube_manifests_review.specs.Locations.{branch_locations, item_locations, maybe_locations, named_locations, location_view, locations_of};
+ghost use Rattle.kube_manifests_review.specs.Pointers.{keyword_pointer};
+ghost use Rattle.kube_schema_defaults.specs.DefaultsAccessors.{additional, declared_properties, members_or_none};
+ghost use Rattle.kube_schema_compiled.specs.View.{branches};
+ghost use Rattle.serde_json.specs.View.{items_view, members_view, view};
+
+use crate::pointer::{index_pointer, key_pointer, keyword_pointer};
+use serde_json::{Map, Value};
+use std::alloc::{AllocError, Global};
+
+/// A schema, with its JSON Pointer in the document.
+#[derive(Drop)]
+pub(crate) struct SchemaLocation<'a> {
+    pub(crate) pointer: String,
+    pub(crate) schema: &'a Value,
+}
+
+/// The declared properties of a schema.
+#[tactic(auto, unfolding(kube_schema_defaults::specs::DefaultsAccessors::declared_properties))]
+fn declared(schema: &Value) -> Option<&Map<String, Value>>
+    ensures { option_map (λ m. members_view m.now.entries) result ≡ declared_properties (view schema.now) }
+{
+    schema.get("properties")?.as_object()
+}
+
+/// The schema of names that aren't declared, where it is an object.
+#[tactic(auto, unfolding(kube_schema_defaults::specs::DefaultsAccessors::additional))]
+fn additional(schema: &Value) -> Option<&Value>
+    ensures { option_map (λ n. view n.now) result ≡ additional (view schema.now) }
+{
+    let node = schema.get("additionalProperties")?;
+    if node.is_object() { Some(node) } else { None }
+}
+
+/// The branches of a keyword.
+#[tactic(auto, unfolding(kube_schema_compiled::specs::View::branches))]
+fn branches<'s>(schema: &'s Value, keyword: &str) -> Option<&'s Vec<Value>>
+    ensures { option_map (λ v. items_view v.now.items) result ≡ branches keyword.now (view schema.now) }
+{
+    schema.get(keyword)?.as_array()
+}
+
+/// Adds a schema and those within it, to this depth.
+#[cycle(places)]
+pub(crate) fn add_locations<'a>(
+    alloc: Global,
+    pointer: &str,
+    schema: &'a Value,
+    levels: usize,
+    places: &mut Vec<SchemaLocation<'a>>,
+) -> Result<(), AllocError>
+    ensures { OnOk result (map location_view places.new.items ≡ map location_view places.old.items ++ locations_of levels pointer.now (view schema.now)) }
+{
+    if levels == 0 {
+        return Ok(());
+    }
+    places.push(SchemaLocation {
+        pointer: String::from_str(alloc, pointer)?,
+        schema,
+    })?;
+    let left = levels - 1;
+    add_properties(alloc, pointer, schema, left, places)?;
+    add_maybe(alloc, pointer, "items", schema.get("items"), left, places)?;
+    add_maybe(
+        alloc,
+        pointer,
+        "additionalProperties",
+        additional(schema),
+        left,
+        places,
+    )?;
+    add_branches(alloc, pointer, "allOf", schema, left, places)?;
+    add_branches(alloc, pointer, "oneOf", schema, left, places)?;
+    add_branches(alloc, pointer, "anyOf", schema, left, places)?;
+    Ok(())
+}
+
+/// Adds the schemas of the properties and those within them, in the order of names.
+#[cycle(places)]
+fn add_properties<'a>(
+    alloc: Global,
+    pointer: &str,
+    schema: &'a Value,
+    levels: usize,
+    places: &mut Vec<SchemaLocation<'a>>,
+) -> Result<(), AllocError>
+    ensures { OnOk result (map location_view places.new.items ≡ map location_view places.old.items
+        ++ named_locations (locations_of levels) (keyword_pointer pointer.now (codes "properties")) (members_or_none (declared_properties (view schema.now)))) }
+{
+    let Some(members) = declared(schema) else {
+        return Ok(());
+    };
+    let inner = keyword_pointer(alloc, pointer, "properties")?;
+    for (key, member) in members.iter() {
+        let named = key_pointer(alloc, inner.as_str(), key.as_str())?;
+        add_locations(alloc, named.as_str(), member, levels, places)?;
+    }
+    Ok(())
+}
+
+/// Adds a schema that may be there, of this keyword.
+#[cycle(places)]
+fn add_maybe<'a>(
+    alloc: Global,
+    pointer: &str,
+    keyword: &str,
+    schema: Option<&'a Value>,
+    levels: usize,
+    places: &mut Vec<SchemaLocation<'a>>,
+) -> Result<(), AllocError>
+    ensures { OnOk result (map location_view places.new.items ≡ map location_view places.old.items
+        ++ maybe_locations (locations_of levels) (keyword_pointer pointer.now keyword.now) (option_map (λ s. view s.now) schema.entry)) }
+{
+    let Some(schema) = schema else {
+        return Ok(());
+    };
+    let inner = keyword_pointer(alloc, pointer, keyword)?;
+    add_locations(alloc, inner.as_str(), schema, levels, places)?;
+    Ok(())
+}
+
+/// Adds the branches of a keyword and the schemas within them, in their order.
+#[cycle(places)]
+fn add_branches<'a>(
+    alloc: Global,
+    pointer: &str,
+    keyword: &str,
+    schema: &'a Value,
+    levels: usize,
+    places: &mut Vec<SchemaLocation<'a>>,
+) -> Result<(), AllocError>
+    ensures { OnOk result (map location_view places.new.items ≡ map location_view places.old.items ++ branch_locations (locations_of levels) pointer.now keyword.now (view schema.now)) }
+{
+    let Some(items) = branches(schema, keyword) else {
+        return Ok(());
+    };
+    let inner = keyword_pointer(alloc, pointer, keyword)?;
+    for (index, item) in items.iter().enumerate() {
+        let branch = index_pointer(alloc, inner.as_str(), index)?;
+        add_locations(alloc, branch.as_str(), item, levels, places)?;
+    }
+    Ok(())
+}

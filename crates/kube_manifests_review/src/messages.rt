@@ -1,0 +1,53 @@
+//! What is said of a call, in words.
+ghost use Rattle.std.specs.Prelude.{◌≡◌, IfOk, string_bytes};
+ghost use Rattle.kube_manifests_review.specs.Calls as spec;
+
+use std::alloc::{AllocError, Global};
+
+/// That the function is unknown.
+pub(crate) fn unknown_text(alloc: Global, name: &str) -> Result<String, AllocError>
+    ensures { IfOk result (λ s. string_bytes s ≡ spec.unknown_text name.now) }
+{
+    format!(in alloc; "function '{name}' is unknown")
+}
+
+/// That the function has no form with or without a receiver and with this number of arguments.
+pub(crate) fn wrong_text(
+    alloc: Global,
+    name: &str,
+    has_receiver: bool,
+    count: usize,
+) -> Result<String, AllocError>
+    ensures { IfOk result (λ s. string_bytes s ≡ spec.wrong_text name.now has_receiver count) }
+{
+    if has_receiver {
+        format!(in alloc;
+            "function '{name}' can't be called with a receiver and this number of arguments: {count}"
+        )
+    } else {
+        format!(in alloc;
+            "function '{name}' can't be called without a receiver and with this number of arguments: {count}"
+        )
+    }
+}
+
+/// That the function isn't one of `oldSelf`.
+pub(crate) fn old_self_text(alloc: Global, name: &str) -> Result<String, AllocError>
+    ensures { IfOk result (λ s. string_bytes s ≡ spec.old_self_text name.now) }
+{
+    format!(in alloc; "'oldSelf' is no optional: {name}() always fails")
+}
+
+/// That the call of the function with a string fails.
+pub(crate) fn fails_text(alloc: Global, name: &str, string: &str) -> Result<String, AllocError>
+    ensures { IfOk result (λ s. string_bytes s ≡ spec.fails_text name.now string.now) }
+{
+    format!(in alloc; "{name}('{string}') always fails")
+}
+
+/// That a pattern is refused.
+pub(crate) fn pattern_text(alloc: Global, pattern: &str) -> Result<String, AllocError>
+    ensures { IfOk result (λ s. string_bytes s ≡ spec.pattern_text pattern.now) }
+{
+    format!(in alloc; "pattern '{pattern}' is refused")
+}

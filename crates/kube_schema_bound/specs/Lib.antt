@@ -1,4 +1,0 @@
-pub mod Bound
-pub mod Fields
-pub mod Formats
-pub mod Node

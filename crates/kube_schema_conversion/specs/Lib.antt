@@ -1,0 +1,4 @@
+pub mod Conversion
+pub mod Fields
+pub mod Formats
+pub mod Node

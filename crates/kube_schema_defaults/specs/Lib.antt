@@ -1,0 +1,4 @@
+pub mod DefaultsAccessors
+pub mod Defaults
+pub mod Preserved
+pub mod Without

@@ -1,4 +1,0 @@
-pub mod Look
-pub mod Filled
-pub mod Kept
-pub mod Without

@@ -1,8 +1,0 @@
-use Rattle.std.proofs.Common.{sym, ◌∙◌}
-use Rattle.kube_schema_table.specs.Shown.{shown}
-use Rattle.kube_schema_table.proofs.Without.{tree_without}
-use Rattle.kube_schema_table.proofs.node.SchemaNode.may_have_defaults.Goals as goal
-
-pub returns : goal.returns
-unfolding shown
-returns c = λ no levels. tree_without c.args.self.now.schema.now.table.nodes.items (sym c.args.self.now.schema.now.known ∙ no) levels c.args.self.now.number.0

@@ -1,0 +1,70 @@
+-- What the commands find.
+use Rattle.kube_manifests.specs.Documents.{Fault}
+use Rattle.kube_manifests.specs.Sets.{all_compiled, with_tree, set_view, versions_of}
+use Rattle.kube_manifests.specs.Versions.{Version}
+use Rattle.kube_manifests.specs.declared.set.CrdSet.{CrdSet}
+use Rattle.kubecel_documents.specs.Objects.{all_objects}
+use Rattle.kubecel_documents.specs.Reads.{AreRead, Found}
+use Rattle.kubecel_documents.specs.Subjects.{subject_view}
+use Rattle.kubecel_documents.specs.declared.subject.Subject.{Subject}
+use Rattle.kubecel_reports.specs.Items.{ItemData}
+use Rattle.kubecel_cli.proofs.Judging.{items_otherwise}
+use Rattle.kubecel_cli.specs.Commands.{CheckData}
+use Rattle.kubecel_cli.specs.Runs.{AreChecked, AreItems, AreReviewed, IsJudged, IsJudgedBy, IsReviewed, IsSetOf}
+use Rattle.serde_json.specs.Data.{Data, Items}
+use Rattle.serde_json.specs.View.{items_of}
+use Rattle.std.proofs.Common.{◌≡◌, ℕ, ◌<◌, List, [], ◌∷◌, length, map, Option, Result, Ok, Err, refl, sym, ap, subst, arith, ◌∙◌}
+
+-- ---- sets
+
+set_in : (ds : Items) (set : CrdSet) (r : Result (List (Version Data)) Fault) → versions_of ds ≡ r → Ok (set_view set) ≡ all_compiled r
+    → (versions : List (Version Data)) × (versions_of ds ≡ Ok versions) × (set_view set ≡ map with_tree versions)
+set_in ds set (Ok versions) is same = (versions, is, cc)
+set_in ds set (Err f) is same = absurd cc
+
+-- the set that definitions gave
+pub set_so : (crds : List Found) (values : List Data) (set : CrdSet) → values ≡ map (λ f. f.value) crds → Ok (set_view set) ≡ all_compiled (versions_of (items_of values)) → IsSetOf crds set
+set_so crds values set are same = subst (λ vs. (versions : List (Version Data)) × (versions_of (items_of vs) ≡ Ok versions) × (set_view set ≡ map with_tree versions)) are
+    (set_in (items_of values) set (versions_of (items_of values)) refl same)
+
+-- ---- what was judged
+
+some_of : (ss : List Subject) (fs : List Found) → 0 < length ss → map subject_view ss ≡ fs → 0 < length fs
+some_of [] fs some are = absurd (omega arith)
+some_of (s ∷ ss) [] some are = absurd cc
+some_of (s ∷ ss) (f ∷ fs) some are = omega arith
+
+pub checked_so : {S : Type 0} (reads : S → List ℕ → Option (List ℕ) → S → Type 0) (before : S) (asked : CheckData) (after : S) (items : List ItemData)
+    (crds olds objects : List Found) (with_crds with_olds : S) (set : CrdSet) (old_subjects subjects : List Subject)
+    → AreRead reads before asked.crds crds with_crds → AreRead reads with_crds asked.olds olds with_olds → AreRead reads with_olds asked.objects objects after
+    → IsSetOf crds set → map subject_view old_subjects ≡ all_objects olds → map subject_view subjects ≡ all_objects objects → 0 < length subjects
+    → AreItems (IsJudgedBy set (map (λ f. f.value) (map subject_view old_subjects))) (map subject_view subjects) items → AreChecked reads before asked after items
+checked_so reads before asked after items crds olds objects with_crds with_olds set old_subjects subjects crds_read olds_read objects_read of old_are are some judged =
+    let versions = of.0 in
+    let values = map (λ f. f.value) (map subject_view old_subjects) in
+    let by_versions = items_otherwise (IsJudgedBy set values) (IsJudged versions values) (λ f i x. (x.0, x.1 versions of.2, x.2)) (map subject_view subjects) items judged in
+    let of_objects = subst (λ fs. AreItems (IsJudged versions values) fs items) are by_versions in
+    record {
+      crds = crds;
+      olds = olds;
+      objects = objects;
+      with_crds = with_crds;
+      with_olds = with_olds;
+      crds_read = crds_read;
+      olds_read = olds_read;
+      objects_read = objects_read;
+      versions = versions;
+      whole = of.1;
+      some = some_of subjects (all_objects objects) some are;
+      judged = subst (λ os. AreItems (IsJudged versions (map (λ f. f.value) os)) (all_objects objects) items) old_are of_objects;
+    }
+
+pub reviewed_so : {S : Type 0} (reads : S → List ℕ → Option (List ℕ) → S → Type 0) (before : S) (paths : List (List ℕ)) (after : S) (items : List ItemData)
+    (crds : List Found) (subjects : List Subject) → AreRead reads before paths crds after → map subject_view subjects ≡ all_objects crds → 0 < length subjects
+    → AreItems IsReviewed (map subject_view subjects) items → AreReviewed reads before paths after items
+reviewed_so reads before paths after items crds subjects crds_read are some reviewed = record {
+  crds = crds;
+  crds_read = crds_read;
+  some = some_of subjects (all_objects crds) some are;
+  reviewed = subst (λ fs. AreItems IsReviewed fs items) are reviewed;
+}

@@ -1,0 +1,8 @@
+use Rattle.kubecel_cli.proofs.admit.add_results.Given as goal
+use Rattle.kube_manifests_policies.specs.Verdicts.{result_view}
+use Rattle.kubecel_reports.specs.Items.{finding_view}
+use Rattle.kubecel_cli.specs.Reports.{result_findings}
+use Rattle.std.proofs.Common.{◌≡◌, ◌++◌, flat_map, map, take}
+
+abbrev pub invariant-loop-one : goal.invariant-loop-one
+invariant-loop-one l = map finding_view l.findings.items ≡ map finding_view l.fn.findings.items ++ flat_map (result_findings l.what) (map result_view (take l.one-index l.results))

@@ -1,0 +1,106 @@
+-- Trusted by the clauses of kubecel.
+-- What is reported of an object, a definition and a policy, by what the library answers.
+use Rattle.kube_cel_errors.specs.ErrorLists.{errors_in}
+use Rattle.kube_cel_errors.specs.Errors.{ErrorData, error_view}
+use Rattle.kube_manifests.specs.Documents.{is_crd}
+use Rattle.kube_manifests.specs.Texts.{reason_text}
+use Rattle.kube_manifests.specs.declared.judgement.Judgement.{Judgement}
+use Rattle.kube_manifests.specs.declared.judgement.Judgement.TheVariants as judgement
+use Rattle.kube_manifests.specs.declared.judgement.NotJudged as reason
+use Rattle.kube_manifests_policies.specs.Verdicts.{Labelled, ItemReportData, VerdictData, holds, fails, says, nothing, erred, not_given, report_text}
+use Rattle.kube_manifests_policies.specs.declared.verdict.PolicyDecision.{PolicyDecision}
+use Rattle.kube_manifests_policies.specs.declared.verdict.PolicyDecision.TheVariants as decision
+use Rattle.kube_manifests_review.specs.Doubts.{Finding, kind_text}
+use Rattle.kubecel_documents.specs.Objects.{identity_of}
+use Rattle.kubecel_documents.specs.Reads.{Found}
+use Rattle.kubecel_reports.specs.Items.{FindingData, ItemData}
+use Rattle.kubecel_reports.specs.declared.item.Verdict.{Verdict}
+use Rattle.kubecel_reports.specs.declared.item.Verdict.TheVariants as verdict
+use Rattle.serde_json.specs.Data.{Data}
+use Rattle.std.specs.List.{flat_map}
+use Rattle.std.specs.Prelude.{ℕ, List, [], ◌∷◌, ◌++◌, map, Bool, true, false, Result, Ok, Err, if◌then◌else◌, codes}
+
+-- an object by its kind, namespace and name, with what came of it
+abbrev pub item_of : Found → Verdict → List FindingData → ItemData
+item_of f v findings = record {
+  file = f.file;
+  index = f.index;
+  kind = (identity_of f.value).kind;
+  namespace = (identity_of f.value).namespace;
+  name = (identity_of f.value).name;
+  verdict = v;
+  findings = findings;
+}
+
+-- one finding, of the whole thing
+abbrev pub remark : List ℕ → List FindingData
+remark message = record { location = []; rule = []; message = message } ∷ []
+
+-- ---- objects
+
+abbrev pub error_finding : ErrorData → FindingData
+error_finding e = record { location = e.field_path; rule = e.rule; message = e.message }
+
+-- why an object isn't judged; of a definition it is said where it belongs
+abbrev pub why_not : Data → reason.NotJudged → List ℕ
+why_not d r =
+    reason_text r ++ (if is_crd d then codes " (a CustomResourceDefinition stands behind --crds)" else [])
+
+abbrev pub judged_item : Found → Judgement → ItemData
+judged_item f (judgement.Judged (Ok u)) = item_of f verdict.Pass []
+judged_item f (judgement.Judged (Err es)) =
+    item_of f verdict.Fail (map (λ e. error_finding (error_view e)) (errors_in es))
+judged_item f (judgement.NotJudged r) = item_of f verdict.NotJudged (remark (why_not f.value r))
+
+-- ---- definitions
+
+abbrev pub review_finding : Finding → FindingData
+review_finding f = record {
+  location = f.pointer;
+  rule = f.rule;
+  message = kind_text f.kind ++ (codes ": " ++ f.message);
+}
+
+abbrev pub pass_unless : List FindingData → Verdict
+pass_unless [] = verdict.Pass
+pass_unless (f ∷ fs) = verdict.Fail
+
+abbrev pub reviewed_item : Found → List Finding → ItemData
+reviewed_item f findings = item_of f (pass_unless (map review_finding findings)) (map review_finding findings)
+
+abbrev pub no_crd_item : Found → ItemData
+no_crd_item f = item_of f verdict.NotJudged
+    (remark (codes "it is no CustomResourceDefinition of apiextensions.k8s.io/v1"))
+
+-- ---- policies
+
+abbrev pub decision_verdict : PolicyDecision → Verdict
+decision_verdict decision.Admitted = verdict.Pass
+decision_verdict decision.Denied = verdict.Fail
+decision_verdict decision.Skipped = verdict.Skip
+decision_verdict decision.NotJudged = verdict.NotJudged
+
+-- whether there is anything to say of what an expression came to
+abbrev pub is_quiet : ItemReportData → Bool
+is_quiet holds = true
+is_quiet (fails m) = false
+is_quiet (says s) = false
+is_quiet nothing = true
+is_quiet (erred m) = false
+is_quiet (not_given i) = false
+
+-- what is said of an expression, after what it is and its name
+abbrev pub result_findings : List ℕ → Labelled → List FindingData
+result_findings what r =
+    if is_quiet r.reported then []
+    else record { location = what ++ (codes " " ++ r.label); rule = []; message = report_text r.reported } ∷ []
+
+abbrev pub verdict_findings : VerdictData → List FindingData
+verdict_findings v =
+    flat_map (result_findings (codes "match condition")) v.conditions
+    ++ (flat_map (result_findings (codes "variable")) v.variables
+    ++ (flat_map (result_findings (codes "validation")) v.validations
+    ++ flat_map (result_findings (codes "audit annotation")) v.annotations))
+
+abbrev pub policy_item : Found → VerdictData → ItemData
+policy_item f v = item_of f (decision_verdict v.decision) (verdict_findings v)

@@ -1,0 +1,162 @@
+-- Trusted by the clauses of kubecel.
+-- What a run of `kubecel` rests on: the files that it names, read one after another, and what came of each
+-- thing that they hold.
+use Rattle.cel_patterns.specs.Book.{Book, IsBook}
+use Rattle.kube_cel_lint.specs.Findings.{Naming}
+use Rattle.kube_cel_vap.specs.Variables.{Variables, no_variables}
+use Rattle.kube_manifests.specs.Documents.{is_crd}
+use Rattle.kube_manifests.specs.Sets.{IsJudgement, with_tree, set_view, versions_of}
+use Rattle.kube_manifests.specs.Versions.{Version}
+use Rattle.kube_manifests.specs.declared.judgement.Judgement.{Judgement}
+use Rattle.kube_manifests.specs.declared.set.CrdSet.{CrdSet}
+use Rattle.kube_manifests_policies.specs.Faults.{FaultData}
+use Rattle.kube_manifests_policies.specs.Reports.{IsVerdictOf}
+use Rattle.kube_manifests_policies.specs.Reviews.{review_of}
+use Rattle.kube_manifests_policies.specs.Verdicts.{verdict_view}
+use Rattle.kube_manifests_policies.specs.declared.verdict.PolicyVerdict.{PolicyVerdict}
+use Rattle.kube_manifests_review.specs.Reviewed.{crd_findings}
+use Rattle.kubecel_documents.specs.Objects.{all_objects, old_of}
+use Rattle.kubecel_documents.specs.Reads.{AreRead, Found}
+use Rattle.kubecel_documents.specs.declared.sources.Stop.{Stop}
+use Rattle.kubecel_reports.specs.Items.{ItemData, item_view, items_status}
+use Rattle.kubecel_cli.specs.Commands.{AdmitData, Asked, CheckData, check, review, admit}
+use Rattle.kubecel_cli.specs.declared.report.Report.{Report}
+use Rattle.kubecel_cli.specs.Reports.{judged_item, no_crd_item, policy_item, reviewed_item}
+use Rattle.serde_json.specs.Data.{Data}
+use Rattle.serde_json.specs.View.{items_of}
+use Rattle.std.specs.Prelude.{◌≡◌, ℕ, ◌<◌, List, [], ◌∷◌, map, length, true, false, Option, Some, None, Result, Ok, Err}
+
+-- each thing, in order, is reported as one item
+abbrev pub AreItems : (Found → ItemData → Type 0) → List Found → List ItemData → Type 0
+AreItems Is [] items = items ≡ []
+AreItems Is (f ∷ fs) items =
+    (i : ItemData) × (rest : List ItemData) × (items ≡ i ∷ rest) × Is f i × AreItems Is fs rest
+
+-- ---- what came of one thing
+
+-- an object is judged by these versions, with the old object that it was before
+abbrev pub IsJudged : List (Version Data) → List Data → Found → ItemData → Type 0
+IsJudged versions olds f i =
+    (j : Judgement) × IsJudgement versions f.value (old_of olds f.value) j × (i ≡ judged_item f j)
+
+-- a definition is reviewed, under some book of patterns
+pub record IsReviewed (f : Found) (i : ItemData) : Type 0 where
+  pub is_definition : is_crd f.value ≡ true
+      → (b : Book) × IsBook b × ((names : Naming) → i ≡ reviewed_item f (crd_findings names f.value b))
+  pub is_none : is_crd f.value ≡ false → i ≡ no_crd_item f
+
+-- ---- what a policy is judged over
+
+-- what an AdmissionReview gives; nothing where there is none
+abbrev pub base_of : Option Data → Result Variables FaultData
+base_of None = Ok no_variables
+base_of (Some d) = review_of d
+
+-- what is given besides goes before what was given
+abbrev pub instead : Option Data → Option Data → Option Data
+instead None given = given
+instead (Some d) given = Some d
+
+module _ {S : Type 0} (reads : S → List ℕ → Option (List ℕ) → S → Type 0) where
+  -- the file at the path holds this document alone
+  abbrev pub IsOneRead : S → List ℕ → Data → S → Type 0
+  IsOneRead before path value after =
+      AreRead reads before (path ∷ []) (record { file = path; index = 0; value = value } ∷ []) after
+
+  -- so does a file that may not be named; then nothing is read
+  abbrev pub IsOneReadWhereNamed : S → Option (List ℕ) → Option Data → S → Type 0
+  IsOneReadWhereNamed before None None after = before ≡ after
+  IsOneReadWhereNamed before None (Some value) after = ⊥
+  IsOneReadWhereNamed before (Some path) None after = ⊥
+  IsOneReadWhereNamed before (Some path) (Some value) after = IsOneRead before path value after
+
+  -- ---- what a command finds
+
+  -- The definitions, the old objects and the objects were read in order. All definitions are whole, there is
+  -- an object, and each is judged.
+  pub record AreChecked (before : S) (asked : CheckData) (after : S) (items : List ItemData) : Type 0 where
+    pub crds : List Found
+    pub olds : List Found
+    pub objects : List Found
+    pub with_crds : S
+    pub with_olds : S
+    pub crds_read : AreRead reads before asked.crds crds with_crds
+    pub olds_read : AreRead reads with_crds asked.olds olds with_olds
+    pub objects_read : AreRead reads with_olds asked.objects objects after
+    pub versions : List (Version Data)
+    pub whole : versions_of (items_of (map (λ f. f.value) crds)) ≡ Ok versions
+    pub some : 0 < length (all_objects objects)
+    pub judged : AreItems (IsJudged versions (map (λ f. f.value) (all_objects olds)))
+        (all_objects objects) items
+
+  -- The definitions were read. There is one, and each is reviewed.
+  pub record AreReviewed (before : S) (paths : List (List ℕ)) (after : S) (items : List ItemData)
+      : Type 0 where
+    pub crds : List Found
+    pub crds_read : AreRead reads before paths crds after
+    pub some : 0 < length (all_objects crds)
+    pub reviewed : AreItems IsReviewed (all_objects crds) items
+
+  -- The policy, and what is given, were read in order, and this is the verdict.
+  pub record AreAdmitted (before : S) (asked : AdmitData) (after : S) (items : List ItemData) : Type 0 where
+    pub policy : Data
+    pub request : Option Data
+    pub object : Option Data
+    pub old : Option Data
+    pub params : Option Data
+    pub namespace : Option Data
+    pub with_policy : S
+    pub with_request : S
+    pub with_object : S
+    pub with_old : S
+    pub with_params : S
+    pub policy_read : IsOneRead before asked.policy policy with_policy
+    pub request_read : IsOneReadWhereNamed with_policy asked.request request with_request
+    pub object_read : IsOneReadWhereNamed with_request asked.object object with_object
+    pub old_read : IsOneReadWhereNamed with_object asked.old old with_old
+    pub params_read : IsOneReadWhereNamed with_old asked.params params with_params
+    pub namespace_read : IsOneReadWhereNamed with_params asked.namespace namespace after
+    pub base : Variables
+    pub base_is : base_of request ≡ Ok base
+    pub verdict : PolicyVerdict
+    pub judged : IsVerdictOf (record base {
+      object = instead object base.object;
+      old_object = instead old base.old_object;
+      params = instead params base.params;
+      namespace_object = instead namespace base.namespace_object;
+    }) policy (Ok verdict)
+    pub reported : items
+        ≡ policy_item (record { file = asked.policy; index = 0; value = policy }) (verdict_view verdict) ∷ []
+
+  abbrev pub AreFound : S → Asked → S → List ItemData → Type 0
+  AreFound before (check asked) after items = AreChecked before asked after items
+  AreFound before (review paths) after items = AreReviewed before paths after items
+  AreFound before (admit asked) after items = AreAdmitted before asked after items
+
+-- the status stands for what was found, and that was written
+pub record IsReported (Are : List ItemData → Type 0) (status : ℕ) (Writes : List ItemData → Type 0) : Type 0 where
+  pub items : List ItemData
+  pub are : Are items
+  pub status_is : status ≡ items_status items
+  pub written : Writes items
+
+-- ---- for private clauses
+
+-- P holds of what a command found
+abbrev pub IfReport : Result Report Stop → (List ItemData → Type 0) → Type 0
+IfReport (Ok r) P = P (map item_view r.items.items)
+IfReport (Err s) P = ⊥
+
+-- the set of these definitions, by their versions
+abbrev pub IsSetOf : List Found → CrdSet → Type 0
+IsSetOf crds set =
+    (versions : List (Version Data)) × (versions_of (items_of (map (λ f. f.value) crds)) ≡ Ok versions)
+    × (set_view set ≡ map with_tree versions)
+
+-- an object is judged by a set, with the old object that it was before
+abbrev pub IsJudgedBy : CrdSet → List Data → Found → ItemData → Type 0
+IsJudgedBy set olds f i =
+    (j : Judgement)
+    × ((versions : List (Version Data)) → set_view set ≡ map with_tree versions
+    → IsJudgement versions f.value (old_of olds f.value) j)
+    × (i ≡ judged_item f j)

@@ -1,0 +1,202 @@
+//! `check`: objects by their CustomResourceDefinitions.
+ghost use Rattle.kube_cel_errors.specs.Errors.{error_view};
+ghost use Rattle.kube_manifests.specs.Sets.{IsJudgement, with_tree, set_view};
+ghost use Rattle.kube_manifests.specs.Versions.{Version};
+ghost use Rattle.kube_manifests.specs.declared.judgement.Judgement as spec;
+ghost use Rattle.kubecel_documents.specs.Reads.{document_view};
+ghost use Rattle.kubecel_documents.specs.Subjects.{subject_view};
+ghost use Rattle.kubecel_reports.specs.Items.{finding_view, item_view};
+ghost use Rattle.kubecel_cli.specs.Commands.{check_view};
+ghost use Rattle.kubecel_cli.specs.Runs.{AreChecked, AreItems, IsJudgedBy, IsSetOf};
+ghost use Rattle.kubecel_cli.specs.Reports.{error_finding, judged_item, why_not};
+ghost use Rattle.serde_json.specs.Data.{Data};
+ghost use Rattle.serde_json.specs.View.{view};
+ghost use Rattle.std.specs.Prelude.{◌≡◌, IfOk, List, map, option_map, string_bytes};
+
+use crate::command::Check;
+use crate::item::{item_of, remark};
+use crate::report::{Report, ReportFormat};
+use kube_manifests::{CrdSet, Judgement, NotJudged, ValidationError, is_crd};
+use kubecel_documents::{
+    Document, Refused, Sources, Stop, Subject, objects_of, old_of, read_documents,
+};
+use kubecel_reports::{Finding, Item, Verdict};
+use serde_json::Value;
+use std::alloc::{AllocError, Global};
+use std::io::Write;
+
+/// After how many objects it is said how many were judged so far.
+const STEP: usize = 100;
+
+/// Judges objects. All files are read, in order, before anything is judged.
+pub(crate) fn checked<S: Sources, E: Write>(
+    alloc: Global,
+    check: Check<'_, '_>,
+    form: ReportFormat,
+    files: &mut S,
+    err: &mut E,
+) -> Result<Report, Stop>
+    ensures { IfOk result (λ r.
+        AreChecked S.reads files.old (check_view check.entry) files.new (map item_view r.items.items)) }
+{
+    let crds = read_documents(alloc, check.crds, files)?;
+    let olds = read_documents(alloc, check.olds, files)?;
+    let objects = read_documents(alloc, check.objects, files)?;
+    let set = set_of(alloc, crds.as_slice())?;
+    let olds = objects_of(alloc, olds.as_slice())?;
+    let subjects = objects_of(alloc, objects.as_slice())?;
+    if subjects.is_empty() {
+        return Err(Stop::Said(String::from_str(alloc, "there is no object to judge")?));
+    }
+    Ok(judge_all(alloc, &set, olds.as_slice(), subjects.as_slice(), form, err)?)
+}
+
+/// The set of definitions.
+fn set_of(alloc: Global, documents: &[Document]) -> Result<CrdSet, Stop>
+    ensures { IfOk result (IsSetOf (map document_view documents.now)) }
+{
+    let values = values_of(alloc, documents)?;
+    match CrdSet::from_documents(alloc, values.as_slice())? {
+        Ok(set) => Ok(set),
+        Err(error) => {
+            let location = place_of(alloc, documents, error.document)?;
+            let (pointer, fault) = (&error.pointer, error.fault);
+            Err(Stop::Said(if pointer.is_empty() {
+                format!(in alloc; "{location}: {fault}")?
+            } else {
+                format!(in alloc; "{location}: at {pointer}: {fault}")?
+            }))
+        }
+    }
+}
+
+/// The values of documents.
+fn values_of(alloc: Global, documents: &[Document]) -> Result<Vec<Value>, AllocError>
+    ensures { IfOk result (λ v. map view v.items ≡ map (λ d. d.value) (map document_view documents.now)) }
+{
+    let mut values = Vec::with_capacity(alloc, documents.len())?;
+    for document in documents {
+        values.push(document.value.clone()?)?;
+    }
+    Ok(values)
+}
+
+/// Where a document stands.
+fn place_of(alloc: Global, documents: &[Document], at: usize) -> Result<String, AllocError> {
+    match documents.get(at) {
+        Some(document) if document.index == 0 => document.file.clone(),
+        Some(document) => format!(in alloc; "{}[{}]", document.file, document.index),
+        None => Ok(String::new(alloc)),
+    }
+}
+
+/// Judges objects by a set.
+fn judge_all<E: Write>(
+    alloc: Global,
+    set: &CrdSet,
+    olds: &[Subject<'_>],
+    subjects: &[Subject<'_>],
+    form: ReportFormat,
+    err: &mut E,
+) -> Result<Report, Refused>
+    ensures { IfOk result (λ r.
+        AreItems (IsJudgedBy set.now (map (λ f. f.value) (map subject_view olds.now)))
+        (map subject_view subjects.now) (map item_view r.items.items)) }
+{
+    let mut items = Vec::with_capacity(alloc, subjects.len())?;
+    let (mut rules, mut compared) = (0u64, 0u64);
+    for subject in subjects {
+        let old = old_of(olds, subject);
+        items.push(judge(alloc, set, subject, old)?)?;
+        rules = rules.saturating_add(set.rule_count(subject.value).unwrap_or(0));
+        compared = compared.saturating_add(u64::from(old.is_some()));
+        if form.progress {
+            report_progress(items.len(), subjects.len(), err);
+        }
+    }
+    Ok(Report {
+        items,
+        noun: "objects",
+        rules: Some(rules),
+        compared: if olds.is_empty() {
+            None
+        } else {
+            Some(compared)
+        },
+    })
+}
+
+/// Says how many objects were judged so far, where there are many, and at the end clears that.
+fn report_progress<E: Write>(judged: usize, all: usize, err: &mut E) {
+    if all > STEP && judged.is_multiple_of(STEP) {
+        let _ = write!(err, "\rkubecel: {judged} of {all} objects");
+    }
+    if all > STEP && judged == all {
+        let _ = write!(err, "\r\u{1b}[K");
+    }
+}
+
+/// Judges an object by a set.
+fn judge(
+    alloc: Global,
+    set: &CrdSet,
+    subject: &Subject<'_>,
+    old: Option<&Value>,
+) -> Result<Item, Refused>
+    ensures { IfOk result (λ i. (j : spec.Judgement)
+        × ((versions : List (Version Data)) → set_view set.now ≡ map with_tree versions
+        → IsJudgement versions (view subject.now.value.now) (option_map (λ v. view v.now) old.entry) j)
+        × (item_view i ≡ judged_item (subject_view subject.now) j)) }
+{
+    let judgement = set.validate(alloc, subject.value, old)?;
+    Ok(judged_item(alloc, subject, &judgement)?)
+}
+
+/// An object by what was said of it.
+fn judged_item(
+    alloc: Global,
+    subject: &Subject<'_>,
+    judgement: &Judgement,
+) -> Result<Item, AllocError>
+    ensures { IfOk result (λ i. item_view i ≡ judged_item (subject_view subject.now) judgement.now) }
+{
+    match judgement {
+        Judgement::Judged(Ok(())) => item_of(alloc, subject, Verdict::Pass, Vec::new(alloc)),
+        Judgement::Judged(Err(errors)) => {
+            let findings = error_findings(alloc, errors.as_slice())?;
+            item_of(alloc, subject, Verdict::Fail, findings)
+        }
+        Judgement::NotJudged(reason) => {
+            let findings = remark(alloc, why_not(alloc, subject.value, *reason)?)?;
+            item_of(alloc, subject, Verdict::NotJudged, findings)
+        }
+    }
+}
+
+/// Why an object isn't judged.
+fn why_not(alloc: Global, object: &Value, reason: NotJudged) -> Result<String, AllocError>
+    ensures { IfOk result (λ s. string_bytes s ≡ why_not (view object.now) reason) }
+{
+    let further = if is_crd(object) {
+        " (a CustomResourceDefinition stands behind --crds)"
+    } else {
+        ""
+    };
+    format!(in alloc; "{reason}{further}")
+}
+
+/// Errors as they are reported.
+fn error_findings(alloc: Global, errors: &[ValidationError]) -> Result<Vec<Finding>, AllocError>
+    ensures { IfOk result (λ v. map finding_view v.items
+        ≡ map (λ e. error_finding (error_view e)) errors.now) }
+{
+    let mut findings = Vec::with_capacity(alloc, errors.len())?;
+    for error in errors {
+        findings.push(Finding {
+            location: error.field_path.clone()?,
+            rule: error.rule.clone()?,
+            message: error.message.clone()?,
+        })?;
+    }
+    Ok(findings)
+}

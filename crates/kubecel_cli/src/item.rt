@@ -1,0 +1,44 @@
+//! Things as they are reported.
+ghost use Rattle.kubecel_documents.specs.Subjects.{subject_view};
+ghost use Rattle.kubecel_reports.specs.Items.{finding_view, item_view};
+ghost use Rattle.kubecel_cli.specs.Reports.{item_of, remark};
+ghost use Rattle.std.specs.Prelude.{◌≡◌, ◌∷◌, [], IfOk, map, string_bytes};
+
+use kubecel_documents::Subject;
+use kubecel_reports::{Finding, Item, Verdict};
+use std::alloc::{AllocError, Global};
+
+/// An object, and what came of it.
+pub(crate) fn item_of(
+    alloc: Global,
+    subject: &Subject<'_>,
+    verdict: Verdict,
+    findings: Vec<Finding>,
+) -> Result<Item, AllocError>
+    ensures { IfOk result (λ i. item_view i
+        ≡ item_of (subject_view subject.now) verdict (map finding_view findings.items)) }
+{
+    let called = subject.identity;
+    Ok(Item {
+        file: String::from_str(alloc, subject.file)?,
+        index: subject.index,
+        kind: String::from_str(alloc, called.kind)?,
+        namespace: String::from_str(alloc, called.namespace)?,
+        name: String::from_str(alloc, called.name)?,
+        verdict,
+        findings,
+    })
+}
+
+/// One finding, of the whole thing.
+pub(crate) fn remark(alloc: Global, message: String) -> Result<Vec<Finding>, AllocError>
+    ensures { IfOk result (λ v. map finding_view v.items ≡ remark (string_bytes message)) }
+{
+    let mut findings = Vec::new(alloc);
+    findings.push(Finding {
+        location: String::new(alloc),
+        rule: String::new(alloc),
+        message,
+    })?;
+    Ok(findings)
+}

@@ -1,0 +1,120 @@
+//! Telling what a command found.
+ghost use Rattle.kubecel_reports.specs.Items.{item_view, items_status};
+ghost use Rattle.kubecel_reports.specs.Output.{output_text};
+ghost use Rattle.kubecel_cli.specs.Runs.{IfReport};
+ghost use Rattle.std.specs.Io.KnownBytes.{Appends};
+ghost use Rattle.std.specs.Prelude.{◌≡◌, ◌≤◌, OnOk, map};
+
+use kubecel_documents::Stop;
+use kubecel_reports::{Item, Output, status_of, write_items};
+use std::alloc::Global;
+use std::io;
+use std::io::Write;
+
+/// The status of a run that couldn't judge, or couldn't report.
+const STOPPED: u8 = 2;
+
+/// How a run reports what it found.
+#[derive(Clone, Copy)]
+pub struct ReportFormat {
+    pub output: Output,
+    /// Whether it says on standard error how many objects were judged so far.
+    pub progress: bool,
+}
+
+/// What a command found.
+#[derive(Drop)]
+pub(crate) struct Report {
+    pub(crate) items: Vec<Item>,
+    /// What the items are.
+    pub(crate) noun: &'static str,
+    /// How many rules they were judged by, if that is known.
+    pub(crate) rules: Option<u64>,
+    /// How many objects were compared with an old one, if there are old ones.
+    pub(crate) compared: Option<u64>,
+}
+
+/// Writes what was found, or why nothing was, and answers the status that stands for it.
+pub(crate) fn report_found<O: Write, E: Write>(
+    alloc: Global,
+    form: ReportFormat,
+    found: Result<Report, Stop>,
+    out: &mut O,
+    err: &mut E,
+) -> u8
+    ensures reported { result ≤ 1 → IfReport found (λ items. (result ≡ items_status items)
+        × Appends (O.contents out.old) (O.contents out.new) (output_text form.output items)) }
+    ensures statuses { result ≤ 2 }
+{
+    match found {
+        Ok(report) => write_report(alloc, form, &report, out, err),
+        Err(stop) => {
+            let _ = report_stop(&stop, err);
+            STOPPED
+        }
+    }
+}
+
+fn write_report<O: Write, E: Write>(
+    alloc: Global,
+    form: ReportFormat,
+    report: &Report,
+    out: &mut O,
+    err: &mut E,
+) -> u8
+    ensures reported { result ≤ 1 → (result ≡ items_status (map item_view report.now.items.items))
+        × Appends (O.contents out.old) (O.contents out.new)
+        (output_text form.output (map item_view report.now.items.items)) }
+    ensures statuses { result ≤ 2 }
+{
+    let items = report.items.as_slice();
+    match write_all(alloc, form, items, out) {
+        Ok(()) => {
+            let _ = summarize(report, err);
+            status_of(items)
+        }
+        Err(error) => {
+            let _ = writeln!(err, "kubecel: can't write: {error}");
+            STOPPED
+        }
+    }
+}
+
+/// Writes all items, and sees that no writer keeps some of them back.
+fn write_all<O: Write>(
+    alloc: Global,
+    form: ReportFormat,
+    items: &[Item],
+    out: &mut O,
+) -> io::Result<()>
+    ensures { OnOk result
+        (Appends (O.contents out.old) (O.contents out.new)
+        (output_text form.output (map item_view items.now))) }
+{
+    write_items(alloc, form.output, items, out)?;
+    out.flush()
+}
+
+/// Says why nothing was judged.
+fn report_stop<E: Write>(stop: &Stop, err: &mut E) -> io::Result<()> {
+    match stop {
+        Stop::Refused(_) => writeln!(err, "kubecel: refused: there is no memory"),
+        Stop::Said(why) => writeln!(err, "kubecel: {why}"),
+    }
+}
+
+/// Says how much was judged.
+fn summarize<E: Write>(report: &Report, err: &mut E) -> io::Result<()> {
+    let mut findings = 0usize;
+    for item in report.items.as_slice() {
+        findings = findings.saturating_add(item.findings.len());
+    }
+    write!(err, "kubecel: {}: {}", report.noun, report.items.len())?;
+    if let Some(compared) = report.compared {
+        write!(err, ", with an old object: {compared}")?;
+    }
+    if let Some(rules) = report.rules {
+        write!(err, ", rules: {rules}")?;
+    }
+    writeln!(err, ", findings: {findings}")
+}

@@ -1,0 +1,94 @@
+//! `review`: what a person should look at in CustomResourceDefinitions.
+ghost use Rattle.cel_patterns.specs.Book.{Book, IsBook};
+ghost use Rattle.kube_manifests_review.specs.Doubts as doubts;
+ghost use Rattle.kubecel_documents.specs.Subjects.{subject_view};
+ghost use Rattle.kubecel_reports.specs.Items.{finding_view, item_view};
+ghost use Rattle.kubecel_cli.specs.Runs.{AreItems, AreReviewed, IsReviewed};
+ghost use Rattle.kubecel_cli.specs.Reports.{pass_unless, review_finding};
+ghost use Rattle.std.specs.Prelude.{◌≡◌, IfOk, map};
+
+use crate::item::{item_of, remark};
+use crate::report::Report;
+use kube_manifests::is_crd;
+use kube_manifests_review::{ReviewFinding, review_crd};
+use kubecel_documents::{Refused, Sources, Stop, Subject, objects_of, read_documents};
+use kubecel_reports::{Finding, Item, Verdict};
+use std::alloc::{AllocError, Global};
+
+/// Reviews the definitions at these paths.
+pub(crate) fn reviewed<S: Sources>(
+    alloc: Global,
+    crds: &[&str],
+    files: &mut S,
+) -> Result<Report, Stop>
+    ensures { IfOk result (λ r.
+        AreReviewed S.reads files.old (map (λ s. s.now) crds.now) files.new (map item_view r.items.items)) }
+{
+    let documents = read_documents(alloc, crds, files)?;
+    let subjects = objects_of(alloc, documents.as_slice())?;
+    if subjects.is_empty() {
+        return Err(Stop::Said(String::from_str(
+            alloc,
+            "there is no CustomResourceDefinition to review",
+        )?));
+    }
+    Ok(Report {
+        items: review_all(alloc, subjects.as_slice())?,
+        noun: "definitions",
+        rules: None,
+        compared: None,
+    })
+}
+
+/// Reviews each.
+fn review_all(alloc: Global, subjects: &[Subject<'_>]) -> Result<Vec<Item>, Refused>
+    ensures { IfOk result (λ v. AreItems IsReviewed (map subject_view subjects.now) (map item_view v.items)) }
+{
+    let mut items = Vec::with_capacity(alloc, subjects.len())?;
+    for subject in subjects {
+        items.push(review(alloc, subject)?)?;
+    }
+    Ok(items)
+}
+
+/// Reviews one.
+fn review(alloc: Global, subject: &Subject<'_>) -> Result<Item, Refused>
+    ensures { IfOk result (λ i. IsReviewed (subject_view subject.now) (item_view i)) }
+{
+    if !is_crd(subject.value) {
+        let why = "it is no CustomResourceDefinition of apiextensions.k8s.io/v1";
+        let findings = remark(alloc, String::from_str(alloc, why)?)?;
+        return Ok(item_of(alloc, subject, Verdict::NotJudged, findings)?);
+    }
+    let found = review_crd(alloc, subject.value)?;
+    let findings = review_findings(alloc, found.as_slice())?;
+    let verdict = pass_unless(findings.as_slice());
+    Ok(item_of(alloc, subject, verdict, findings)?)
+}
+
+/// Pass where nothing was found, else fail.
+fn pass_unless(findings: &[Finding]) -> Verdict
+    ensures { result ≡ pass_unless (map finding_view findings.now) }
+{
+    match findings {
+        [] => Verdict::Pass,
+        [_, ..] => Verdict::Fail,
+    }
+}
+
+/// Findings as they are reported.
+fn review_findings(alloc: Global, found: &[ReviewFinding]) -> Result<Vec<Finding>, AllocError>
+    ensures { IfOk result (λ v. map finding_view v.items
+        ≡ map review_finding (map doubts.finding_view found.now)) }
+{
+    let mut findings = Vec::with_capacity(alloc, found.len())?;
+    for finding in found {
+        let kind = finding.kind;
+        findings.push(Finding {
+            location: finding.pointer.clone()?,
+            rule: finding.rule.clone()?,
+            message: format!(in alloc; "{kind}: {}", finding.message)?,
+        })?;
+    }
+    Ok(findings)
+}

@@ -1,8 +1,0 @@
-use Rattle.kubecel_run.proofs.review.review_all.Given as goal
-use Rattle.kubecel_documents.specs.Subjects.{subject_view}
-use Rattle.kubecel_reports.specs.Items.{item_view}
-use Rattle.kubecel_run.specs.Runs.{AreItems, IsReviewed}
-use Rattle.std.proofs.Common.{map, take}
-
-abbrev pub invariant-loop-subject : goal.invariant-loop-subject
-invariant-loop-subject l = AreItems IsReviewed (map subject_view (take l.subject-index l.subjects)) (map item_view l.items.items)
