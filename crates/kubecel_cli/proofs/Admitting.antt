@@ -1,8 +1,8 @@
 -- What a request is judged by.
 use Rattle.kube_cel_vap.specs.Variables.{Variables}
-use Rattle.kube_manifests_policies.specs.Inputs.{inputs_view}
+use Rattle.kube_manifests_admission.specs.Inputs.{inputs_view}
 use Rattle.kube_manifests_policies.specs.Reports.{IsVerdictOf}
-use Rattle.kube_manifests_policies.specs.declared.inputs.PolicyInputs.{PolicyInputs}
+use Rattle.kube_manifests_admission.specs.declared.inputs.PolicyInputs.{PolicyInputs}
 use Rattle.kube_manifests_policies.specs.declared.verdict.PolicyVerdict.{PolicyVerdict}
 use Rattle.kube_manifests_policies.specs.Verdicts.{verdict_view}
 use Rattle.kubecel_documents.specs.Reads.{document_view}

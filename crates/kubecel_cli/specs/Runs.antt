@@ -9,9 +9,9 @@ use Rattle.kube_manifests.specs.Sets.{IsJudgement, with_tree, set_view, versions
 use Rattle.kube_manifests.specs.Versions.{Version}
 use Rattle.kube_manifests.specs.declared.judgement.Judgement.{Judgement}
 use Rattle.kube_manifests.specs.declared.set.CrdSet.{CrdSet}
-use Rattle.kube_manifests_policies.specs.Faults.{FaultData}
+use Rattle.kube_manifests_admission.specs.Faults.{FaultData}
 use Rattle.kube_manifests_policies.specs.Reports.{IsVerdictOf}
-use Rattle.kube_manifests_policies.specs.Reviews.{review_of}
+use Rattle.kube_manifests_admission.specs.Reviews.{review_of}
 use Rattle.kube_manifests_policies.specs.Verdicts.{verdict_view}
 use Rattle.kube_manifests_policies.specs.declared.verdict.PolicyVerdict.{PolicyVerdict}
 use Rattle.kube_manifests_review.specs.Reviewed.{crd_findings}

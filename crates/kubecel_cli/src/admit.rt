@@ -1,6 +1,6 @@
 //! `admit`: what a policy says of a request.
 ghost use Rattle.kube_cel_vap.specs.Variables.{Variables};
-ghost use Rattle.kube_manifests_policies.specs.Inputs.{inputs_view};
+ghost use Rattle.kube_manifests_admission.specs.Inputs.{inputs_view};
 ghost use Rattle.kube_manifests_policies.specs.Reports.{IsVerdictOf};
 ghost use Rattle.kube_manifests_policies.specs.Verdicts.{result_view, verdict_view};
 ghost use Rattle.kubecel_documents.specs.Reads.{Found, document_view};

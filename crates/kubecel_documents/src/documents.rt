@@ -61,7 +61,8 @@ impl Reading {
         ensures read { IfOk result (λ r. OnOk r ((rest : List (List ℕ))
             → with_documents (map view self.old.found.items) (all_read (with_piece self.old.piece.items rest))
             ≡ with_documents (map view self.new.found.items) (all_read rest))) }
-        ensures begun { IfOk result (λ r. OnOk r ((self.new.mode ≡ Outside) × (self.new.depth ≡ 0) × (self.new.piece.items ≡ []))) }
+        ensures begun { IfOk result (λ r. OnOk r ((self.new.mode ≡ Outside) × (self.new.depth ≡ 0)
+            × (self.new.piece.items ≡ []))) }
     {
         if !is_blank(self.piece.as_slice()) {
             match Value::from_slice(alloc, self.piece.as_slice()) {

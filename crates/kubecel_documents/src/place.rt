@@ -1,4 +1,6 @@
 //! Where a text is no JSON.
+ghost use Rattle.kubecel_documents.specs.Faults.{fault_text, fault_words};
+ghost use Rattle.std.specs.Prelude.{◌≡◌, Some};
 
 use serde_json::Error;
 use std::fmt;
@@ -39,13 +41,22 @@ pub(crate) fn fault_at(text: &[u8], begin: usize, error: &Error) -> Fault {
     }
 }
 
+/// What is wrong, in words.
+fn fault_words(is_cut: bool) -> &'static str
+    ensures { result.now ≡ fault_words is_cut }
+{
+    if is_cut {
+        "the JSON ends too early"
+    } else {
+        "this is no JSON"
+    }
+}
+
 impl fmt::Display for Fault {
+    ghost output = { λ f. Some (fault_text f) };
+
     fn fmt<W: fmt::Write>(&self, f: &mut fmt::Formatter<W>) -> fmt::Result {
-        let what = if self.is_cut {
-            "the JSON ends too early"
-        } else {
-            "this is no JSON"
-        };
+        let what = fault_words(self.is_cut);
         write!(f, "{}:{}: {what}", self.line, self.column)
     }
 }

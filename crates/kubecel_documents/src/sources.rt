@@ -30,12 +30,16 @@ pub enum Stop {
 }
 
 impl From<Refused> for Stop {
+    ghost from_gives = { λ refused stop. stop ≡ Stop.Refused refused };
+
     fn from(refused: Refused) -> Stop {
         Stop::Refused(refused)
     }
 }
 
 impl From<AllocError> for Stop {
+    ghost from_gives = { λ _ stop. stop ≡ Stop.Refused Refused.Memory };
+
     fn from(_error: AllocError) -> Stop {
         Stop::Refused(Refused::Memory)
     }
@@ -60,7 +64,8 @@ pub fn read_documents<S: Sources>(
     paths: &[&str],
     files: &mut S,
 ) -> Result<Vec<Document>, Stop>
-    ensures { IfOk result (λ v. AreRead S.reads files.old (map (λ s. s.now) paths.now) (map document_view v.items) files.new) }
+    ensures { IfOk result (λ v. AreRead S.reads files.old (map (λ s. s.now) paths.now)
+        (map document_view v.items) files.new) }
 {
     let mut found = Vec::new(alloc);
     for path in paths {

@@ -28,7 +28,8 @@ fn add_objects<'d>(
     subjects: &mut Vec<Subject<'d>>,
 ) -> Result<(), AllocError>
     ensures { OnOk result (map subject_view subjects.new.items
-        ≡ map subject_view subjects.old.items ++ map (object_of (document_view document.now)) (objects_in (view document.now.value))) }
+        ≡ map subject_view subjects.old.items
+        ++ map (object_of (document_view document.now)) (objects_in (view document.now.value))) }
 {
     let values = objects_in(&document.value);
     for value in values {
@@ -44,7 +45,8 @@ fn add_objects<'d>(
 
 /// The first of old objects that is the same one as this.
 pub fn old_of<'d>(olds: &[Subject<'d>], subject: &Subject<'_>) -> Option<&'d Value>
-    ensures { option_map (λ v. view v.now) result ≡ old_of (map (λ f. f.value) (map subject_view olds.now)) (subject_view subject.now).value }
+    ensures { option_map (λ v. view v.now) result
+        ≡ old_of (map (λ f. f.value) (map subject_view olds.now)) (subject_view subject.now).value }
 {
     for old in olds {
         if old.identity.is_same(&subject.identity) {

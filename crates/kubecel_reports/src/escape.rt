@@ -57,7 +57,8 @@ fn property_escape(byte: u8) -> Option<&'static str>
 
 /// Writes a byte, or what it is replaced by.
 fn write_byte<O: Write>(byte: u8, escape: Escape, out: &mut O) -> io::Result<()>
-    ensures { OnOk result (Appends (O.contents out.old) (O.contents out.new) (byte_or byte (escape_of escape byte))) }
+    ensures { OnOk result (Appends (O.contents out.old) (O.contents out.new)
+        (byte_or byte (escape_of escape byte))) }
 {
     let replaced = match escape {
         Escape::Xml => xml_escape(byte),

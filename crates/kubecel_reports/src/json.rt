@@ -23,7 +23,8 @@ fn json_string(alloc: Global, text: &str) -> Result<String, AllocError>
 /// Writes a member of an object, from what stands before its text on.
 #[tactic(auto, unfolding(crate::specs::Json::text_member))]
 fn write_member<O: Write>(alloc: Global, head: &str, text: &str, out: &mut O) -> io::Result<()>
-    ensures { OnOk result (Appends (O.contents out.old) (O.contents out.new) (text_member head.now text.now)) }
+    ensures { OnOk result (Appends (O.contents out.old) (O.contents out.new)
+        (text_member head.now text.now)) }
 {
     let text = json_string(alloc, text)?;
     write!(out, "{head}{text}")
@@ -35,7 +36,8 @@ pub(crate) fn write_json_items<O: Write>(
     items: &[Item],
     out: &mut O,
 ) -> io::Result<()>
-    ensures { OnOk result (Appends (O.contents out.old) (O.contents out.new) (json_items (map item_view items.now))) }
+    ensures { OnOk result (Appends (O.contents out.old) (O.contents out.new)
+        (json_items (map item_view items.now))) }
 {
     out.write_all(b"[")?;
     write_json_list(alloc, items, out)?;
@@ -43,7 +45,8 @@ pub(crate) fn write_json_items<O: Write>(
 }
 
 fn write_json_list<O: Write>(alloc: Global, items: &[Item], out: &mut O) -> io::Result<()>
-    ensures { OnOk result (Appends (O.contents out.old) (O.contents out.new) (json_list (map item_view items.now))) }
+    ensures { OnOk result (Appends (O.contents out.old) (O.contents out.new)
+        (json_list (map item_view items.now))) }
 {
     match items.split_first() {
         Some((first, others)) => {
@@ -55,7 +58,8 @@ fn write_json_list<O: Write>(alloc: Global, items: &[Item], out: &mut O) -> io::
 }
 
 fn write_later_items<O: Write>(alloc: Global, items: &[Item], out: &mut O) -> io::Result<()>
-    ensures { OnOk result (Appends (O.contents out.old) (O.contents out.new) (flat_map later_item (map item_view items.now))) }
+    ensures { OnOk result (Appends (O.contents out.old) (O.contents out.new)
+        (flat_map later_item (map item_view items.now))) }
 {
     for item in items {
         out.write_all(b",\n")?;
@@ -65,7 +69,8 @@ fn write_later_items<O: Write>(alloc: Global, items: &[Item], out: &mut O) -> io
 }
 
 fn write_json_item<O: Write>(alloc: Global, item: &Item, out: &mut O) -> io::Result<()>
-    ensures { OnOk result (Appends (O.contents out.old) (O.contents out.new) (json_item (item_view item.now))) }
+    ensures { OnOk result (Appends (O.contents out.old) (O.contents out.new)
+        (json_item (item_view item.now))) }
 {
     write_json_head(alloc, item, out)?;
     out.write_all(b"\",\"findings\":[")?;
@@ -74,7 +79,8 @@ fn write_json_item<O: Write>(alloc: Global, item: &Item, out: &mut O) -> io::Res
 }
 
 fn write_json_head<O: Write>(alloc: Global, item: &Item, out: &mut O) -> io::Result<()>
-    ensures { OnOk result (Appends (O.contents out.old) (O.contents out.new) (json_head (item_view item.now))) }
+    ensures { OnOk result (Appends (O.contents out.old) (O.contents out.new)
+        (json_head (item_view item.now))) }
 {
     write_member(alloc, "{\"file\":", item.file.as_str(), out)?;
     write_number(",\"index\":", item.index, out)?;
@@ -85,7 +91,8 @@ fn write_json_head<O: Write>(alloc: Global, item: &Item, out: &mut O) -> io::Res
 }
 
 fn write_json_findings<O: Write>(alloc: Global, findings: &[Finding], out: &mut O) -> io::Result<()>
-    ensures { OnOk result (Appends (O.contents out.old) (O.contents out.new) (json_findings (map finding_view findings.now))) }
+    ensures { OnOk result (Appends (O.contents out.old) (O.contents out.new)
+        (json_findings (map finding_view findings.now))) }
 {
     match findings.split_first() {
         Some((first, others)) => {
@@ -101,7 +108,8 @@ fn write_later_findings<O: Write>(
     findings: &[Finding],
     out: &mut O,
 ) -> io::Result<()>
-    ensures { OnOk result (Appends (O.contents out.old) (O.contents out.new) (flat_map later_finding (map finding_view findings.now))) }
+    ensures { OnOk result (Appends (O.contents out.old) (O.contents out.new)
+        (flat_map later_finding (map finding_view findings.now))) }
 {
     for finding in findings {
         out.write_all(b",\n")?;
@@ -112,7 +120,8 @@ fn write_later_findings<O: Write>(
 
 #[tactic(auto, unfolding(crate::specs::Json::json_finding))]
 fn write_json_finding<O: Write>(alloc: Global, finding: &Finding, out: &mut O) -> io::Result<()>
-    ensures { OnOk result (Appends (O.contents out.old) (O.contents out.new) (json_finding (finding_view finding.now))) }
+    ensures { OnOk result (Appends (O.contents out.old) (O.contents out.new)
+        (json_finding (finding_view finding.now))) }
 {
     write_member(alloc, "{\"place\":", finding.location.as_str(), out)?;
     write_member(alloc, ",\"rule\":", finding.rule.as_str(), out)?;

@@ -14,14 +14,16 @@ use std::io::Write;
 /// Writes a text with a number behind it.
 #[tactic(auto, unfolding(crate::specs::Lines::number_member))]
 pub(crate) fn write_number<O: Write>(head: &str, number: usize, out: &mut O) -> io::Result<()>
-    ensures { OnOk result (Appends (O.contents out.old) (O.contents out.new) (number_member head.now number)) }
+    ensures { OnOk result (Appends (O.contents out.old) (O.contents out.new)
+        (number_member head.now number)) }
 {
     write!(out, "{head}{number}")
 }
 
 /// Writes the word of a verdict and a blank, in its colour if colours are asked for.
 fn write_verdict<O: Write>(verdict: Verdict, colours: bool, out: &mut O) -> io::Result<()>
-    ensures { OnOk result (Appends (O.contents out.old) (O.contents out.new) (coloured_word colours verdict ++ codes " ")) }
+    ensures { OnOk result (Appends (O.contents out.old) (O.contents out.new)
+        (coloured_word colours verdict ++ codes " ")) }
 {
     let word = verdict.word();
     if colours {
@@ -40,7 +42,8 @@ pub(crate) fn write_text_item<O: Write>(
     colours: bool,
     out: &mut O,
 ) -> io::Result<()>
-    ensures { OnOk result (Appends (O.contents out.old) (O.contents out.new) (text_item colours (item_view item.now))) }
+    ensures { OnOk result (Appends (O.contents out.old) (O.contents out.new)
+        (text_item colours (item_view item.now))) }
 {
     let title = item.title(alloc)?;
     let location = item.location(alloc)?;
@@ -50,7 +53,8 @@ pub(crate) fn write_text_item<O: Write>(
 }
 
 fn write_text_findings<O: Write>(alloc: Global, findings: &[Finding], out: &mut O) -> io::Result<()>
-    ensures { OnOk result (Appends (O.contents out.old) (O.contents out.new) (flat_map text_finding (map finding_view findings.now))) }
+    ensures { OnOk result (Appends (O.contents out.old) (O.contents out.new)
+        (flat_map text_finding (map finding_view findings.now))) }
 {
     for finding in findings {
         let finding_text = finding.finding_text(alloc)?;
@@ -62,7 +66,8 @@ fn write_text_findings<O: Write>(alloc: Global, findings: &[Finding], out: &mut 
 /// Writes a thing as annotations.
 #[tactic(auto, unfolding(crate::specs::Lines::github_item))]
 pub(crate) fn write_github_item<O: Write>(alloc: Global, item: &Item, out: &mut O) -> io::Result<()>
-    ensures { OnOk result (Appends (O.contents out.old) (O.contents out.new) (github_item (item_view item.now))) }
+    ensures { OnOk result (Appends (O.contents out.old) (O.contents out.new)
+        (github_item (item_view item.now))) }
 {
     let title = item.title(alloc)?;
     for finding in item.findings.as_slice() {
@@ -80,7 +85,8 @@ fn write_github_finding<O: Write>(
     out: &mut O,
 ) -> io::Result<()>
     requires { heading.now ≡ title (item_view item.now) }
-    ensures { OnOk result (Appends (O.contents out.old) (O.contents out.new) (github_finding (item_view item.now) (finding_view finding.now))) }
+    ensures { OnOk result (Appends (O.contents out.old) (O.contents out.new)
+        (github_finding (item_view item.now) (finding_view finding.now))) }
 {
     let finding_text = finding.finding_text(alloc)?;
     write!(out, "::{} file=", item.verdict.level())?;
@@ -94,7 +100,8 @@ fn write_github_finding<O: Write>(
 
 /// Writes a thing as a test case.
 pub(crate) fn write_junit_item<O: Write>(alloc: Global, item: &Item, out: &mut O) -> io::Result<()>
-    ensures { OnOk result (Appends (O.contents out.old) (O.contents out.new) (junit_item (item_view item.now))) }
+    ensures { OnOk result (Appends (O.contents out.old) (O.contents out.new)
+        (junit_item (item_view item.now))) }
 {
     write_junit_open(alloc, item, out)?;
     write_junit_findings(alloc, item.findings.as_slice(), out)?;
@@ -105,7 +112,8 @@ pub(crate) fn write_junit_item<O: Write>(alloc: Global, item: &Item, out: &mut O
 /// Writes what stands before what was found.
 #[tactic(auto, unfolding(crate::specs::Lines::junit_open))]
 fn write_junit_open<O: Write>(alloc: Global, item: &Item, out: &mut O) -> io::Result<()>
-    ensures { OnOk result (Appends (O.contents out.old) (O.contents out.new) (junit_open (item_view item.now))) }
+    ensures { OnOk result (Appends (O.contents out.old) (O.contents out.new)
+        (junit_open (item_view item.now))) }
 {
     let title = item.title(alloc)?;
     let element = item.verdict.element();
@@ -128,7 +136,8 @@ fn write_junit_findings<O: Write>(
     findings: &[Finding],
     out: &mut O,
 ) -> io::Result<()>
-    ensures { OnOk result (Appends (O.contents out.old) (O.contents out.new) (flat_map junit_finding (map finding_view findings.now))) }
+    ensures { OnOk result (Appends (O.contents out.old) (O.contents out.new)
+        (flat_map junit_finding (map finding_view findings.now))) }
 {
     for finding in findings {
         let finding_text = finding.finding_text(alloc)?;

@@ -36,7 +36,8 @@ pub fn write_items<O: Write>(
     items: &[Item],
     out: &mut O,
 ) -> io::Result<()>
-    ensures { OnOk result (Appends (O.contents out.old) (O.contents out.new) (output_text output (map item_view items.now))) }
+    ensures { OnOk result (Appends (O.contents out.old) (O.contents out.new)
+        (output_text output (map item_view items.now))) }
 {
     match output {
         Output::Text => write_text(alloc, items, false, out),
@@ -48,7 +49,8 @@ pub fn write_items<O: Write>(
 }
 
 fn write_text<O: Write>(alloc: Global, items: &[Item], colours: bool, out: &mut O) -> io::Result<()>
-    ensures { OnOk result (Appends (O.contents out.old) (O.contents out.new) (flat_map (text_item colours) (map item_view items.now))) }
+    ensures { OnOk result (Appends (O.contents out.old) (O.contents out.new)
+        (flat_map (text_item colours) (map item_view items.now))) }
 {
     for item in items {
         write_text_item(alloc, item, colours, out)?;
@@ -57,7 +59,8 @@ fn write_text<O: Write>(alloc: Global, items: &[Item], colours: bool, out: &mut 
 }
 
 fn write_github<O: Write>(alloc: Global, items: &[Item], out: &mut O) -> io::Result<()>
-    ensures { OnOk result (Appends (O.contents out.old) (O.contents out.new) (flat_map github_item (map item_view items.now))) }
+    ensures { OnOk result (Appends (O.contents out.old) (O.contents out.new)
+        (flat_map github_item (map item_view items.now))) }
 {
     for item in items {
         write_github_item(alloc, item, out)?;
@@ -66,7 +69,8 @@ fn write_github<O: Write>(alloc: Global, items: &[Item], out: &mut O) -> io::Res
 }
 
 fn write_junit<O: Write>(alloc: Global, items: &[Item], out: &mut O) -> io::Result<()>
-    ensures { OnOk result (Appends (O.contents out.old) (O.contents out.new) (output_text Junit (map item_view items.now))) }
+    ensures { OnOk result (Appends (O.contents out.old) (O.contents out.new)
+        (output_text Junit (map item_view items.now))) }
 {
     write_junit_head(items, out)?;
     write_junit_items(alloc, items, out)?;
@@ -74,7 +78,8 @@ fn write_junit<O: Write>(alloc: Global, items: &[Item], out: &mut O) -> io::Resu
 }
 
 fn write_junit_items<O: Write>(alloc: Global, items: &[Item], out: &mut O) -> io::Result<()>
-    ensures { OnOk result (Appends (O.contents out.old) (O.contents out.new) (flat_map junit_item (map item_view items.now))) }
+    ensures { OnOk result (Appends (O.contents out.old) (O.contents out.new)
+        (flat_map junit_item (map item_view items.now))) }
 {
     for item in items {
         write_junit_item(alloc, item, out)?;
@@ -83,7 +88,8 @@ fn write_junit_items<O: Write>(alloc: Global, items: &[Item], out: &mut O) -> io
 }
 
 fn write_junit_head<O: Write>(items: &[Item], out: &mut O) -> io::Result<()>
-    ensures { OnOk result (Appends (O.contents out.old) (O.contents out.new) (junit_head (map item_view items.now))) }
+    ensures { OnOk result (Appends (O.contents out.old) (O.contents out.new)
+        (junit_head (map item_view items.now))) }
 {
     let head = "<?xml version=\"1.0\" encoding=\"UTF-8\"?>\n<testsuite name=\"kubecel\" tests=\"";
     write_number(head, count(items), out)?;
