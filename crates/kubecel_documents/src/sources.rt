@@ -1,5 +1,7 @@
 //! The files that a command names.
 ghost use Rattle.kubecel_documents.specs.Reads.{AreRead, IsRead, document_view, with_indices, text_seen};
+ghost use Rattle.kube_types_refused.specs.declared.Refused.TheVariants.{Memory};
+ghost use Rattle.kubecel_documents.specs.declared.sources.Stop.TheVariants as variant;
 ghost use Rattle.serde_json.specs.View.{view};
 ghost use Rattle.std.specs.Prelude.{◌≡◌, ◌++◌, ⊤, ℕ, List, Option, IfOk, OnOk, map};
 
@@ -30,7 +32,7 @@ pub enum Stop {
 }
 
 impl From<Refused> for Stop {
-    ghost from_gives = { λ refused stop. stop ≡ Stop.Refused refused };
+    ghost from_gives = { λ refused stop. stop ≡ variant.Refused refused };
 
     fn from(refused: Refused) -> Stop {
         Stop::Refused(refused)
@@ -38,7 +40,7 @@ impl From<Refused> for Stop {
 }
 
 impl From<AllocError> for Stop {
-    ghost from_gives = { λ _ stop. stop ≡ Stop.Refused Refused.Memory };
+    ghost from_gives = { λ _ stop. stop ≡ variant.Refused Memory };
 
     fn from(_error: AllocError) -> Stop {
         Stop::Refused(Refused::Memory)
