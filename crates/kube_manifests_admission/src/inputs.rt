@@ -3,7 +3,7 @@ ghost use Rattle.kube_cel_vap.specs.Variables.{no_variables};
 ghost use Rattle.kube_manifests_admission.specs.Inputs.{inputs_view};
 ghost use Rattle.std.specs.Prelude.{◌≡◌};
 
-use kube_cel_vap_types::AdmissionRequest;
+use kube_cel_vap::AdmissionRequest;
 use serde_json::Value;
 
 /// What a policy is evaluated over. `None` says that something isn't known: an expression that asks for it is not judged. What is known to

@@ -2,7 +2,7 @@
 ghost use Rattle.cel_semantics.specs.Bindings.{binding, bindings_of};
 ghost use Rattle.cel_value.specs.Data.{map_of, no_entries};
 ghost use Rattle.cel_value.specs.View.{view};
-ghost use Rattle.kube_cel_vap_types.specs.Requests.{empty_request, request_value, request_view};
+ghost use Rattle.kube_cel_vap.specs.Requests.{empty_request, request_value, request_view};
 ghost use Rattle.kube_cel_vap.specs.Variables.{bindings_always, value_or_null, with_given};
 ghost use Rattle.kube_manifests_admission.specs.Inputs.{inputs_view};
 ghost use Rattle.kube_manifests_policies.specs.Inputs.{without_namespace};
@@ -14,7 +14,7 @@ ghost use Rattle.std.specs.Prelude.{◌≡◌, [], ℕ, IfErr, IfOk, List, map, 
 use crate::inputs::absent_inputs;
 use crate::scope::{PolicyContext, Scope};
 use cel::{Context, Entries, Value};
-use kube_cel_vap_types::{AdmissionRequest, request_value};
+use kube_cel_vap::{AdmissionRequest, request_value};
 use kube_manifests_admission::{Item, PolicyInputs};
 use kube_schema_values::bind_plain;
 use kube_types_refused::Refused;

@@ -13,7 +13,7 @@ mod verdict;
 
 pub use evaluation::evaluate_policy;
 pub use inputs::Input;
-pub use kube_cel_vap_types::{AdmissionRequest, GroupVersionKind, GroupVersionResource};
+pub use kube_cel_vap::{AdmissionRequest, GroupVersionKind, GroupVersionResource};
 pub use kube_manifests_admission::{FaultKind, PolicyFault, PolicyInputs};
 pub use kube_types_refused::Refused;
 pub use verdict::{ItemReport, PolicyDecision, PolicyResult, PolicyVerdict};

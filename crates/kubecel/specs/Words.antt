@@ -11,8 +11,8 @@ use Rattle.clap.specs.declared.builder.command.Command.TheViews.{out-Command}
 use Rattle.clap.specs.declared.builder.value_parser.ValueParser.TheVariants.{Names}
 use Rattle.clap.specs.declared.parser.matches.Found.{Found}
 use Rattle.kubecel_cli.specs.Commands.{AdmitData, Asked, CheckData, admit, check, review}
-use Rattle.kubecel_reports.specs.declared.output.Output.{Output}
-use Rattle.kubecel_reports.specs.declared.output.Output.TheVariants as form
+use Rattle.kubecel_io.specs.declared.output.Output.{Output}
+use Rattle.kubecel_io.specs.declared.output.Output.TheVariants as form
 use Rattle.std.specs.Borrow.{Bor}
 use Rattle.std.specs.Option.{option_map_or}
 use Rattle.std.specs.Prelude.{◌≡◌, ℕ, List, [], ◌∷◌, Bool, true, false, Some, if◌then◌else◌, option_map, unwrap_or, codes}
