@@ -1,0 +1,2 @@
+class Fault(Exception):
+    """Why a stage is refused."""
