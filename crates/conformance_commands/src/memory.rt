@@ -35,7 +35,7 @@ impl Sources for Files<'_> {
     }
 }
 
-/// A writer that takes so many writes, and refuses each further one.
+/// A writer that takes `room` writes, and refuses each further one.
 #[derive(Drop)]
 pub(crate) struct Narrow {
     room: u64,
@@ -43,7 +43,7 @@ pub(crate) struct Narrow {
 }
 
 impl Narrow {
-    /// A writer that takes so many writes.
+    /// A writer that takes `room` writes.
     pub(crate) fn new(alloc: Global, room: u64) -> Narrow {
         Narrow {
             room,

@@ -61,7 +61,7 @@ fn compare(
     }
 }
 
-/// The same of a run that isn't needed any more.
+/// Compares a run with the first one, as `compare` does, and drops it.
 fn hold(
     alloc: Global,
     asked: &str,

@@ -1,4 +1,4 @@
-//! What is said of a call.
+//! The doubts about a call.
 ghost use Rattle.std.specs.Prelude.{◌≡◌, ◌++◌, [], ◌∷◌, OnOk, if◌then◌else◌, map, option_map};
 ghost use Rattle.cel_syntax_ast.specs.Term.{term};
 ghost use Rattle.kube_manifests_review.specs.Calls as spec;
@@ -176,7 +176,7 @@ fn add_pattern(
     add_refused(alloc, text, second_text(receiver, args), doubts)
 }
 
-/// Adds what is said of a call in a form that there is.
+/// Adds the doubts about a call in a form that there is.
 fn add_known(
     alloc: Global,
     text: Text<'_>,
@@ -243,7 +243,7 @@ fn add_unknown(
     Ok(())
 }
 
-/// Adds what is said of a call.
+/// Adds the doubts about a call.
 pub(crate) fn add_call(
     alloc: Global,
     text: Text<'_>,

@@ -1,4 +1,4 @@
-//! What is said of the nodes of a rule's tree.
+//! The doubts about the nodes of a rule's tree.
 ghost use Rattle.std.specs.Prelude.{◌≡◌, ◌++◌, OnOk, map, option_map};
 ghost use Rattle.cel_syntax_ast.specs.Term.{term};
 ghost use Rattle.cel_value.specs.View.{view};
@@ -39,7 +39,7 @@ fn add_literal(
     Ok(())
 }
 
-/// Adds what is said of a call whose receiver may be there.
+/// Adds the doubts about a call whose receiver may be there.
 fn add_method(
     alloc: Global,
     text: Text<'_>,
@@ -58,7 +58,7 @@ fn add_method(
     Ok(())
 }
 
-/// Adds what is said of a node.
+/// Adds the doubts about a node.
 fn add_node(
     alloc: Global,
     text: Text<'_>,
@@ -89,7 +89,7 @@ fn add_node(
     Ok(())
 }
 
-/// Adds what is said of the nodes of a tree, in their order.
+/// Adds the doubts about the nodes of a tree, in their order.
 pub(crate) fn add_tree(
     alloc: Global,
     text: Text<'_>,

@@ -1,4 +1,4 @@
-//! What is said of the rules of a schema.
+//! The doubts about the rules of a schema.
 ghost use Rattle.std.specs.Prelude.{◌≡◌, ◌++◌, [], IfErr, OnOk, codes, map, option_map};
 ghost use Rattle.cel.specs.Program.{program_term};
 ghost use Rattle.cel_syntax_ast.specs.Term.{term};
@@ -49,7 +49,7 @@ fn add_kind(
     Ok(())
 }
 
-/// Adds what is said of a messageExpression, where there is one.
+/// Adds the doubts about a messageExpression, where there is one.
 fn add_message(
     alloc: Global,
     text: Text<'_>,
@@ -68,7 +68,7 @@ fn add_message(
     Ok(())
 }
 
-/// Adds what is said of the text of a rule.
+/// Adds the doubts about the text of a rule.
 fn add_text(
     alloc: Global,
     pointer: &str,
@@ -89,7 +89,7 @@ fn add_text(
     Ok(())
 }
 
-/// Adds what is said of the messageExpression of a rule, where it has one.
+/// Adds the doubts about the messageExpression of a rule, where it has one.
 fn add_message_text(
     alloc: Global,
     pointer: &str,
@@ -110,7 +110,7 @@ fn add_message_text(
     Ok(())
 }
 
-/// Adds what is said of a compiled rule.
+/// Adds the doubts about a compiled rule.
 fn add_compiled(
     alloc: Global,
     pointer: &str,
@@ -126,7 +126,7 @@ fn add_compiled(
     Ok(())
 }
 
-/// Adds what is said of a rule that may be compiled.
+/// Adds the doubts about a rule that may be compiled.
 fn add_result(
     alloc: Global,
     pointer: &str,
@@ -172,7 +172,7 @@ pub(crate) fn add_keys_of(
     Ok(())
 }
 
-/// Adds what is said of a rule.
+/// Adds the doubts about a rule.
 fn add_rule(
     alloc: Global,
     pointer: &str,
@@ -195,7 +195,7 @@ fn add_rule(
     Ok(())
 }
 
-/// Adds what is said of rules, in their order.
+/// Adds the doubts about rules, in their order.
 fn add_rules(
     alloc: Global,
     pointer: &str,
@@ -212,7 +212,7 @@ fn add_rules(
     Ok(())
 }
 
-/// Adds what is said of the rules of a schema, where it has any.
+/// Adds the doubts about the rules of a schema, where it has any.
 pub(crate) fn add_validations(
     alloc: Global,
     pointer: &str,
