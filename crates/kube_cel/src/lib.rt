@@ -33,19 +33,23 @@ mod raw;
 pub mod validation;
 
 pub use cel;
-pub use kube_cel_analysis::{AnalysisWarning, ScopeContext, WarningKind, check_rule_scope};
+pub use kube_cel_analysis::{
+    AnalysisWarning, ScopeContext, WarningKind, check_rule_scope, laws as analysis_laws,
+};
 pub use kube_cel_costs::{analyze_rule, estimate_rule_cost};
-pub use kube_cel_errors::{ErrorKind, ValidationError, ValidationErrors};
-pub use kube_cel_lint::{LintFinding, LintKind, lint_schema};
+pub use kube_cel_errors::{ErrorKind, ValidationError, ValidationErrors, laws as error_laws};
+pub use kube_cel_lint::{LintFinding, LintKind, laws as lint_laws, lint_schema};
 pub use kube_cel_vap::{
     AdmissionRequest, CompiledVapExpression, GroupVersionKind, GroupVersionResource, VapError,
     VapEvaluator, VapEvaluatorBuilder, VapExpression, VapResult, laws as policy_laws,
 };
+pub use kube_cel_vap_types::request_value;
 pub use kube_cel_verdicts::RootContext;
-pub use kube_functions::{Context, KubeCelExt};
+pub use kube_functions::{Context, KubeCelExt, KubeFunctions, laws as function_laws, printed};
 pub use kube_schema::{
     CompilationError, CompilationResult, CompiledSchema, Rule, RuleFault, SchemaFormat, SchemaNode,
-    apply_defaults, compile_schema, escape_field_name, unescape_field_name,
+    apply_defaults, bind, bind_plain, compile_schema, escape_field_name, laws as schema_laws,
+    unescape_field_name,
 };
 pub use kube_types::Refused;
 pub use validation::{Validator, validate, validate_compiled};

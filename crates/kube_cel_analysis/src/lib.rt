@@ -2,6 +2,7 @@
 #![tactic(auto)]
 
 pub mod cost;
+pub mod laws;
 pub mod scope;
 pub mod warning;
 

@@ -1,3 +1,4 @@
 pub mod Findings
 pub mod Pointers
 pub mod Lint
+pub mod Nodes
