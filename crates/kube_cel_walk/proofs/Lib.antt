@@ -1,6 +1,7 @@
 pub mod Equals
 pub mod Bound
 pub mod Ruled
+pub mod Reads
 pub mod Cut
 pub mod Entries
 pub mod Gathered

@@ -1,6 +1,13 @@
-//! Laws of the errors, each the contract of a call.
+//! Laws of errors and of verdicts, each the contract of a call.
+ghost use Rattle.cel_demand.specs.Alike.{NamesAlike};
+ghost use Rattle.cel_patterns.specs.Book.{Book};
+ghost use Rattle.cel_semantics.specs.Bindings.{Bindings};
 ghost use Rattle.kube_cel_walk.specs.Errors.{error_view, SameFields};
-ghost use Rattle.std.specs.Prelude.{◌↔◌, IsTrue};
+ghost use Rattle.kube_cel_walk.specs.Verdicts.{verdict};
+ghost use Rattle.kube_schema_rules.specs.Compilation.{Compiled, Malformed};
+ghost use Rattle.kube_schema_rules.specs.Demands.{rule_read};
+ghost use Rattle.serde_json.specs.Data.{Data as Json};
+ghost use Rattle.std.specs.Prelude.{◌↔◌, IsTrue, ◌≡◌, ℕ, List, Option, Result};
 
 use crate::error::ValidationError;
 
@@ -10,3 +17,10 @@ pub fn equal_by_five_fields(a: &ValidationError, b: &ValidationError) -> bool
 {
     a == b
 }
+
+/// The verdict of a rule depends only on what the rule and its messageExpression read of the values at a place.
+pub fn verdict_depends_on_what_is_read()
+    ensures { (b : Book) (e f : Bindings) (old : Option Json) (path : List ℕ) (rule : Result Compiled Malformed)
+        → NamesAlike (λ x. rule_read x rule) e f
+        → verdict b e old path rule ≡ verdict b f old path rule }
+{}

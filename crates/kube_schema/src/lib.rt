@@ -24,14 +24,15 @@
 pub mod binding;
 pub mod laws;
 
-pub use binding::bind_node;
+pub use binding::{bind_node, bind_node_part};
 pub use kube_schema_compiled::{
     CompiledSchema, SchemaNode, compile_schema, fill_node, filled_by_node, laws as table_laws,
 };
-pub use kube_schema_conversion::{SchemaFormat, bind, laws as bound_laws};
+pub use kube_schema_conversion::{SchemaFormat, bind, bind_part, laws as bound_laws};
 pub use kube_schema_defaults::{apply_defaults, filled_value, laws as filled_laws};
 pub use kube_schema_rules::{
-    CompilationError, CompilationResult, Rule, RuleFault, compile_rule, rule_values, rules_of,
+    CompilationError, CompilationResult, Demands, Rule, RuleFault, compile_rule, rule_values,
+    rules_of,
 };
 pub use kube_schema_values::{
     Refused, bind_plain, bind_text, escape_field_name, laws as name_laws, unescape_field_name,

@@ -3,3 +3,4 @@ pub mod Fields
 pub mod Found
 pub mod Read
 pub mod Resources
+pub mod Parts

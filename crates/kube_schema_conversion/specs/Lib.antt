@@ -2,3 +2,4 @@ pub mod Conversion
 pub mod Fields
 pub mod Formats
 pub mod Node
+pub mod Parts

@@ -15,7 +15,7 @@ use std::alloc::Global;
 use std::rc::Rc;
 
 /// The greatest depth at which a schema is looked at.
-const MAX_DEPTH: usize = 64;
+pub(crate) const MAX_DEPTH: usize = 64;
 
 /// The CEL value of a JSON value at a node of a schema that stands `depth` steps below the root.
 ///
@@ -53,7 +53,7 @@ pub fn bind_at<N: Node>(
 
 // The same, sharing the keys that were made before.
 #[cycle(bind)]
-fn bind_with<N: Node>(
+pub(crate) fn bind_with<N: Node>(
     alloc: Global,
     node: N,
     value: &Json,

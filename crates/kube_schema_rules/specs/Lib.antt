@@ -1,2 +1,4 @@
 pub mod Rules
 pub mod Compilation
+pub mod Reads
+pub mod Demands
