@@ -2,8 +2,20 @@
 //! that the library has for it; and what a grammar makes. The words name the files.
 #![tactic(auto)]
 
-mod keys;
+mod analysis;
+mod areas;
+mod case;
+mod causes;
+mod commands;
+mod errors;
+mod findings;
+mod made;
+mod memory;
+mod policies;
+mod schemas;
 mod subject;
+mod types;
+mod verdicts;
 
 use conformance_rows::run_files;
 use std::io;

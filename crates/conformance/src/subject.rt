@@ -1,8 +1,8 @@
 //! What is found for the fields of rows.
 
-use crate::keys;
-use conformance_rows::{Field, Found, Stop, Subject};
-use conformance_schemas::made;
+use crate::{areas, made};
+use conformance_rows::grammar::Maker;
+use conformance_rows::{Field, Found, Stop, Subject, keys};
 use kube_cel::cel::PatternBook;
 use std::alloc::Global;
 
@@ -37,23 +37,16 @@ impl Subject for Rows {
         field: &Field,
         found: &mut Found,
     ) -> Result<(), Stop> {
-        if conformance_language::find(alloc, given, field, &mut self.book, found)?
-            || conformance_schemas::find(alloc, given, field, found)?
-            || conformance_commands::find(alloc, given, field, found)?
-        {
-            Ok(())
-        } else {
-            Err(Stop::Unfit("a key that is known here"))
-        }
+        areas::find(alloc, given, field, &mut self.book, found)
     }
 
     fn generate(
         &mut self,
         alloc: Global,
-        grammar: &str,
+        maker: &mut Maker,
         found: &mut Found,
         report: &mut String,
     ) -> Result<(), Stop> {
-        made::run(alloc, grammar, found, report)
+        made::run(alloc, maker, found, report)
     }
 }

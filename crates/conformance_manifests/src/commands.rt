@@ -1,7 +1,7 @@
 //! Rows of the commands of `kubecel`, over files in memory.
 
-use crate::memory::{Files, MANY, Narrow};
-use conformance_rows::{Field, Found, Stop, given as rows};
+use crate::memory::Files;
+use conformance_rows::{Field, Found, MANY, Narrow, Stop, given as rows};
 use kubecel_cli::{Admit, Check, Command, Output, ReportFormat, run};
 use std::alloc::{AllocError, Global};
 
@@ -136,7 +136,7 @@ pub(crate) fn find(
     if field.key.as_str() == "each write refused" {
         return refuse_each_write(alloc, given, found);
     }
-    let writes = rows::number(given, "refused write", MANY)?.saturating_sub(1);
+    let writes = rows::number_or(given, "refused write", MANY)?.saturating_sub(1);
     let ran = run_given(alloc, given, writes)?;
     if field.key.as_str() == "status" {
         let status = ran.status;

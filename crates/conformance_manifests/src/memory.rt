@@ -1,12 +1,9 @@
-//! Files and writers in memory.
+//! Files in memory.
 
 use conformance_rows::{Field, given};
 use kubecel_cli::{Refused, Sources};
 use std::alloc::Global;
 use std::io;
-
-/// A number that no count of writes comes to.
-pub(crate) const MANY: u64 = 1_000_000;
 
 /// The files that a row gives: a path is the key of its text.
 #[derive(Drop)]
@@ -20,41 +17,5 @@ impl Sources for Files<'_> {
             Some(text) => Ok(Ok(String::from_str(alloc, text)?)),
             None => Ok(Err(io::Error::from(io::ErrorKind::NotFound))),
         }
-    }
-}
-
-/// A writer that takes a number of writes, and refuses each further one.
-#[derive(Drop)]
-pub(crate) struct Narrow {
-    room: u64,
-    pub(crate) bytes: Vec<u8>,
-}
-
-impl Narrow {
-    /// A writer that takes a number of writes.
-    pub(crate) fn new(alloc: Global, room: u64) -> Narrow {
-        Narrow {
-            room,
-            bytes: Vec::new(alloc),
-        }
-    }
-}
-
-impl io::Write for Narrow {
-    fn write(&mut self, buf: &[u8]) -> io::Result<usize> {
-        if self.room == 0 {
-            return Err(io::Error::from(io::ErrorKind::Other));
-        }
-        match self.bytes.extend_from_slice(buf) {
-            Ok(()) => {
-                self.room -= 1;
-                Ok(buf.len())
-            }
-            Err(_) => Err(io::Error::from(io::ErrorKind::OutOfMemory)),
-        }
-    }
-
-    fn flush(&mut self) -> io::Result<()> {
-        Ok(())
     }
 }

@@ -1,6 +1,7 @@
 //! What is found for the fields of rows.
 
 use crate::commands;
+use conformance_rows::grammar::Maker;
 use conformance_rows::{Field, Found, Stop, Subject};
 use std::alloc::Global;
 
@@ -31,7 +32,7 @@ impl Subject for Rows {
     fn generate(
         &mut self,
         _alloc: Global,
-        _grammar: &str,
+        _maker: &mut Maker,
         _found: &mut Found,
         _report: &mut String,
     ) -> Result<(), Stop> {

@@ -1,24 +1,32 @@
 //! The files that a program's arguments name.
 
 use crate::found::Found;
+use crate::grammar::Maker;
 use crate::judge::{FAILURE, Report, Subject, Tally, judge_text, report_stop};
 use crate::row::Stop;
+use crate::texts::push_line;
 use std::alloc::Global;
 use std::io::Write;
 use std::process::ExitCode;
 use std::{env, fs, io};
 
-/// Judges what the grammar of a file makes.
+/// Where the sequence of numbers begins by which texts are made.
+const SEED: u64 = 20_261_125;
+
+/// Judges what is made of the grammar of a file. Where something doesn't hold, the text that was made last is reported.
 fn judge_grammar<S: Subject>(
     alloc: Global,
     text: &str,
     subject: &mut S,
     report: &mut Report<'_>,
 ) -> Result<Tally, Stop> {
+    let mut maker = Maker::new(alloc, text, SEED)?;
     let mut found = Found::new(alloc);
-    match subject.generate(alloc, text, &mut found, &mut report.text) {
+    write!(report.text, "seed {SEED}\n")?;
+    match subject.generate(alloc, &mut maker, &mut found, &mut report.text) {
         Ok(()) => Ok(Tally::default()),
         Err(stop) => {
+            push_line(&mut found.text, maker.text.as_str())?;
             report_stop(stop, &mut found)?;
             report.write_report(0, found.text.as_str())?;
             Ok(FAILURE)

@@ -1,6 +1,7 @@
 //! What a row gives.
 
 use crate::row::{Field, Stop};
+use crate::texts::push_times;
 use serde_json::Value;
 use std::alloc::Global;
 
@@ -22,14 +23,37 @@ pub fn needed<'a>(given: &'a [Field], key: &'static str) -> Result<&'a str, Stop
     }
 }
 
-/// The number that was given last by a key, and another one where none was.
-pub fn number(given: &[Field], key: &'static str, other: u64) -> Result<u64, Stop> {
+/// The number that was given last by a key, if any was.
+pub fn number(given: &[Field], key: &'static str) -> Result<Option<u64>, Stop> {
     match text(given, key) {
         Some(text) => match text.parse::<u64>() {
-            Ok(number) => Ok(number),
+            Ok(number) => Ok(Some(number)),
             Err(_) => Err(Stop::Unfit(key)),
         },
-        None => Ok(other),
+        None => Ok(None),
+    }
+}
+
+/// The number that was given last by a key, and another one where none was.
+pub fn number_or(given: &[Field], key: &'static str, other: u64) -> Result<u64, Stop> {
+    Ok(number(given, key)?.unwrap_or(other))
+}
+
+/// How many are wanted, where a row says so.
+pub fn limit(given: &[Field]) -> Result<Option<usize>, Stop> {
+    match number(given, "limit")? {
+        Some(limit) => Ok(Some(limit as usize)),
+        None => Ok(None),
+    }
+}
+
+/// Whether the standard functions are known, and whether those of Kubernetes are.
+pub fn function_sets(given: &[Field]) -> Result<(bool, bool), Stop> {
+    match text(given, "functions") {
+        Some("standard") => Ok((true, false)),
+        Some("kubernetes") => Ok((false, true)),
+        Some("both") | None => Ok((true, true)),
+        Some(_) => Err(Stop::Unfit("functions")),
     }
 }
 
@@ -41,6 +65,11 @@ pub fn json(alloc: Global, given: &[Field], key: &'static str) -> Result<Option<
     }
 }
 
+/// The JSON that was given last by a key, which has to be there.
+pub fn json_needed(alloc: Global, given: &[Field], key: &'static str) -> Result<Value, Stop> {
+    json_of(alloc, key, needed(given, key)?)
+}
+
 /// The value of a JSON text, which has this key.
 pub fn json_of(alloc: Global, key: &'static str, text: &str) -> Result<Value, Stop> {
     match Value::from_str(alloc, text) {
@@ -48,4 +77,24 @@ pub fn json_of(alloc: Global, key: &'static str, text: &str) -> Result<Value, St
         Err(error) if error.is_memory() => Err(Stop::Memory),
         Err(_) => Err(Stop::Unfit(key)),
     }
+}
+
+/// Writes a text of as many levels as a row gave, each of which puts `before` and `after` around what stands `within`.
+fn push_levels(given: &[Field], out: &mut String) -> Result<(), Stop> {
+    let levels = number_or(given, "levels", 0)? as usize;
+    push_times(out, needed(given, "before")?, levels)?;
+    out.push_str(needed(given, "within")?)?;
+    Ok(push_times(out, needed(given, "after")?, levels)?)
+}
+
+/// Writes the text of CEL that a row gave last, whole or by its levels.
+pub fn push_source(given: &[Field], out: &mut String) -> Result<(), Stop> {
+    for field in given.iter().rev() {
+        match field.key.as_str() {
+            "text" | "expression" => return Ok(out.push_str(field.text.as_str())?),
+            "levels" => return push_levels(given, out),
+            _ => {}
+        }
+    }
+    Err(Stop::Unfit("text"))
 }

@@ -19,8 +19,17 @@ struct Symbol {
 
 /// A grammar.
 #[derive(Drop)]
-pub struct Grammar {
+struct Grammar {
     symbols: Vec<Symbol>,
+}
+
+/// Texts that are made of a grammar, one after another.
+#[derive(Drop)]
+pub struct Maker {
+    grammar: Grammar,
+    random: Random,
+    /// The text that was made last.
+    pub text: String,
 }
 
 /// How many names a text may become texts of, before it has to end.
@@ -52,7 +61,7 @@ impl Symbol {
 
 impl Grammar {
     /// The grammar that a text writes.
-    pub fn read(alloc: Global, text: &str) -> Result<Grammar, Stop> {
+    fn read(alloc: Global, text: &str) -> Result<Grammar, Stop> {
         let mut grammar = Grammar {
             symbols: Vec::new(alloc),
         };
@@ -97,8 +106,24 @@ impl Grammar {
         Err(Stop::Unfit("a name of the grammar"))
     }
 
+    /// What a text becomes that begins with a name and the bracket that closes it.
+    fn expanded(
+        &self,
+        alloc: Global,
+        random: &mut Random,
+        text: &str,
+        may_grow: bool,
+    ) -> Result<String, Stop> {
+        let Some((name, behind)) = text.split_once('⟩') else {
+            return Err(Stop::Unfit("a bracket of the grammar"));
+        };
+        let mut next = String::from_str(alloc, self.choose(random, name, may_grow)?)?;
+        next.push_str(behind)?;
+        Ok(next)
+    }
+
     /// A text of a name, in which at most a number of names, and then as few as can be, become texts that name others.
-    pub fn made(
+    fn made(
         &self,
         alloc: Global,
         random: &mut Random,
@@ -112,14 +137,26 @@ impl Grammar {
                 made.push_str(rest.as_str())?;
                 return Ok(made);
             };
-            let Some((name, behind)) = behind.split_once('⟩') else {
-                return Err(Stop::Unfit("a bracket of the grammar"));
-            };
             made.push_str(before)?;
-            let mut next = String::from_str(alloc, self.choose(random, name, turn < most)?)?;
-            next.push_str(behind)?;
-            rest = next;
+            rest = self.expanded(alloc, random, behind, turn < most)?;
         }
         Err(Stop::Unfit("a text of the grammar that ends"))
+    }
+}
+
+impl Maker {
+    /// No text is made yet of the grammar that a text writes.
+    pub(crate) fn new(alloc: Global, grammar: &str, seed: u64) -> Result<Maker, Stop> {
+        Ok(Maker {
+            grammar: Grammar::read(alloc, grammar)?,
+            random: Random::new(seed),
+            text: String::new(alloc),
+        })
+    }
+
+    /// Makes the next text of a name, in which at most a number of names become texts that name others.
+    pub fn make(&mut self, alloc: Global, name: &str, most: usize) -> Result<(), Stop> {
+        self.text = self.grammar.made(alloc, &mut self.random, name, most)?;
+        Ok(())
     }
 }

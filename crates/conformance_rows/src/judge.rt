@@ -1,6 +1,7 @@
 //! Running rows.
 
 use crate::found::Found;
+use crate::grammar::Maker;
 use crate::reader::read_rows;
 use crate::row::{Fault, Field, Stop};
 use crate::texts::push_all;
@@ -23,11 +24,11 @@ pub trait Subject {
         found: &mut Found,
     ) -> Result<(), Stop>;
 
-    /// Judges what a grammar makes, and writes how much of it holds. Where something doesn't, that is reported by `found`.
+    /// Judges what is made of a grammar, and writes how much of it holds. Where something doesn't, that is reported by `found`.
     fn generate(
         &mut self,
         alloc: Global,
-        grammar: &str,
+        maker: &mut Maker,
         found: &mut Found,
         report: &mut String,
     ) -> Result<(), Stop>;
@@ -35,10 +36,10 @@ pub trait Subject {
 
 /// How many checks were made, and how many of them failed.
 #[derive(Clone, Copy, Default)]
-pub struct Tally {
-    pub rows: usize,
-    pub checks: usize,
-    pub failures: usize,
+pub(crate) struct Tally {
+    pub(crate) rows: usize,
+    pub(crate) checks: usize,
+    pub(crate) failures: usize,
 }
 
 /// A row without a check.
@@ -49,7 +50,7 @@ const ROW: Tally = Tally {
 };
 
 /// Something that isn't a row and failed.
-pub const FAILURE: Tally = Tally {
+pub(crate) const FAILURE: Tally = Tally {
     rows: 0,
     checks: 0,
     failures: 1,
@@ -57,7 +58,7 @@ pub const FAILURE: Tally = Tally {
 
 impl Tally {
     /// This and another, added up.
-    pub fn with(self, other: Tally) -> Tally {
+    pub(crate) fn with(self, other: Tally) -> Tally {
         Tally {
             rows: self.rows.saturating_add(other.rows),
             checks: self.checks.saturating_add(other.checks),
@@ -66,7 +67,7 @@ impl Tally {
     }
 
     /// Writes how many rows there are and how many of their checks hold.
-    pub fn write_report(self, what: &str, report: &mut String) -> Result<(), Stop> {
+    pub(crate) fn write_report(self, what: &str, report: &mut String) -> Result<(), Stop> {
         let (rows, checks, failures) = (self.rows, self.checks, self.failures);
         if failures == 0 {
             write!(report, "{what}: {rows} rows, {checks} checks hold\n")?;

@@ -1,5 +1,7 @@
 //! Schemas and values of many levels. JSON texts nest 127 levels at most, and a level of `properties` or of branches takes two.
 
+use crate::found::Found;
+use crate::given::{json, json_of};
 use crate::row::{Field, Stop};
 use serde_json::{Map, Value};
 use std::alloc::{AllocError, Global};
@@ -71,7 +73,7 @@ fn value_above(alloc: Global, step: &str, below: Value) -> Result<Value, AllocEr
 }
 
 /// A schema that stands a number of levels below another.
-pub fn nested_schema(alloc: Global, nesting: Nesting, inner: Value) -> Result<Value, AllocError> {
+fn nested_schema(alloc: Global, nesting: Nesting, inner: Value) -> Result<Value, AllocError> {
     let mut schema = inner;
     for _ in 0..nesting.levels {
         schema = schema_above(alloc, nesting.step, schema)?;
@@ -80,10 +82,53 @@ pub fn nested_schema(alloc: Global, nesting: Nesting, inner: Value) -> Result<Va
 }
 
 /// A value that stands a number of levels below another.
-pub fn nested_value(alloc: Global, nesting: Nesting, inner: Value) -> Result<Value, AllocError> {
+fn nested_value(alloc: Global, nesting: Nesting, inner: Value) -> Result<Value, AllocError> {
     let mut value = inner;
     for _ in 0..nesting.levels {
         value = value_above(alloc, nesting.step, value)?;
     }
     Ok(value)
+}
+
+/// The value that a row gave last by a key, nested as the row says.
+pub fn value_given(
+    alloc: Global,
+    given: &[Field],
+    key: &'static str,
+) -> Result<Option<Value>, Stop> {
+    let nesting = nesting_given(given)?;
+    match json(alloc, given, key)? {
+        Some(value) => Ok(Some(nested_value(alloc, nesting, value)?)),
+        None => Ok(None),
+    }
+}
+
+/// The object that a row gave last, nested as the row says; an empty one where it gave none.
+pub fn object_given(alloc: Global, given: &[Field]) -> Result<Value, Stop> {
+    match value_given(alloc, given, "object")? {
+        Some(object) => Ok(object),
+        None => Ok(Value::Object(Map::new(alloc))),
+    }
+}
+
+/// The schema that a row gave last, nested as the row says; an empty one where it gave none.
+pub fn schema_given(alloc: Global, given: &[Field]) -> Result<Value, Stop> {
+    let nesting = nesting_given(given)?;
+    match json(alloc, given, "schema")? {
+        Some(schema) => Ok(nested_schema(alloc, nesting, schema)?),
+        None => Ok(Value::Object(Map::new(alloc))),
+    }
+}
+
+/// Finds a field's JSON, nested as the row says.
+pub fn find_nested(
+    alloc: Global,
+    given: &[Field],
+    field: &Field,
+    found: &mut Found,
+) -> Result<(), Stop> {
+    let nesting = nesting_given(given)?;
+    let value = json_of(alloc, "filled", field.text.as_str())?;
+    let value = nested_value(alloc, nesting, value)?;
+    found.end_json(&value, "filled")
 }

@@ -1,6 +1,7 @@
 //! Reading a file of rows.
 
 use crate::row::{Fault, Field};
+use crate::texts::push_line;
 use serde_json::Value;
 use std::alloc::{AllocError, Global};
 
@@ -102,10 +103,7 @@ impl Reader {
     fn go_on(&mut self, text: &str) -> Result<Option<&'static str>, AllocError> {
         match self.fields.last_mut() {
             Some(field) if self.in_block => {
-                if !field.text.is_empty() {
-                    field.text.push('\n')?;
-                }
-                field.text.push_str(text)?;
+                push_line(&mut field.text, text)?;
                 Ok(None)
             }
             _ => Ok(Some("no field's text goes on here")),

@@ -19,6 +19,63 @@ pub fn push_line(text: &mut String, line: &str) -> Result<(), AllocError> {
     text.push_str(line)
 }
 
+/// `yes` or `no`.
+pub fn yes_or_no(holds: bool) -> &'static str {
+    if holds { "yes" } else { "no" }
+}
+
+/// Begins a line for a thing that is there.
+pub fn push_flag(text: &mut String, name: &str, is_there: bool) -> Result<(), AllocError> {
+    if is_there {
+        push_line(text, name)?;
+    }
+    Ok(())
+}
+
+/// Begins a line for a number that is there.
+pub fn push_number(text: &mut String, name: &str, number: Option<u64>) -> Result<(), AllocError> {
+    if let Some(number) = number {
+        push_line(text, name)?;
+        write!(text, ": {number}")?;
+    }
+    Ok(())
+}
+
+/// Begins a line for a number of things, where there are some.
+pub fn push_count(text: &mut String, name: &str, count: usize) -> Result<(), AllocError> {
+    if count > 0 {
+        push_number(text, name, Some(count as u64))?;
+    }
+    Ok(())
+}
+
+/// Puts bytes in hexadecimal digits behind a text, two for each behind a blank.
+pub fn push_bytes(text: &mut String, bytes: &[u8]) -> Result<(), AllocError> {
+    for byte in bytes {
+        write!(text, " {byte:02x}")?;
+    }
+    Ok(())
+}
+
+/// The text that bytes are.
+pub fn text_of(bytes: &[u8]) -> &str {
+    match str::from_utf8(bytes) {
+        Ok(text) => text,
+        Err(_) => "no UTF-8",
+    }
+}
+
+/// Puts names behind a text, with commas between them.
+pub fn push_names(text: &mut String, names: &[String]) -> Result<(), AllocError> {
+    for name in names {
+        if !text.is_empty() {
+            text.push_str(", ")?;
+        }
+        text.push_str(name.as_str())?;
+    }
+    Ok(())
+}
+
 /// Puts a text as JSON behind a text.
 pub fn push_quoted(alloc: Global, text: &mut String, content: &str) -> Result<(), AllocError> {
     let value = Value::String(String::from_str(alloc, content)?);
@@ -40,6 +97,24 @@ pub fn push_member(
 ) -> Result<(), AllocError> {
     push_json(object, key, "")?;
     push_quoted(alloc, object, text)
+}
+
+/// Puts a member that is a text, if there is one, into a JSON object that is being written.
+pub fn push_optional_member(
+    alloc: Global,
+    object: &mut String,
+    key: &str,
+    text: &Option<String>,
+) -> Result<(), AllocError> {
+    match text {
+        Some(text) => push_member(alloc, object, key, text.as_str()),
+        None => Ok(()),
+    }
+}
+
+/// Puts a member that is true or false into a JSON object that is being written.
+pub fn push_bool(object: &mut String, key: &str, holds: bool) -> Result<(), AllocError> {
+    push_json(object, key, if holds { "true" } else { "false" })
 }
 
 /// A text, repeated.

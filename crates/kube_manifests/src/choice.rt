@@ -42,7 +42,8 @@ fn version_of<'s>(
     api_version: &str,
     kind: &str,
 ) -> Option<&'s CrdVersion>
-    ensures { option_map (λ v. version_view v.now) result ≡ find (is_of_version api_version.now kind.now) (map version_view versions.now) }
+    ensures { option_map (λ v. version_view v.now) result
+        ≡ find (is_of_version api_version.now kind.now) (map version_view versions.now) }
 {
     for version in versions {
         if version.is_of_version(api_version, kind) {

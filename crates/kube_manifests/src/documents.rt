@@ -50,7 +50,8 @@ fn add_items(
     versions: &mut Vec<CrdVersion>,
 ) -> Result<Result<(), CrdError>, Refused>
     ensures added { IfOk result (λ r. added_view (map version_view versions.new.items) r
-        ≡ each (add_item (view_of 65) document) 0 (items_view items.now) (map version_view versions.old.items)) }
+        ≡ each (add_item (view_of 65) document) 0 (items_view items.now)
+        (map version_view versions.old.items)) }
     ensures memory { IfErr result (λ e. e ≡ Refused.Memory) }
 {
     for (index, item) in items.iter().enumerate() {
@@ -97,7 +98,8 @@ fn add_versions(
     versions: &mut Vec<CrdVersion>,
 ) -> Result<Result<(), CrdError>, Refused>
     ensures added { IfOk result (λ r. added_view (map version_view versions.new.items) r
-        ≡ each (add_version (view_of 65) (location_view location) (crd_view crd.entry)) 0 (items_view entries.now) (map version_view versions.old.items)) }
+        ≡ each (add_version (view_of 65) (location_view location) (crd_view crd.entry)) 0
+        (items_view entries.now) (map version_view versions.old.items)) }
     ensures memory { IfErr result (λ e. e ≡ Refused.Memory) }
 {
     for (index, entry) in entries.iter().enumerate() {
@@ -119,7 +121,8 @@ fn add_version(
     versions: &mut Vec<CrdVersion>,
 ) -> Result<Result<(), CrdError>, Refused>
     ensures added { IfOk result (λ r. added_view (map version_view versions.new.items) r
-        ≡ add_version (view_of 65) (location_view location) (crd_view crd.entry) index (view version.now) (map version_view versions.old.items)) }
+        ≡ add_version (view_of 65) (location_view location) (crd_view crd.entry) index (view version.now)
+        (map version_view versions.old.items)) }
     ensures memory { IfErr result (λ e. e ≡ Refused.Memory) }
 {
     let entry = match entry_parts(version) {
@@ -140,7 +143,8 @@ fn compiled_version(
     crd: CrdParts<'_>,
     entry: EntryParts<'_>,
 ) -> Result<CrdVersion, Refused>
-    ensures version { IfOk result (λ v. version_view v ≡ version_of (view_of 65) (crd_view crd.entry) (entry_view entry.entry)) }
+    ensures version { IfOk result (λ v. version_view v
+        ≡ version_of (view_of 65) (crd_view crd.entry) (entry_view entry.entry)) }
     ensures memory { IfErr result (λ e. e ≡ Refused.Memory) }
 {
     let schema = compile_schema(alloc, entry.schema)?;
@@ -176,7 +180,8 @@ fn has_kind(versions: &[CrdVersion], group: &str, kind: &str) -> bool
 
 /// Whether another version has the apiVersion and kind of this one.
 fn has_version(versions: &[CrdVersion], version: &CrdVersion) -> bool
-    ensures { result ≡ list_any (is_of_version (api_version (version_view version.now)) (version_view version.now).kind) (map version_view versions.now) }
+    ensures { result ≡ list_any (is_of_version (api_version (version_view version.now))
+        (version_view version.now).kind) (map version_view versions.now) }
 {
     for other in versions {
         if other.is_of_version(

@@ -10,22 +10,26 @@ ghost use Rattle.std.specs.Prelude.{◌≡◌, ◌++◌, List, Ok, Option};
 
 /// No errors are reported of an object only where a version is found for it, and that version's schema finds none.
 pub fn no_errors_only_where_a_schema_finds_none()
-    ensures { (versions : List (Version Data)) (object : Data) (old : Option Data) → IsJudgement versions object old (Judged (Ok tt))
+    ensures { (versions : List (Version Data)) (object : Data) (old : Option Data)
+        → IsJudgement versions object old (Judged (Ok tt))
         → (v : Version Data) × (chosen_version versions object ≡ Ok v) × FindsNothing v object old }
 {}
 
 /// The version that is found for an object is one of the set's, it is served, and the object has its apiVersion and kind.
 pub fn the_version_found_is_the_objects_own()
-    ensures { (versions : List (Version Data)) (object : Data) (v : Version Data) → chosen_version versions object ≡ Ok v → IsOwn versions object v }
+    ensures { (versions : List (Version Data)) (object : Data) (v : Version Data)
+        → chosen_version versions object ≡ Ok v → IsOwn versions object v }
 {}
 
 /// Where documents have no fault, their versions are those that stand in them, one document after another, and no others.
 pub fn a_set_has_the_versions_of_its_documents()
-    ensures { (documents : Items) (versions : List (Version Data)) → versions_of documents ≡ Ok versions → versions ≡ from_each_item document_versions documents }
+    ensures { (documents : Items) (versions : List (Version Data))
+        → versions_of documents ≡ Ok versions → versions ≡ from_each_item document_versions documents }
 {}
 
 /// Which version judges an object doesn't rest on the order of two groups of documents.
 pub fn documents_in_either_order()
-    ensures { (ds es : List Data) (versions others : List (Version Data)) → versions_of (items_of (ds ++ es)) ≡ Ok versions
-        → versions_of (items_of (es ++ ds)) ≡ Ok others → (value : Data) → chosen_version versions value ≡ chosen_version others value }
+    ensures { (ds es : List Data) (versions others : List (Version Data))
+        → versions_of (items_of (ds ++ es)) ≡ Ok versions → versions_of (items_of (es ++ ds)) ≡ Ok others
+        → (value : Data) → chosen_version versions value ≡ chosen_version others value }
 {}

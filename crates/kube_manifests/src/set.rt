@@ -33,7 +33,8 @@ impl CrdSet {
         alloc: Global,
         documents: &[Value],
     ) -> Result<Result<CrdSet, CrdError>, Refused>
-        ensures versions { IfOk result (λ r. outcome_view r ≡ all_compiled (versions_of (items_view documents.now))) }
+        ensures versions { IfOk result (λ r. outcome_view r
+            ≡ all_compiled (versions_of (items_view documents.now))) }
         ensures memory { IfErr result (λ e. e ≡ Refused.Memory) }
     {
         let mut versions = Vec::new(alloc);
@@ -57,8 +58,10 @@ impl CrdSet {
         object: &Value,
         old: Option<&Value>,
     ) -> Result<Judgement, Refused>
-        ensures reason { IfOk result (λ j. reason_of j ≡ why_not (chosen_version (set_view self.now) (view object.now))) }
-        ensures judgement { IfOk result (λ j. (versions : List (Version Data)) → set_view self.now ≡ map with_tree versions
+        ensures reason { IfOk result (λ j. reason_of j
+            ≡ why_not (chosen_version (set_view self.now) (view object.now))) }
+        ensures judgement { IfOk result (λ j. (versions : List (Version Data))
+            → set_view self.now ≡ map with_tree versions
             → IsJudgement versions (view object.now) (option_map (λ v. view v.now) old.entry) j) }
         ensures memory { IfErr result (λ e. e ≡ Refused.Memory) }
     {

@@ -20,8 +20,10 @@ pub struct CrdVersion {
     pub(crate) schema: CompiledSchema,
     /// How many rules the schema has.
     pub(crate) rules: u64,
-    ghost prefixed: { string_bytes prefix ≡ group_prefix (string_bytes root.api_group) } by { Prim.hlevel props },
-    ghost named: { string_bytes root.api_version ≡ group_prefix (string_bytes root.api_group) ++ string_bytes name } by { Prim.hlevel props },
+    ghost prefixed: { string_bytes prefix
+        ≡ group_prefix (string_bytes root.api_group) } by { Prim.hlevel props },
+    ghost named: { string_bytes root.api_version
+        ≡ group_prefix (string_bytes root.api_group) ++ string_bytes name } by { Prim.hlevel props },
     ghost right: { rules ≡ saturated_count (rules_in (whole schema)) },
 }
 

@@ -9,10 +9,10 @@ use Rattle.kube_cel_vap.proofs.Bound.{bound, meaning_same}
 use Rattle.kube_cel_vap.specs.Results.{outcome_in, policy_library}
 use Rattle.kube_cel_vap.specs.Variables.{Variables, bindings_always, policy_bindings, with_given}
 use Rattle.kube_manifests_policies.specs.Inputs.{first_missing, without_namespace}
-use Rattle.kube_manifests_policies.specs.Policies.{ItemData, item_view}
+use Rattle.kube_manifests_admission.specs.Policies.{ItemData, item_view}
 use Rattle.kube_manifests_policies.specs.Scopes.{Alike, ScopeData, evaluation, fault_report, first_stop, outcome_or_reason, outcome_unless, stopped_by, variable_step, variables_after, with_no_values, with_stored, with_values, with_variable, without_value}
 use Rattle.kube_manifests_policies.specs.Verdicts.{ItemReportData, with_report}
-use Rattle.kube_manifests_policies.specs.declared.item.Item.{Item}
+use Rattle.kube_manifests_admission.specs.declared.item.Item.{Item}
 use Rattle.kube_schema_values.specs.Plain.{plain}
 use Rattle.serde_json.specs.Data.{Data as Json}
 use Rattle.std.proofs.Common.{◌≡◌, ℕ, ◌+◌, ◌<◌, ◌≤◌, add-one, List, [], ◌∷◌, ◌++◌, length, get_or, drop, drop-cons, map, Option, Some, None, Result, Ok, Err, codes, if◌then◌else◌, refl, sym, ap, ◌∙◌, subst}

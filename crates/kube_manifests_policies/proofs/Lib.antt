@@ -1,6 +1,5 @@
 pub mod Alike
 pub mod Decided
-pub mod Entries
 pub mod Messages
 pub mod Near
 pub mod Passed

@@ -3,7 +3,7 @@ use Rattle.cel_semantics.specs.Outcome.{Outcome}
 use Rattle.cel_syntax_ast.specs.Term.{Term}
 use Rattle.kube_cel_vap.specs.Expressions.{◌>>=◌}
 use Rattle.kube_manifests_policies.specs.Reports.{false_message, outcome_report, final_report, validation_with, with_message}
-use Rattle.kube_manifests_policies.specs.Policies.{ItemData}
+use Rattle.kube_manifests_admission.specs.Policies.{ItemData}
 use Rattle.kube_manifests_policies.specs.Scopes.{Reach}
 use Rattle.kube_manifests_policies.specs.Verdicts.{ItemReportData}
 use Rattle.std.proofs.Common.{◌≡◌, Option, option_map, Ok, ap, ◌∙◌}

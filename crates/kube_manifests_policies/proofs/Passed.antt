@@ -4,7 +4,7 @@ use Rattle.kube_cel_vap.specs.Variables.{Variables}
 use Rattle.kube_manifests_policies.specs.Inputs.{without_namespace}
 use Rattle.kube_manifests_policies.specs.Reports.{policy_verdict, results_as, verdict_after, verdict_in}
 use Rattle.kube_manifests_policies.specs.Laws.{IsJudged}
-use Rattle.kube_manifests_policies.specs.Policies.{PolicyData}
+use Rattle.kube_manifests_admission.specs.Policies.{PolicyData}
 use Rattle.kube_manifests_policies.specs.Scopes.{Reach, first_scope, outcome_or_reason, scope_for, variables_after}
 use Rattle.kube_manifests_policies.specs.Verdicts.{Labelled, after_conditions, any_is}
 use Rattle.kube_manifests_policies.specs.declared.reports.Subject.TheVariants.{Annotation, Condition, Validation}

@@ -15,7 +15,7 @@ use Rattle.kube_cel_vap.specs.Results.{outcome_in, policy_library}
 use Rattle.kube_manifests_policies.proofs.Near.{Members, Near, near}
 use Rattle.kube_manifests_policies.specs.Inputs.{first_missing}
 use Rattle.kube_manifests_policies.specs.Laws.{HasVariables, IsApartFrom, SameVariables}
-use Rattle.kube_manifests_policies.specs.Policies.{ItemData}
+use Rattle.kube_manifests_admission.specs.Policies.{ItemData}
 use Rattle.kube_manifests_policies.specs.Scopes.{Reach, ScopeData, evaluation, fault_report, first_stop, outcome_or_reason, outcome_unless, stopped_by, stops, tree_or, variable_step, why_not, with_stored, with_values, with_variable, without_value}
 use Rattle.kube_manifests_policies.specs.Uses.{asks}
 use Rattle.kube_manifests_policies.specs.Verdicts.{Labelled, ItemReportData, erred, with_report}

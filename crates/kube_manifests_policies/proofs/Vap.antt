@@ -12,7 +12,7 @@ use Rattle.kube_cel_vap.specs.Results as results
 use Rattle.kube_cel_vap.specs.Variables.{Variables, policy_bindings}
 use Rattle.kube_manifests_policies.specs.Reports.{false_message, message_tree_report, outcome_report, policy_verdict, result_as, results_as, final_report, truth_report, validation_report, validation_with, verdict_in, with_message}
 use Rattle.kube_manifests_policies.specs.Laws.{IsJudgedIn, expression_of, message_report, of_validations, vap_result}
-use Rattle.kube_manifests_policies.specs.Policies.{ItemData}
+use Rattle.kube_manifests_admission.specs.Policies.{ItemData}
 use Rattle.kube_manifests_policies.specs.Scopes.{Reach, ScopeData, first_scope, outcome_or_reason, outcome_unless, tree_or, why_not}
 use Rattle.kube_manifests_policies.specs.Verdicts.{erred, with_report}
 use Rattle.kube_manifests_policies.specs.declared.reports.Subject.TheVariants.{Validation}

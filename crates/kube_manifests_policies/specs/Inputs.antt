@@ -3,14 +3,11 @@
 -- `expression`), and what of it isn't given.
 use Rattle.cel_syntax_ast.specs.FreeNames.{is_free}
 use Rattle.cel_syntax_ast.specs.Term.{Term}
-use Rattle.kube_cel_vap_types.specs.Requests.{request_view}
 use Rattle.kube_cel_vap.specs.Variables.{Variables}
 use Rattle.kube_manifests_policies.specs.Uses.{asks}
 use Rattle.kube_manifests_policies.specs.declared.inputs.Input.{Input}
 use Rattle.kube_manifests_policies.specs.declared.inputs.Input.TheVariants.{Object, OldObject, Request, Params, NamespaceObject, Authorizer, SubResource, RequestKind, RequestResource, RequestSubResource, Options}
-use Rattle.kube_manifests_policies.specs.declared.inputs.PolicyInputs.{PolicyInputs}
-use Rattle.serde_json.specs.View.{view}
-use Rattle.std.specs.Prelude.{ℕ, List, [], ◌∷◌, ◌++◌, Bool, true, false, if◌then◌else◌, Option, Some, None, is_some, option_map, codes}
+use Rattle.std.specs.Prelude.{ℕ, List, [], ◌∷◌, ◌++◌, Bool, true, false, if◌then◌else◌, Option, Some, None, is_some, codes}
 
 -- how an expression asks for it
 abbrev pub input_name : Input → List ℕ
@@ -77,14 +74,3 @@ absent_in v = unless (is_some v.object) Object ++ unless (is_some v.old_object) 
 -- a match condition is given no `namespaceObject`
 abbrev pub without_namespace : Variables → Variables
 without_namespace v = record v { namespace_object = None }
-
--- ---- what the code's values stand for
-
-abbrev pub inputs_view : PolicyInputs → Variables
-inputs_view g = record {
-  object = option_map view g.object;
-  old_object = option_map view g.old_object;
-  params = option_map view g.params;
-  namespace_object = option_map view g.namespace_object;
-  request = option_map request_view g.request;
-}

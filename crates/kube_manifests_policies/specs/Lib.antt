@@ -1,9 +1,6 @@
-pub mod Faults
 pub mod Inputs
 pub mod Reports
 pub mod Laws
-pub mod Policies
-pub mod Reviews
 pub mod Scopes
 pub mod Uses
 pub mod Verdicts

@@ -16,12 +16,12 @@ use Rattle.cel_value.specs.declared.kind.Kind.TheVariants.{Null}
 use Rattle.kube_cel_vap.specs.Expressions.{◌>>=◌}
 use Rattle.kube_cel_vap.specs.Results as results
 use Rattle.kube_cel_vap.specs.Variables.{Variables}
-use Rattle.kube_manifests_policies.specs.Faults.{FaultData, fault_view}
+use Rattle.kube_manifests_admission.specs.Faults.{FaultData, fault_view}
 use Rattle.kube_manifests_policies.specs.Inputs.{without_namespace}
-use Rattle.kube_manifests_policies.specs.Policies.{ItemData, PolicyData, policy_of}
+use Rattle.kube_manifests_admission.specs.Policies.{ItemData, PolicyData, policy_of}
 use Rattle.kube_manifests_policies.specs.Scopes.{Reach, evaluation, fault_report, first_scope, outcome_or_reason, scope_for, tree_report, variables_after}
 use Rattle.kube_manifests_policies.specs.Verdicts.{Labelled, ItemReportData, VerdictData, after_conditions, decision_of, erred, fails, holds, is_problem, nothing, says, report_text, report_view, verdict_view, with_report}
-use Rattle.kube_manifests_policies.specs.declared.fault.PolicyFault.{PolicyFault}
+use Rattle.kube_manifests_admission.specs.declared.fault.PolicyFault.{PolicyFault}
 use Rattle.kube_manifests_policies.specs.declared.reports.Subject.{Subject}
 use Rattle.kube_manifests_policies.specs.declared.reports.Subject.TheVariants.{Annotation, Condition, Validation}
 use Rattle.kube_manifests_policies.specs.declared.verdict.Problem.TheVariants as problem

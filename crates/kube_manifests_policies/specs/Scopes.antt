@@ -18,7 +18,7 @@ use Rattle.kube_cel_vap.specs.Expressions.{unread_text, ◌>>=◌}
 use Rattle.kube_cel_vap.specs.Results.{outcome_in}
 use Rattle.kube_cel_vap.specs.Variables.{Variables, policy_bindings}
 use Rattle.kube_manifests_policies.specs.Inputs.{absent_in, first_missing}
-use Rattle.kube_manifests_policies.specs.Policies.{ItemData}
+use Rattle.kube_manifests_admission.specs.Policies.{ItemData}
 use Rattle.kube_manifests_policies.specs.Uses.{asks}
 use Rattle.kube_manifests_policies.specs.Verdicts.{Labelled, ItemReportData, erred, not_given, result_view, report_view, with_report}
 use Rattle.kube_manifests_policies.specs.declared.inputs.Input.{Input}

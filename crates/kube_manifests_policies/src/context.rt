@@ -2,19 +2,20 @@
 ghost use Rattle.cel_semantics.specs.Bindings.{binding, bindings_of};
 ghost use Rattle.cel_value.specs.Data.{map_of, no_entries};
 ghost use Rattle.cel_value.specs.View.{view};
-ghost use Rattle.kube_cel_vap_types.specs.Requests.{empty_request, request_value, request_view};
+ghost use Rattle.kube_cel_vap.specs.Requests.{empty_request, request_value, request_view};
 ghost use Rattle.kube_cel_vap.specs.Variables.{bindings_always, value_or_null, with_given};
-ghost use Rattle.kube_manifests_policies.specs.Inputs.{inputs_view, without_namespace};
-ghost use Rattle.kube_manifests_policies.specs.Policies.{item_view};
+ghost use Rattle.kube_manifests_admission.specs.Inputs.{inputs_view};
+ghost use Rattle.kube_manifests_policies.specs.Inputs.{without_namespace};
+ghost use Rattle.kube_manifests_admission.specs.Policies.{item_view};
 ghost use Rattle.kube_manifests_policies.specs.Scopes.{Alike, first_scope, scope_for, scope_view, with_no_values};
 ghost use Rattle.serde_json.specs.View.{view as json_view};
 ghost use Rattle.std.specs.Prelude.{◌≡◌, [], ℕ, IfErr, IfOk, List, map, OnOk, option_map, unwrap_or};
 
-use crate::inputs::{PolicyInputs, absent_inputs};
-use crate::item::Item;
+use crate::inputs::absent_inputs;
 use crate::scope::{PolicyContext, Scope};
 use cel::{Context, Entries, Value};
-use kube_cel_vap_types::{AdmissionRequest, request_value};
+use kube_cel_vap::{AdmissionRequest, request_value};
+use kube_manifests_admission::{Item, PolicyInputs};
 use kube_schema_values::bind_plain;
 use kube_types_refused::Refused;
 use serde_json::Value as Json;
@@ -93,7 +94,8 @@ pub(crate) fn condition_scope<'a>(
     alloc: Global,
     inputs: &PolicyInputs,
 ) -> Result<Scope<'a>, Refused>
-    ensures scope { IfOk result (λ s. Alike (scope_view s) (first_scope (without_namespace (inputs_view inputs.now)))) }
+    ensures scope { IfOk result (λ s. Alike (scope_view s)
+        (first_scope (without_namespace (inputs_view inputs.now)))) }
     ensures memory { IfErr result (λ e. e ≡ Refused.Memory) }
 {
     let mut context = context_always(alloc, inputs)?;
@@ -134,7 +136,8 @@ pub(crate) fn policy_scope<'a>(
     variables: &[Item<'_>],
 ) -> Result<Scope<'a>, Refused>
     requires { Alike (scope_view scope) (first_scope (without_namespace (inputs_view inputs.now))) }
-    ensures scope { IfOk result (λ s. Alike (scope_view s) (scope_for (inputs_view inputs.now) (map item_view variables.now))) }
+    ensures scope { IfOk result (λ s. Alike (scope_view s)
+        (scope_for (inputs_view inputs.now) (map item_view variables.now))) }
     ensures memory { IfErr result (λ e. e ≡ Refused.Memory) }
 {
     let Scope {

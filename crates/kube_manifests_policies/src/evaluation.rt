@@ -2,23 +2,21 @@
 ghost use Rattle.cel_patterns.specs.Book.{Extends};
 ghost use Rattle.cel_patterns.specs.Entries.{entries_of};
 ghost use Rattle.cel_patterns.specs.Extensions.{HoldsForExtensions};
-ghost use Rattle.kube_manifests_policies.specs.Inputs.{inputs_view};
+ghost use Rattle.kube_manifests_admission.specs.Inputs.{inputs_view};
 ghost use Rattle.kube_manifests_policies.specs.Reports.{IsVerdictOf, policy_verdict, verdict_in, verdict_of_conditions};
-ghost use Rattle.kube_manifests_policies.specs.Policies.{policy_view};
+ghost use Rattle.kube_manifests_admission.specs.Policies.{policy_view};
 ghost use Rattle.kube_manifests_policies.specs.Scopes.{outcome_or_reason, scope_view};
 ghost use Rattle.kube_manifests_policies.specs.Verdicts.{result_view, verdict_view};
 ghost use Rattle.serde_json.specs.View.{view};
 ghost use Rattle.std.specs.Prelude.{◌≡◌, IfErr, IfOk, map};
 
 use crate::context::{condition_scope, policy_scope};
-use crate::fault::{PolicyFault, reported};
-use crate::inputs::PolicyInputs;
-use crate::policy::{Policy, policy_of};
 use crate::reports::{Subject, results_as};
 use crate::scope::Scope;
 use crate::variables::with_variables;
 use crate::verdict::{PolicyDecision, PolicyResult, PolicyVerdict, after_conditions, decision_of};
 use cel::PatternBook;
+use kube_manifests_admission::{Policy, PolicyFault, PolicyInputs, policy_of, reported};
 use kube_types_refused::Refused;
 use serde_json::Value;
 use std::alloc::Global;
@@ -51,7 +49,8 @@ fn verdict_in(
 ) -> Result<PolicyVerdict, Refused>
     ensures keeps { Extends (entries_of book.new) (entries_of book.old) }
     ensures verdict { IfOk result (λ v. HoldsForExtensions (entries_of book.new) (verdict_view v)
-        (λ b. verdict_in (outcome_or_reason b (scope_view scope.entry)) (scope_view scope.entry).missing (policy_view policy.now) (map result_view conditions.items))) }
+        (λ b. verdict_in (outcome_or_reason b (scope_view scope.entry)) (scope_view scope.entry).missing
+        (policy_view policy.now) (map result_view conditions.items))) }
     ensures memory { IfErr result (λ e. e ≡ Refused.Memory) }
 {
     let items = policy.validations.as_slice();

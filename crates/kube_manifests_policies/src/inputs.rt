@@ -1,49 +1,17 @@
-//! What a policy is evaluated over.
+//! What expressions ask for, and what of it isn't given.
 ghost use Rattle.cel_syntax_ast.specs.Term.{term};
-ghost use Rattle.kube_cel_vap.specs.Variables.{no_variables};
-ghost use Rattle.kube_manifests_policies.specs.Inputs.{absent_in, asks_for, first_asked, first_missing, input_name, inputs_view, member_of, never_given, unless};
+ghost use Rattle.kube_manifests_admission.specs.Inputs.{inputs_view};
+ghost use Rattle.kube_manifests_policies.specs.Inputs.{absent_in, asks_for, first_asked, first_missing, input_name, member_of, never_given, unless};
 ghost use Rattle.serde_json.specs.View.{view as json_view};
 ghost use Rattle.std.specs.Prelude.{◌≡◌, ◌++◌, IfErr, IfOk, OnOk, option_map, Some};
 
 use crate::uses::asks;
 use cel::Expr;
-use kube_cel_vap_types::AdmissionRequest;
+use kube_manifests_admission::PolicyInputs;
 use kube_types_refused::Refused;
 use serde_json::Value;
 use std::alloc::{AllocError, Global};
 use std::fmt;
-
-/// What a policy is evaluated over. `None` says that something isn't known: an expression that asks for it is not judged. What is known to
-/// be null is `Some(Value::Null)`: `oldObject` where an object is created, `object` where one is deleted, `params` where a policy has none,
-/// `namespaceObject` where an object has no namespace.
-#[derive(Debug, Drop)]
-pub struct PolicyInputs {
-    /// The object of the request, `object`.
-    pub object: Option<Value>,
-    /// The object as it was, `oldObject`.
-    pub old_object: Option<Value>,
-    /// The parameters of the policy, `params`.
-    pub params: Option<Value>,
-    /// The object's namespace, `namespaceObject`.
-    pub namespace_object: Option<Value>,
-    /// The request, `request`.
-    pub request: Option<AdmissionRequest>,
-}
-
-impl PolicyInputs {
-    /// Nothing is known.
-    pub fn none() -> PolicyInputs
-        ensures { inputs_view result ≡ no_variables }
-    {
-        PolicyInputs {
-            object: None,
-            old_object: None,
-            params: None,
-            namespace_object: None,
-            request: None,
-        }
-    }
-}
 
 /// What an expression may ask for, and isn't always given.
 #[derive(Clone, Copy, Debug, PartialEq, Eq)]
@@ -60,7 +28,7 @@ pub enum Input {
     NamespaceObject,
     /// `authorizer`, which asks an API server. It is never given.
     Authorizer,
-    /// `request.subResource`, which an [`AdmissionRequest`] doesn't carry, as those that follow.
+    /// `request.subResource`, which an [`AdmissionRequest`](crate::AdmissionRequest) doesn't carry, as those that follow.
     SubResource,
     /// `request.requestKind`.
     RequestKind,

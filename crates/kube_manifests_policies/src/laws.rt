@@ -4,7 +4,7 @@ ghost use Rattle.kube_cel_vap.specs.Results.{policy_results};
 ghost use Rattle.kube_cel_vap.specs.Variables.{Variables};
 ghost use Rattle.kube_manifests_policies.specs.Reports.{policy_verdict};
 ghost use Rattle.kube_manifests_policies.specs.Laws.{HasVariables, IsApartFrom, IsJudged, IsJudgedIn, SameVariables, expression_of, of_validations, vap_result};
-ghost use Rattle.kube_manifests_policies.specs.Policies.{ItemData, PolicyData};
+ghost use Rattle.kube_manifests_admission.specs.Policies.{ItemData, PolicyData};
 ghost use Rattle.kube_manifests_policies.specs.Scopes.{ScopeData, first_scope, variable_step};
 ghost use Rattle.std.specs.List.{AllByRecursion};
 ghost use Rattle.std.specs.Prelude.{◌≡◌, Bool, false, List, map};
@@ -16,13 +16,16 @@ use crate::verdict::PolicyDecision;
 /// `kube_cel_vap` has for them.
 #[tactic(auto, using(crate::proofs::Vap::alike))]
 pub fn validations_alone()
-    ensures { (b : Book) (v : Variables) (ignores : Bool) (xs : List ItemData) → AllByRecursion (IsJudgedIn (first_scope v)) xs
-        → map vap_result (policy_verdict b v (of_validations ignores xs)).validations ≡ policy_results b v (map expression_of xs) }
+    ensures { (b : Book) (v : Variables) (ignores : Bool) (xs : List ItemData)
+        → AllByRecursion (IsJudgedIn (first_scope v)) xs
+        → map vap_result (policy_verdict b v (of_validations ignores xs)).validations
+        ≡ policy_results b v (map expression_of xs) }
 {}
 
 /// Where a policy lets a request pass, nothing of it asked for what isn't given, and no validation is false.
 pub fn admitted_only_if_judged()
-    ensures { (b : Book) (v : Variables) (p : PolicyData) → (policy_verdict b v p).decision ≡ PolicyDecision.Admitted
+    ensures { (b : Book) (v : Variables) (p : PolicyData)
+        → (policy_verdict b v p).decision ≡ PolicyDecision.Admitted
         → IsJudged (policy_verdict b v p) }
 {}
 

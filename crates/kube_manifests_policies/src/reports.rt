@@ -8,15 +8,15 @@ ghost use Rattle.cel_value.specs.Parts.{bool_in};
 ghost use Rattle.cel_value.specs.View.{view};
 ghost use Rattle.kube_cel_vap.specs.Results as results;
 ghost use Rattle.kube_manifests_policies.specs.Reports.{annotation_outcome, annotation_report, annotation_value, condition_message, condition_report, false_message, is_null, message_from, message_tree_seen, message_tree_report, outcome_report, own_message, result_as, results_as, text_or_nothing, report_as, truth_report, validation_report, validation_with, with_message};
-ghost use Rattle.kube_manifests_policies.specs.Policies.{item_view};
+ghost use Rattle.kube_manifests_admission.specs.Policies.{item_view};
 ghost use Rattle.kube_manifests_policies.specs.Scopes.{outcome_or_reason, outcome_seen, scope_view};
 ghost use Rattle.kube_manifests_policies.specs.Verdicts.{result_view, report_view};
 ghost use Rattle.std.specs.Prelude.{◌≡◌, IfErr, IfOk, map, option_map, Some, string_bytes};
 
-use crate::item::Item;
 use crate::scope::{Scope, evaluate, reach, read};
 use crate::verdict::{ItemReport, PolicyResult, Problem, with_report};
 use cel::{Answer, Kind, PatternBook, Program, Value};
+use kube_manifests_admission::Item;
 use kube_types_refused::Refused;
 use std::alloc::{AllocError, Global};
 
@@ -127,7 +127,8 @@ fn annotation_report(
 
 /// What a match condition with this outcome comes to.
 fn condition_outcome(alloc: Global, name: &str, answer: Answer) -> Result<ItemReport, AllocError>
-    ensures { IfOk result (λ t. report_view t ≡ with_message (condition_message name.now) (outcome_report (outcome_view answer))) }
+    ensures { IfOk result (λ t. report_view t
+        ≡ with_message (condition_message name.now) (outcome_report (outcome_view answer))) }
 {
     let reported = outcome_report(alloc, answer)?;
     if !Problem::False.is_of(&reported) {
@@ -172,7 +173,8 @@ fn own_message(alloc: Global, item: &Item<'_>) -> Result<String, AllocError>
 
 /// The string that a messageExpression came to, else what the validation says itself.
 fn outcome_message(alloc: Global, item: &Item<'_>, answer: &Answer) -> Result<String, AllocError>
-    ensures { IfOk result (λ s. string_bytes s ≡ message_from (item_view item.now) (Ok (outcome_view answer.now))) }
+    ensures { IfOk result (λ s. string_bytes s
+        ≡ message_from (item_view item.now) (Ok (outcome_view answer.now))) }
 {
     match answer {
         Ok(Value::String(text)) => String::from_str(alloc, text.as_str()),
@@ -183,7 +185,8 @@ fn outcome_message(alloc: Global, item: &Item<'_>, answer: &Answer) -> Result<St
 
 /// What a validation that is false says itself, and why its messageExpression can't be judged.
 fn message_with(alloc: Global, item: &Item<'_>, reported: &ItemReport) -> Result<String, AllocError>
-    ensures { IfOk result (λ s. string_bytes s ≡ message_from (item_view item.now) (Err (report_view reported.now))) }
+    ensures { IfOk result (λ s. string_bytes s
+        ≡ message_from (item_view item.now) (Err (report_view reported.now))) }
 {
     let own = own_message(alloc, item)?;
     format!(in alloc; "{own} (messageExpression: {reported})")
@@ -195,7 +198,8 @@ fn message_from(
     item: &Item<'_>,
     reached: &Result<Answer, ItemReport>,
 ) -> Result<String, AllocError>
-    ensures { IfOk result (λ s. string_bytes s ≡ message_from (item_view item.now) (outcome_seen reached.now)) }
+    ensures { IfOk result (λ s. string_bytes s
+        ≡ message_from (item_view item.now) (outcome_seen reached.now)) }
 {
     match reached {
         Ok(answer) => outcome_message(alloc, item, answer),
@@ -212,7 +216,8 @@ fn false_message(
     book: &mut PatternBook,
 ) -> Result<String, Refused>
     ensures keeps { Extends (entries_of book.new) (entries_of book.old) }
-    ensures reported { IfOk result (λ s. HoldsForExtensions (entries_of book.new) (string_bytes s) (λ b. false_message (item_view item.now)
+    ensures reported { IfOk result (λ s. HoldsForExtensions (entries_of book.new) (string_bytes s)
+        (λ b. false_message (item_view item.now)
         (option_map (outcome_or_reason b (scope_view scope.now)) (option_map program_term message.now)))) }
     ensures memory { IfErr result (λ e. e ≡ Refused.Memory) }
 {
@@ -233,8 +238,10 @@ fn with_message(
     book: &mut PatternBook,
 ) -> Result<ItemReport, Refused>
     ensures keeps { Extends (entries_of book.new) (entries_of book.old) }
-    ensures reported { IfOk result (λ t. HoldsForExtensions (entries_of book.new) (report_view t) (λ b. with_message (false_message (item_view item.now)
-        (option_map (outcome_or_reason b (scope_view scope.now)) (option_map program_term message.now))) (report_view reported))) }
+    ensures reported { IfOk result (λ t. HoldsForExtensions (entries_of book.new) (report_view t)
+        (λ b. with_message (false_message (item_view item.now)
+        (option_map (outcome_or_reason b (scope_view scope.now)) (option_map program_term message.now)))
+        (report_view reported))) }
     ensures memory { IfErr result (λ e. e ≡ Refused.Memory) }
 {
     if !Problem::False.is_of(&reported) {
@@ -255,7 +262,8 @@ fn validation_with(
     book: &mut PatternBook,
 ) -> Result<ItemReport, Refused>
     ensures keeps { Extends (entries_of book.new) (entries_of book.old) }
-    ensures reported { IfOk result (λ t. HoldsForExtensions (entries_of book.new) (report_view t) (λ b. validation_with (outcome_or_reason b (scope_view scope.now))
+    ensures reported { IfOk result (λ t. HoldsForExtensions (entries_of book.new) (report_view t)
+        (λ b. validation_with (outcome_or_reason b (scope_view scope.now))
         (item_view item.now) (program_term program.now) (option_map program_term message.now))) }
     ensures memory { IfErr result (λ e. e ≡ Refused.Memory) }
 {
@@ -274,7 +282,8 @@ fn read_message(
     alloc: Global,
     text: Option<&str>,
 ) -> Result<Result<Option<Program>, ItemReport>, Refused>
-    ensures read { IfOk result (λ r. message_tree_seen r ≡ message_tree_report (option_map (λ s. s.now) text.entry)) }
+    ensures read { IfOk result (λ r. message_tree_seen r
+        ≡ message_tree_report (option_map (λ s. s.now) text.entry)) }
     ensures memory { IfErr result (λ e. e ≡ Refused.Memory) }
 {
     let Some(text) = text else {

@@ -62,7 +62,8 @@ fn stops(expr: &Expr, variable: &PolicyResult) -> bool
 
 /// What is reported of the first variable that keeps an expression from being evaluated.
 fn first_stop<'m>(missing: &'m [PolicyResult], expr: &Expr) -> Option<&'m ItemReport>
-    ensures { option_map (λ t. report_view t.now) result ≡ first_stop (map result_view missing.now) (term expr.now) }
+    ensures { option_map (λ t. report_view t.now) result
+        ≡ first_stop (map result_view missing.now) (term expr.now) }
 {
     for variable in missing {
         if stops(expr, variable) {
@@ -74,7 +75,8 @@ fn first_stop<'m>(missing: &'m [PolicyResult], expr: &Expr) -> Option<&'m ItemRe
 
 /// Why an expression isn't evaluated.
 fn why_not(scope: &Scope<'_>, expr: &Expr) -> Result<Option<ItemReport>, Refused>
-    ensures reported { IfOk result (λ o. option_map report_view o ≡ why_not (scope_view scope.now) (term expr.now)) }
+    ensures reported { IfOk result (λ o. option_map report_view o
+        ≡ why_not (scope_view scope.now) (term expr.now)) }
     ensures memory { IfErr result (λ e. e ≡ Refused.Memory) }
 {
     if let Some(input) = first_missing(scope.absent.as_slice(), expr) {

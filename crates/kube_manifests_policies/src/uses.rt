@@ -117,7 +117,8 @@ fn any_asks(items: &Vec<Expr>, name: &str, member: &str, selects: bool) -> bool
 /// Whether one of the keys and values asks for the member.
 #[cycle(uses)]
 fn pairs_ask(pairs: &Vec<(Expr, Expr)>, name: &str, member: &str, selects: bool) -> bool
-    ensures { result ≡ asks_in_pairs name.now member.now selects (pairs_of (map (λ p. (term p.0, term p.1)) pairs.now.items)) }
+    ensures { result ≡ asks_in_pairs name.now member.now selects
+        (pairs_of (map (λ p. (term p.0, term p.1)) pairs.now.items)) }
 {
     for pair in pairs {
         if asks(&pair.0, name, member, selects) || asks(&pair.1, name, member, selects) {

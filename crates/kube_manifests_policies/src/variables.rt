@@ -5,16 +5,16 @@ ghost use Rattle.cel_semantics.specs.Members.{put_in};
 ghost use Rattle.cel_semantics.specs.Outcome.{and_then, outcome_view};
 ghost use Rattle.cel_value.specs.Data.{text};
 ghost use Rattle.cel_value.specs.View.{view};
-ghost use Rattle.kube_manifests_policies.specs.Policies.{item_view};
+ghost use Rattle.kube_manifests_admission.specs.Policies.{item_view};
 ghost use Rattle.kube_manifests_policies.specs.Scopes.{Alike, outcome_seen, scope_view, variable_step, variables_after, with_stored, with_values, with_variable, without_value};
 ghost use Rattle.kube_manifests_policies.specs.Verdicts.{report_view};
 ghost use Rattle.std.specs.Prelude.{◌≡◌, IfErr, IfOk, map};
 
-use crate::item::Item;
 use crate::scope::{Scope, evaluate};
 use crate::verdict::{ItemReport, with_report};
 use cel::{Answer, PatternBook, Value};
 use cel_semantics::members::put;
+use kube_manifests_admission::Item;
 use kube_types_refused::Refused;
 use std::alloc::Global;
 
@@ -40,7 +40,8 @@ fn without_value<'a>(
     name: &str,
     reported: ItemReport,
 ) -> Result<Scope<'a>, Refused>
-    ensures scope { IfOk result (λ s. Alike (scope_view s) (without_value (scope_view scope.entry) name.now (report_view reported))) }
+    ensures scope { IfOk result (λ s. Alike (scope_view s)
+        (without_value (scope_view scope.entry) name.now (report_view reported))) }
     ensures memory { IfErr result (λ e. e ≡ Refused.Memory) }
 {
     let Scope {
@@ -60,7 +61,8 @@ fn without_value<'a>(
 
 /// A scope where the variables are these.
 fn with_values<'a>(scope: Scope<'a>, map: Value) -> Result<Scope<'a>, Refused>
-    ensures scope { IfOk result (λ s. Alike (scope_view s) (with_values (scope_view scope.entry) (view map))) }
+    ensures scope { IfOk result (λ s. Alike (scope_view s)
+        (with_values (scope_view scope.entry) (view map))) }
     ensures memory { IfErr result (λ e. e ≡ Refused.Memory) }
 {
     let Scope {
@@ -85,7 +87,8 @@ fn with_stored<'a>(
     name: &str,
     answer: Answer,
 ) -> Result<Scope<'a>, Refused>
-    ensures scope { IfOk result (λ s. Alike (scope_view s) (with_stored (scope_view scope.entry) name.now (outcome_view answer))) }
+    ensures scope { IfOk result (λ s. Alike (scope_view s)
+        (with_stored (scope_view scope.entry) name.now (outcome_view answer))) }
     ensures memory { IfErr result (λ e. e ≡ Refused.Memory) }
 {
     match answer {
@@ -105,7 +108,8 @@ fn with_variable<'a>(
     name: &str,
     reached: Result<Answer, ItemReport>,
 ) -> Result<Scope<'a>, Refused>
-    ensures scope { IfOk result (λ s. Alike (scope_view s) (with_variable (scope_view scope.entry) name.now (outcome_seen reached))) }
+    ensures scope { IfOk result (λ s. Alike (scope_view s)
+        (with_variable (scope_view scope.entry) name.now (outcome_seen reached))) }
     ensures memory { IfErr result (λ e. e ≡ Refused.Memory) }
 {
     match reached {

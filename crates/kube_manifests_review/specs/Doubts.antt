@@ -1,13 +1,13 @@
 -- Trusted by the clauses of manifests.
 -- What a review says of a document, and under which condition it says it. Source: this project's own statement.
-use Rattle.std.specs.Prelude.{ℕ, List, [], ◌∷◌, Bool, true, false, ◌&&◌, None, is_none, is_err, if◌then◌else◌, codes, string_bytes}
+use Rattle.std.specs.Prelude.{◌≡◌, ℕ, List, [], ◌∷◌, ◌++◌, map, Bool, true, false, ◌&&◌, None, is_none, is_err, if◌then◌else◌, codes, string_bytes}
 use Rattle.std.specs.List.{flat_map}
 use Rattle.cel_patterns.specs.Book.{Book, pattern_in}
 use Rattle.cel_semantics.specs.declared.functions.Form.{Form}
 use Rattle.cel_semantics.specs.declared.functions.Form.TheVariants.{Unknown, Wrong, Known}
 use Rattle.cel_value.specs.Data.{text}
-use Rattle.kube_cel_lint.specs.declared.finding.LintKind.{LintKind}
-use Rattle.kube_cel_lint.specs.declared.finding.LintKind.TheVariants as lint
+use Rattle.kube_cel_analysis.specs.declared.finding.LintKind.{LintKind}
+use Rattle.kube_cel_analysis.specs.declared.finding.LintKind.TheVariants as lint
 use Rattle.kube_functions.specs.Kube.{all_library}
 use Rattle.kube_manifests_review.specs.declared.finding.ReviewFinding.{ReviewFinding}
 use Rattle.kube_manifests_review.specs.declared.finding.ReviewKind.{ReviewKind}
@@ -74,6 +74,10 @@ when_view (condition.Fails name s) = fails (string_bytes name) (string_bytes s)
 
 abbrev pub doubt_view : declared.Doubt → Doubt
 doubt_view d = record { finding = finding_view d.finding; when = when_view d.condition }
+
+-- what may be said afterwards: what might be said before, and these behind it
+abbrev pub AddsDoubts : List declared.Doubt → List declared.Doubt → List Doubt → Type 0
+AddsDoubts before after ds = map doubt_view after ≡ map doubt_view before ++ ds
 
 -- ---- what is said by a book of patterns
 

@@ -1,7 +1,7 @@
 -- Trusted by the clauses of manifests.
 -- The schemas within a schema, each with its JSON Pointer: a schema before those within it, and these in the order in which Kubernetes' walk over an
 -- object takes them (Kubernetes documentation, "Extend the Kubernetes API with CustomResourceDefinitions", "Specifying a structural schema").
-use Rattle.std.specs.Prelude.{ℕ, zero, suc, List, [], ◌∷◌, ◌++◌, Option, Some, None, codes, string_bytes}
+use Rattle.std.specs.Prelude.{◌≡◌, ℕ, zero, suc, List, [], ◌∷◌, ◌++◌, map, Option, Some, None, codes, string_bytes}
 use Rattle.serde_json.specs.Data.{Data, Items, no_items, item, Members, no_members, member}
 use Rattle.serde_json.specs.Find.{get}
 use Rattle.serde_json.specs.View.{view}
@@ -16,6 +16,10 @@ pub record SchemaLocation : Type 0 where
 
 abbrev pub location_view : code.SchemaLocation → SchemaLocation
 location_view p = record { pointer = string_bytes p.pointer; schema = view p.schema.now }
+
+-- the places afterwards: those before, and these behind them
+abbrev pub AddsLocations : List code.SchemaLocation → List code.SchemaLocation → List SchemaLocation → Type 0
+AddsLocations before after ps = map location_view after ≡ map location_view before ++ ps
 
 -- ---- the places of schemas within one, where f says which places a schema at a pointer has
 

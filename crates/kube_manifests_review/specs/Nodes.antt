@@ -1,7 +1,9 @@
 -- Trusted by the clauses of manifests.
 -- The nodes of a tree: itself, then those of its parts, in the order of the text. Source: CEL language definition, "Syntax".
-use Rattle.std.specs.Prelude.{List, [], ◌∷◌, ◌++◌}
-use Rattle.cel_syntax_ast.specs.Term.{Term, literal, ident, select, has, index, unary, binary, conditional, list_of, map_with, call, qualified, macro, Terms, no_terms, term_and, Pairs, no_pairs, pair_and}
+use Rattle.std.specs.Borrow.{Bor}
+use Rattle.std.specs.Prelude.{◌≡◌, List, [], ◌∷◌, ◌++◌, map}
+use Rattle.cel_syntax_ast.specs.declared.expr.Expr.{Expr}
+use Rattle.cel_syntax_ast.specs.Term.{Term, term, literal, ident, select, has, index, unary, binary, conditional, list_of, map_with, call, qualified, macro, Terms, no_terms, term_and, Pairs, no_pairs, pair_and}
 
 abbrev mutual
   pub nodes_of : Term → List Term
@@ -26,3 +28,7 @@ abbrev mutual
   pub nodes_of_pairs : Pairs → List Term
   nodes_of_pairs no_pairs = []
   nodes_of_pairs (pair_and k v ps) = nodes_of k ++ (nodes_of v ++ nodes_of_pairs ps)
+
+-- the nodes afterwards: those before, and these behind them
+abbrev pub AddsNodes : List (Bor Expr) → List (Bor Expr) → List Term → Type 0
+AddsNodes before after ts = map (λ n. term n.now) after ≡ map (λ n. term n.now) before ++ ts

@@ -1,9 +1,9 @@
 //! What is said of a call.
-ghost use Rattle.std.specs.Prelude.{◌≡◌, ◌++◌, [], ◌∷◌, OnOk, if◌then◌else◌, map, option_map};
+ghost use Rattle.std.specs.Prelude.{◌≡◌, [], ◌∷◌, OnOk, if◌then◌else◌, map, option_map};
 ghost use Rattle.cel_syntax_ast.specs.Term.{term};
 ghost use Rattle.kube_manifests_review.specs.Calls as spec;
 ghost use Rattle.kube_manifests_review.specs.Calls.{text_view};
-ghost use Rattle.kube_manifests_review.specs.Doubts.{always, doubt_view};
+ghost use Rattle.kube_manifests_review.specs.Doubts.{AddsDoubts, always};
 
 use crate::doubt::{Condition, Doubt};
 use crate::finding::ReviewKind;
@@ -37,7 +37,8 @@ fn literal_text(expr: &Expr) -> Option<&str>
 
 /// The literal string that is the only argument of a call without a receiver.
 fn only_text<'a>(receiver: Option<&'a Expr>, args: &'a [Expr]) -> Option<&'a str>
-    ensures { option_map (λ s. s.now) result ≡ spec.only_text (option_map (λ r. term r.now) receiver.entry) (map term args.now) }
+    ensures { option_map (λ s. s.now) result
+        ≡ spec.only_text (option_map (λ r. term r.now) receiver.entry) (map term args.now) }
 {
     match receiver {
         Some(_) => None,
@@ -51,7 +52,8 @@ fn only_text<'a>(receiver: Option<&'a Expr>, args: &'a [Expr]) -> Option<&'a str
 
 /// The literal string that is the second operand of a call.
 fn second_text<'a>(receiver: Option<&'a Expr>, args: &'a [Expr]) -> Option<&'a str>
-    ensures { option_map (λ s. s.now) result ≡ spec.second_text (option_map (λ r. term r.now) receiver.entry) (map term args.now) }
+    ensures { option_map (λ s. s.now) result
+        ≡ spec.second_text (option_map (λ r. term r.now) receiver.entry) (map term args.now) }
 {
     let location = match receiver {
         Some(_) => 0,
@@ -95,8 +97,9 @@ fn add_old_self(
     name: &str,
     doubts: &mut Vec<Doubt>,
 ) -> Result<(), AllocError>
-    ensures { OnOk result (map doubt_view doubts.new.items ≡ map doubt_view doubts.old.items
-        ++ spec.old_self_doubts (text_view text.entry) (option_map (λ r. term r.now) receiver.entry) name.now) }
+    ensures { OnOk result (AddsDoubts doubts.old.items doubts.new.items
+        (spec.old_self_doubts (text_view text.entry) (option_map (λ r. term r.now) receiver.entry)
+        name.now)) }
 {
     if !asks_optional(name) {
         return Ok(());
@@ -124,8 +127,8 @@ fn add_fails(
     string: Option<&str>,
     doubts: &mut Vec<Doubt>,
 ) -> Result<(), AllocError>
-    ensures { OnOk result (map doubt_view doubts.new.items ≡ map doubt_view doubts.old.items
-        ++ spec.fails_doubts (text_view text.entry) name.now (option_map (λ s. s.now) string.entry)) }
+    ensures { OnOk result (AddsDoubts doubts.old.items doubts.new.items
+        (spec.fails_doubts (text_view text.entry) name.now (option_map (λ s. s.now) string.entry))) }
 {
     let Some(string) = string else {
         return Ok(());
@@ -146,8 +149,8 @@ fn add_refused(
     pattern: Option<&str>,
     doubts: &mut Vec<Doubt>,
 ) -> Result<(), AllocError>
-    ensures { OnOk result (map doubt_view doubts.new.items ≡ map doubt_view doubts.old.items
-        ++ spec.refused_doubts (text_view text.entry) (option_map (λ s. s.now) pattern.entry)) }
+    ensures { OnOk result (AddsDoubts doubts.old.items doubts.new.items
+        (spec.refused_doubts (text_view text.entry) (option_map (λ s. s.now) pattern.entry))) }
 {
     let Some(pattern) = pattern else {
         return Ok(());
@@ -167,8 +170,9 @@ fn add_pattern(
     args: &[Expr],
     doubts: &mut Vec<Doubt>,
 ) -> Result<(), AllocError>
-    ensures { OnOk result (map doubt_view doubts.new.items ≡ map doubt_view doubts.old.items
-        ++ spec.pattern_doubts (text_view text.entry) (option_map (λ r. term r.now) receiver.entry) name.now (map term args.now)) }
+    ensures { OnOk result (AddsDoubts doubts.old.items doubts.new.items
+        (spec.pattern_doubts (text_view text.entry) (option_map (λ r. term r.now) receiver.entry) name.now
+        (map term args.now))) }
 {
     if !takes_pattern(name) {
         return Ok(());
@@ -185,8 +189,9 @@ fn add_known(
     args: &[Expr],
     doubts: &mut Vec<Doubt>,
 ) -> Result<(), AllocError>
-    ensures { OnOk result (map doubt_view doubts.new.items ≡ map doubt_view doubts.old.items
-        ++ spec.known_doubts (text_view text.entry) (option_map (λ r. term r.now) receiver.entry) name.now (map term args.now)) }
+    ensures { OnOk result (AddsDoubts doubts.old.items doubts.new.items
+        (spec.known_doubts (text_view text.entry) (option_map (λ r. term r.now) receiver.entry) name.now
+        (map term args.now))) }
 {
     add_old_self(alloc, text, receiver, name, doubts)?;
     add_fails(alloc, text, name, only_text(receiver, args), doubts)?;
@@ -203,8 +208,9 @@ fn add_wrong(
     count: usize,
     doubts: &mut Vec<Doubt>,
 ) -> Result<(), AllocError>
-    ensures { OnOk result (map doubt_view doubts.new.items ≡ map doubt_view doubts.old.items
-        ++ spec.doubt_about (text_view text.entry) ReviewKind.Call (spec.wrong_text name.now has_receiver count) always ∷ []) }
+    ensures { OnOk result (AddsDoubts doubts.old.items doubts.new.items
+        (spec.doubt_about (text_view text.entry) ReviewKind.Call
+        (spec.wrong_text name.now has_receiver count) always ∷ [])) }
 {
     let message = wrong_text(alloc, name, has_receiver, count)?;
     add_said(
@@ -225,8 +231,9 @@ fn add_unknown(
     name: &str,
     doubts: &mut Vec<Doubt>,
 ) -> Result<(), AllocError>
-    ensures { OnOk result (map doubt_view doubts.new.items ≡ map doubt_view doubts.old.items
-        ++ (if (text_view text.entry).is_message then spec.doubt_about (text_view text.entry) ReviewKind.Call (spec.unknown_text name.now) always ∷ [] else [])) }
+    ensures { OnOk result (AddsDoubts doubts.old.items doubts.new.items
+        (if (text_view text.entry).is_message then spec.doubt_about (text_view text.entry) ReviewKind.Call
+        (spec.unknown_text name.now) always ∷ [] else [])) }
 {
     if !text.is_message {
         return Ok(());
@@ -252,8 +259,9 @@ pub(crate) fn add_call(
     args: &[Expr],
     doubts: &mut Vec<Doubt>,
 ) -> Result<(), AllocError>
-    ensures { OnOk result (map doubt_view doubts.new.items ≡ map doubt_view doubts.old.items
-        ++ spec.call_doubts (text_view text.entry) (option_map (λ r. term r.now) receiver.entry) name.now (map term args.now)) }
+    ensures { OnOk result (AddsDoubts doubts.old.items doubts.new.items
+        (spec.call_doubts (text_view text.entry) (option_map (λ r. term r.now) receiver.entry) name.now
+        (map term args.now))) }
 {
     let has_receiver = receiver.is_some();
     match AllFunctions.form(name, has_receiver, args.len()) {

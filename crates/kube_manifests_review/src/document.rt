@@ -1,7 +1,7 @@
 //! What is said of a document.
-ghost use Rattle.std.specs.Prelude.{◌≡◌, ◌++◌, IfErr, IfOk, OnOk, map, option_map, string_bytes};
-ghost use Rattle.kube_cel_lint.specs.Findings.{Naming};
-ghost use Rattle.kube_manifests_review.specs.Doubts.{doubt_view};
+ghost use Rattle.std.specs.Prelude.{◌≡◌, IfErr, IfOk, OnOk, map, option_map, string_bytes};
+ghost use Rattle.kube_cel_analysis.specs.Findings.{Naming};
+ghost use Rattle.kube_manifests_review.specs.Doubts.{AddsDoubts, doubt_view};
 ghost use Rattle.kube_manifests_review.specs.Reviewed as spec;
 ghost use Rattle.serde_json.specs.View.{items_view, view};
 
@@ -55,8 +55,8 @@ fn add_version(
     schema: Option<&Value>,
     doubts: &mut Vec<Doubt>,
 ) -> Result<(), Refused>
-    ensures doubts { OnOk result ((names : Naming) → map doubt_view doubts.new.items ≡ map doubt_view doubts.old.items
-        ++ spec.version_doubts names base.now (option_map (λ s. view s.now) schema.entry)) }
+    ensures doubts { OnOk result ((names : Naming) → AddsDoubts doubts.old.items doubts.new.items
+        (spec.version_doubts names base.now (option_map (λ s. view s.now) schema.entry))) }
     ensures memory { IfErr result (λ e. e ≡ Refused.Memory) }
 {
     match schema {
@@ -74,8 +74,8 @@ fn add_version(
 
 /// Adds what is said of versions, in their order.
 fn add_versions(alloc: Global, versions: &[Value], doubts: &mut Vec<Doubt>) -> Result<(), Refused>
-    ensures doubts { OnOk result ((names : Naming) → map doubt_view doubts.new.items ≡ map doubt_view doubts.old.items
-        ++ spec.versions_doubts names 0 (items_view versions.now)) }
+    ensures doubts { OnOk result ((names : Naming) → AddsDoubts doubts.old.items doubts.new.items
+        (spec.versions_doubts names 0 (items_view versions.now))) }
     ensures memory { IfErr result (λ e. e ≡ Refused.Memory) }
 {
     for (index, version) in versions.iter().enumerate() {
@@ -91,7 +91,8 @@ fn add_no_version(
     versions: &[Value],
     doubts: &mut Vec<Doubt>,
 ) -> Result<(), AllocError>
-    ensures { OnOk result (map doubt_view doubts.new.items ≡ map doubt_view doubts.old.items ++ spec.no_version_doubts (items_view versions.now)) }
+    ensures { OnOk result (AddsDoubts doubts.old.items doubts.new.items
+        (spec.no_version_doubts (items_view versions.now))) }
 {
     if has_item(versions) {
         return Ok(());
@@ -108,7 +109,8 @@ fn add_no_version(
 
 /// What may be said of a document.
 pub(crate) fn doubts_of(alloc: Global, crd: &Value) -> Result<Vec<Doubt>, Refused>
-    ensures doubts { IfOk result (λ v. (names : Naming) → map doubt_view v.items ≡ spec.crd_doubts names (view crd.now)) }
+    ensures doubts { IfOk result (λ v. (names : Naming) → map doubt_view v.items
+        ≡ spec.crd_doubts names (view crd.now)) }
     ensures memory { IfErr result (λ e. e ≡ Refused.Memory) }
 {
     let versions = versions_of(crd);

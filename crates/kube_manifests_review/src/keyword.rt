@@ -1,7 +1,7 @@
 //! Keys that are one letter off a keyword.
-ghost use Rattle.std.specs.Prelude.{◌≡◌, ◌++◌, IfOk, List, OnOk, map, option_map};
+ghost use Rattle.std.specs.Prelude.{◌≡◌, IfOk, List, OnOk, map, option_map};
 ghost use Rattle.std.specs.Str.{chars};
-ghost use Rattle.kube_manifests_review.specs.Doubts.{doubt_view};
+ghost use Rattle.kube_manifests_review.specs.Doubts.{AddsDoubts};
 ghost use Rattle.kube_manifests_review.specs.Keywords.{key_doubts, keys_doubts, near, near_doubts, one_letter_off};
 ghost use Rattle.serde_json.specs.View.{members_view};
 
@@ -88,7 +88,8 @@ fn add_key(
     key: &str,
     doubts: &mut Vec<Doubt>,
 ) -> Result<(), AllocError>
-    ensures { OnOk result (map doubt_view doubts.new.items ≡ map doubt_view doubts.old.items ++ key_doubts (map (λ w. w.now) words.now) pointer.now rule.now key.now) }
+    ensures { OnOk result (AddsDoubts doubts.old.items doubts.new.items
+        (key_doubts (map (λ w. w.now) words.now) pointer.now rule.now key.now)) }
 {
     let Some(word) = near(alloc, words, key)? else {
         return Ok(());
@@ -114,8 +115,8 @@ pub(crate) fn add_keys(
     members: &Map<String, Value>,
     doubts: &mut Vec<Doubt>,
 ) -> Result<(), AllocError>
-    ensures { OnOk result (map doubt_view doubts.new.items ≡ map doubt_view doubts.old.items
-        ++ keys_doubts (map (λ w. w.now) words.now) pointer.now rule.now (members_view members.now.entries)) }
+    ensures { OnOk result (AddsDoubts doubts.old.items doubts.new.items
+        (keys_doubts (map (λ w. w.now) words.now) pointer.now rule.now (members_view members.now.entries))) }
 {
     for (key, _value) in members.iter() {
         add_key(alloc, words, pointer, rule, key.as_str(), doubts)?;

@@ -1,6 +1,6 @@
 //! The schemas within a schema.
-ghost use Rattle.std.specs.Prelude.{◌≡◌, ◌++◌, OnOk, codes, map, option_map};
-ghost use Rattle.kube_manifests_review.specs.Locations.{branch_locations, item_locations, maybe_locations, named_locations, location_view, locations_of};
+ghost use Rattle.std.specs.Prelude.{◌≡◌, OnOk, codes, option_map};
+ghost use Rattle.kube_manifests_review.specs.Locations.{AddsLocations, branch_locations, item_locations, locations_of, maybe_locations, named_locations};
 ghost use Rattle.kube_manifests_review.specs.Pointers.{keyword_pointer};
 ghost use Rattle.kube_schema_defaults.specs.DefaultsAccessors.{additional, declared_properties, members_or_none};
 ghost use Rattle.kube_schema_compiled.specs.View.{branches};
@@ -51,7 +51,8 @@ pub(crate) fn add_locations<'a>(
     levels: usize,
     places: &mut Vec<SchemaLocation<'a>>,
 ) -> Result<(), AllocError>
-    ensures { OnOk result (map location_view places.new.items ≡ map location_view places.old.items ++ locations_of levels pointer.now (view schema.now)) }
+    ensures { OnOk result (AddsLocations places.old.items places.new.items
+        (locations_of levels pointer.now (view schema.now))) }
 {
     if levels == 0 {
         return Ok(());
@@ -86,8 +87,9 @@ fn add_properties<'a>(
     levels: usize,
     places: &mut Vec<SchemaLocation<'a>>,
 ) -> Result<(), AllocError>
-    ensures { OnOk result (map location_view places.new.items ≡ map location_view places.old.items
-        ++ named_locations (locations_of levels) (keyword_pointer pointer.now (codes "properties")) (members_or_none (declared_properties (view schema.now)))) }
+    ensures { OnOk result (AddsLocations places.old.items places.new.items
+        (named_locations (locations_of levels) (keyword_pointer pointer.now (codes "properties"))
+        (members_or_none (declared_properties (view schema.now))))) }
 {
     let Some(members) = declared(schema) else {
         return Ok(());
@@ -110,8 +112,9 @@ fn add_maybe<'a>(
     levels: usize,
     places: &mut Vec<SchemaLocation<'a>>,
 ) -> Result<(), AllocError>
-    ensures { OnOk result (map location_view places.new.items ≡ map location_view places.old.items
-        ++ maybe_locations (locations_of levels) (keyword_pointer pointer.now keyword.now) (option_map (λ s. view s.now) schema.entry)) }
+    ensures { OnOk result (AddsLocations places.old.items places.new.items
+        (maybe_locations (locations_of levels) (keyword_pointer pointer.now keyword.now)
+        (option_map (λ s. view s.now) schema.entry))) }
 {
     let Some(schema) = schema else {
         return Ok(());
@@ -131,7 +134,8 @@ fn add_branches<'a>(
     levels: usize,
     places: &mut Vec<SchemaLocation<'a>>,
 ) -> Result<(), AllocError>
-    ensures { OnOk result (map location_view places.new.items ≡ map location_view places.old.items ++ branch_locations (locations_of levels) pointer.now keyword.now (view schema.now)) }
+    ensures { OnOk result (AddsLocations places.old.items places.new.items
+        (branch_locations (locations_of levels) pointer.now keyword.now (view schema.now))) }
 {
     let Some(items) = branches(schema, keyword) else {
         return Ok(());

@@ -1,9 +1,9 @@
 //! What is said of the nodes of a rule's tree.
-ghost use Rattle.std.specs.Prelude.{◌≡◌, ◌++◌, OnOk, map, option_map};
+ghost use Rattle.std.specs.Prelude.{OnOk, map, option_map};
 ghost use Rattle.cel_syntax_ast.specs.Term.{term};
 ghost use Rattle.cel_value.specs.View.{view};
 ghost use Rattle.kube_manifests_review.specs.Calls.{call_doubts, literal_doubts, node_doubts, text_view};
-ghost use Rattle.kube_manifests_review.specs.Doubts.{doubt_view};
+ghost use Rattle.kube_manifests_review.specs.Doubts.{AddsDoubts};
 ghost use Rattle.kube_manifests_review.specs.Rules.{tree_doubts};
 
 use crate::call::add_call;
@@ -22,7 +22,8 @@ fn add_literal(
     value: &Value,
     doubts: &mut Vec<Doubt>,
 ) -> Result<(), AllocError>
-    ensures { OnOk result (map doubt_view doubts.new.items ≡ map doubt_view doubts.old.items ++ literal_doubts (text_view text.entry) (view value.now)) }
+    ensures { OnOk result (AddsDoubts doubts.old.items doubts.new.items
+        (literal_doubts (text_view text.entry) (view value.now))) }
 {
     if !value.holds_double() {
         return Ok(());
@@ -48,8 +49,9 @@ fn add_method(
     args: &[Expr],
     doubts: &mut Vec<Doubt>,
 ) -> Result<(), AllocError>
-    ensures { OnOk result (map doubt_view doubts.new.items ≡ map doubt_view doubts.old.items
-        ++ call_doubts (text_view text.entry) (option_map (λ r. term r.value) receiver.now) name.now (map term args.now)) }
+    ensures { OnOk result (AddsDoubts doubts.old.items doubts.new.items
+        (call_doubts (text_view text.entry) (option_map (λ r. term r.value) receiver.now) name.now
+        (map term args.now))) }
 {
     match receiver {
         Some(receiver) => add_call(alloc, text, Some(&**receiver), name, args, doubts)?,
@@ -65,7 +67,8 @@ fn add_node(
     node: &Expr,
     doubts: &mut Vec<Doubt>,
 ) -> Result<(), AllocError>
-    ensures { OnOk result (map doubt_view doubts.new.items ≡ map doubt_view doubts.old.items ++ node_doubts (text_view text.entry) (term node.now)) }
+    ensures { OnOk result (AddsDoubts doubts.old.items doubts.new.items
+        (node_doubts (text_view text.entry) (term node.now))) }
 {
     match node {
         Expr::Literal(value) => add_literal(alloc, text, value, doubts)?,
@@ -96,7 +99,8 @@ pub(crate) fn add_tree(
     tree: &Expr,
     doubts: &mut Vec<Doubt>,
 ) -> Result<(), AllocError>
-    ensures { OnOk result (map doubt_view doubts.new.items ≡ map doubt_view doubts.old.items ++ tree_doubts (text_view text.entry) (term tree.now)) }
+    ensures { OnOk result (AddsDoubts doubts.old.items doubts.new.items
+        (tree_doubts (text_view text.entry) (term tree.now))) }
 {
     let mut nodes = Vec::new(alloc);
     add_nodes(tree, &mut nodes)?;

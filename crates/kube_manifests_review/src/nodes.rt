@@ -1,7 +1,7 @@
 //! The nodes of a tree.
-ghost use Rattle.std.specs.Prelude.{◌≡◌, ◌++◌, OnOk, map};
+ghost use Rattle.std.specs.Prelude.{OnOk, map};
 ghost use Rattle.cel_syntax_ast.specs.Term.{pairs_of, term, terms_of};
-ghost use Rattle.kube_manifests_review.specs.Nodes.{nodes_of, nodes_of_all, nodes_of_pairs};
+ghost use Rattle.kube_manifests_review.specs.Nodes.{AddsNodes, nodes_of, nodes_of_all, nodes_of_pairs};
 
 use cel_syntax_ast::Expr;
 use std::alloc::AllocError;
@@ -9,7 +9,7 @@ use std::alloc::AllocError;
 /// Adds the node of an expression, then those of its parts.
 #[cycle(nodes)]
 pub(crate) fn add_nodes<'a>(expr: &'a Expr, nodes: &mut Vec<&'a Expr>) -> Result<(), AllocError>
-    ensures { OnOk result (map (λ n. term n.now) nodes.new.items ≡ map (λ n. term n.now) nodes.old.items ++ nodes_of (term expr.now)) }
+    ensures { OnOk result (AddsNodes nodes.old.items nodes.new.items (nodes_of (term expr.now))) }
 {
     nodes.push(expr)?;
     match expr {
@@ -63,7 +63,8 @@ pub(crate) fn add_nodes<'a>(expr: &'a Expr, nodes: &mut Vec<&'a Expr>) -> Result
 /// Adds the nodes of them all.
 #[cycle(nodes)]
 fn add_from_all<'a>(items: &'a Vec<Expr>, nodes: &mut Vec<&'a Expr>) -> Result<(), AllocError>
-    ensures { OnOk result (map (λ n. term n.now) nodes.new.items ≡ map (λ n. term n.now) nodes.old.items ++ nodes_of_all (terms_of (map term items.now.items))) }
+    ensures { OnOk result (AddsNodes nodes.old.items nodes.new.items
+        (nodes_of_all (terms_of (map term items.now.items)))) }
 {
     for item in items {
         add_nodes(item, nodes)?;
@@ -77,8 +78,8 @@ fn add_from_pairs<'a>(
     pairs: &'a Vec<(Expr, Expr)>,
     nodes: &mut Vec<&'a Expr>,
 ) -> Result<(), AllocError>
-    ensures { OnOk result (map (λ n. term n.now) nodes.new.items ≡ map (λ n. term n.now) nodes.old.items
-        ++ nodes_of_pairs (pairs_of (map (λ p. (term p.0, term p.1)) pairs.now.items))) }
+    ensures { OnOk result (AddsNodes nodes.old.items nodes.new.items
+        (nodes_of_pairs (pairs_of (map (λ p. (term p.0, term p.1)) pairs.now.items)))) }
 {
     for pair in pairs {
         add_nodes(&pair.0, nodes)?;

@@ -3,7 +3,7 @@ ghost use Rattle.std.specs.Prelude.{◌≡◌, ◌++◌, IfErr, IfOk, OnOk, map}
 ghost use Rattle.cel_patterns.specs.Book.{Extends, Book, IsBook};
 ghost use Rattle.cel_patterns.specs.Entries.{entries_of};
 ghost use Rattle.cel_patterns.specs.Extensions.{HoldsForExtensions};
-ghost use Rattle.kube_cel_lint.specs.Findings.{Naming};
+ghost use Rattle.kube_cel_analysis.specs.Findings.{Naming};
 ghost use Rattle.kube_manifests_review.specs.Doubts.{doubt_view, finding_view, when_view};
 ghost use Rattle.kube_manifests_review.specs.Doubts as spec;
 ghost use Rattle.kube_manifests_review.specs.Reviewed.{crd_findings};
@@ -55,7 +55,8 @@ fn is_refused(pattern: &str, book: &mut PatternBook) -> Result<bool, Refused>
 /// Whether what has this condition is said.
 fn is_due(alloc: Global, condition: Condition, book: &mut PatternBook) -> Result<bool, Refused>
     ensures keeps { Extends (entries_of book.new) (entries_of book.old) }
-    ensures value { IfOk result (λ r. HoldsForExtensions (entries_of book.new) r (λ b. spec.is_due b (when_view condition))) }
+    ensures value { IfOk result (λ r. HoldsForExtensions (entries_of book.new) r
+        (λ b. spec.is_due b (when_view condition))) }
     ensures memory { IfErr result (λ e. e ≡ Refused.Memory) }
 {
     match condition {
@@ -92,7 +93,8 @@ fn due(
     book: &mut PatternBook,
 ) -> Result<Vec<ReviewFinding>, Refused>
     ensures keeps { Extends (entries_of book.new) (entries_of book.old) }
-    ensures value { IfOk result (λ v. HoldsForExtensions (entries_of book.new) (map finding_view v.items) (spec.due (map doubt_view doubts.items))) }
+    ensures value { IfOk result (λ v. HoldsForExtensions (entries_of book.new) (map finding_view v.items)
+        (spec.due (map doubt_view doubts.items))) }
     ensures memory { IfErr result (λ e. e ≡ Refused.Memory) }
 {
     let mut found = Vec::new(alloc);
@@ -115,7 +117,8 @@ pub fn review_crd_with(
     book: &mut PatternBook,
 ) -> Result<Vec<ReviewFinding>, Refused>
     ensures keeps { Extends (entries_of book.new) (entries_of book.old) }
-    ensures findings { IfOk result (λ v. (names : Naming) → HoldsForExtensions (entries_of book.new) (map finding_view v.items) (crd_findings names (view crd.now))) }
+    ensures findings { IfOk result (λ v. (names : Naming) → HoldsForExtensions (entries_of book.new)
+        (map finding_view v.items) (crd_findings names (view crd.now))) }
     ensures memory { IfErr result (λ e. e ≡ Refused.Memory) }
 {
     let doubts = doubts_of(alloc, crd)?;
@@ -129,7 +132,8 @@ pub fn review_crd_with(
 ///
 /// [`Refused`] where memory is refused.
 pub fn review_crd(alloc: Global, crd: &Value) -> Result<Vec<ReviewFinding>, Refused>
-    ensures findings { IfOk result (λ v. (b : Book) × IsBook b × ((names : Naming) → map finding_view v.items ≡ crd_findings names (view crd.now) b)) }
+    ensures findings { IfOk result (λ v. (b : Book) × IsBook b
+        × ((names : Naming) → map finding_view v.items ≡ crd_findings names (view crd.now) b)) }
     ensures memory { IfErr result (λ e. e ≡ Refused.Memory) }
 {
     let mut book = PatternBook::new(alloc);

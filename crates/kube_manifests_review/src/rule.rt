@@ -1,9 +1,9 @@
 //! What is said of the rules of a schema.
-ghost use Rattle.std.specs.Prelude.{◌≡◌, ◌++◌, [], IfErr, OnOk, codes, map, option_map};
+ghost use Rattle.std.specs.Prelude.{◌≡◌, [], IfErr, OnOk, codes, map, option_map};
 ghost use Rattle.cel.specs.Program.{program_term};
 ghost use Rattle.cel_syntax_ast.specs.Term.{term};
 ghost use Rattle.kube_manifests_review.specs.Calls.{text_view};
-ghost use Rattle.kube_manifests_review.specs.Doubts.{doubt_view};
+ghost use Rattle.kube_manifests_review.specs.Doubts.{AddsDoubts};
 ghost use Rattle.kube_manifests_review.specs.Keywords.{keys_doubts};
 ghost use Rattle.kube_manifests_review.specs.Pointers.{index_pointer};
 ghost use Rattle.kube_manifests_review.specs.Rules as spec;
@@ -32,7 +32,8 @@ fn add_kind(
     tree: &Expr,
     doubts: &mut Vec<Doubt>,
 ) -> Result<(), AllocError>
-    ensures { OnOk result (map doubt_view doubts.new.items ≡ map doubt_view doubts.old.items ++ spec.kind_doubts (text_view text.entry) (term tree.now)) }
+    ensures { OnOk result (AddsDoubts doubts.old.items doubts.new.items
+        (spec.kind_doubts (text_view text.entry) (term tree.now))) }
 {
     if !is_no_string(tree) {
         return Ok(());
@@ -56,8 +57,8 @@ fn add_message(
     program: &Option<Program>,
     doubts: &mut Vec<Doubt>,
 ) -> Result<(), AllocError>
-    ensures { OnOk result (map doubt_view doubts.new.items ≡ map doubt_view doubts.old.items
-        ++ spec.message_doubts (text_view text.entry) (option_map program_term program.now)) }
+    ensures { OnOk result (AddsDoubts doubts.old.items doubts.new.items
+        (spec.message_doubts (text_view text.entry) (option_map program_term program.now))) }
 {
     let Some(program) = program else {
         return Ok(());
@@ -76,8 +77,8 @@ fn add_text(
     tree: &Expr,
     doubts: &mut Vec<Doubt>,
 ) -> Result<(), AllocError>
-    ensures { OnOk result (map doubt_view doubts.new.items ≡ map doubt_view doubts.old.items
-        ++ tree_doubts (spec.rule_text_at pointer.now rule.now) (term tree.now)) }
+    ensures { OnOk result (AddsDoubts doubts.old.items doubts.new.items
+        (tree_doubts (spec.rule_text_at pointer.now rule.now) (term tree.now))) }
 {
     let location = keyword_pointer(alloc, pointer, "rule")?;
     let text = Text {
@@ -97,8 +98,9 @@ fn add_message_text(
     program: &Option<Program>,
     doubts: &mut Vec<Doubt>,
 ) -> Result<(), AllocError>
-    ensures { OnOk result (map doubt_view doubts.new.items ≡ map doubt_view doubts.old.items
-        ++ spec.message_doubts (spec.message_text_at pointer.now rule.now) (option_map program_term program.now)) }
+    ensures { OnOk result (AddsDoubts doubts.old.items doubts.new.items
+        (spec.message_doubts (spec.message_text_at pointer.now rule.now)
+        (option_map program_term program.now))) }
 {
     let location = keyword_pointer(alloc, pointer, "messageExpression")?;
     let text = Text {
@@ -117,8 +119,8 @@ fn add_compiled(
     compiled: &CompilationResult,
     doubts: &mut Vec<Doubt>,
 ) -> Result<(), AllocError>
-    ensures { OnOk result (map doubt_view doubts.new.items ≡ map doubt_view doubts.old.items
-        ++ spec.compiled_doubts pointer.now (Ok (result_view compiled.now))) }
+    ensures { OnOk result (AddsDoubts doubts.old.items doubts.new.items
+        (spec.compiled_doubts pointer.now (Ok (result_view compiled.now)))) }
 {
     let rule = compiled.rule.rule.as_str();
     add_text(alloc, pointer, rule, compiled.program.expression(), doubts)?;
@@ -133,8 +135,8 @@ fn add_result(
     outcome: &Result<CompilationResult, CompilationError>,
     doubts: &mut Vec<Doubt>,
 ) -> Result<(), AllocError>
-    ensures { OnOk result (map doubt_view doubts.new.items ≡ map doubt_view doubts.old.items
-        ++ spec.compiled_doubts pointer.now (compiled_seen outcome.now)) }
+    ensures { OnOk result (AddsDoubts doubts.old.items doubts.new.items
+        (spec.compiled_doubts pointer.now (compiled_seen outcome.now))) }
 {
     match outcome {
         Ok(compiled) => add_compiled(alloc, pointer, compiled, doubts)?,
@@ -162,8 +164,8 @@ pub(crate) fn add_keys_of(
     value: &Value,
     doubts: &mut Vec<Doubt>,
 ) -> Result<(), AllocError>
-    ensures { OnOk result (map doubt_view doubts.new.items ≡ map doubt_view doubts.old.items
-        ++ keys_doubts (map (λ w. w.now) words.now) pointer.now rule.now (spec.members_of (view value.now))) }
+    ensures { OnOk result (AddsDoubts doubts.old.items doubts.new.items
+        (keys_doubts (map (λ w. w.now) words.now) pointer.now rule.now (spec.members_of (view value.now)))) }
 {
     match value.as_object() {
         Some(members) => add_keys(alloc, words, pointer, rule, members, doubts)?,
@@ -179,7 +181,8 @@ fn add_rule(
     rule: &Value,
     doubts: &mut Vec<Doubt>,
 ) -> Result<(), Refused>
-    ensures doubts { OnOk result (map doubt_view doubts.new.items ≡ map doubt_view doubts.old.items ++ spec.rule_doubts pointer.now (view rule.now)) }
+    ensures doubts { OnOk result (AddsDoubts doubts.old.items doubts.new.items
+        (spec.rule_doubts pointer.now (view rule.now))) }
     ensures memory { IfErr result (λ e. e ≡ Refused.Memory) }
 {
     add_keys_of(
@@ -202,7 +205,8 @@ fn add_rules(
     rules: &[Value],
     doubts: &mut Vec<Doubt>,
 ) -> Result<(), Refused>
-    ensures doubts { OnOk result (map doubt_view doubts.new.items ≡ map doubt_view doubts.old.items ++ spec.rules_doubts pointer.now 0 (items_view rules.now)) }
+    ensures doubts { OnOk result (AddsDoubts doubts.old.items doubts.new.items
+        (spec.rules_doubts pointer.now 0 (items_view rules.now))) }
     ensures memory { IfErr result (λ e. e ≡ Refused.Memory) }
 {
     for (index, rule) in rules.iter().enumerate() {
@@ -219,8 +223,8 @@ pub(crate) fn add_validations(
     rules: Option<&Value>,
     doubts: &mut Vec<Doubt>,
 ) -> Result<(), Refused>
-    ensures doubts { OnOk result (map doubt_view doubts.new.items ≡ map doubt_view doubts.old.items
-        ++ spec.validations_doubts pointer.now (option_map (λ v. view v.now) rules.entry)) }
+    ensures doubts { OnOk result (AddsDoubts doubts.old.items doubts.new.items
+        (spec.validations_doubts pointer.now (option_map (λ v. view v.now) rules.entry))) }
     ensures memory { IfErr result (λ e. e ≡ Refused.Memory) }
 {
     let Some(rules) = rules else {

@@ -1,9 +1,9 @@
 //! What is said of a schema.
-ghost use Rattle.std.specs.Prelude.{◌≡◌, ◌++◌, [], IfErr, IfOk, OnOk, map};
+ghost use Rattle.std.specs.Prelude.{◌≡◌, [], IfErr, IfOk, OnOk, map};
 ghost use Rattle.std.specs.List.{flat_map, list_any};
-ghost use Rattle.kube_cel_lint.specs.Findings.{Naming};
-ghost use Rattle.kube_cel_lint.specs.Findings as linter;
-ghost use Rattle.kube_manifests_review.specs.Doubts.{doubt_view};
+ghost use Rattle.kube_cel_analysis.specs.Findings.{Naming};
+ghost use Rattle.kube_cel_analysis.specs.Findings as linter;
+ghost use Rattle.kube_manifests_review.specs.Doubts.{AddsDoubts, doubt_view};
 ghost use Rattle.kube_manifests_review.specs.Locations.{location_view};
 ghost use Rattle.kube_manifests_review.specs.Reviewed as spec;
 ghost use Rattle.kube_manifests_review.specs.Rules.{place_doubts};
@@ -17,7 +17,7 @@ use crate::locations::{SchemaLocation, add_locations};
 use crate::pointer::keyword_pointer;
 use crate::rule::{add_keys_of, add_validations};
 use crate::text::add_plainly;
-use kube_cel_lint::{LintFinding, lint_schema};
+use kube_cel_analysis::{LintFinding, lint_schema};
 use kube_schema_compiled::compile_schema;
 use kube_schema_rules::rule_values;
 use kube_types_refused::Refused;
@@ -55,7 +55,8 @@ fn add_lint(
     findings: Vec<LintFinding>,
     doubts: &mut Vec<Doubt>,
 ) -> Result<(), AllocError>
-    ensures { OnOk result (map doubt_view doubts.new.items ≡ map doubt_view doubts.old.items ++ map (spec.doubt_of_finding base.now) (map linter.finding_view findings.items)) }
+    ensures { OnOk result (AddsDoubts doubts.old.items doubts.new.items
+        (map (spec.doubt_of_finding base.now) (map linter.finding_view findings.items))) }
 {
     for finding in findings {
         doubts.push(moved(alloc, base, finding)?)?;
@@ -99,7 +100,8 @@ fn add_no_rule(
     places: &[SchemaLocation<'_>],
     doubts: &mut Vec<Doubt>,
 ) -> Result<(), AllocError>
-    ensures { OnOk result (map doubt_view doubts.new.items ≡ map doubt_view doubts.old.items ++ spec.no_rule_doubts base.now (map location_view places.now)) }
+    ensures { OnOk result (AddsDoubts doubts.old.items doubts.new.items
+        (spec.no_rule_doubts base.now (map location_view places.now))) }
 {
     if has_rules(places) {
         return Ok(());
@@ -120,7 +122,8 @@ fn add_location(
     location: &SchemaLocation<'_>,
     doubts: &mut Vec<Doubt>,
 ) -> Result<(), Refused>
-    ensures doubts { OnOk result (map doubt_view doubts.new.items ≡ map doubt_view doubts.old.items ++ place_doubts (location_view location.now)) }
+    ensures doubts { OnOk result (AddsDoubts doubts.old.items doubts.new.items
+        (place_doubts (location_view location.now))) }
     ensures memory { IfErr result (λ e. e ≡ Refused.Memory) }
 {
     let pointer = location.pointer.as_str();
@@ -137,7 +140,8 @@ fn add_each(
     places: &[SchemaLocation<'_>],
     doubts: &mut Vec<Doubt>,
 ) -> Result<(), Refused>
-    ensures doubts { OnOk result (map doubt_view doubts.new.items ≡ map doubt_view doubts.old.items ++ flat_map place_doubts (map location_view places.now)) }
+    ensures doubts { OnOk result (AddsDoubts doubts.old.items doubts.new.items
+        (flat_map place_doubts (map location_view places.now))) }
     ensures memory { IfErr result (λ e. e ≡ Refused.Memory) }
 {
     for location in places {
@@ -153,7 +157,8 @@ fn add_own(
     places: &[SchemaLocation<'_>],
     doubts: &mut Vec<Doubt>,
 ) -> Result<(), Refused>
-    ensures doubts { OnOk result (map doubt_view doubts.new.items ≡ map doubt_view doubts.old.items ++ spec.own_doubts base.now (map location_view places.now)) }
+    ensures doubts { OnOk result (AddsDoubts doubts.old.items doubts.new.items
+        (spec.own_doubts base.now (map location_view places.now))) }
     ensures memory { IfErr result (λ e. e ≡ Refused.Memory) }
 {
     add_no_rule(alloc, base, places, doubts)?;
@@ -168,7 +173,8 @@ pub(crate) fn add_schema(
     schema: &Value,
     doubts: &mut Vec<Doubt>,
 ) -> Result<(), Refused>
-    ensures doubts { OnOk result ((names : Naming) → map doubt_view doubts.new.items ≡ map doubt_view doubts.old.items ++ spec.schema_doubts names base.now (view schema.now)) }
+    ensures doubts { OnOk result ((names : Naming) → AddsDoubts doubts.old.items doubts.new.items
+        (spec.schema_doubts names base.now (view schema.now))) }
     ensures memory { IfErr result (λ e. e ≡ Refused.Memory) }
 {
     let compiled = compile_schema(alloc, schema)?;

@@ -1,7 +1,7 @@
 //! A text of a rule, and what is said of it.
-ghost use Rattle.std.specs.Prelude.{◌≡◌, ◌++◌, [], ◌∷◌, OnOk, map, string_bytes};
+ghost use Rattle.std.specs.Prelude.{[], ◌∷◌, OnOk, string_bytes};
 ghost use Rattle.kube_manifests_review.specs.Calls.{doubt_about, text_view};
-ghost use Rattle.kube_manifests_review.specs.Doubts.{doubt_view, plainly, when_view};
+ghost use Rattle.kube_manifests_review.specs.Doubts.{AddsDoubts, plainly, when_view};
 
 use crate::doubt::{Condition, Doubt};
 use crate::finding::{ReviewFinding, ReviewKind};
@@ -27,8 +27,8 @@ pub(crate) fn add_said(
     condition: Condition,
     doubts: &mut Vec<Doubt>,
 ) -> Result<(), AllocError>
-    ensures { OnOk result (map doubt_view doubts.new.items ≡ map doubt_view doubts.old.items
-        ++ doubt_about (text_view text.entry) kind (string_bytes message) (when_view condition) ∷ []) }
+    ensures { OnOk result (AddsDoubts doubts.old.items doubts.new.items
+        (doubt_about (text_view text.entry) kind (string_bytes message) (when_view condition) ∷ [])) }
 {
     doubts.push(Doubt {
         finding: ReviewFinding {
@@ -50,7 +50,8 @@ pub(crate) fn add_plainly(
     message: &str,
     doubts: &mut Vec<Doubt>,
 ) -> Result<(), AllocError>
-    ensures { OnOk result (map doubt_view doubts.new.items ≡ map doubt_view doubts.old.items ++ plainly pointer.now kind message.now ∷ []) }
+    ensures { OnOk result (AddsDoubts doubts.old.items doubts.new.items
+        (plainly pointer.now kind message.now ∷ [])) }
 {
     doubts.push(Doubt {
         finding: ReviewFinding {

@@ -2,7 +2,7 @@ use Rattle.cel_semantics.specs.Bindings.{bindings_of}
 use Rattle.cel_value.specs.View.{view}
 use Rattle.kube_cel_vap.proofs.Bound.{always}
 use Rattle.kube_manifests_policies.proofs.context.context_always.Goals as goal
-use Rattle.kube_manifests_policies.specs.Inputs.{inputs_view}
+use Rattle.kube_manifests_admission.specs.Inputs.{inputs_view}
 
 pub returns-clause-bound : goal.returns-clause-bound
 returns-clause-bound c =

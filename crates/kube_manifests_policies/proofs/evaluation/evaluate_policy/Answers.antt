@@ -3,9 +3,9 @@ use Rattle.cel_patterns.proofs.Entries.{entries-IsBook}
 use Rattle.cel_patterns.specs.Entries.{entries_of}
 use Rattle.kube_manifests_policies.proofs.Decided.{no_entries, no_entries-IsBook, of_fault, of_policy}
 use Rattle.kube_manifests_policies.proofs.evaluation.evaluate_policy.Goals as goal
-use Rattle.kube_manifests_policies.specs.Faults.{fault_seen}
-use Rattle.kube_manifests_policies.specs.Inputs.{inputs_view}
-use Rattle.kube_manifests_policies.specs.Policies.{policy_view, reading_view}
+use Rattle.kube_manifests_admission.specs.Faults.{fault_seen}
+use Rattle.kube_manifests_admission.specs.Inputs.{inputs_view}
+use Rattle.kube_manifests_admission.specs.Policies.{policy_view, reading_view}
 use Rattle.serde_json.specs.View.{view}
 use Rattle.std.proofs.Common.{Err, Ok, sym, ap, ◌∙◌}
 

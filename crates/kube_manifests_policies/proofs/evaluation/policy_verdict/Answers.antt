@@ -2,9 +2,10 @@ use Rattle.cel_patterns.proofs.Books.{Extends-trans}
 use Rattle.kube_manifests_policies.proofs.Alike.{Alike-trans, after_alike, reach_same}
 use Rattle.kube_manifests_policies.proofs.Decided.{by_all, by_conditions}
 use Rattle.kube_manifests_policies.proofs.evaluation.policy_verdict.Goals as goal
-use Rattle.kube_manifests_policies.specs.Inputs.{inputs_view, without_namespace}
+use Rattle.kube_manifests_admission.specs.Inputs.{inputs_view}
+use Rattle.kube_manifests_policies.specs.Inputs.{without_namespace}
 use Rattle.kube_manifests_policies.specs.Reports.{results_as}
-use Rattle.kube_manifests_policies.specs.Policies.{item_view, policy_view}
+use Rattle.kube_manifests_admission.specs.Policies.{item_view, policy_view}
 use Rattle.kube_manifests_policies.specs.Scopes.{Alike, first_scope, outcome_or_reason, scope_for, scope_view, variables_after}
 use Rattle.kube_manifests_policies.specs.Verdicts.{after_conditions, result_view}
 use Rattle.kube_manifests_policies.specs.declared.reports.Subject.TheVariants.{Condition}

@@ -3,7 +3,7 @@ use Rattle.cel_patterns.proofs.Books.{Extends-trans}
 use Rattle.cel_semantics.specs.Outcome.{outcome_view}
 use Rattle.kube_manifests_policies.proofs.Messages.{report_with}
 use Rattle.kube_manifests_policies.proofs.reports.validation_with.Goals as goal
-use Rattle.kube_manifests_policies.specs.Policies.{item_view}
+use Rattle.kube_manifests_admission.specs.Policies.{item_view}
 use Rattle.kube_manifests_policies.specs.Scopes.{outcome_or_reason, outcome_seen, scope_view}
 use Rattle.kube_manifests_policies.specs.Verdicts.{report_view}
 use Rattle.std.proofs.Common.{option_map, sym, ap, ◌∙◌}

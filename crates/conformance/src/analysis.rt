@@ -1,0 +1,105 @@
+//! Rows of what is said of a rule without an object: names that aren't there, costs, and both.
+
+use crate::schemas::compiled_given;
+use crate::types::{put_and_read, scope_of};
+use conformance_rows::texts::push_line;
+use conformance_rows::{Field, Found, Stop, given as rows};
+use kube_cel::cel::Program;
+use kube_cel::{AnalysisWarning, ScopeContext, analyze_rule, check_rule_scope, estimate_rule_cost};
+use kube_cel_analysis::{Sizes, estimated_cost};
+use std::alloc::Global;
+
+/// The scope that the row gives, else that of rules in schemas.
+fn scope(given: &[Field]) -> Result<ScopeContext, Stop> {
+    match rows::text(given, "scope") {
+        Some(name) => scope_of(name),
+        None => Ok(ScopeContext::CrdValidation),
+    }
+}
+
+/// Writes a warning of a rule: its kind and message. A copy is equal to it.
+fn put_warning(warning: &AnalysisWarning, rule: &str, out: &mut String) -> Result<(), Stop> {
+    let (kind, message) = (warning.kind, warning.message.as_str());
+    push_line(out, "")?;
+    write!(out, "{kind:?}: {message}")?;
+    if warning.rule.as_str() != rule {
+        return Err(Stop::Differs("the warning's rule"));
+    }
+    if warning.try_clone()? == *warning {
+        Ok(())
+    } else {
+        Err(Stop::Differs("try_clone"))
+    }
+}
+
+/// What the row's rule is warned of by the call that a key names.
+fn warnings_of(
+    alloc: Global,
+    given: &[Field],
+    rule: &str,
+    key: &str,
+) -> Result<Vec<AnalysisWarning>, Stop> {
+    let scope = scope(given)?;
+    if key == "scope warnings" {
+        return Ok(check_rule_scope(alloc, rule, scope)?);
+    }
+    let compiled = compiled_given(alloc, given)?;
+    if key == "cost warnings" {
+        Ok(estimate_rule_cost(alloc, rule, &compiled)?)
+    } else {
+        Ok(analyze_rule(alloc, rule, &compiled, scope)?)
+    }
+}
+
+/// Writes what the row's rule is warned of by the call that a key names.
+fn put_warnings(alloc: Global, given: &[Field], key: &str, out: &mut String) -> Result<(), Stop> {
+    let rule = rows::needed(given, "rule")?;
+    let warnings = warnings_of(alloc, given, rule, key)?;
+    for warning in warnings.iter() {
+        put_warning(warning, rule, out)?;
+    }
+    Ok(())
+}
+
+/// How long lists and texts are at most where the row gives no other number.
+const USUAL: u64 = 1_000;
+
+/// Writes what the row's expression is estimated to cost.
+fn put_cost(alloc: Global, given: &[Field], out: &mut String) -> Result<(), Stop> {
+    let items = rows::number_or(given, "list size", USUAL)?;
+    let length = rows::number_or(given, "text length", USUAL)?;
+    match Program::compile(alloc, rows::needed(given, "expression")?)? {
+        Ok(program) => {
+            let cost = estimated_cost(program.expression(), Sizes { items, length });
+            Ok(write!(out, "{cost}")?)
+        }
+        Err(_) => Err(Stop::Unfit("expression")),
+    }
+}
+
+/// Finds what a field asks of the row's rule or expression. What `analyze_rule` warns of is what its names are warned of, and then its cost.
+pub(crate) fn find(
+    alloc: Global,
+    given: &[Field],
+    field: &Field,
+    found: &mut Found,
+) -> Result<(), Stop> {
+    match field.key.as_str() {
+        "cost" => put_cost(alloc, given, &mut found.text),
+        "warnings" => {
+            put_warnings(alloc, given, "warnings", &mut found.other)?;
+            found.end("analyze_rule")?;
+            put_warnings(alloc, given, "scope warnings", &mut found.other)?;
+            put_warnings(alloc, given, "cost warnings", &mut found.other)?;
+            found.end("check_rule_scope and estimate_rule_cost")
+        }
+        "warnings written" => {
+            let rule = rows::needed(given, "rule")?;
+            let warnings = warnings_of(alloc, given, rule, "warnings")?;
+            found.expect(field)?;
+            let is_read = put_and_read(alloc, &warnings, field.text.as_str(), &mut found.other)?;
+            found.end_expected(field, is_read)
+        }
+        key => put_warnings(alloc, given, key, &mut found.text),
+    }
+}

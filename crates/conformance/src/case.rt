@@ -1,0 +1,51 @@
+//! What is judged.
+
+use conformance_rows::nested::{object_given, schema_given, value_given};
+use conformance_rows::{Field, Stop, given as rows};
+use kube_cel::RootContext;
+use serde_json::Value;
+use std::alloc::{AllocError, Global};
+
+/// A schema, an object and its old state, and what is known of the whole object.
+#[derive(Drop)]
+pub(crate) struct Case {
+    pub(crate) schema: Value,
+    pub(crate) object: Value,
+    pub(crate) old: Option<Value>,
+    pub(crate) root: Option<RootContext>,
+}
+
+/// Puts a member's text into a field, if there is one.
+fn fill(field: &mut String, value: &Value, key: &str) -> Result<(), AllocError> {
+    match value.get(key).and_then(Value::as_str) {
+        Some(text) => field.push_str(text),
+        None => Ok(()),
+    }
+}
+
+/// A copy of what JSON tells of a whole object. What it leaves out is as by default.
+fn root_of(alloc: Global, reported: &Value) -> Result<RootContext, Stop> {
+    let mut root = RootContext::default(alloc);
+    fill(&mut root.api_version, reported, "apiVersion")?;
+    fill(&mut root.api_group, reported, "apiGroup")?;
+    fill(&mut root.kind, reported, "kind")?;
+    Ok(root.try_clone()?)
+}
+
+/// What a row told last of the whole object.
+fn root_given(alloc: Global, given: &[Field]) -> Result<Option<RootContext>, Stop> {
+    match rows::json(alloc, given, "root context")? {
+        Some(reported) => Ok(Some(root_of(alloc, &reported)?)),
+        None => Ok(None),
+    }
+}
+
+/// What a row gave.
+pub(crate) fn given(alloc: Global, given: &[Field]) -> Result<Case, Stop> {
+    Ok(Case {
+        schema: schema_given(alloc, given)?,
+        object: object_given(alloc, given)?,
+        old: value_given(alloc, given, "old object")?,
+        root: root_given(alloc, given)?,
+    })
+}

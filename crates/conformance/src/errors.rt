@@ -1,0 +1,139 @@
+//! What the errors of a verdict say.
+
+use conformance_rows::Stop;
+use conformance_rows::texts::{push_line, push_member};
+use kube_cel::{ErrorKind, ValidationError, ValidationErrors};
+use std::alloc::Global;
+
+/// What is said of an object.
+pub(crate) type Verdict = Result<(), ValidationErrors>;
+
+/// Writes an error behind others, as a JSON object on a line.
+fn push_error(alloc: Global, error: &ValidationError, out: &mut String) -> Result<(), Stop> {
+    let kind = error.kind;
+    push_line(out, "{")?;
+    write!(out, "\"kind\": \"{kind:?}\"")?;
+    push_member(alloc, out, "path", error.field_path.as_str())?;
+    push_member(alloc, out, "rule", error.rule.as_str())?;
+    if let Some(reason) = &error.reason {
+        push_member(alloc, out, "reason", reason.as_str())?;
+    }
+    push_member(alloc, out, "message", error.message.as_str())?;
+    if let Some(cause) = error.cause() {
+        push_member(alloc, out, "cause", cause.to_string(alloc)?.as_str())?;
+    }
+    Ok(out.push('}')?)
+}
+
+/// Writes all parts of all errors, an error on a line.
+pub(crate) fn push_parts(alloc: Global, verdict: &Verdict, out: &mut String) -> Result<(), Stop> {
+    let Err(errors) = verdict else {
+        return Ok(());
+    };
+    if errors.is_empty() || errors.len() != errors.as_slice().len() {
+        return Err(Stop::Differs("the number of errors"));
+    }
+    for error in errors.as_slice() {
+        push_error(alloc, error, out)?;
+    }
+    Ok(())
+}
+
+/// The changes of a list of errors.
+const CHANGES: [&str; 7] = [
+    "nothing", "kind", "path", "rule", "reason", "message", "count",
+];
+
+/// Changes an error in one field.
+fn change(alloc: Global, error: &mut ValidationError, what: &str) -> Result<(), Stop> {
+    match what {
+        "kind" => {
+            error.kind = match error.kind {
+                ErrorKind::InvalidResult => ErrorKind::EvaluationError,
+                _ => ErrorKind::InvalidResult,
+            };
+        }
+        "path" => error.field_path.push('a')?,
+        "rule" => error.rule.push('a')?,
+        "reason" => match &mut error.reason {
+            Some(reason) => reason.push('a')?,
+            None => error.reason = Some(String::new(alloc)),
+        },
+        "message" => error.message.push('a')?,
+        _ => {}
+    }
+    Ok(())
+}
+
+/// Whether `==` distinguishes a list of errors, and its last error, from a copy that is changed in one field, or has one error less.
+fn tells_apart(alloc: Global, errors: &ValidationErrors, what: &str) -> Result<bool, Stop> {
+    let mut copies = errors.try_clone()?.into_vec();
+    if what == "count" {
+        let _ = copies.pop();
+    }
+    if let Some(last) = copies.last_mut() {
+        change(alloc, last, what)?;
+    }
+    let is_last_equal = match (errors.as_slice().last(), copies.as_slice().last()) {
+        (Some(a), Some(b)) => what != "count" && a == b,
+        _ => false,
+    };
+    Ok(*errors != ValidationErrors::from(copies) && !is_last_equal)
+}
+
+/// Writes by which changes `==` tells a list of errors, and its last error, from a copy.
+fn put_changes(alloc: Global, errors: &ValidationErrors, out: &mut String) -> Result<(), Stop> {
+    for &what in CHANGES.iter() {
+        if tells_apart(alloc, errors, what)? {
+            out.push_str(if out.is_empty() { "" } else { ", " })?;
+            out.push_str(what)?;
+        }
+    }
+    Ok(())
+}
+
+/// Writes all parts of the errors of a copy, an error on a line.
+fn push_copied(alloc: Global, errors: ValidationErrors, out: &mut String) -> Result<(), Stop> {
+    for error in errors {
+        push_error(alloc, &error, out)?;
+    }
+    Ok(())
+}
+
+/// Writes errors as they are printed, an error on a line.
+fn put_printed(errors: &[ValidationError], out: &mut String) -> Result<(), Stop> {
+    for error in errors {
+        push_line(out, "")?;
+        write!(out, "{error}")?;
+    }
+    Ok(())
+}
+
+/// Writes what a field asks of errors.
+fn put_errors(
+    alloc: Global,
+    asked: &str,
+    errors: &ValidationErrors,
+    out: &mut String,
+) -> Result<(), Stop> {
+    match asked {
+        "printed" => Ok(write!(out, "{errors}")?),
+        "copied" => push_copied(alloc, errors.try_clone()?, out),
+        "errors" => put_printed(errors.as_slice(), out),
+        _ => put_changes(alloc, errors, out),
+    }
+}
+
+/// Writes what a field asks of a verdict.
+pub(crate) fn put_verdict(
+    alloc: Global,
+    asked: &str,
+    verdict: &Verdict,
+    out: &mut String,
+) -> Result<(), Stop> {
+    match verdict {
+        Ok(()) => Ok(()),
+        Err(_) if asked == "error parts" => push_parts(alloc, verdict, out),
+        Err(errors) => put_errors(alloc, asked, errors, out),
+    }
+}

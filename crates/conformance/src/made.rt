@@ -1,0 +1,75 @@
+//! What holds of each expression, schema with objects, name and text that is made of a grammar. Of a schema: all calls that judge an object
+//! answer alike, and defaults that are filled twice are those filled once.
+
+use crate::case::Case;
+use crate::verdicts::judged;
+use conformance_parts::filled::fill_all;
+use conformance_parts::made::{run_expressions, run_names_and_texts};
+use conformance_rows::grammar::Maker;
+use conformance_rows::{Found, Stop, given};
+use serde_json::Value;
+use std::alloc::Global;
+
+/// How many schemas are made.
+const SCHEMAS: usize = 20_000;
+
+/// The case that a JSON list states: a schema, an object and an old object.
+fn case_of(parts: Value) -> Option<Case> {
+    let Value::Array(mut parts) = parts else {
+        return None;
+    };
+    let old = parts.pop()?;
+    let object = parts.pop()?;
+    let schema = parts.pop()?;
+    Some(Case {
+        schema,
+        object,
+        old: Some(old),
+        root: None,
+    })
+}
+
+/// Judges a case in each way, and fills its object's defaults in each: how many errors there are.
+fn judge_case(alloc: Global, text: &str, found: &mut Found) -> Result<usize, Stop> {
+    let Some(case) = case_of(given::json_of(alloc, "case", text)?) else {
+        return Err(Stop::Unfit("case"));
+    };
+    found.clear();
+    fill_all(alloc, &case.schema, &case.object, found)?;
+    found.clear();
+    match judged(alloc, &case, found)? {
+        Ok(()) => Ok(0),
+        Err(errors) => Ok(errors.len()),
+    }
+}
+
+/// Judges objects by schemas.
+fn run_schemas(
+    alloc: Global,
+    maker: &mut Maker,
+    found: &mut Found,
+    report: &mut String,
+) -> Result<(), Stop> {
+    let mut errors = 0usize;
+    for _ in 0..SCHEMAS {
+        maker.make(alloc, "case", 40)?;
+        errors = errors.saturating_add(judge_case(alloc, maker.text.as_str(), found)?);
+    }
+    write!(
+        report,
+        "schemas: {SCHEMAS} made with objects, {errors} errors; all calls agree on each; defaults filled twice are those filled once\n"
+    )?;
+    Ok(())
+}
+
+/// Makes all, asks what holds of each, and writes how much of it does. Where something doesn't, that is reported by `found`.
+pub(crate) fn run(
+    alloc: Global,
+    maker: &mut Maker,
+    found: &mut Found,
+    report: &mut String,
+) -> Result<(), Stop> {
+    run_expressions(alloc, maker, found, report)?;
+    run_schemas(alloc, maker, found, report)?;
+    run_names_and_texts(alloc, maker, found, report)
+}

@@ -1,0 +1,95 @@
+//! What answers show.
+
+use cel::{Answer, Refused, Value};
+use conformance_rows::texts::push_all;
+use conformance_rows::{Found, Stop};
+use std::alloc::Global;
+
+/// What running an expression comes to.
+pub(crate) type Ran = Result<Answer, Refused>;
+
+/// Writes the text of a value, as `%s` shows it, or else what stands for a text and the value's kind.
+fn put_text(alloc: Global, value: &Value, instead: &str, out: &mut String) -> Result<(), Stop> {
+    match value.text(alloc)? {
+        Ok(text) => out.push_str(text.as_str())?,
+        Err(kind) => write!(out, "{instead}{kind}")?,
+    }
+    Ok(())
+}
+
+/// Writes what a value of a type that prints itself prints. False where it is of none.
+fn put_printed(alloc: Global, value: &Value, out: &mut String) -> Result<bool, Stop> {
+    match value {
+        Value::Quantity(quantity) => write!(out, "{}", quantity.as_ref())?,
+        Value::Ip(address) => write!(out, "{}", address.as_ref())?,
+        Value::Cidr(cidr) => write!(out, "{}", cidr.as_ref())?,
+        Value::Timestamp(time) => out.push_str(time.text(alloc)?.as_str())?,
+        Value::Duration(duration) => out.push_str(duration.text(alloc)?.as_str())?,
+        Value::Format(format) => write!(out, "{}", format.kind())?,
+        _ => return Ok(false),
+    }
+    Ok(true)
+}
+
+/// Writes what a value prints, or else its text, or else its kind.
+pub(crate) fn put_shown(alloc: Global, value: &Value, out: &mut String) -> Result<(), Stop> {
+    if !put_printed(alloc, value, out)? {
+        put_text(alloc, value, "", out)?;
+    }
+    Ok(())
+}
+
+/// Writes what is asked of a value, or else what the value is.
+fn put_value(alloc: Global, asked: &str, value: &Value, out: &mut String) -> Result<(), Stop> {
+    match asked {
+        "value" => return put_text(alloc, value, "of kind ", out),
+        "bound" => return put_text(alloc, value, "", out),
+        "prints" if put_printed(alloc, value, out)? => return Ok(()),
+        "kind" => {}
+        _ => out.push_str("a value of kind ")?,
+    }
+    let kind = value.type_of();
+    write!(out, "{kind}")?;
+    if asked == "all" {
+        out.push_str(": ")?;
+        put_text(alloc, value, "", out)?;
+    }
+    Ok(())
+}
+
+/// Writes what is asked of an answer, or else what the answer is.
+pub(crate) fn put_answer(
+    alloc: Global,
+    asked: &str,
+    answer: &Ran,
+    out: &mut String,
+) -> Result<(), Stop> {
+    match answer {
+        Ok(Ok(value)) => put_value(alloc, asked, value, out),
+        Ok(Err(error)) => {
+            let is_asked = asked == "error" || asked == "bound";
+            out.push_str(if is_asked { "" } else { "an error: " })?;
+            Ok(write!(out, "{error}")?)
+        }
+        Err(refused) => {
+            let what = match refused {
+                Refused::Memory => "memory",
+                Refused::TooLarge => "too large",
+            };
+            let is_asked = asked == "refused";
+            Ok(push_all(out, &[if is_asked { "" } else { "refused: " }, what])?)
+        }
+    }
+}
+
+/// Ends a call that ran an expression, of whose answer something is asked.
+pub(crate) fn end_ran(
+    alloc: Global,
+    asked: &str,
+    ran: &Ran,
+    call: &'static str,
+    found: &mut Found,
+) -> Result<(), Stop> {
+    put_answer(alloc, asked, ran, &mut found.other)?;
+    found.end(call)
+}

@@ -1,0 +1,80 @@
+//! Objects bound by their schema, and what expressions of them give.
+
+use crate::answers::end_ran;
+use crate::ways::compiled;
+use cel::{Context, Program, StandardFunctions, Value};
+use conformance_rows::nested::{object_given, schema_given};
+use conformance_rows::{Field, Found, Stop, given as rows};
+use kube_schema::{bind, bind_node, compile_schema};
+use serde_json::Value as Json;
+use std::alloc::Global;
+
+/// Finds what a program gives in a context where `self` is bound to a value.
+fn run_in(
+    alloc: Global,
+    program: &Program,
+    context: &mut Context<'_, StandardFunctions>,
+    value: Value,
+    call: &'static str,
+    found: &mut Found,
+) -> Result<(), Stop> {
+    context.add_variable("self", value)?;
+    let ran = program.execute(alloc, context);
+    end_ran(alloc, "bound", &ran, call, found)
+}
+
+/// Finds what a program gives where `self` is bound to a value.
+fn run(
+    alloc: Global,
+    program: &Program,
+    value: Value,
+    call: &'static str,
+    found: &mut Found,
+) -> Result<(), Stop> {
+    let mut context: Context<'_, StandardFunctions> = Context::default(alloc);
+    run_in(alloc, program, &mut context, value, call, found)
+}
+
+/// An object that is bound by its compiled schema, at a depth.
+fn bound_by_node(alloc: Global, schema: &Json, object: &Json, depth: usize) -> Result<Value, Stop> {
+    let compiled = compile_schema(alloc, schema)?;
+    Ok(bind_node(alloc, &compiled.root(), object, depth)?)
+}
+
+/// Finds what a program gives of an object that is bound by its schema, as JSON and compiled, at a depth.
+fn run_both(
+    alloc: Global,
+    program: &Program,
+    (schema, object): (&Json, &Json),
+    depth: usize,
+    found: &mut Found,
+) -> Result<(), Stop> {
+    let by_json = bind(alloc, schema, object, depth)?;
+    let by_node = bound_by_node(alloc, schema, object, depth)?;
+    if by_json != by_node {
+        return Err(Stop::Differs("bind and bind_node"));
+    }
+    run(alloc, program, by_json, "bind", found)?;
+    run(alloc, program, by_node, "bind_node", found)
+}
+
+/// Finds what a text of CEL gives of an object that is bound by its schema, at a depth.
+fn run_text(
+    alloc: Global,
+    text: &str,
+    bound: (&Json, &Json),
+    depth: usize,
+    found: &mut Found,
+) -> Result<(), Stop> {
+    let program = compiled(alloc, text)?;
+    run_both(alloc, &program, bound, depth, found)
+}
+
+/// Finds what a row's expression gives of its object, which is bound by its schema.
+pub(crate) fn find(alloc: Global, given: &[Field], found: &mut Found) -> Result<(), Stop> {
+    let depth = rows::number_or(given, "depth", 0)? as usize;
+    let text = rows::needed(given, "expression")?;
+    let schema = schema_given(alloc, given)?;
+    let object = object_given(alloc, given)?;
+    run_text(alloc, text, (&schema, &object), depth, found)
+}

@@ -1,0 +1,55 @@
+//! Objects with their defaults.
+
+use conformance_rows::nested::{find_nested, object_given, schema_given};
+use conformance_rows::{Field, Found, Stop};
+use kube_schema::{CompiledSchema, apply_defaults, compile_schema, fill_node};
+use serde_json::Value;
+use std::alloc::Global;
+
+/// By the schema as JSON, once and twice.
+fn fill(alloc: Global, schema: &Value, object: &Value, found: &mut Found) -> Result<(), Stop> {
+    let once = apply_defaults(alloc, schema, object)?;
+    found.end_json(&once, "apply_defaults")?;
+    let twice = apply_defaults(alloc, schema, &once)?;
+    found.end_json(&twice, "apply_defaults twice")
+}
+
+/// By the compiled schema, once and twice.
+fn fill_compiled(
+    alloc: Global,
+    compiled: &CompiledSchema,
+    object: &Value,
+    found: &mut Found,
+) -> Result<(), Stop> {
+    let root = compiled.root();
+    let once = fill_node(alloc, &root, object)?;
+    found.end_json(&once, "fill_node")?;
+    let twice = fill_node(alloc, &root, &once)?;
+    found.end_json(&twice, "fill_node twice")
+}
+
+/// Fills an object once and twice, by both forms of its schema: each has to come to what was found before, if something was.
+pub fn fill_all(
+    alloc: Global,
+    schema: &Value,
+    object: &Value,
+    found: &mut Found,
+) -> Result<(), Stop> {
+    fill(alloc, schema, object, found)?;
+    let compiled = compile_schema(alloc, schema)?;
+    fill_compiled(alloc, &compiled, object, found)
+}
+
+/// Finds the field's JSON, nested as the row says, where it is the object with its defaults.
+pub(crate) fn find(
+    alloc: Global,
+    given: &[Field],
+    field: &Field,
+    found: &mut Found,
+) -> Result<(), Stop> {
+    find_nested(alloc, given, field, found)?;
+    let schema = schema_given(alloc, given)?;
+    let object = object_given(alloc, given)?;
+    fill_all(alloc, &schema, &object, found)?;
+    Ok(found.say(field.text.as_str())?)
+}

@@ -1,0 +1,158 @@
+//! Trees as outlines: each node in a line of its own, and its parts below it, two blanks further in.
+
+use cel::{BinaryOperator, Expr, MacroKind, UnaryOperator, Value};
+use conformance_rows::texts::{push_all, push_bytes, push_line, push_times};
+use std::alloc::AllocError;
+
+/// How an operator on two values is written.
+fn operator_text(operator: BinaryOperator) -> &'static str {
+    match operator {
+        BinaryOperator::Or => "||",
+        BinaryOperator::And => "&&",
+        BinaryOperator::Less => "<",
+        BinaryOperator::LessOrEqual => "<=",
+        BinaryOperator::Greater => ">",
+        BinaryOperator::GreaterOrEqual => ">=",
+        BinaryOperator::Equal => "==",
+        BinaryOperator::NotEqual => "!=",
+        BinaryOperator::In => "in",
+        BinaryOperator::Add => "+",
+        BinaryOperator::Subtract => "-",
+        BinaryOperator::Multiply => "*",
+        BinaryOperator::Divide => "/",
+        BinaryOperator::Remainder => "%",
+    }
+}
+
+/// The name of a macro, behind the word `macro`.
+fn macro_name(kind: MacroKind) -> &'static str {
+    match kind {
+        MacroKind::All => "macro all ",
+        MacroKind::Exists => "macro exists ",
+        MacroKind::ExistsOne => "macro exists_one ",
+        MacroKind::Map => "macro map ",
+        MacroKind::Filter => "macro filter ",
+    }
+}
+
+/// What the line of a node says: what it is, and the name that it has. That of a literal says more.
+fn said(expr: &Expr) -> (&str, &str) {
+    match expr {
+        Expr::Literal(_) => ("", ""),
+        Expr::Ident(name) => ("name ", name.as_str()),
+        Expr::Select(_, name) => ("select ", name.as_str()),
+        Expr::Has(_, name) => ("has ", name.as_str()),
+        Expr::Index(_, _) => ("index", ""),
+        Expr::Unary(UnaryOperator::Not, _) => ("not", ""),
+        Expr::Unary(UnaryOperator::Negate, _) => ("negate", ""),
+        Expr::Binary(operator, _, _) => (operator_text(*operator), ""),
+        Expr::Cond(_, _, _) => ("conditional", ""),
+        Expr::List(_) => ("list", ""),
+        Expr::Map(_) => ("map", ""),
+        Expr::Call {
+            target: Some(_),
+            name,
+            ..
+        } => ("method call ", name.as_str()),
+        Expr::Call { name, .. } => ("call ", name.as_str()),
+        Expr::Qualified { name, .. } => ("qualified call ", name.as_str()),
+        Expr::Macro { kind, variable, .. } => (macro_name(*kind), variable.as_str()),
+    }
+}
+
+/// Writes a literal. A double shows no number.
+fn write_literal(value: &Value, out: &mut String) -> Result<(), AllocError> {
+    match value {
+        Value::Null => out.push_str("null"),
+        Value::Bool(value) => write!(out, "bool {value}"),
+        Value::Int(number) => write!(out, "int {number}"),
+        Value::UInt(number) => write!(out, "uint {number}"),
+        Value::Float => out.push_str("double"),
+        Value::String(text) => push_all(out, &["string \"", text.as_str(), "\""]),
+        Value::Bytes(bytes) => {
+            out.push_str("bytes")?;
+            push_bytes(out, bytes.as_slice())
+        }
+        _ => out.push_str("a value that no text writes"),
+    }
+}
+
+/// Writes the line of a node.
+fn write_line(expr: &Expr, depth: usize, out: &mut String) -> Result<(), AllocError> {
+    let (what, name) = said(expr);
+    push_line(out, "")?;
+    push_times(out, "  ", depth)?;
+    match expr {
+        Expr::Literal(value) => write_literal(value, out),
+        _ => push_all(out, &[what, name]),
+    }
+}
+
+/// Writes a node, and its parts below it.
+#[cycle(outline)]
+pub(crate) fn write_node(expr: &Expr, depth: usize, out: &mut String) -> Result<(), AllocError> {
+    write_line(expr, depth, out)?;
+    let below = depth.saturating_add(1);
+    match expr {
+        Expr::Literal(_) | Expr::Ident(_) => Ok(()),
+        Expr::Select(operand, _) | Expr::Has(operand, _) | Expr::Unary(_, operand) => {
+            write_node(operand, below, out)
+        }
+        Expr::Index(left, right) | Expr::Binary(_, left, right) => {
+            write_node(left, below, out)?;
+            write_node(right, below, out)
+        }
+        Expr::Cond(test, yes, no) => {
+            write_node(test, below, out)?;
+            write_node(yes, below, out)?;
+            write_node(no, below, out)
+        }
+        Expr::Map(pairs) => write_entries(pairs, below, out),
+        Expr::Call { target, args, .. } => {
+            if let Some(target) = target {
+                write_node(target, below, out)?;
+            }
+            write_nodes(args, below, out)
+        }
+        Expr::List(args) | Expr::Qualified { args, .. } => write_nodes(args, below, out),
+        Expr::Macro {
+            range,
+            filter,
+            body,
+            ..
+        } => {
+            write_node(range, below, out)?;
+            if let Some(filter) = filter {
+                write_node(filter, below, out)?;
+            }
+            write_node(body, below, out)
+        }
+    }
+}
+
+/// Writes nodes, one after another.
+#[cycle(outline)]
+fn write_nodes(items: &Vec<Expr>, depth: usize, out: &mut String) -> Result<(), AllocError> {
+    for item in items {
+        write_node(item, depth, out)?;
+    }
+    Ok(())
+}
+
+/// Writes the entries of a map: the key of each, and then its value.
+#[cycle(outline)]
+fn write_entries(
+    pairs: &Vec<(Expr, Expr)>,
+    depth: usize,
+    out: &mut String,
+) -> Result<(), AllocError> {
+    let below = depth.saturating_add(1);
+    for pair in pairs {
+        push_line(out, "")?;
+        push_times(out, "  ", depth)?;
+        out.push_str("entry")?;
+        write_node(&pair.0, below, out)?;
+        write_node(&pair.1, below, out)?;
+    }
+    Ok(())
+}

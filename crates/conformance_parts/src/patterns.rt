@@ -1,0 +1,57 @@
+//! What a book of patterns answers, to a pattern that it is asked of for the first time and to one that it holds.
+
+use cel::PatternBook;
+use conformance_rows::given::{limit, needed};
+use conformance_rows::{Field, Found, Stop};
+
+/// Finds whether a pattern has a match in a text.
+fn find_match(
+    book: &mut PatternBook,
+    (pattern, text): (&str, &str),
+    call: &'static str,
+    found: &mut Found,
+) -> Result<(), Stop> {
+    match book.matches(pattern, text)? {
+        Some(holds) => write!(found.other, "{holds}")?,
+        None => found.other.push_str("refused")?,
+    }
+    found.end(call)
+}
+
+/// Finds whether a pattern has a match in a text, asked twice.
+pub(crate) fn matches(
+    book: &mut PatternBook,
+    given: &[Field],
+    found: &mut Found,
+) -> Result<(), Stop> {
+    let asked = (needed(given, "pattern")?, needed(given, "text")?);
+    find_match(book, asked, "matches", found)?;
+    find_match(book, asked, "matches again", found)
+}
+
+/// Finds the spans in bytes of the first matches.
+fn find_spans(
+    book: &mut PatternBook,
+    (pattern, text): (&str, &str),
+    limit: Option<usize>,
+    call: &'static str,
+    found: &mut Found,
+) -> Result<(), Stop> {
+    match book.find_all(pattern, text, limit)? {
+        Some(spans) => write!(found.other, "{spans:?}")?,
+        None => found.other.push_str("refused")?,
+    }
+    found.end(call)
+}
+
+/// Finds the spans in bytes of the first matches, asked twice.
+pub(crate) fn spans(
+    book: &mut PatternBook,
+    given: &[Field],
+    found: &mut Found,
+) -> Result<(), Stop> {
+    let asked = (needed(given, "pattern")?, needed(given, "text")?);
+    let most = limit(given)?;
+    find_spans(book, asked, most, "find_all", found)?;
+    find_spans(book, asked, most, "find_all again", found)
+}

@@ -1,0 +1,63 @@
+//! Tokens as lines of text.
+
+use cel_syntax_lexer::lexer::tokens;
+use cel_syntax_lexer::punctuator::Punctuator;
+use cel_syntax_lexer::token::Token;
+use conformance_rows::Stop;
+use conformance_rows::texts::{push_line, text_of};
+use std::alloc::Global;
+
+/// How a symbol is written.
+fn symbol(punctuator: Punctuator) -> &'static str {
+    match punctuator {
+        Punctuator::OpenRound => "(",
+        Punctuator::CloseRound => ")",
+        Punctuator::OpenSquare => "[",
+        Punctuator::CloseSquare => "]",
+        Punctuator::OpenBrace => "{",
+        Punctuator::CloseBrace => "}",
+        Punctuator::Comma => ",",
+        Punctuator::Dot => ".",
+        Punctuator::Colon => ":",
+        Punctuator::Question => "?",
+        Punctuator::Not => "!",
+        Punctuator::Minus => "-",
+        Punctuator::Plus => "+",
+        Punctuator::Star => "*",
+        Punctuator::Slash => "/",
+        Punctuator::Percent => "%",
+        Punctuator::Less => "<",
+        Punctuator::LessOrEqual => "<=",
+        Punctuator::Greater => ">",
+        Punctuator::GreaterOrEqual => ">=",
+        Punctuator::Equal => "==",
+        Punctuator::NotEqual => "!=",
+        Punctuator::And => "&&",
+        Punctuator::Or => "||",
+    }
+}
+
+/// Writes what a token is, and how it is written, in a line of its own.
+fn put_token(token: &Token<'_>, out: &mut String) -> Result<(), Stop> {
+    let (class, spelling) = match token {
+        Token::Word(spelling) => ("word ", text_of(spelling)),
+        Token::Number(spelling) => ("number ", text_of(spelling)),
+        Token::Quoted(spelling) => ("string ", text_of(spelling)),
+        Token::Punctuator(punctuator) => ("symbol ", symbol(*punctuator)),
+    };
+    push_line(out, class)?;
+    Ok(out.push_str(spelling)?)
+}
+
+/// Writes the tokens of a text, each in a line of its own, or `invalid` where it can't be cut into tokens.
+pub(crate) fn put_tokens(alloc: Global, text: &str, out: &mut String) -> Result<(), Stop> {
+    match tokens(alloc, text.as_bytes())? {
+        Some(list) => {
+            for token in list.as_slice() {
+                put_token(token, out)?;
+            }
+        }
+        None => out.push_str("invalid")?,
+    }
+    Ok(())
+}

@@ -1,0 +1,83 @@
+//! The keys of fields that give something.
+
+use crate::questions::maker;
+use crate::row::Field;
+
+/// The keys of what is given, but for names that are bound and items.
+const GIVEN: [&str; 42] = [
+    "after",
+    "before",
+    "command",
+    "depth",
+    "expression",
+    "expressions",
+    "failing read",
+    "field",
+    "functions",
+    "json",
+    "levels",
+    "limit",
+    "list size",
+    "message",
+    "message expression",
+    "name",
+    "name in cel",
+    "namespace object",
+    "nested additional properties",
+    "nested all of",
+    "nested any of",
+    "nested items",
+    "nested one of",
+    "nested properties",
+    "node",
+    "object",
+    "old object",
+    "params",
+    "pattern",
+    "policy",
+    "refused error write",
+    "refused read",
+    "refused write",
+    "request",
+    "root context",
+    "rule",
+    "schema",
+    "scope",
+    "text",
+    "text length",
+    "type",
+    "within",
+];
+
+/// The name that a field of this key binds.
+pub fn bound_name(key: &str) -> Option<&str> {
+    if key == "self" {
+        Some(key)
+    } else {
+        key.strip_prefix("let ")
+    }
+}
+
+/// The type of the item that a field of this key gives, and whether it is the other one.
+pub fn item_type(key: &str) -> (&str, bool) {
+    match key.strip_prefix("other ") {
+        Some(of) => (of, true),
+        None => (key, false),
+    }
+}
+
+/// Whether a field of this key gives something.
+pub fn gives(key: &str) -> bool {
+    GIVEN.contains(&key) || bound_name(key).is_some() || maker(item_type(key).0).is_some()
+}
+
+/// The field that gave the item, or the other one, last.
+pub fn item_given(given: &[Field], wants_other: bool) -> Option<&Field> {
+    for field in given.iter().rev() {
+        let (of, is_other) = item_type(field.key.as_str());
+        if is_other == wants_other && maker(of).is_some() {
+            return Some(field);
+        }
+    }
+    None
+}

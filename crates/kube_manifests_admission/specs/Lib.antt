@@ -1,0 +1,4 @@
+pub mod Faults
+pub mod Inputs
+pub mod Policies
+pub mod Reviews

@@ -1,0 +1,235 @@
+-- Trusted by the clauses of policies.
+-- What the document of a policy says (Kubernetes API reference, ValidatingAdmissionPolicy of `admissionregistration.k8s.io`), or its first fault.
+use Rattle.kube_cel_vap.specs.Expressions.{◌>>=◌}
+use Rattle.kube_manifests_admission.specs.Faults.{FaultData, fault_seen, field, nth, nth_field}
+use Rattle.kube_manifests_admission.specs.declared.fault.FaultKind.TheVariants.{Missing, NotObject, NotList, NotString, Unsupported, UnknownField, Repeated, NothingToCheck}
+use Rattle.kube_manifests_admission.specs.declared.fault.Found.{Found}
+use Rattle.kube_manifests_admission.specs.declared.item.Item.{Item}
+use Rattle.kube_manifests_admission.specs.declared.item.PolicyList.{PolicyList}
+use Rattle.kube_manifests_admission.specs.declared.item.PolicyList.TheVariants.{MatchConditions, Variables, Validations, AuditAnnotations}
+use Rattle.kube_manifests_admission.specs.declared.policy.Policy.{Policy}
+use Rattle.serde_json.specs.Data.{Data, null, string, array, object, Items, no_items, item, Members, no_members, member}
+use Rattle.serde_json.specs.Find.{get, as_object}
+use Rattle.std.specs.List.{list_any}
+use Rattle.std.specs.Prelude.{ℕ, List, [], ◌∷◌, ◌++◌, length, map, Bool, true, false, ◌&&◌, if◌then◌else◌, Option, Some, None, option_and_then, option_map, is_some, Result, Ok, Err, codes}
+use Rattle.std.specs.Str.{bytes_eq}
+
+-- one entry of a list of the policy
+pub record ItemData : Type 0 where
+  -- its name; of a validation the text of its expression, of an audit annotation its key
+  pub label : List ℕ
+  pub expression : List ℕ
+  pub message : Option (List ℕ)
+  pub message_expression : Option (List ℕ)
+
+pub record PolicyData : Type 0 where
+  -- whether failurePolicy is `Ignore`
+  pub ignores : Bool
+  pub conditions : List ItemData
+  pub variables : List ItemData
+  pub validations : List ItemData
+  pub annotations : List ItemData
+
+-- ---- the lists of a policy
+
+abbrev pub keyword : PolicyList → List ℕ
+keyword MatchConditions = codes "matchConditions"
+keyword Variables = codes "variables"
+keyword Validations = codes "validations"
+keyword AuditAnnotations = codes "auditAnnotations"
+
+abbrev pub base : PolicyList → List ℕ
+base MatchConditions = codes "/spec/matchConditions"
+base Variables = codes "/spec/variables"
+base Validations = codes "/spec/validations"
+base AuditAnnotations = codes "/spec/auditAnnotations"
+
+-- the field that names an entry
+abbrev pub label_key : PolicyList → List ℕ
+label_key MatchConditions = codes "name"
+label_key Variables = codes "name"
+label_key Validations = codes "expression"
+label_key AuditAnnotations = codes "key"
+
+-- the field with its expression
+abbrev pub expression_key : PolicyList → List ℕ
+expression_key MatchConditions = codes "expression"
+expression_key Variables = codes "expression"
+expression_key Validations = codes "expression"
+expression_key AuditAnnotations = codes "valueExpression"
+
+-- names and keys are given once; two validations may have one text
+abbrev pub is_unique : PolicyList → Bool
+is_unique MatchConditions = true
+is_unique Variables = true
+is_unique Validations = false
+is_unique AuditAnnotations = true
+
+-- ---- fields
+
+-- a field that may be missing or null
+abbrev pub text_of : List ℕ → Option Data → Result (Option (List ℕ)) FaultData
+text_of p None = Ok None
+text_of p (Some null) = Ok None
+text_of p (Some (string s)) = Ok (Some s)
+text_of p (Some _) = Err (record { pointer = p; kind = NotString })
+
+abbrev pub or_missing : {A : Type 0} → List ℕ → Option A → Result A FaultData
+or_missing p (Some a) = Ok a
+or_missing p None = Err (record { pointer = p; kind = Missing })
+
+abbrev pub required_text : List ℕ → Option Data → Result (List ℕ) FaultData
+required_text p o = text_of p o >>= or_missing p
+
+abbrev pub object_of : List ℕ → Option Data → Result Data FaultData
+object_of p None = Err (record { pointer = p; kind = Missing })
+object_of p (Some null) = Err (record { pointer = p; kind = Missing })
+object_of p (Some (object ms)) = Ok (object ms)
+object_of p (Some _) = Err (record { pointer = p; kind = NotObject })
+
+-- one of these texts
+abbrev pub one_of : List ℕ → List (List ℕ) → List ℕ → Result (List ℕ) FaultData
+one_of p known s = if list_any (bytes_eq s) known then Ok s else Err (record { pointer = p; kind = Unsupported })
+
+abbrev pub required_one : List ℕ → List (List ℕ) → Option Data → Result (List ℕ) FaultData
+required_one p known o = required_text p o >>= one_of p known
+
+-- ---- entries
+
+-- a text of the entry with this number
+abbrev pub entry_text : PolicyList → ℕ → Data → List ℕ → Result (Option (List ℕ)) FaultData
+entry_text l i d name = text_of (nth_field (base l) i name) (get name d)
+
+abbrev pub required_entry_text : PolicyList → ℕ → Data → List ℕ → Result (List ℕ) FaultData
+required_entry_text l i d name = required_text (nth_field (base l) i name) (get name d)
+
+-- what the entry with this number says
+unfoldable pub entry_of : PolicyList → ℕ → Data → Result ItemData FaultData
+entry_of l i d = do
+  label ← required_entry_text l i d (label_key l)
+  expression ← required_entry_text l i d (expression_key l)
+  message ← entry_text l i d (codes "message")
+  message_expression ← entry_text l i d (codes "messageExpression")
+  Ok (record { label = label; expression = expression; message = message; message_expression = message_expression })
+
+-- an entry, unless one before it has its name
+abbrev pub unless_repeated : PolicyList → List ItemData → ℕ → ItemData → Result ItemData FaultData
+unless_repeated l done i x = if is_unique l && list_any (λ y. bytes_eq x.label y.label) done
+    then Err (record { pointer = nth_field (base l) i (label_key l); kind = Repeated }) else Ok x
+
+-- the entry behind these
+unfoldable pub next_entry : PolicyList → List ItemData → ℕ → Data → Result ItemData FaultData
+next_entry l done i d = if is_some (as_object d) then entry_of l i d >>= unless_repeated l done i
+    else Err (record { pointer = nth (base l) i; kind = NotObject })
+
+-- the entries of a list, where these were read before
+unfoldable pub entries_after : PolicyList → List ItemData → Items → Result (List ItemData) FaultData
+entries_after l done no_items = Ok done
+entries_after l done (item d ds) = next_entry l done (length done) d >>= (λ x. entries_after l (done ++ x ∷ []) ds)
+
+abbrev pub list_of : PolicyList → Option Data → Result (List ItemData) FaultData
+list_of l None = Ok []
+list_of l (Some null) = Ok []
+list_of l (Some (array ds)) = entries_after l [] ds
+list_of l (Some _) = Err (record { pointer = field (codes "/spec") (keyword l); kind = NotList })
+
+abbrev pub entries_of : PolicyList → Data → Result (List ItemData) FaultData
+entries_of l spec = list_of l (get (keyword l) spec)
+
+-- ---- the document
+
+abbrev pub versions : List (List ℕ)
+versions = codes "admissionregistration.k8s.io/v1" ∷ codes "admissionregistration.k8s.io/v1beta1" ∷ codes "admissionregistration.k8s.io/v1alpha1" ∷ []
+
+abbrev pub kinds : List (List ℕ)
+kinds = codes "ValidatingAdmissionPolicy" ∷ []
+
+-- the fields of `spec`
+abbrev pub spec_fields : List (List ℕ)
+spec_fields = codes "paramKind" ∷ codes "matchConstraints" ∷ codes "matchConditions" ∷ codes "validations" ∷ codes "failurePolicy" ∷ codes "auditAnnotations"
+    ∷ codes "variables" ∷ []
+
+-- the first field that isn't one of these
+abbrev pub unknown_in : List (List ℕ) → Members → Option (List ℕ)
+unknown_in known no_members = None
+unknown_in known (member k d ms) = if list_any (bytes_eq k) known then unknown_in known ms else Some k
+
+abbrev pub unknown_field : Data → Option (List ℕ)
+unknown_field d = option_and_then (unknown_in spec_fields) (as_object d)
+
+abbrev pub unless_unknown : Option (List ℕ) → Data → Result Data FaultData
+unless_unknown None spec = Ok spec
+unless_unknown (Some name) spec = Err (record { pointer = field (codes "/spec") name; kind = UnknownField })
+
+abbrev pub failure_policies : List (List ℕ)
+failure_policies = codes "Fail" ∷ codes "Ignore" ∷ []
+
+-- whether failurePolicy is `Ignore`; it is `Fail` where none is set
+abbrev pub ignores_with : List ℕ → Option (List ℕ) → Result Bool FaultData
+ignores_with p None = Ok false
+ignores_with p (Some s) = one_of p failure_policies s >>= (λ t. Ok (bytes_eq t (codes "Ignore")))
+
+abbrev pub failure_pointer : List ℕ
+failure_pointer = field (codes "/spec") (codes "failurePolicy")
+
+abbrev pub ignores_in : Data → Result Bool FaultData
+ignores_in spec = text_of failure_pointer (get (codes "failurePolicy") spec) >>= ignores_with failure_pointer
+
+-- a policy has to check something
+abbrev pub unless_empty : PolicyData → Result PolicyData FaultData
+unless_empty p = elim p.validations as (λ _. Result PolicyData FaultData) [
+  | [] ↦ elim p.annotations as (λ _. Result PolicyData FaultData) [ [] ↦ Err (record { pointer = field [] (codes "spec"); kind = NothingToCheck }) | a ∷ as_ ↦ Ok p ]
+  | v ∷ vs ↦ Ok p
+]
+
+-- what a `spec` says
+unfoldable pub spec_of : Data → Result PolicyData FaultData
+spec_of spec = do
+  ignores ← ignores_in spec
+  conditions ← entries_of MatchConditions spec
+  variables ← entries_of Variables spec
+  validations ← entries_of Validations spec
+  annotations ← entries_of AuditAnnotations spec
+  unless_empty (record {
+    ignores = ignores;
+    conditions = conditions;
+    variables = variables;
+    validations = validations;
+    annotations = annotations;
+  })
+
+-- the `spec` of a document that is a policy
+unfoldable pub spec_in : Data → Result Data FaultData
+spec_in d = do
+  version ← required_one (field [] (codes "apiVersion")) versions (get (codes "apiVersion") d)
+  kind ← required_one (field [] (codes "kind")) kinds (get (codes "kind") d)
+  spec ← object_of (field [] (codes "spec")) (get (codes "spec") d)
+  unless_unknown (unknown_field spec) spec
+
+-- the policy that a document is
+unfoldable pub policy_of : Data → Result PolicyData FaultData
+policy_of d = spec_in d >>= spec_of
+
+-- ---- what the code's values stand for
+
+abbrev pub item_view : Item → ItemData
+item_view x = record {
+  label = x.label.now;
+  expression = x.expression.now;
+  message = option_map (λ s. s.now) x.message;
+  message_expression = option_map (λ s. s.now) x.message_expression;
+}
+
+abbrev pub policy_view : Policy → PolicyData
+policy_view p = record {
+  ignores = p.ignores;
+  conditions = map item_view p.conditions.items;
+  variables = map item_view p.variables.items;
+  validations = map item_view p.validations.items;
+  annotations = map item_view p.annotations.items;
+}
+
+-- what was read, or the fault
+abbrev pub reading_view : {A B : Type 0} → (A → B) → Result A Found → Result B FaultData
+reading_view f (Ok a) = Ok (f a)
+reading_view f (Err e) = Err (fault_seen e)

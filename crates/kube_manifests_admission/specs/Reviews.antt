@@ -1,0 +1,211 @@
+-- Trusted by the clauses of policies.
+-- What an AdmissionReview says of a request (Kubernetes API reference, AdmissionReview and AdmissionRequest of `admission.k8s.io`), or its first
+-- fault.
+use Rattle.kube_cel_vap.specs.Requests.{KindData, RequestData, ResourceData}
+use Rattle.kube_cel_vap.specs.Expressions.{◌>>=◌}
+use Rattle.kube_cel_vap.specs.Variables.{Variables}
+use Rattle.kube_manifests_admission.specs.Faults.{FaultData, fault_view, field, nth}
+use Rattle.kube_manifests_admission.specs.Inputs.{inputs_view}
+use Rattle.kube_manifests_admission.specs.Policies.{object_of, required_one, required_text, text_of}
+use Rattle.kube_manifests_admission.specs.declared.fault.FaultKind.TheVariants.{NotBool, NotList, NotString}
+use Rattle.kube_manifests_admission.specs.declared.fault.PolicyFault.{PolicyFault}
+use Rattle.kube_manifests_admission.specs.declared.inputs.PolicyInputs.{PolicyInputs}
+use Rattle.kube_manifests_admission.specs.declared.review.Parts.{Parts}
+use Rattle.kube_manifests_admission.specs.declared.review.Served.{Served}
+use Rattle.kube_manifests_admission.specs.declared.review.User.{User}
+use Rattle.serde_json.specs.Data.{Data, null, boolean, string, array, Items, no_items, item}
+use Rattle.serde_json.specs.Find.{get}
+use Rattle.serde_json.specs.View.{items_view}
+use Rattle.std.specs.Prelude.{ℕ, List, [], ◌∷◌, ◌++◌, length, Bool, false, Option, Some, None, Result, Ok, Err, codes, unwrap_or}
+
+-- a group, a version, and the name of a kind or of a resource
+pub record ServedData : Type 0 where
+  pub group : List ℕ
+  pub version : List ℕ
+  pub name : List ℕ
+
+-- who asks, the groups as they are
+pub record UserData : Type 0 where
+  pub username : List ℕ
+  pub uid : List ℕ
+  pub groups : Items
+
+-- a request whose groups weren't read yet
+pub record PartsData : Type 0 where
+  pub operation : List ℕ
+  pub user : UserData
+  pub name : List ℕ
+  pub namespace : List ℕ
+  pub dry_run : Bool
+  pub kind : ServedData
+  pub resource : ServedData
+
+-- ---- fields
+
+-- a text that may be left out, where it is empty
+abbrev pub text_or_empty : List ℕ → Option Data → Result (List ℕ) FaultData
+text_or_empty p o = text_of p o >>= (λ t. Ok (unwrap_or t []))
+
+abbrev pub bool_of : List ℕ → Option Data → Result Bool FaultData
+bool_of p None = Ok false
+bool_of p (Some null) = Ok false
+bool_of p (Some (boolean b)) = Ok b
+bool_of p (Some _) = Err (record { pointer = p; kind = NotBool })
+
+abbrev pub items_of : List ℕ → Option Data → Result Items FaultData
+items_of p None = Ok no_items
+items_of p (Some null) = Ok no_items
+items_of p (Some (array ds)) = Ok ds
+items_of p (Some _) = Err (record { pointer = p; kind = NotList })
+
+abbrev pub value_or_null : Option Data → Data
+value_or_null None = null
+value_or_null (Some d) = d
+
+abbrev pub groups_pointer : List ℕ
+groups_pointer = codes "/request/userInfo/groups"
+
+-- the texts of a list, where these were read before
+abbrev pub texts_after : List (List ℕ) → Items → Result (List (List ℕ)) FaultData
+texts_after done no_items = Ok done
+texts_after done (item (string s) ds) = texts_after (done ++ s ∷ []) ds
+texts_after done (item _ ds) = Err (record { pointer = nth groups_pointer (length done); kind = NotString })
+
+-- ---- the request
+
+-- fields of the object that has this pointer
+abbrev pub text_in : List ℕ → Data → List ℕ → Result (List ℕ) FaultData
+text_in base d name = text_or_empty (field base name) (get name d)
+
+abbrev pub required_text_in : List ℕ → Data → List ℕ → Result (List ℕ) FaultData
+required_text_in base d name = required_text (field base name) (get name d)
+
+abbrev pub object_in : List ℕ → Data → List ℕ → Result Data FaultData
+object_in base d name = object_of (field base name) (get name d)
+
+unfoldable pub served_of : List ℕ → List ℕ → Data → Result ServedData FaultData
+served_of base key d = do
+  group ← text_in base d (codes "group")
+  version ← required_text_in base d (codes "version")
+  name ← required_text_in base d key
+  Ok (record { group = group; version = version; name = name })
+
+abbrev pub user_pointer : List ℕ
+user_pointer = codes "/request/userInfo"
+
+unfoldable pub user_of : Data → Result UserData FaultData
+user_of d = do
+  username ← text_in user_pointer d (codes "username")
+  uid ← text_in user_pointer d (codes "uid")
+  groups ← items_of (field user_pointer (codes "groups")) (get (codes "groups") d)
+  Ok (record { username = username; uid = uid; groups = groups })
+
+abbrev pub request_pointer : List ℕ
+request_pointer = codes "/request"
+
+abbrev pub user_in : Data → Result UserData FaultData
+user_in d = object_in request_pointer d (codes "userInfo") >>= user_of
+
+abbrev pub kind_in : Data → Result ServedData FaultData
+kind_in d = object_in request_pointer d (codes "kind") >>= served_of (codes "/request/kind") (codes "kind")
+
+abbrev pub resource_in : Data → Result ServedData FaultData
+resource_in d = object_in request_pointer d (codes "resource") >>= served_of (codes "/request/resource") (codes "resource")
+
+unfoldable pub parts_of : Data → Result PartsData FaultData
+parts_of d = do
+  operation ← required_text_in request_pointer d (codes "operation")
+  name ← text_in request_pointer d (codes "name")
+  namespace ← text_in request_pointer d (codes "namespace")
+  dry_run ← bool_of (field request_pointer (codes "dryRun")) (get (codes "dryRun") d)
+  user ← user_in d
+  kind ← kind_in d
+  resource ← resource_in d
+  Ok (record {
+    operation = operation;
+    user = user;
+    name = name;
+    namespace = namespace;
+    dry_run = dry_run;
+    kind = kind;
+    resource = resource;
+  })
+
+abbrev pub kind_from : ServedData → KindData
+kind_from s = record { group = s.group; version = s.version; kind = s.name }
+
+abbrev pub resource_from : ServedData → ResourceData
+resource_from s = record { group = s.group; version = s.version; resource = s.name }
+
+abbrev pub request_from : PartsData → List (List ℕ) → RequestData
+request_from p groups = record {
+  operation = p.operation;
+  username = p.user.username;
+  uid = p.user.uid;
+  groups = groups;
+  name = p.name;
+  namespace = p.namespace;
+  dry_run = p.dry_run;
+  kind = kind_from p.kind;
+  resource = resource_from p.resource;
+}
+
+abbrev pub request_with : PartsData → Result RequestData FaultData
+request_with p = texts_after [] p.user.groups >>= (λ groups. Ok (request_from p groups))
+
+unfoldable pub request_of : Data → Result RequestData FaultData
+request_of d = parts_of d >>= request_with
+
+-- ---- the review
+
+abbrev pub review_versions : List (List ℕ)
+review_versions = codes "admission.k8s.io/v1" ∷ codes "admission.k8s.io/v1beta1" ∷ []
+
+abbrev pub review_kinds : List (List ℕ)
+review_kinds = codes "AdmissionReview" ∷ []
+
+-- the `request` of a document that is a review
+unfoldable pub request_in : Data → Result Data FaultData
+request_in d = do
+  version ← required_one (field [] (codes "apiVersion")) review_versions (get (codes "apiVersion") d)
+  kind ← required_one (field [] (codes "kind")) review_kinds (get (codes "kind") d)
+  object_of (field [] (codes "request")) (get (codes "request") d)
+
+-- Of the two objects a review leaves out what isn't there: it is null. Of params and of the namespace it says nothing.
+abbrev pub inputs_from : Data → RequestData → Variables
+inputs_from d r = record {
+  object = Some (value_or_null (get (codes "object") d));
+  old_object = Some (value_or_null (get (codes "oldObject") d));
+  params = None;
+  namespace_object = None;
+  request = Some r;
+}
+
+abbrev pub inputs_in : Data → Result Variables FaultData
+inputs_in request = request_of request >>= (λ r. Ok (inputs_from request r))
+
+unfoldable pub review_of : Data → Result Variables FaultData
+review_of d = request_in d >>= inputs_in
+
+-- ---- what the code's values stand for
+
+abbrev pub served_view : Served → ServedData
+served_view s = record { group = s.group.now; version = s.version.now; name = s.name.now }
+
+abbrev pub user_view : User → UserData
+user_view u = record { username = u.username.now; uid = u.uid.now; groups = items_view u.groups.now }
+
+abbrev pub parts_view : Parts → PartsData
+parts_view p = record {
+  operation = p.operation.now;
+  user = user_view p.user;
+  name = p.name.now;
+  namespace = p.namespace.now;
+  dry_run = p.dry_run;
+  kind = served_view p.kind;
+  resource = served_view p.resource;
+}
+
+abbrev pub inputs_seen : Result PolicyInputs PolicyFault → Result Variables FaultData
+inputs_seen (Ok v) = Ok (inputs_view v)
+inputs_seen (Err f) = Err (fault_view f)

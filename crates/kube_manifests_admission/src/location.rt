@@ -1,0 +1,57 @@
+//! Places of a document, and their JSON Pointers (RFC 6901).
+ghost use Rattle.kube_manifests_admission.specs.Faults.{escaped_character, field, pointer_at, token};
+ghost use Rattle.std.specs.Prelude.{◌≡◌, ◌++◌, IfOk, OnOk, string_bytes};
+
+use std::alloc::{AllocError, Global};
+
+/// A place of a document.
+#[derive(Clone, Copy, Drop)]
+pub(crate) enum Location<'v> {
+    /// A field of the object at this pointer.
+    Field(&'static str, &'v str),
+    /// An item of the list at this pointer.
+    Item(&'static str, usize),
+    /// A field of such an item.
+    ItemField(&'static str, usize, &'static str),
+}
+
+/// Adds a character of a name.
+fn push_escaped(out: &mut String, character: char) -> Result<(), AllocError>
+    ensures { OnOk result (string_bytes out.new ≡ string_bytes out.old ++ escaped_character character) }
+{
+    match character {
+        '~' => out.push_str("~0"),
+        '/' => out.push_str("~1"),
+        other => out.push(other),
+    }
+}
+
+/// Adds a name, as one step of a pointer.
+fn push_name(out: &mut String, name: &str) -> Result<(), AllocError>
+    ensures { OnOk result (string_bytes out.new ≡ string_bytes out.old ++ token name.now) }
+{
+    for character in name.chars() {
+        push_escaped(out, character)?;
+    }
+    Ok(())
+}
+
+/// The pointer of a field.
+fn field_pointer(alloc: Global, base: &str, name: &str) -> Result<String, AllocError>
+    ensures { IfOk result (λ s. string_bytes s ≡ field base.now name.now) }
+{
+    let mut pointer = format!(in alloc; "{base}/")?;
+    push_name(&mut pointer, name)?;
+    Ok(pointer)
+}
+
+/// The pointer of a place.
+pub(crate) fn pointer_of(alloc: Global, location: Location<'_>) -> Result<String, AllocError>
+    ensures { IfOk result (λ s. string_bytes s ≡ pointer_at location.entry) }
+{
+    match location {
+        Location::Field(base, name) => field_pointer(alloc, base, name),
+        Location::Item(base, index) => format!(in alloc; "{base}/{index}"),
+        Location::ItemField(base, index, name) => format!(in alloc; "{base}/{index}/{name}"),
+    }
+}
