@@ -1,7 +1,7 @@
 //! Rows of what is said of a rule without an object: names that aren't there, costs, and both.
 
 use crate::schemas::compiled_given;
-use crate::types::{put_and_read, scope_of};
+use crate::types::{find_written, scope_of};
 use conformance_rows::texts::push_line;
 use conformance_rows::{Field, Found, Stop, given as rows};
 use kube_cel::cel::Program;
@@ -96,9 +96,7 @@ pub(crate) fn find(
         "warnings written" => {
             let rule = rows::needed(given, "rule")?;
             let warnings = warnings_of(alloc, given, rule, "warnings")?;
-            found.expect(field)?;
-            let is_read = put_and_read(alloc, &warnings, field.text.as_str(), &mut found.other)?;
-            found.end_expected(field, is_read)
+            find_written(alloc, &warnings, field, found)
         }
         key => put_warnings(alloc, given, key, &mut found.text),
     }

@@ -1,7 +1,7 @@
 //! Rows of what serde writes of a validation's errors, and of their causes.
 
 use crate::schemas::errors_given;
-use crate::types::{put_and_read, read};
+use crate::types::{find_written, read};
 use conformance_rows::texts::push_line;
 use conformance_rows::{Field, Found, Stop, given as rows};
 use kube_cel::{ValidationError, ValidationErrors};
@@ -62,10 +62,8 @@ pub(crate) fn find(
             }
         }
         _ => {
-            found.expect(field)?;
             let errors = errors_given(alloc, given)?;
-            let is_read = put_and_read(alloc, &errors, field.text.as_str(), &mut found.other)?;
-            found.end_expected(field, is_read)
+            find_written(alloc, &errors, field, found)
         }
     }
 }

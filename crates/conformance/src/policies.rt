@@ -1,6 +1,6 @@
 //! Rows of policies: what is reported of expressions over an object, an old object, parameters, a namespace and a request.
 
-use crate::types::{put_and_read, read};
+use crate::types::{find_written, read};
 use conformance_rows::texts::push_line;
 use conformance_rows::{Field, Found, Stop, given as rows};
 use kube_cel::{
@@ -219,8 +219,12 @@ fn find_results(
     expressions: &[VapExpression],
     found: &mut Found,
 ) -> Result<(), Stop> {
-    let evaluator = built(alloc, given, VapEvaluator::builder())?;
-    find_by(alloc, &evaluator, expressions, found)?;
+    find_by(
+        alloc,
+        &built(alloc, given, VapEvaluator::builder())?,
+        expressions,
+        found,
+    )?;
     let other = built(alloc, given, filled_builder(alloc))?;
     find_by_other(alloc, &other, expressions, found)
 }
@@ -265,9 +269,7 @@ fn find_results_written(
 ) -> Result<(), Stop> {
     let evaluator = built(alloc, given, VapEvaluator::builder())?;
     let results = evaluator.evaluate(alloc, expressions)?;
-    found.expect(field)?;
-    let is_read = put_and_read(alloc, &results, field.text.as_str(), &mut found.other)?;
-    found.end_expected(field, is_read)
+    find_written(alloc, &results, field, found)
 }
 
 /// Finds what a field asks of the row's expressions.

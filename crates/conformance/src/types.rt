@@ -32,19 +32,21 @@ fn put<T: Serialize>(alloc: Global, value: &T, out: &mut String) -> Result<(), A
     }
 }
 
-/// Writes what serde writes of a value; whether it reads an equal one of a text.
-pub(crate) fn put_and_read<'t, T: Serialize + Deserialize<'t> + PartialEq + Drop>(
+/// Finds the field's text, where serde writes it of a value, but for white space outside strings, and reads an equal one of it.
+pub(crate) fn find_written<'t, T: Serialize + Deserialize<'t> + PartialEq + Drop>(
     alloc: Global,
     value: &T,
-    text: &'t str,
-    out: &mut String,
-) -> Result<bool, AllocError> {
-    put(alloc, value, out)?;
-    let again: Option<T> = read(alloc, text)?;
-    match again {
-        Some(again) => Ok(again == *value),
-        None => Ok(false),
-    }
+    field: &'t Field,
+    found: &mut Found,
+) -> Result<(), Stop> {
+    found.expect(field)?;
+    put(alloc, value, &mut found.other)?;
+    let again: Option<T> = read(alloc, field.text.as_str())?;
+    let is_read = match again {
+        Some(again) => again == *value,
+        None => false,
+    };
+    found.end_expected(field, is_read)
 }
 
 /// Writes what is written of what is read of a text, or `unread`.

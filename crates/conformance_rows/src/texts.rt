@@ -1,5 +1,6 @@
 //! Writing texts.
 
+use kube_types_refused::Refused;
 use serde_json::Value;
 use std::alloc::{AllocError, Global};
 
@@ -115,6 +116,22 @@ pub fn push_optional_member(
 /// Puts a member that is true or false into a JSON object that is being written.
 pub fn push_bool(object: &mut String, key: &str, holds: bool) -> Result<(), AllocError> {
     push_json(object, key, if holds { "true" } else { "false" })
+}
+
+/// Puts what was refused behind a text, and what stands before it.
+pub fn push_refused(text: &mut String, before: &str, refused: Refused) -> Result<(), AllocError> {
+    text.push_str(before)?;
+    text.push_str(match refused {
+        Refused::Memory => "memory",
+        Refused::TooLarge => "too large",
+    })
+}
+
+/// Begins a line so many levels further in, two blanks each.
+pub fn push_indented(text: &mut String, depth: usize, parts: &[&str]) -> Result<(), AllocError> {
+    push_line(text, "")?;
+    push_times(text, "  ", depth)?;
+    push_all(text, parts)
 }
 
 /// A text, repeated.
