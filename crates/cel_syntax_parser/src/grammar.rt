@@ -495,7 +495,7 @@ impl<F: Fn(Global, &mut Cursor<'_>, u8) -> Result<(Expr, usize), SyntaxError>> G
         left: (Expr, usize),
         right: (Expr, usize),
     ) -> Result<(Expr, usize), SyntaxError>
-        ensures { (ts : List SpecToken) → Reads (spec.above self.now.limit (max left.1 right.1) (tree.binary operator (term left.0) (term right.0)) ts) result ts }
+        ensures { (ts : List SpecToken) → Reads (spec.above self.now.limit (max tokens_left.1 right.1) (tree.binary operator (term tokens_left.0) (term right.0)) ts) result ts }
     {
         let level = left.1.max(right.1);
         let tree = binary(self.alloc, operator, left.0, right.0)?;
@@ -512,7 +512,7 @@ impl<F: Fn(Global, &mut Cursor<'_>, u8) -> Result<(Expr, usize), SyntaxError>> G
         left: (Expr, usize),
     ) -> Result<(Expr, usize), SyntaxError>
         requires { Nests self.now.limit (F.pre self.now.expr) (F.post self.now.expr) }
-        ensures { Reads (spec.with_operand self.now.limit (spec.chain self.now.limit (spec.below self.now.limit) below) operator (term left.0) left.1 (drop 1 (spec_left tokens.old))) result (spec_left tokens.new) }
+        ensures { Reads (spec.with_operand self.now.limit (spec.chain self.now.limit (spec.below self.now.limit) below) operator (term tokens_left.0) tokens_left.1 (drop 1 (spec_left tokens.old))) result (spec_left tokens.new) }
     {
         let _operator = tokens.next();
         let right = self.chain(tokens, below)?;

@@ -13,9 +13,9 @@ use Rattle.celcheck_cli.specs.declared.eval.Found.TheVariants as found
 use Rattle.celcheck_cli.specs.declared.status.Stop.{Stop}
 use Rattle.celcheck_cli.specs.Runs.{IfErrors}
 use Rattle.celcheck_cli.specs.Reports.{IsEvaluated, IsFound, IsReportedAs, found_line, found_status, results_status}
-use Rattle.kube_cel_errors.specs.declared.error.ValidationErrors.{ValidationErrors}
-use Rattle.kube_cel_vap_types.specs.declared.expression.VapResult.{VapResult}
-use Rattle.kube_cel_vap_types.specs.Validations.{result_view}
+use Rattle.kube_cel_walk.specs.declared.error.ValidationErrors.{ValidationErrors}
+use Rattle.kube_cel_vap.specs.declared.expression.VapResult.{VapResult}
+use Rattle.kube_cel_vap.specs.Validations.{result_view}
 use Rattle.kube_functions.specs.Kube.{all_library}
 use Rattle.kube_types_refused.specs.declared.Refused.{Refused}
 use Rattle.serde_json.specs.declared.value.Value.{Value}

@@ -1,11 +1,11 @@
 -- Trusted by the clauses of celcheck.
 -- What `lint` reports, and with which status.
 use Rattle.celcheck_cli.specs.Runs.{IsRead}
-use Rattle.kube_cel_lint.specs.declared.finding.LintFinding.{LintFinding}
-use Rattle.kube_cel_lint.specs.declared.finding.LintKind.{LintKind}
-use Rattle.kube_cel_lint.specs.declared.finding.LintKind.TheVariants.{Compile, Function, Scope, Cost, Bounds, Depth}
-use Rattle.kube_cel_lint.specs.Findings.{Finding, Naming, finding_view}
-use Rattle.kube_cel_lint.specs.Lint.{findings}
+use Rattle.kube_cel_analysis.specs.declared.finding.LintFinding.{LintFinding}
+use Rattle.kube_cel_analysis.specs.declared.finding.LintKind.{LintKind}
+use Rattle.kube_cel_analysis.specs.declared.finding.LintKind.TheVariants.{Compile, Function, Scope, Cost, Bounds, Depth}
+use Rattle.kube_cel_analysis.specs.Findings.{Finding, Naming, finding_view}
+use Rattle.kube_cel_analysis.specs.Lint.{findings}
 use Rattle.kube_schema_compiled.specs.View.{view_of}
 use Rattle.serde_json.specs.Data.{Data}
 use Rattle.std.specs.List.{flat_map}

@@ -18,8 +18,8 @@ use Rattle.celcheck_cli.specs.declared.status.Stop.{Stop}
 use Rattle.celcheck_cli.specs.declared.status.Stop.TheVariants as stop
 use Rattle.celcheck_cli.specs.Policies.{validations_in}
 use Rattle.celcheck_cli.specs.Runs.{IsRead}
-use Rattle.kube_cel_vap_types.specs.declared.expression.VapResult.{VapResult}
-use Rattle.kube_cel_vap_types.specs.Validations.{ExpressionData, ResultData, result_view}
+use Rattle.kube_cel_vap.specs.declared.expression.VapResult.{VapResult}
+use Rattle.kube_cel_vap.specs.Validations.{ExpressionData, ResultData, result_view}
 use Rattle.kube_cel_vap.specs.CallResults.{AreResultsOf}
 use Rattle.kube_cel_vap.specs.Variables.{Variables, no_variables}
 use Rattle.kube_functions.specs.Kube.{all_library}

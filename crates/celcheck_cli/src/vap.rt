@@ -1,6 +1,6 @@
 //! `vap`: the results of a policy's validations.
 ghost use Rattle.celcheck_cli.specs.Reports.{AreResults, IsReviewed, result_line, results_status};
-ghost use Rattle.kube_cel_vap_types.specs.Validations.{result_view};
+ghost use Rattle.kube_cel_vap.specs.Validations.{result_view};
 ghost use Rattle.std.specs.Io.KnownBytes.{Appends};
 ghost use Rattle.std.specs.List.{flat_map};
 ghost use Rattle.std.specs.Prelude.{◌≡◌, ◌≤◌, IfOk, OnOk, map};
@@ -8,8 +8,7 @@ ghost use Rattle.std.specs.Prelude.{◌≡◌, ◌≤◌, IfOk, OnOk, map};
 use crate::files::{Sources, read_json};
 use crate::policy::validations_of;
 use crate::status::{FAILED, PASSED, Stop, report_stop, status_reported};
-use kube_cel_vap::VapEvaluator;
-use kube_cel_vap_types::VapResult;
+use kube_cel_vap::{VapEvaluator, VapResult};
 use std::alloc::Global;
 use std::io;
 use std::io::Write;

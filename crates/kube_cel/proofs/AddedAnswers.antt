@@ -7,8 +7,8 @@ use Rattle.kube_cel.specs.Added.{NodeStep, to_property, to_items, to_additional,
 use Rattle.kube_cel.specs.AddedVerdicts.{AddsAlone, added_at, added_rules, added_verdicts, found_at, if_there}
 use Rattle.kube_cel.specs.Raw.{raw_form}
 use Rattle.kube_cel.specs.Starts.{with_schema_defaults, defaulted_start}
-use Rattle.kube_cel_errors.specs.Errors.{ErrorData}
-use Rattle.kube_cel_errors.specs.RuleErrors.{too_deep}
+use Rattle.kube_cel_walk.specs.Errors.{ErrorData}
+use Rattle.kube_cel_walk.specs.RuleErrors.{too_deep}
 use Rattle.kube_cel_places.proofs.Candidates.{visit_places}
 use Rattle.kube_cel_places.proofs.Found.{flat_map_same}
 use Rattle.kube_cel_places.proofs.Raw.{raw_names_all}
@@ -17,8 +17,8 @@ use Rattle.kube_cel_places.specs.Raw.{raw_shape}
 use Rattle.kube_cel_places.specs.Visit.{Root, Visit, candidates, goes, root_visit}
 use Rattle.kube_cel_places.specs.Step.{Step}
 use Rattle.kube_cel_places.specs.Walk.{answers, if_some, leads, places}
-use Rattle.kube_cel_places_compiled.specs.Visits.{with_node_of}
-use Rattle.kube_cel_verdicts.specs.Verdicts.{list_of_option, verdict, with_old, with_root}
+use Rattle.kube_cel.specs.Visits.{with_node_of}
+use Rattle.kube_cel_walk.specs.Verdicts.{list_of_option, verdict, with_old, with_root}
 use Rattle.kube_cel_walk.specs.Answers.{answer, bound_at, place_bindings, rule_verdicts, verdicts}
 use Rattle.kube_schema_conversion.specs.Conversion.{levels}
 use Rattle.kube_schema_rules.specs.Compilation.{Compiled, Malformed, compiled_rule, compiled_rules}

@@ -3,18 +3,18 @@ use Rattle.cel_patterns.specs.Book.{Book}
 use Rattle.kube_cel.specs.Compiled.{compiled_form}
 use Rattle.kube_cel.specs.Raw.{raw_form}
 use Rattle.kube_cel.specs.Starts.{compiled_start, with_schema_defaults, source_start}
-use Rattle.kube_cel_errors.specs.Errors.{ErrorData}
-use Rattle.kube_cel_errors.specs.RuleErrors.{too_deep}
+use Rattle.kube_cel_walk.specs.Errors.{ErrorData}
+use Rattle.kube_cel_walk.specs.RuleErrors.{too_deep}
 use Rattle.kube_cel_places.proofs.Candidates.{NamesAll}
 use Rattle.kube_cel_places.specs.Raw.{raw_shape}
 use Rattle.kube_cel_places.specs.Visit.{Visit, Root, root_visit}
-use Rattle.kube_cel_places_compiled.proofs.Named.{compiled_names_all}
-use Rattle.kube_cel_places_compiled.proofs.Same.{tree_answers}
-use Rattle.kube_cel_places_compiled.specs.Compiled.{compiled_shape}
-use Rattle.kube_cel_places_compiled.specs.Visits.{with_node_of}
-use Rattle.kube_cel_verdicts.specs.declared.root.RootContext.{RootContext}
-use Rattle.kube_cel_verdicts.specs.Roots.{root_view}
-use Rattle.kube_cel_verdicts.specs.Verdicts.{list_of_option, verdict, with_old, with_root}
+use Rattle.kube_cel.proofs.Named.{compiled_names_all}
+use Rattle.kube_cel.proofs.Same.{tree_answers}
+use Rattle.kube_cel.specs.CompiledShape.{compiled_shape}
+use Rattle.kube_cel.specs.Visits.{with_node_of}
+use Rattle.kube_cel_walk.specs.declared.root.RootContext.{RootContext}
+use Rattle.kube_cel_walk.specs.Roots.{root_view}
+use Rattle.kube_cel_walk.specs.Verdicts.{list_of_option, verdict, with_old, with_root}
 use Rattle.kube_cel_walk.specs.Answers.{bound_at, place_bindings, rule_verdicts, verdicts, answer}
 use Rattle.kube_schema_conversion.specs.Conversion.{to_cel}
 use Rattle.kube_schema_conversion.specs.Conversion as accessors

@@ -2,7 +2,7 @@
 use Rattle.kube_cel.specs.Named.{named_property}
 use Rattle.kube_cel_places.proofs.Sorted.{key_cmp, ordered_already}
 use Rattle.kube_cel_places.specs.Inside.{in_order}
-use Rattle.kube_cel_verdicts.specs.Verdicts.{list_of_option}
+use Rattle.kube_cel_walk.specs.Verdicts.{list_of_option}
 use Rattle.kube_schema_compiled.specs.declared.node.SchemaNode.{SchemaNode}
 use Rattle.kube_schema_compiled.specs.Shown.{node_tree}
 use Rattle.kube_schema_compiled.specs.Tree.{Node, Named, no_named, named, names, named_of, nth_named, property_of}

@@ -1,3 +1,6 @@
+pub mod PlacesAlike
+pub mod Same
+pub mod Named
 pub mod AddedAnswers
 pub mod AddedKept
 pub mod AddedParts

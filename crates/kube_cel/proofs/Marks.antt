@@ -18,8 +18,8 @@ use Rattle.kube_schema_conversion.specs.Node as asked
 use Rattle.kube_schema_defaults.specs.Defaults.{defaulted_value}
 use Rattle.kube_schema_defaults.specs.DefaultsAccessors as fill
 use Rattle.kube_cel.specs.Added.{NodeStep, left_after, left_behind}
-use Rattle.kube_cel_places_compiled.specs.Visits.{with_node_of}
-use Rattle.kube_cel_places_compiled.proofs.Alike as walk
+use Rattle.kube_cel.specs.Visits.{with_node_of}
+use Rattle.kube_cel.proofs.PlacesAlike as walk
 use Rattle.kube_schema_compiled.proofs.Same as filling
 use Rattle.kube_schema.proofs.Same as binding
 use Rattle.kube_cel.proofs.AddedKept.{counts_added, default_stays, embedded_stays, format_stays, int_or_string_stays, keys_added, maps_added, names_added, undeclared_added}

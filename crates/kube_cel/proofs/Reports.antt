@@ -4,10 +4,10 @@ use Rattle.cel_patterns.specs.Book.{Book, Extends, IsBook}
 use Rattle.cel_patterns.specs.declared.book.PatternBook.{PatternBook}
 use Rattle.cel_patterns.specs.Entries.{entries_of}
 use Rattle.kube_cel.specs.Answers.{found_in, report_of, answer_view}
-use Rattle.kube_cel_errors.specs.declared.error.ValidationError.{ValidationError}
-use Rattle.kube_cel_errors.specs.declared.error.ValidationErrors.{ValidationErrors}
-use Rattle.kube_cel_errors.specs.ErrorLists.{errors_in}
-use Rattle.kube_cel_errors.specs.Errors.{ErrorData, error_view}
+use Rattle.kube_cel_walk.specs.declared.error.ValidationError.{ValidationError}
+use Rattle.kube_cel_walk.specs.declared.error.ValidationErrors.{ValidationErrors}
+use Rattle.kube_cel_walk.specs.ErrorLists.{errors_in}
+use Rattle.kube_cel_walk.specs.Errors.{ErrorData, error_view}
 use Rattle.kube_cel_places.proofs.Candidates.{NamesAll, visit_answers}
 use Rattle.kube_cel_places.specs.Visit.{Visit, Root, root_visit, goes}
 use Rattle.kube_cel_places.specs.Walk.{AreFoundAtPlaces}

@@ -1,9 +1,9 @@
 -- Trusted by the headline.
 -- What a validation answers.
 use Rattle.cel_patterns.specs.Book.{Book, IsBook}
-use Rattle.kube_cel_errors.specs.declared.error.ValidationErrors.{ValidationErrors}
-use Rattle.kube_cel_errors.specs.ErrorLists.{errors_in}
-use Rattle.kube_cel_errors.specs.Errors.{ErrorData, error_view}
+use Rattle.kube_cel_walk.specs.declared.error.ValidationErrors.{ValidationErrors}
+use Rattle.kube_cel_walk.specs.ErrorLists.{errors_in}
+use Rattle.kube_cel_walk.specs.Errors.{ErrorData, error_view}
 use Rattle.kube_cel_places.specs.Visit.{Visit}
 use Rattle.kube_cel_walk.specs.Answers.{answer, IsAnswer}
 use Rattle.kube_cel_walk.specs.WalkAccessors.{WalkAccessors}

@@ -1,6 +1,6 @@
 -- Trusted by the clauses of other library calls.
 -- A schema that was compiled, as its tree of nodes.
-use Rattle.kube_cel_places_compiled.specs.Compiled.{compiled_shape}
+use Rattle.kube_cel.specs.CompiledShape.{compiled_shape}
 use Rattle.kube_cel_walk.specs.WalkAccessors.{WalkAccessors}
 use Rattle.kube_schema_compiled.specs.Tree.{Node, own}
 use Rattle.kube_schema.specs.Compiled.{tree_accessors}

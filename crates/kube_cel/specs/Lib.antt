@@ -1,3 +1,5 @@
+pub mod CompiledShape
+pub mod Visits
 pub mod Added
 pub mod AddedVerdicts
 pub mod Answers

@@ -1,8 +1,8 @@
 -- Trusted by the headline.
 -- The visits where calls begin.
 use Rattle.kube_cel_places.specs.Visit.{Visit, Root, root_visit}
-use Rattle.kube_cel_verdicts.specs.declared.root.RootContext.{RootContext}
-use Rattle.kube_cel_verdicts.specs.Roots.{root_view}
+use Rattle.kube_cel_walk.specs.declared.root.RootContext.{RootContext}
+use Rattle.kube_cel_walk.specs.Roots.{root_view}
 use Rattle.kube_schema_defaults.specs.Defaults.{defaulted_value}
 use Rattle.kube_schema_defaults.specs.DefaultsAccessors.{raw}
 use Rattle.kube_schema_compiled.specs.Compiled.{tree_accessors}

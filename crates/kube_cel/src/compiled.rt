@@ -4,9 +4,9 @@ ghost use Rattle.cel_patterns.specs.Entries.{entries_of};
 ghost use Rattle.cel_semantics.specs.Bindings.{bindings_of};
 ghost use Rattle.kube_cel.specs.Named.{named_node, named_property};
 ghost use Rattle.kube_cel_places.specs.Inside.{in_order};
-ghost use Rattle.kube_cel_places_compiled.specs.Compiled.{compiled_shape};
-ghost use Rattle.kube_cel_verdicts.specs.AddedErrors.{AreAdded};
-ghost use Rattle.kube_cel_verdicts.specs.Verdicts.{list_of_option, verdict};
+ghost use Rattle.kube_cel.specs.CompiledShape.{compiled_shape};
+ghost use Rattle.kube_cel_walk.specs.AddedErrors.{AreAdded};
+ghost use Rattle.kube_cel_walk.specs.Verdicts.{list_of_option, verdict};
 ghost use Rattle.kube_schema_rules.specs.Compilation.{compiled_seen};
 ghost use Rattle.kube_schema_compiled.specs.Shown.{node_tree};
 ghost use Rattle.kube_schema_compiled.specs.Tree.{Node as Tree, named_of, names, property_of};
@@ -14,13 +14,12 @@ ghost use Rattle.serde_json.specs.View.{view};
 ghost use Rattle.std.specs.List.{flat_map};
 ghost use Rattle.std.specs.Prelude.{◌≡◌, ◌++◌, ℕ, IfErr, IfOk, List, map, OnOk, Option, option_map, Some};
 
+use crate::branches::{branch_count, branch_of};
 use cel::PatternBook;
 use cel_value::Value as CelValue;
-use kube_cel_errors::ValidationError;
 use kube_cel_places::BranchKind;
-use kube_cel_places_compiled::branches::{branch_count, branch_of};
-use kube_cel_verdicts::verdict::{Context, add_verdict};
-use kube_cel_walk::Node;
+use kube_cel_walk::verdict::{Context, add_verdict};
+use kube_cel_walk::{Node, ValidationError};
 use kube_schema::{CompilationError, CompilationResult, SchemaNode, bind_node};
 use kube_types::Refused;
 use serde_json::Value;
@@ -63,7 +62,7 @@ fn named_nodes<'a>(
 }
 
 /// The node of the members whose names aren't declared.
-#[tactic(auto, unfolding(kube_cel_places_compiled::specs::Compiled::compiled_shape))]
+#[tactic(auto, unfolding(crate::specs::CompiledShape::compiled_shape))]
 fn additional_property<'a>(node: &SchemaNode<'a>) -> Option<SchemaNode<'a>>
     ensures { option_map node_tree result ≡ compiled_shape.additional_property (node_tree node.now) }
 {
@@ -104,36 +103,36 @@ impl Node for CompiledNode<'_> {
 
     ghost form = { compiled_form };
 
-    #[tactic(auto, unfolding(crate::specs::Compiled::compiled_form, kube_cel_places_compiled::specs::Compiled::compiled_shape))]
+    #[tactic(auto, unfolding(crate::specs::Compiled::compiled_form, crate::specs::CompiledShape::compiled_shape))]
     fn properties(&self, alloc: Global) -> Result<Vec<(&str, Self)>, AllocError> {
         let nodes = named_nodes(alloc, &self.node)?;
         Ok(nodes)
     }
 
-    #[tactic(auto, unfolding(crate::specs::Compiled::compiled_form, kube_cel_places_compiled::specs::Compiled::compiled_shape))]
+    #[tactic(auto, unfolding(crate::specs::Compiled::compiled_form, crate::specs::CompiledShape::compiled_shape))]
     fn property(&self, name: &str) -> Option<Self> {
         let node = self.node.property_named(name)?;
         Some(CompiledNode { node })
     }
 
-    #[tactic(auto, unfolding(crate::specs::Compiled::compiled_form, kube_cel_places_compiled::specs::Compiled::compiled_shape))]
+    #[tactic(auto, unfolding(crate::specs::Compiled::compiled_form, crate::specs::CompiledShape::compiled_shape))]
     fn items(&self) -> Option<Self> {
         let node = self.node.items()?;
         Some(CompiledNode { node })
     }
 
-    #[tactic(auto, unfolding(crate::specs::Compiled::compiled_form, kube_cel_places_compiled::specs::Compiled::compiled_shape))]
+    #[tactic(auto, unfolding(crate::specs::Compiled::compiled_form, crate::specs::CompiledShape::compiled_shape))]
     fn additional_property(&self) -> Option<Self> {
         let node = additional_property(&self.node)?;
         Some(CompiledNode { node })
     }
 
-    #[tactic(auto, unfolding(crate::specs::Compiled::compiled_form, kube_cel_places_compiled::specs::Compiled::compiled_shape))]
+    #[tactic(auto, unfolding(crate::specs::Compiled::compiled_form, crate::specs::CompiledShape::compiled_shape))]
     fn branch_count(&self, kind: BranchKind) -> usize {
         branch_count(&self.node, kind)
     }
 
-    #[tactic(auto, unfolding(crate::specs::Compiled::compiled_form, kube_cel_places_compiled::specs::Compiled::compiled_shape))]
+    #[tactic(auto, unfolding(crate::specs::Compiled::compiled_form, crate::specs::CompiledShape::compiled_shape))]
     fn branch(&self, kind: BranchKind, index: usize) -> Option<Self> {
         let node = branch_of(&self.node, kind, index)?;
         Some(CompiledNode { node })

@@ -7,9 +7,7 @@ ghost use Rattle.kube_cel_walk.specs.Answers.{answer};
 ghost use Rattle.std.specs.Prelude.{◌≡◌, IfErr, IfOk};
 
 use cel::PatternBook;
-use kube_cel_errors::ValidationErrors;
-use kube_cel_verdicts::RootContext;
-use kube_cel_walk::{Node, WalkState, walk_node};
+use kube_cel_walk::{Node, RootContext, ValidationErrors, WalkState, walk_node};
 use kube_types::Refused;
 use serde_json::Value;
 use std::alloc::Global;

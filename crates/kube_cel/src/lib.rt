@@ -25,6 +25,7 @@
 //! `Ok` exactly where that list is empty. The clause is `answer`; `specs/Answers.antt` begins what it says.
 #![tactic(auto)]
 
+mod branches;
 mod cache;
 mod compiled;
 mod errors;
@@ -33,15 +34,15 @@ mod raw;
 pub mod validation;
 
 pub use cel;
-pub use kube_cel_analysis::{AnalysisWarning, ScopeContext, WarningKind, check_rule_scope};
-pub use kube_cel_costs::{analyze_rule, estimate_rule_cost};
-pub use kube_cel_errors::{ErrorKind, ValidationError, ValidationErrors};
-pub use kube_cel_lint::{LintFinding, LintKind, lint_schema};
+pub use kube_cel_analysis::{
+    AnalysisWarning, LintFinding, LintKind, ScopeContext, WarningKind, analyze_rule,
+    check_rule_scope, estimate_rule_cost, lint_schema,
+};
 pub use kube_cel_vap::{
     AdmissionRequest, CompiledVapExpression, GroupVersionKind, GroupVersionResource, VapError,
     VapEvaluator, VapEvaluatorBuilder, VapExpression, VapResult, laws as policy_laws,
 };
-pub use kube_cel_verdicts::RootContext;
+pub use kube_cel_walk::{ErrorKind, RootContext, ValidationError, ValidationErrors};
 pub use kube_functions::{Context, KubeCelExt};
 pub use kube_schema::{
     CompilationError, CompilationResult, CompiledSchema, Rule, RuleFault, SchemaFormat, SchemaNode,

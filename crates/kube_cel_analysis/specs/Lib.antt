@@ -1,3 +1,8 @@
+pub mod Bounds
+pub mod Estimates
+pub mod Findings
+pub mod Pointers
+pub mod Lint
 pub mod Cost
 pub mod Scopes
 pub mod Sizes

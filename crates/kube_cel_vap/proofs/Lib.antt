@@ -1,3 +1,5 @@
+pub mod Entries
+pub mod Equals
 pub mod Bound
 pub mod Listed
 pub mod Results

@@ -8,7 +8,7 @@ use Rattle.cel_value.specs.Data.{Data}
 use Rattle.cel_value.specs.Faults.{Fault}
 use Rattle.cel_value.specs.Parts.{bool_in}
 use Rattle.cel_value.specs.Texts.{fault_text}
-use Rattle.kube_cel_vap_types.specs.Validations.{ExpressionData}
+use Rattle.kube_cel_vap.specs.Validations.{ExpressionData}
 use Rattle.kube_cel_vap.proofs.Bound.{meaning_same}
 use Rattle.kube_cel_vap.specs.Expressions.{Compiled, Unread, compile_result, message_tree_in, required_tree, with_tree, with_trees, ◌>>=◌}
 use Rattle.kube_cel_vap.specs.Results.{compiled_result, compiled_results, false_message, message_in, outcome_in, outcome_message, policy_library, policy_results, result_in, result_with, value_message}

@@ -2,8 +2,8 @@
 -- What calls answer, each with a book of its own.
 use Rattle.cel_patterns.specs.Book.{Extends, Book, IsBook}
 use Rattle.cel_semantics.specs.Bindings.{Bindings}
-use Rattle.kube_cel_vap_types.specs.Validations.{ExpressionData, result_view}
-use Rattle.kube_cel_vap_types.specs.declared.expression.VapResult.{VapResult}
+use Rattle.kube_cel_vap.specs.Validations.{ExpressionData, result_view}
+use Rattle.kube_cel_vap.specs.declared.expression.VapResult.{VapResult}
 use Rattle.kube_cel_vap.specs.Expressions.{Compiled, Unread}
 use Rattle.kube_cel_vap.specs.Results.{compiled_result, compiled_results, policy_results}
 use Rattle.kube_cel_vap.specs.Variables.{Variables}

@@ -4,7 +4,7 @@ use Rattle.cel.specs.Program.{program_term}
 use Rattle.cel.specs.declared.program.Program.{Program}
 use Rattle.cel_syntax.specs.Reading.{tree_of}
 use Rattle.cel_syntax_ast.specs.Term.{Term}
-use Rattle.kube_cel_vap_types.specs.Validations.{ExpressionData}
+use Rattle.kube_cel_vap.specs.Validations.{ExpressionData}
 use Rattle.kube_cel_vap.specs.declared.compilation.CompiledVapExpression.{CompiledVapExpression}
 use Rattle.kube_cel_vap.specs.declared.compilation.VapError.{VapError}
 use Rattle.std.specs.Prelude.{ℕ, List, ◌++◌, codes, Option, Some, None, option_map, Result, Ok, Err, string_bytes}

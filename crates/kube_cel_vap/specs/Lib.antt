@@ -1,3 +1,5 @@
+pub mod Requests
+pub mod Validations
 pub mod Expressions
 pub mod Results
 pub mod CallResults

@@ -12,7 +12,7 @@ use Rattle.cel_value.specs.Kinds.{kind_name}
 use Rattle.cel_value.specs.Parts.{bool_in, text_in}
 use Rattle.cel_value.specs.Texts.{fault_text}
 use Rattle.cel_value.specs.View.{kind_of}
-use Rattle.kube_cel_vap_types.specs.Validations.{ExpressionData, ResultData}
+use Rattle.kube_cel_vap.specs.Validations.{ExpressionData, ResultData}
 use Rattle.kube_cel_vap.specs.Expressions.{Compiled, Unread, compile_result, unread_text}
 use Rattle.kube_cel_vap.specs.Variables.{Variables, policy_bindings}
 use Rattle.kube_functions.specs.Kube.{all_library}

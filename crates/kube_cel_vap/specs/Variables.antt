@@ -5,7 +5,7 @@ use Rattle.cel_value.specs.Data.{Data, null}
 use Rattle.kube_cel_vap.specs.declared.evaluator.VapEvaluator.{VapEvaluator}
 use Rattle.kube_cel_vap.specs.declared.evaluator.VapEvaluatorBuilder.{VapEvaluatorBuilder}
 use Rattle.kube_cel_vap.specs.declared.variables.Given.{Given}
-use Rattle.kube_cel_vap_types.specs.Requests.{RequestData, empty_request, request_value, request_view}
+use Rattle.kube_cel_vap.specs.Requests.{RequestData, empty_request, request_value, request_view}
 use Rattle.kube_schema_values.specs.Plain.{plain}
 use Rattle.serde_json.specs.Data.{Data as Json}
 use Rattle.serde_json.specs.View.{view}

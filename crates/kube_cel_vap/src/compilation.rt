@@ -1,11 +1,11 @@
 //! The expressions of a policy with the programs of their texts.
 ghost use Rattle.cel.specs.Program.{program_term};
-ghost use Rattle.kube_cel_vap_types.specs.Validations.{expression_view};
+ghost use Rattle.kube_cel_vap.specs.Validations.{expression_view};
 ghost use Rattle.kube_cel_vap.specs.Expressions.{compile_result, compiled_seen, compiled_view, error_view, message_program_seen, message_tree_in, program_seen, tree_in, unread_text, with_tree, with_trees};
 ghost use Rattle.std.specs.Prelude.{◌≡◌, IfErr, IfOk, option_map, Some, string_bytes};
 
+use crate::expression::{VapExpression, clone_text};
 use cel::{ParseErrors, Program};
-use kube_cel_vap_types::{VapExpression, clone_text};
 use kube_types_refused::Refused;
 use std::alloc::{AllocError, Global};
 use std::fmt;

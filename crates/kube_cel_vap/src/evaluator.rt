@@ -1,6 +1,6 @@
 //! The evaluation of a policy's expressions.
-ghost use Rattle.kube_cel_vap_types.specs.Requests.{request_view};
-ghost use Rattle.kube_cel_vap_types.specs.Validations.{expression_view};
+ghost use Rattle.kube_cel_vap.specs.Requests.{request_view};
+ghost use Rattle.kube_cel_vap.specs.Validations.{expression_view};
 ghost use Rattle.kube_cel_vap.specs.Expressions.{compile_result, compiled_seen};
 ghost use Rattle.kube_cel_vap.specs.CallResults.{AreResultsOf, AreResultsOfCompiled};
 ghost use Rattle.kube_cel_vap.specs.Variables.{builder_view, evaluator_view, no_variables};
@@ -9,10 +9,11 @@ ghost use Rattle.std.specs.Prelude.{◌≡◌, IfErr, IfOk, map, Some};
 
 use crate::compilation::{CompiledVapExpression, VapError, compile_expression};
 use crate::context::context_of;
+use crate::expression::{VapExpression, VapResult};
 use crate::expression_results::results_of;
+use crate::request::AdmissionRequest;
 use crate::variables::Given;
 use cel::PatternBook;
-use kube_cel_vap_types::{AdmissionRequest, VapExpression, VapResult};
 use kube_types_refused::Refused;
 use serde_json::Value;
 use std::alloc::Global;
@@ -131,7 +132,7 @@ impl VapEvaluator {
         alloc: Global,
         compiled: &[Result<CompiledVapExpression, VapError>],
     ) -> Result<Vec<VapResult>, Refused>
-        ensures results { IfOk result (λ v. AreResultsOfCompiled (evaluator_view self.now) (map compiled_seen compiled.now) v.items) }
+        ensures results { IfOk result (λ v. AreResultsOfCompiled (evaluator_view self.now) (map compiled_seen compile_result.now) v.items) }
         ensures memory { IfErr result (λ e. e ≡ Refused.Memory) }
     {
         let context = context_of(alloc, &self.given)?;

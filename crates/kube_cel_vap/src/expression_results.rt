@@ -6,7 +6,7 @@ ghost use Rattle.cel_semantics.specs.Bindings.{bindings_of};
 ghost use Rattle.cel_semantics.specs.Outcome.{outcome_view};
 ghost use Rattle.cel_value.specs.Parts.{bool_in};
 ghost use Rattle.cel_value.specs.View.{view};
-ghost use Rattle.kube_cel_vap_types.specs.Validations.{result_view};
+ghost use Rattle.kube_cel_vap.specs.Validations.{result_view};
 ghost use Rattle.kube_cel_vap.specs.Expressions.{compiled_seen, compiled_view, error_view, unread_text};
 ghost use Rattle.kube_cel_vap.specs.Results.{compiled_result, false_message, message_in, outcome_in, own_message, result_with, message_text, value_message};
 ghost use Rattle.kube_cel_vap.specs.CallResults.{AreResultsUnder};
@@ -14,9 +14,9 @@ ghost use Rattle.std.specs.Prelude.{◌≡◌, IfErr, IfOk, map, option_map, Som
 
 use crate::compilation::{CompiledVapExpression, VapError};
 use crate::context::{PolicyContext, outcome_of};
+use crate::expression::VapResult;
 use cel::{Answer, PatternBook};
 use cel_value::Value;
-use kube_cel_vap_types::VapResult;
 use kube_types_refused::Refused;
 use std::alloc::{AllocError, Global};
 

@@ -1,10 +1,49 @@
-//! Laws of the results of policies, each the contract of a call.
+//! Laws of requests, expressions, results and policies, each the contract of a call.
 ghost use Rattle.cel_patterns.specs.Book.{Book};
-ghost use Rattle.kube_cel_vap_types.specs.Validations.{ExpressionData};
 ghost use Rattle.kube_cel_vap.specs.Expressions.{compile_result};
+ghost use Rattle.kube_cel_vap.specs.Requests.{kind_view, request_view, resource_view};
 ghost use Rattle.kube_cel_vap.specs.Results.{compiled_results, policy_results};
+ghost use Rattle.kube_cel_vap.specs.Validations.{expression_view, result_view, ExpressionData};
 ghost use Rattle.kube_cel_vap.specs.Variables.{Variables};
-ghost use Rattle.std.specs.Prelude.{◌≡◌, ◌++◌, is_none, List, map};
+ghost use Rattle.std.specs.Prelude.{◌≡◌, ◌↔◌, IsTrue, ◌++◌, is_none, List, map};
+
+use crate::expression::{VapExpression, VapResult};
+use crate::request::{AdmissionRequest, GroupVersionKind, GroupVersionResource};
+
+/// Two kinds are equal exactly where all their fields are.
+pub fn equal_kinds(a: &GroupVersionKind, b: &GroupVersionKind) -> bool
+    ensures { IsTrue result ↔ (kind_view a.now ≡ kind_view b.now) }
+{
+    a == b
+}
+
+/// Two resources are equal exactly where all their fields are.
+pub fn equal_resources(a: &GroupVersionResource, b: &GroupVersionResource) -> bool
+    ensures { IsTrue result ↔ (resource_view a.now ≡ resource_view b.now) }
+{
+    a == b
+}
+
+/// Two requests are equal exactly where all their fields are.
+pub fn equal_requests(a: &AdmissionRequest, b: &AdmissionRequest) -> bool
+    ensures { IsTrue result ↔ (request_view a.now ≡ request_view b.now) }
+{
+    a == b
+}
+
+/// Two expressions are equal exactly where all their fields are.
+pub fn equal_expressions(a: &VapExpression, b: &VapExpression) -> bool
+    ensures { IsTrue result ↔ (expression_view a.now ≡ expression_view b.now) }
+{
+    a == b
+}
+
+/// Two results are equal exactly where all their fields are.
+pub fn equal_results(a: &VapResult, b: &VapResult) -> bool
+    ensures { IsTrue result ↔ (result_view a.now ≡ result_view b.now) }
+{
+    a == b
+}
 
 /// The results of two joined lists of expressions are the two lists of results joined, under one book.
 #[tactic(auto, using(crate::proofs::Results::results_of_joined))]

@@ -1,16 +1,20 @@
-//! The expressions of Kubernetes' ValidatingAdmissionPolicy, evaluated without an API server.
+//! The expressions of Kubernetes' ValidatingAdmissionPolicy, evaluated without an API server; the admission requests that they are
+//! evaluated over, and their results.
 #![tactic(auto)]
 
 mod compilation;
 mod context;
 pub mod evaluator;
+mod expression;
 mod expression_results;
 pub mod laws;
+mod request;
+mod value;
 mod variables;
 
 pub use compilation::{CompiledVapExpression, VapError};
 pub use evaluator::{VapEvaluator, VapEvaluatorBuilder};
-pub use kube_cel_vap_types::{
-    AdmissionRequest, GroupVersionKind, GroupVersionResource, VapExpression, VapResult,
-};
+pub use expression::{VapExpression, VapResult};
 pub use kube_types_refused::Refused;
+pub use request::{AdmissionRequest, GroupVersionKind, GroupVersionResource};
+pub use value::request_value;

@@ -1,5 +1,5 @@
 //! What the expressions of a policy may ask of.
-use kube_cel_vap_types::AdmissionRequest;
+use crate::request::AdmissionRequest;
 use serde_json::Value;
 
 /// What was set, each of it once at most.

@@ -1,6 +1,6 @@
 -- What a walk finds through the steps of each kind, and that it is the answer when joined.
 use Rattle.cel_patterns.specs.Book.{Book}
-use Rattle.kube_cel_errors.specs.Errors.{ErrorData}
+use Rattle.kube_cel_walk.specs.Errors.{ErrorData}
 use Rattle.kube_cel_places.proofs.Found.{flat_map-map, flat_map_none, answers_end, answers_more}
 use Rattle.kube_cel_places.specs.declared.branches.BranchKind.{BranchKind}
 use Rattle.kube_cel_places.specs.declared.branches.BranchKind.TheVariants.{AllOf, OneOf, AnyOf}

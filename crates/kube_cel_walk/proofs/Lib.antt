@@ -1,3 +1,6 @@
+pub mod Equals
+pub mod Bound
+pub mod Ruled
 pub mod Cut
 pub mod Entries
 pub mod Gathered

@@ -4,12 +4,12 @@
 use Rattle.cel_patterns.specs.Book.{Book}
 use Rattle.cel_semantics.specs.Bindings.{Bindings}
 use Rattle.cel_value.specs.Data.{Data}
-use Rattle.kube_cel_errors.specs.Errors.{ErrorData}
-use Rattle.kube_cel_errors.specs.RuleErrors.{too_deep}
+use Rattle.kube_cel_walk.specs.Errors.{ErrorData}
+use Rattle.kube_cel_walk.specs.RuleErrors.{too_deep}
 use Rattle.kube_cel_places.specs.Visit.{Visit, goes, candidates}
 use Rattle.kube_cel_places.specs.Step.{Step}
 use Rattle.kube_cel_places.specs.Walk.{answers, AreFoundAtPlaces, if_some}
-use Rattle.kube_cel_verdicts.specs.Verdicts.{list_of_option, verdict, with_old, with_root}
+use Rattle.kube_cel_walk.specs.Verdicts.{list_of_option, verdict, with_old, with_root}
 use Rattle.kube_cel_walk.specs.WalkAccessors.{WalkAccessors}
 use Rattle.kube_schema_conversion.specs.Conversion.{to_cel, levels}
 use Rattle.serde_json.specs.Data.{Data as Json}

@@ -1,3 +1,10 @@
+pub mod ErrorLists
+pub mod Errors
+pub mod RuleErrors
+pub mod Texts
+pub mod Roots
+pub mod AddedErrors
+pub mod Verdicts
 pub mod Answers
 pub mod WalkAccessors
 pub mod Visits

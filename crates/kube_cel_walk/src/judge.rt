@@ -2,19 +2,19 @@
 ghost use Rattle.cel_patterns.specs.Book.{Extends, Book};
 ghost use Rattle.cel_patterns.specs.Entries.{entries_of};
 ghost use Rattle.cel_semantics.specs.Bindings.{binding, bindings_of};
-ghost use Rattle.kube_cel_verdicts.specs.AddedErrors.{AreAdded};
-ghost use Rattle.kube_cel_verdicts.specs.Verdicts.{with_old};
+ghost use Rattle.kube_cel_walk.specs.AddedErrors.{AreAdded};
+ghost use Rattle.kube_cel_walk.specs.Verdicts.{with_old};
 ghost use Rattle.kube_cel_walk.specs.Answers.{bound_at, place_bindings, verdicts};
 ghost use Rattle.kube_cel_walk.specs.Visits.{visit_at};
 ghost use Rattle.serde_json.specs.View.{view};
 ghost use Rattle.std.specs.Prelude.{◌≡◌, IfErr, IfOk, List, OnOk, option_map, ℕ};
 
+use crate::error::ValidationError;
 use crate::node::Node;
+use crate::rule_error::deep_error;
 use crate::state::WalkState;
+use crate::verdict::{Context, bind_root};
 use cel::PatternBook;
-use kube_cel_errors::ValidationError;
-use kube_cel_errors::rule_error::deep_error;
-use kube_cel_verdicts::verdict::{Context, bind_root};
 use kube_types::Refused;
 use std::alloc::Global;
 

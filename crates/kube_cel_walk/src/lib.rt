@@ -1,11 +1,21 @@
-//! The walk over the places that a schema and a value share, in whatever form the schema is held.
+//! What is found at the places that a schema and a value share: the walk over them, in whatever form the schema is held, the verdict of a
+//! rule whose names are bound, and the errors of a validation.
 #![tactic(auto)]
 
+pub mod copy;
+pub mod error;
 pub mod judge;
+pub mod laws;
 pub mod node;
+pub mod path;
+pub mod root;
+pub mod rule_error;
 pub mod state;
+pub mod verdict;
 pub mod walk;
 
+pub use error::{ErrorKind, ValidationError, ValidationErrors};
 pub use node::Node;
+pub use root::RootContext;
 pub use state::WalkState;
 pub use walk::walk_node;

@@ -3,7 +3,7 @@ ghost use Rattle.serde_json.specs.Find.{at, get};
 ghost use Rattle.serde_json.specs.View.{view};
 ghost use Rattle.std.specs.Prelude.{◌≡◌, option_and_then, option_map};
 
-use kube_cel_verdicts::RootContext;
+use crate::root::RootContext;
 use serde_json::Value;
 
 /// What lies at a place. Nothing of it is copied.

@@ -1,7 +1,7 @@
 //! The walk over the places that a schema and a value share.
 ghost use Rattle.cel_patterns.specs.Book.{Extends, Book};
 ghost use Rattle.cel_patterns.specs.Entries.{entries_of};
-ghost use Rattle.kube_cel_verdicts.specs.AddedErrors.{AreAdded};
+ghost use Rattle.kube_cel_walk.specs.AddedErrors.{AreAdded};
 ghost use Rattle.kube_cel_walk.specs.Answers.{answer, found_by, answer_if_reached};
 ghost use Rattle.kube_cel_walk.specs.Visits.{visit_at};
 ghost use Rattle.kube_cel_places.specs.Visit.{branch_steps, additional_steps, further, goes, item_path, item_steps, member_path, property_steps, unless_there};
@@ -10,12 +10,12 @@ ghost use Rattle.serde_json.specs.Find.{at, get};
 ghost use Rattle.serde_json.specs.View.{view};
 ghost use Rattle.std.specs.Prelude.{◌≡◌, ◌≤◌, ◌-◌, IfErr, None, OnOk, option_and_then, option_map, Some, string_bytes};
 
+use crate::error::ValidationError;
 use crate::judge::{TOO_DEEP, validate_at};
 use crate::node::Node;
+use crate::path::{push_item, push_member};
 use crate::state::{WalkState, old_item, old_member};
 use cel::PatternBook;
-use kube_cel_errors::ValidationError;
-use kube_cel_errors::path::{push_item, push_member};
 use kube_cel_places::BranchKind;
 use kube_types::Refused;
 use serde_json::Value;

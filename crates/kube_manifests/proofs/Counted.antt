@@ -1,8 +1,8 @@
 -- Sums of numbers of rules that stop at the greatest number.
 use Rattle.std.proofs.Common.{◌≡◌, ◌<◌, ◌≤◌, ◌+◌, ◌-◌, ◌^◌, ℕ, zero, suc, List, length, map, min, Option, Some, None, refl, sym, ap, ◌∙◌, add-one, arith}
 use Rattle.std.proofs.lemmas.List.{length-map}
-use Rattle.kube_cel_costs.proofs.Rest.{rest, rest_at, rest_none, rest_past}
-use Rattle.kube_cel_lint.specs.Lint.{branches_of}
+use Rattle.kube_cel_analysis.proofs.Rest.{rest, rest_at, rest_none, rest_past}
+use Rattle.kube_cel_analysis.specs.Lint.{branches_of}
 use Rattle.kube_cel_places.specs.declared.branches.BranchKind.TheVariants.{AllOf, OneOf, AnyOf}
 use Rattle.kube_manifests.specs.Rules.{saturated_count, rules_in, rules_in_maybe, rules_in_named, rules_in_nodes, rules_in_option}
 use Rattle.kube_schema_compiled.specs.Tree.{Node, node, Maybe, nothing, just, Named, Nodes, no_nodes, more, additional_of, as_option, items_of, named_of, names, nodes_length, nth_named, nth_node, own}

@@ -5,7 +5,7 @@ use Rattle.std.specs.List.{Contains, find, list_any}
 use Rattle.std.specs.Str.{bytes_eq}
 use Rattle.std.specs.Prelude.{codes}
 use Rattle.kube_cel.specs.Answers.{report_of}
-use Rattle.kube_cel_errors.specs.Errors.{ErrorData}
+use Rattle.kube_cel_walk.specs.Errors.{ErrorData}
 use Rattle.kube_manifests.specs.declared.judgement.Judgement.TheVariants.{Judged}
 use Rattle.kube_manifests.specs.declared.judgement.NotJudged.{NotJudged}
 use Rattle.kube_manifests.specs.declared.judgement.NotJudged.TheVariants as reason

@@ -3,8 +3,8 @@ use Rattle.std.proofs.Common.{◌≡◌, ℕ, List, [], map, Option, Some, Resul
 use Rattle.kube_cel.specs.Answers.{IsReportOf}
 use Rattle.kube_cel.specs.Raw.{raw_form}
 use Rattle.kube_cel.specs.Starts.{defaulted_start}
-use Rattle.kube_cel_errors.specs.declared.error.ValidationErrors.{ValidationErrors}
-use Rattle.kube_cel_verdicts.specs.Roots.{root_view}
+use Rattle.kube_cel_walk.specs.declared.error.ValidationErrors.{ValidationErrors}
+use Rattle.kube_cel_walk.specs.Roots.{root_view}
 use Rattle.kube_manifests.proofs.Choices.{chosen_alike}
 use Rattle.kube_manifests.proofs.Formed.{formed, mapped, versions_alike, versions_are}
 use Rattle.kube_manifests.specs.declared.judgement.NotJudged.{NotJudged}

@@ -1,5 +1,5 @@
 //! How many rules a schema has.
-ghost use Rattle.kube_cel_lint.specs.Lint.{branches_of};
+ghost use Rattle.kube_cel_analysis.specs.Lint.{branches_of};
 ghost use Rattle.kube_manifests.specs.Rules.{saturated_count, rules_in, rules_in_maybe, rules_in_named, rules_in_nodes, rules_in_option};
 ghost use Rattle.kube_schema_compiled.specs.Shown.{node_tree, whole};
 ghost use Rattle.kube_schema_compiled.specs.Tree.{additional_of, items_of, named_of, nodes_length, nth_node};

@@ -3,7 +3,7 @@
 -- `expression`), and what of it isn't given.
 use Rattle.cel_syntax_ast.specs.FreeNames.{is_free}
 use Rattle.cel_syntax_ast.specs.Term.{Term}
-use Rattle.kube_cel_vap_types.specs.Requests.{request_view}
+use Rattle.kube_cel_vap.specs.Requests.{request_view}
 use Rattle.kube_cel_vap.specs.Variables.{Variables}
 use Rattle.kube_manifests_policies.specs.Uses.{asks}
 use Rattle.kube_manifests_policies.specs.declared.inputs.Input.{Input}

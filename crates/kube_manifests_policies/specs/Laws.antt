@@ -5,7 +5,7 @@ use Rattle.cel_semantics.specs.Members.{selection}
 use Rattle.cel_syntax.specs.Reading.{tree_of}
 use Rattle.cel_syntax_ast.specs.Term.{Term}
 use Rattle.cel_value.specs.Data.{Entries, map_of, text_key}
-use Rattle.kube_cel_vap_types.specs.Validations.{ExpressionData, ResultData}
+use Rattle.kube_cel_vap.specs.Validations.{ExpressionData, ResultData}
 use Rattle.kube_manifests_policies.specs.Policies.{ItemData, PolicyData}
 use Rattle.kube_manifests_policies.specs.Scopes.{ScopeData, why_not}
 use Rattle.kube_manifests_policies.specs.Uses.{asks}

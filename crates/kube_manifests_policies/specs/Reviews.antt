@@ -1,7 +1,7 @@
 -- Trusted by the clauses of policies.
 -- What an AdmissionReview says of a request (Kubernetes API reference, AdmissionReview and AdmissionRequest of `admission.k8s.io`), or its first
 -- fault.
-use Rattle.kube_cel_vap_types.specs.Requests.{KindData, RequestData, ResourceData}
+use Rattle.kube_cel_vap.specs.Requests.{KindData, RequestData, ResourceData}
 use Rattle.kube_cel_vap.specs.Expressions.{◌>>=◌}
 use Rattle.kube_cel_vap.specs.Variables.{Variables}
 use Rattle.kube_manifests_policies.specs.Faults.{FaultData, fault_view, field, nth}

@@ -2,7 +2,7 @@
 ghost use Rattle.cel_semantics.specs.Bindings.{binding, bindings_of};
 ghost use Rattle.cel_value.specs.Data.{map_of, no_entries};
 ghost use Rattle.cel_value.specs.View.{view};
-ghost use Rattle.kube_cel_vap_types.specs.Requests.{empty_request, request_value, request_view};
+ghost use Rattle.kube_cel_vap.specs.Requests.{empty_request, request_value, request_view};
 ghost use Rattle.kube_cel_vap.specs.Variables.{bindings_always, value_or_null, with_given};
 ghost use Rattle.kube_manifests_policies.specs.Inputs.{inputs_view, without_namespace};
 ghost use Rattle.kube_manifests_policies.specs.Policies.{item_view};
@@ -14,7 +14,7 @@ use crate::inputs::{PolicyInputs, absent_inputs};
 use crate::item::Item;
 use crate::scope::{PolicyContext, Scope};
 use cel::{Context, Entries, Value};
-use kube_cel_vap_types::{AdmissionRequest, request_value};
+use kube_cel_vap::{AdmissionRequest, request_value};
 use kube_schema_values::bind_plain;
 use kube_types_refused::Refused;
 use serde_json::Value as Json;

@@ -7,7 +7,7 @@ ghost use Rattle.std.specs.Prelude.{◌≡◌, ◌++◌, IfErr, IfOk, OnOk, opti
 
 use crate::uses::asks;
 use cel::Expr;
-use kube_cel_vap_types::AdmissionRequest;
+use kube_cel_vap::AdmissionRequest;
 use kube_types_refused::Refused;
 use serde_json::Value;
 use std::alloc::{AllocError, Global};

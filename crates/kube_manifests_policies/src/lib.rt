@@ -19,6 +19,6 @@ mod verdict;
 pub use evaluation::evaluate_policy;
 pub use fault::{FaultKind, PolicyFault};
 pub use inputs::{Input, PolicyInputs};
-pub use kube_cel_vap_types::{AdmissionRequest, GroupVersionKind, GroupVersionResource};
+pub use kube_cel_vap::{AdmissionRequest, GroupVersionKind, GroupVersionResource};
 pub use kube_types_refused::Refused;
 pub use verdict::{ItemReport, PolicyDecision, PolicyResult, PolicyVerdict};

@@ -195,7 +195,7 @@ fn message_from(
     item: &Item<'_>,
     reached: &Result<Answer, ItemReport>,
 ) -> Result<String, AllocError>
-    ensures { IfOk result (λ s. string_bytes s ≡ message_from (item_view item.now) (outcome_seen reached.now)) }
+    ensures { IfOk result (λ s. string_bytes s ≡ message_from (item_view item.now) (outcome_seen outcome_or_reason.now)) }
 {
     match reached {
         Ok(answer) => outcome_message(alloc, item, answer),

@@ -1,5 +1,5 @@
 //! The inputs that an AdmissionReview carries.
-ghost use Rattle.kube_cel_vap_types.specs.Requests.{kind_view, request_view, resource_view};
+ghost use Rattle.kube_cel_vap.specs.Requests.{kind_view, request_view, resource_view};
 ghost use Rattle.kube_manifests_policies.specs.Faults.{pointer_at};
 ghost use Rattle.kube_manifests_policies.specs.Inputs.{inputs_view};
 ghost use Rattle.kube_manifests_policies.specs.Policies.{reading_view};
@@ -15,7 +15,7 @@ use crate::inputs::PolicyInputs;
 use crate::item::{required_text_at, text_at};
 use crate::location::Location;
 use crate::policy::object_at;
-use kube_cel_vap_types::{AdmissionRequest, GroupVersionKind, GroupVersionResource};
+use kube_cel_vap::{AdmissionRequest, GroupVersionKind, GroupVersionResource};
 use kube_types_refused::Refused;
 use serde_json::Value;
 use std::alloc::{AllocError, Global};

@@ -6,8 +6,8 @@ use Rattle.cel_patterns.specs.Book.{Book, pattern_in}
 use Rattle.cel_semantics.specs.declared.functions.Form.{Form}
 use Rattle.cel_semantics.specs.declared.functions.Form.TheVariants.{Unknown, Wrong, Known}
 use Rattle.cel_value.specs.Data.{text}
-use Rattle.kube_cel_lint.specs.declared.finding.LintKind.{LintKind}
-use Rattle.kube_cel_lint.specs.declared.finding.LintKind.TheVariants as lint
+use Rattle.kube_cel_analysis.specs.declared.finding.LintKind.{LintKind}
+use Rattle.kube_cel_analysis.specs.declared.finding.LintKind.TheVariants as lint
 use Rattle.kube_functions.specs.Kube.{all_library}
 use Rattle.kube_manifests_review.specs.declared.finding.ReviewFinding.{ReviewFinding}
 use Rattle.kube_manifests_review.specs.declared.finding.ReviewKind.{ReviewKind}

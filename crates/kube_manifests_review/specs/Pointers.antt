@@ -1,7 +1,7 @@
 -- Trusted by the clauses of manifests.
 -- One step of a JSON Pointer (RFC 6901, section 3).
 use Rattle.std.specs.Prelude.{ℕ, List, ◌++◌, codes, decimal}
-use Rattle.kube_cel_lint.specs.Pointers.{token}
+use Rattle.kube_cel_analysis.specs.Pointers.{token}
 
 -- to the member of a name that has no `~` and no `/`
 abbrev pub keyword_pointer : List ℕ → List ℕ → List ℕ

@@ -7,9 +7,9 @@ use Rattle.std.specs.Option.{option_and_then}
 use Rattle.cel_patterns.specs.Book.{Book}
 use Rattle.serde_json.specs.Data.{Data, Items, no_items, item}
 use Rattle.serde_json.specs.Find.{get, as_array, as_object}
-use Rattle.kube_cel_lint.specs.Findings.{Naming}
-use Rattle.kube_cel_lint.specs.Findings as linter
-use Rattle.kube_cel_lint.specs.Lint.{findings}
+use Rattle.kube_cel_analysis.specs.Findings.{Naming}
+use Rattle.kube_cel_analysis.specs.Findings as linter
+use Rattle.kube_cel_analysis.specs.Lint.{findings}
 use Rattle.kube_schema_rules.specs.Rules.{rule_items}
 use Rattle.kube_schema_compiled.specs.View.{items_or_none, view_of}
 use Rattle.kube_manifests_review.specs.Doubts.{Doubt, Finding, always, due, plainly}

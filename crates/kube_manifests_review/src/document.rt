@@ -1,6 +1,6 @@
 //! What is said of a document.
 ghost use Rattle.std.specs.Prelude.{◌≡◌, ◌++◌, IfErr, IfOk, OnOk, map, option_map, string_bytes};
-ghost use Rattle.kube_cel_lint.specs.Findings.{Naming};
+ghost use Rattle.kube_cel_analysis.specs.Findings.{Naming};
 ghost use Rattle.kube_manifests_review.specs.Doubts.{doubt_view};
 ghost use Rattle.kube_manifests_review.specs.Reviewed as spec;
 ghost use Rattle.serde_json.specs.View.{items_view, view};

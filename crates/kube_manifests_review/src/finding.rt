@@ -1,7 +1,7 @@
 //! What a review finds.
 
 use crate::word::word_of;
-use kube_cel_lint::LintKind;
+use kube_cel_analysis::LintKind;
 use std::fmt;
 
 /// What kind of thing was found; it prints as a word.

@@ -41,5 +41,5 @@ mod text;
 mod word;
 
 pub use finding::{ReviewFinding, ReviewKind};
-pub use kube_cel_lint::LintKind;
+pub use kube_cel_analysis::LintKind;
 pub use review::{review_crd, review_crd_with};

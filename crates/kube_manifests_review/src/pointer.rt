@@ -1,6 +1,6 @@
 //! JSON Pointers (RFC 6901).
 ghost use Rattle.std.specs.Prelude.{◌≡◌, ◌++◌, IfOk, OnOk, string_bytes};
-ghost use Rattle.kube_cel_lint.specs.Pointers.{escaped_character, token};
+ghost use Rattle.kube_cel_analysis.specs.Pointers.{escaped_character, token};
 ghost use Rattle.kube_manifests_review.specs.Pointers.{index_pointer, key_pointer, keyword_pointer};
 
 use std::alloc::{AllocError, Global};

@@ -3,7 +3,7 @@ ghost use Rattle.std.specs.Prelude.{◌≡◌, ◌++◌, IfErr, IfOk, OnOk, map}
 ghost use Rattle.cel_patterns.specs.Book.{Extends, Book, IsBook};
 ghost use Rattle.cel_patterns.specs.Entries.{entries_of};
 ghost use Rattle.cel_patterns.specs.Extensions.{HoldsForExtensions};
-ghost use Rattle.kube_cel_lint.specs.Findings.{Naming};
+ghost use Rattle.kube_cel_analysis.specs.Findings.{Naming};
 ghost use Rattle.kube_manifests_review.specs.Doubts.{doubt_view, finding_view, when_view};
 ghost use Rattle.kube_manifests_review.specs.Doubts as spec;
 ghost use Rattle.kube_manifests_review.specs.Reviewed.{crd_findings};

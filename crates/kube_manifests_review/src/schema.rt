@@ -1,8 +1,8 @@
 //! What is said of a schema.
 ghost use Rattle.std.specs.Prelude.{◌≡◌, ◌++◌, [], IfErr, IfOk, OnOk, map};
 ghost use Rattle.std.specs.List.{flat_map, list_any};
-ghost use Rattle.kube_cel_lint.specs.Findings.{Naming};
-ghost use Rattle.kube_cel_lint.specs.Findings as linter;
+ghost use Rattle.kube_cel_analysis.specs.Findings.{Naming};
+ghost use Rattle.kube_cel_analysis.specs.Findings as linter;
 ghost use Rattle.kube_manifests_review.specs.Doubts.{doubt_view};
 ghost use Rattle.kube_manifests_review.specs.Locations.{location_view};
 ghost use Rattle.kube_manifests_review.specs.Reviewed as spec;
@@ -17,7 +17,7 @@ use crate::locations::{SchemaLocation, add_locations};
 use crate::pointer::keyword_pointer;
 use crate::rule::{add_keys_of, add_validations};
 use crate::text::add_plainly;
-use kube_cel_lint::{LintFinding, lint_schema};
+use kube_cel_analysis::{LintFinding, lint_schema};
 use kube_schema_compiled::compile_schema;
 use kube_schema_rules::rule_values;
 use kube_types_refused::Refused;

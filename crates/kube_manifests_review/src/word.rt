@@ -3,7 +3,7 @@ ghost use Rattle.std.specs.Prelude.{◌≡◌};
 ghost use Rattle.kube_manifests_review.specs.Doubts.{kind_text, lint_text};
 
 use crate::finding::ReviewKind;
-use kube_cel_lint::LintKind;
+use kube_cel_analysis::LintKind;
 
 /// A linter's kind in a word.
 fn lint_word(kind: LintKind) -> &'static str

@@ -5,9 +5,9 @@ use Rattle.kube_manifests_policies.specs.Reports.{IsVerdictOf}
 use Rattle.kube_manifests_policies.specs.declared.inputs.PolicyInputs.{PolicyInputs}
 use Rattle.kube_manifests_policies.specs.declared.verdict.PolicyVerdict.{PolicyVerdict}
 use Rattle.kube_manifests_policies.specs.Verdicts.{verdict_view}
-use Rattle.kubecel_documents.specs.Reads.{document_view}
-use Rattle.kubecel_documents.specs.declared.sources.Document.{Document}
-use Rattle.kubecel_reports.specs.Items.{ItemData}
+use Rattle.kubecel_io.specs.Reads.{document_view}
+use Rattle.kubecel_io.specs.declared.sources.Document.{Document}
+use Rattle.kubecel_io.specs.Items.{ItemData}
 use Rattle.kubecel_cli.specs.Runs.{instead}
 use Rattle.kubecel_cli.specs.Reports.{policy_item}
 use Rattle.serde_json.specs.Data.{Data}

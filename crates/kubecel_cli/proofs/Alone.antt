@@ -1,6 +1,6 @@
 -- A file that holds one document.
-use Rattle.kubecel_documents.specs.Reads.{AreRead, Found, document_view, with_indices}
-use Rattle.kubecel_documents.specs.declared.sources.Document.{Document}
+use Rattle.kubecel_io.specs.Reads.{AreRead, Found, document_view, with_indices}
+use Rattle.kubecel_io.specs.declared.sources.Document.{Document}
 use Rattle.kubecel_cli.specs.Runs.{IsOneRead}
 use Rattle.serde_json.specs.Data.{Data}
 use Rattle.serde_json.specs.View.{view}

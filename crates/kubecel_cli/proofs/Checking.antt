@@ -3,11 +3,11 @@ use Rattle.kube_manifests.specs.Documents.{Fault}
 use Rattle.kube_manifests.specs.Sets.{all_compiled, with_tree, set_view, versions_of}
 use Rattle.kube_manifests.specs.Versions.{Version}
 use Rattle.kube_manifests.specs.declared.set.CrdSet.{CrdSet}
-use Rattle.kubecel_documents.specs.Objects.{all_objects}
-use Rattle.kubecel_documents.specs.Reads.{AreRead, Found}
-use Rattle.kubecel_documents.specs.Subjects.{subject_view}
-use Rattle.kubecel_documents.specs.declared.subject.Subject.{Subject}
-use Rattle.kubecel_reports.specs.Items.{ItemData}
+use Rattle.kubecel_io.specs.Objects.{all_objects}
+use Rattle.kubecel_io.specs.Reads.{AreRead, Found}
+use Rattle.kubecel_io.specs.Subjects.{subject_view}
+use Rattle.kubecel_io.specs.declared.subject.Subject.{Subject}
+use Rattle.kubecel_io.specs.Items.{ItemData}
 use Rattle.kubecel_cli.proofs.Judging.{items_otherwise}
 use Rattle.kubecel_cli.specs.Commands.{CheckData}
 use Rattle.kubecel_cli.specs.Runs.{AreChecked, AreItems, AreReviewed, IsJudged, IsJudgedBy, IsReviewed, IsSetOf}

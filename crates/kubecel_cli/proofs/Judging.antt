@@ -1,10 +1,10 @@
 -- Things that are reported one after another.
-use Rattle.kubecel_documents.specs.Reads.{Found}
-use Rattle.kubecel_documents.specs.Subjects.{subject_view}
-use Rattle.kubecel_documents.specs.declared.subject.Subject.{Subject}
-use Rattle.kubecel_reports.specs.Items.{ItemData, item_view, items_status}
-use Rattle.kubecel_reports.specs.declared.item.Item.{Item}
-use Rattle.kubecel_documents.specs.declared.sources.Stop.{Stop}
+use Rattle.kubecel_io.specs.Reads.{Found}
+use Rattle.kubecel_io.specs.Subjects.{subject_view}
+use Rattle.kubecel_io.specs.declared.subject.Subject.{Subject}
+use Rattle.kubecel_io.specs.Items.{ItemData, item_view, items_status}
+use Rattle.kubecel_io.specs.declared.item.Item.{Item}
+use Rattle.kubecel_io.specs.declared.sources.Stop.{Stop}
 use Rattle.kubecel_cli.specs.Runs.{AreItems, IfReport, IsReported}
 use Rattle.kubecel_cli.specs.declared.report.Report.{Report}
 use Rattle.std.proofs.Common.{◌≡◌, ℕ, ◌+◌, ◌<◌, List, [], ◌∷◌, ◌++◌, get_or, length, map, take, Result, Ok, Err, IfOk, refl, sym, ap, subst, ◌∙◌}

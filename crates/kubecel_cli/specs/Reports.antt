@@ -1,7 +1,7 @@
 -- Trusted by the clauses of kubecel.
 -- What is reported of an object, a definition and a policy, by what the library answers.
-use Rattle.kube_cel_errors.specs.ErrorLists.{errors_in}
-use Rattle.kube_cel_errors.specs.Errors.{ErrorData, error_view}
+use Rattle.kube_cel_walk.specs.ErrorLists.{errors_in}
+use Rattle.kube_cel_walk.specs.Errors.{ErrorData, error_view}
 use Rattle.kube_manifests.specs.Documents.{is_crd}
 use Rattle.kube_manifests.specs.Texts.{reason_text}
 use Rattle.kube_manifests.specs.declared.judgement.Judgement.{Judgement}
@@ -11,11 +11,11 @@ use Rattle.kube_manifests_policies.specs.Verdicts.{Labelled, ItemReportData, Ver
 use Rattle.kube_manifests_policies.specs.declared.verdict.PolicyDecision.{PolicyDecision}
 use Rattle.kube_manifests_policies.specs.declared.verdict.PolicyDecision.TheVariants as decision
 use Rattle.kube_manifests_review.specs.Doubts.{Finding, kind_text}
-use Rattle.kubecel_documents.specs.Objects.{identity_of}
-use Rattle.kubecel_documents.specs.Reads.{Found}
-use Rattle.kubecel_reports.specs.Items.{FindingData, ItemData}
-use Rattle.kubecel_reports.specs.declared.item.Verdict.{Verdict}
-use Rattle.kubecel_reports.specs.declared.item.Verdict.TheVariants as verdict
+use Rattle.kubecel_io.specs.Objects.{identity_of}
+use Rattle.kubecel_io.specs.Reads.{Found}
+use Rattle.kubecel_io.specs.Items.{FindingData, ItemData}
+use Rattle.kubecel_io.specs.declared.item.Verdict.{Verdict}
+use Rattle.kubecel_io.specs.declared.item.Verdict.TheVariants as verdict
 use Rattle.serde_json.specs.Data.{Data}
 use Rattle.std.specs.List.{flat_map}
 use Rattle.std.specs.Prelude.{ℕ, List, [], ◌∷◌, ◌++◌, map, Bool, true, false, Result, Ok, Err, if◌then◌else◌, codes}

@@ -2,7 +2,7 @@
 -- What a run of `kubecel` rests on: the files that it names, read one after another, and what came of each
 -- thing that they hold.
 use Rattle.cel_patterns.specs.Book.{Book, IsBook}
-use Rattle.kube_cel_lint.specs.Findings.{Naming}
+use Rattle.kube_cel_analysis.specs.Findings.{Naming}
 use Rattle.kube_cel_vap.specs.Variables.{Variables, no_variables}
 use Rattle.kube_manifests.specs.Documents.{is_crd}
 use Rattle.kube_manifests.specs.Sets.{IsJudgement, with_tree, set_view, versions_of}
@@ -15,10 +15,10 @@ use Rattle.kube_manifests_policies.specs.Reviews.{review_of}
 use Rattle.kube_manifests_policies.specs.Verdicts.{verdict_view}
 use Rattle.kube_manifests_policies.specs.declared.verdict.PolicyVerdict.{PolicyVerdict}
 use Rattle.kube_manifests_review.specs.Reviewed.{crd_findings}
-use Rattle.kubecel_documents.specs.Objects.{all_objects, old_of}
-use Rattle.kubecel_documents.specs.Reads.{AreRead, Found}
-use Rattle.kubecel_documents.specs.declared.sources.Stop.{Stop}
-use Rattle.kubecel_reports.specs.Items.{ItemData, item_view, items_status}
+use Rattle.kubecel_io.specs.Objects.{all_objects, old_of}
+use Rattle.kubecel_io.specs.Reads.{AreRead, Found}
+use Rattle.kubecel_io.specs.declared.sources.Stop.{Stop}
+use Rattle.kubecel_io.specs.Items.{ItemData, item_view, items_status}
 use Rattle.kubecel_cli.specs.Commands.{AdmitData, Asked, CheckData, check, review, admit}
 use Rattle.kubecel_cli.specs.declared.report.Report.{Report}
 use Rattle.kubecel_cli.specs.Reports.{judged_item, no_crd_item, policy_item, reviewed_item}

@@ -3,8 +3,8 @@ ghost use Rattle.kube_cel_vap.specs.Variables.{Variables};
 ghost use Rattle.kube_manifests_policies.specs.Inputs.{inputs_view};
 ghost use Rattle.kube_manifests_policies.specs.Reports.{IsVerdictOf};
 ghost use Rattle.kube_manifests_policies.specs.Verdicts.{result_view, verdict_view};
-ghost use Rattle.kubecel_documents.specs.Reads.{Found, document_view};
-ghost use Rattle.kubecel_reports.specs.Items.{finding_view, item_view};
+ghost use Rattle.kubecel_io.specs.Reads.{Found, document_view};
+ghost use Rattle.kubecel_io.specs.Items.{finding_view, item_view};
 ghost use Rattle.kubecel_cli.specs.Commands.{admit_view};
 ghost use Rattle.kubecel_cli.specs.Runs.{AreAdmitted, IsOneRead, IsOneReadWhereNamed, base_of, instead};
 ghost use Rattle.kubecel_cli.specs.Reports.{decision_verdict, is_quiet, policy_item, result_findings, verdict_findings};
@@ -18,8 +18,9 @@ use crate::report::Report;
 use kube_manifests_policies::{
     ItemReport, PolicyDecision, PolicyInputs, PolicyResult, PolicyVerdict, evaluate_policy,
 };
-use kubecel_documents::{Document, Identity, Sources, Stop, Subject, read_documents};
-use kubecel_reports::{Finding, Item, Verdict};
+use kubecel_io::{
+    Document, Finding, Identity, Item, Sources, Stop, Subject, Verdict, read_documents,
+};
 use serde_json::Value;
 use std::alloc::{AllocError, Global};
 

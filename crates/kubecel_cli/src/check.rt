@@ -1,11 +1,11 @@
 //! `check`: objects by their CustomResourceDefinitions.
-ghost use Rattle.kube_cel_errors.specs.Errors.{error_view};
+ghost use Rattle.kube_cel_walk.specs.Errors.{error_view};
 ghost use Rattle.kube_manifests.specs.Sets.{IsJudgement, with_tree, set_view};
 ghost use Rattle.kube_manifests.specs.Versions.{Version};
 ghost use Rattle.kube_manifests.specs.declared.judgement.Judgement as spec;
-ghost use Rattle.kubecel_documents.specs.Reads.{document_view};
-ghost use Rattle.kubecel_documents.specs.Subjects.{subject_view};
-ghost use Rattle.kubecel_reports.specs.Items.{finding_view, item_view};
+ghost use Rattle.kubecel_io.specs.Reads.{document_view};
+ghost use Rattle.kubecel_io.specs.Subjects.{subject_view};
+ghost use Rattle.kubecel_io.specs.Items.{finding_view, item_view};
 ghost use Rattle.kubecel_cli.specs.Commands.{check_view};
 ghost use Rattle.kubecel_cli.specs.Runs.{AreChecked, AreItems, IsJudgedBy, IsSetOf};
 ghost use Rattle.kubecel_cli.specs.Reports.{error_finding, judged_item, why_not};
@@ -17,10 +17,10 @@ use crate::command::Check;
 use crate::item::{item_of, remark};
 use crate::report::{Report, ReportFormat};
 use kube_manifests::{CrdSet, Judgement, NotJudged, ValidationError, is_crd};
-use kubecel_documents::{
-    Document, Refused, Sources, Stop, Subject, objects_of, old_of, read_documents,
+use kubecel_io::{
+    Document, Finding, Item, Refused, Sources, Stop, Subject, Verdict, objects_of, old_of,
+    read_documents,
 };
-use kubecel_reports::{Finding, Item, Verdict};
 use serde_json::Value;
 use std::alloc::{AllocError, Global};
 use std::io::Write;

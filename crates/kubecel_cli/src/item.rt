@@ -1,11 +1,10 @@
 //! Things as they are reported.
-ghost use Rattle.kubecel_documents.specs.Subjects.{subject_view};
-ghost use Rattle.kubecel_reports.specs.Items.{finding_view, item_view};
+ghost use Rattle.kubecel_io.specs.Subjects.{subject_view};
+ghost use Rattle.kubecel_io.specs.Items.{finding_view, item_view};
 ghost use Rattle.kubecel_cli.specs.Reports.{item_of, remark};
 ghost use Rattle.std.specs.Prelude.{◌≡◌, ◌∷◌, [], IfOk, map, string_bytes};
 
-use kubecel_documents::Subject;
-use kubecel_reports::{Finding, Item, Verdict};
+use kubecel_io::{Finding, Item, Subject, Verdict};
 use std::alloc::{AllocError, Global};
 
 /// An object, and what came of it.

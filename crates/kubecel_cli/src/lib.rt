@@ -10,8 +10,8 @@ mod review;
 
 ghost use Rattle.kubecel_cli.specs.Commands.{command_view};
 ghost use Rattle.kubecel_cli.specs.Runs.{AreFound, IsReported};
-ghost use Rattle.kubecel_reports.specs.Items.{item_view};
-ghost use Rattle.kubecel_reports.specs.Output.{output_text};
+ghost use Rattle.kubecel_io.specs.Items.{item_view};
+ghost use Rattle.kubecel_io.specs.Output.{output_text};
 ghost use Rattle.std.specs.Io.KnownBytes.{Appends};
 ghost use Rattle.std.specs.Prelude.{◌≤◌, IfOk, map};
 
@@ -20,8 +20,7 @@ use crate::check::checked;
 use crate::report::{Report, report_found};
 use crate::review::reviewed;
 pub use command::{Admit, Check, Command};
-pub use kubecel_documents::{Refused, Sources, Stop};
-pub use kubecel_reports::Output;
+pub use kubecel_io::{Output, Refused, Sources, Stop};
 pub use report::ReportFormat;
 use std::alloc::Global;
 use std::io::Write;

@@ -1,12 +1,11 @@
 //! Telling what a command found.
-ghost use Rattle.kubecel_reports.specs.Items.{item_view, items_status};
-ghost use Rattle.kubecel_reports.specs.Output.{output_text};
+ghost use Rattle.kubecel_io.specs.Items.{item_view, items_status};
+ghost use Rattle.kubecel_io.specs.Output.{output_text};
 ghost use Rattle.kubecel_cli.specs.Runs.{IfReport};
 ghost use Rattle.std.specs.Io.KnownBytes.{Appends};
 ghost use Rattle.std.specs.Prelude.{◌≡◌, ◌≤◌, OnOk, map};
 
-use kubecel_documents::Stop;
-use kubecel_reports::{Item, Output, status_of, write_items};
+use kubecel_io::{Item, Output, Stop, status_of, write_items};
 use std::alloc::Global;
 use std::io;
 use std::io::Write;

@@ -1,8 +1,8 @@
 //! `review`: what a person should look at in CustomResourceDefinitions.
 ghost use Rattle.cel_patterns.specs.Book.{Book, IsBook};
 ghost use Rattle.kube_manifests_review.specs.Doubts as doubts;
-ghost use Rattle.kubecel_documents.specs.Subjects.{subject_view};
-ghost use Rattle.kubecel_reports.specs.Items.{finding_view, item_view};
+ghost use Rattle.kubecel_io.specs.Subjects.{subject_view};
+ghost use Rattle.kubecel_io.specs.Items.{finding_view, item_view};
 ghost use Rattle.kubecel_cli.specs.Runs.{AreItems, AreReviewed, IsReviewed};
 ghost use Rattle.kubecel_cli.specs.Reports.{pass_unless, review_finding};
 ghost use Rattle.std.specs.Prelude.{◌≡◌, IfOk, map};
@@ -11,8 +11,9 @@ use crate::item::{item_of, remark};
 use crate::report::Report;
 use kube_manifests::is_crd;
 use kube_manifests_review::{ReviewFinding, review_crd};
-use kubecel_documents::{Refused, Sources, Stop, Subject, objects_of, read_documents};
-use kubecel_reports::{Finding, Item, Verdict};
+use kubecel_io::{
+    Finding, Item, Refused, Sources, Stop, Subject, Verdict, objects_of, read_documents,
+};
 use std::alloc::{AllocError, Global};
 
 /// Reviews the definitions at these paths.

@@ -2,8 +2,8 @@ use Rattle.cel_patterns.specs.Book.{Extends, Book}
 use Rattle.cel_patterns.specs.Entries.{entries_of}
 use Rattle.cel_semantics.specs.Bindings.{bindings_of}
 use Rattle.kube_cel.proofs.raw.add_verdicts.Given as goal
-use Rattle.kube_cel_errors.specs.Errors.{error_view}
-use Rattle.kube_cel_verdicts.specs.Verdicts.{list_of_option, verdict}
+use Rattle.kube_cel_walk.specs.Errors.{error_view}
+use Rattle.kube_cel_walk.specs.Verdicts.{list_of_option, verdict}
 use Rattle.kube_schema_rules.specs.Compilation.{compiled_rule}
 use Rattle.serde_json.specs.View.{view}
 use Rattle.std.proofs.Common.{◌≡◌, ◌++◌, map, option_map, take}

@@ -1,6 +1,6 @@
 use Rattle.cel_patterns.proofs.Books.{Extends-trans}
 use Rattle.cel_semantics.specs.Bindings.{bindings_of}
-use Rattle.kube_cel_vap_types.specs.Validations.{result_view}
+use Rattle.kube_cel_vap.specs.Validations.{result_view}
 use Rattle.kube_cel_vap.proofs.expression_results.results_of.Goals as goal
 use Rattle.kube_cel_vap.proofs.Listed.{one_more_seen}
 use Rattle.kube_cel_vap.specs.Expressions.{compiled_seen}

@@ -1,6 +1,6 @@
 use Rattle.cel_semantics.specs.Bindings.{binding, bindings_of}
 use Rattle.cel_value.specs.View.{view as cel_view}
-use Rattle.kube_cel_verdicts.proofs.Bound.{bound}
+use Rattle.kube_cel_walk.proofs.Bound.{bound}
 use Rattle.kube_cel_walk.proofs.judge.context_at.Goals as goal
 use Rattle.kube_cel_walk.proofs.Judged.{placed}
 use Rattle.kube_cel_walk.specs.Answers.{bound_at}

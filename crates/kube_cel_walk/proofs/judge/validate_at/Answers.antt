@@ -1,5 +1,5 @@
 use Rattle.cel_semantics.specs.Bindings.{bindings_of}
-use Rattle.kube_cel_errors.specs.Errors.{error_view}
+use Rattle.kube_cel_walk.specs.Errors.{error_view}
 use Rattle.kube_cel_walk.proofs.judge.validate_at.Goals as goal
 use Rattle.kube_cel_walk.proofs.Judged.{deep_found, none_found, rules_found}
 use Rattle.kube_cel_walk.specs.Visits.{visit_at}

@@ -1,9 +1,9 @@
-use Rattle.kube_cel_errors.specs.Errors.{error_view}
+use Rattle.kube_cel_walk.specs.Errors.{error_view}
 use Rattle.kube_cel_places.specs.declared.branches.BranchKind.TheVariants.{AllOf, OneOf, AnyOf}
 use Rattle.kube_cel_places.specs.Inside.{in_order, up_to}
 use Rattle.kube_cel_places.specs.Visit.{visit, further, unless_there, member_path, item_path, goes, property_steps, item_steps, additional_steps, branch_steps}
 use Rattle.kube_cel_places.specs.Step.{property, item, additional_property, branch}
-use Rattle.kube_cel_verdicts.specs.Roots.{root_view}
+use Rattle.kube_cel_walk.specs.Roots.{root_view}
 use Rattle.kube_cel_walk.proofs.Cut.{member_path_cut, member_path_splits, item_path_cut, item_path_splits}
 use Rattle.kube_cel_walk.proofs.Entries.{names_of, names_more, names_taken, shown, sought, declared_at, declared_names}
 use Rattle.kube_cel_walk.proofs.Gathered.{answer_last, gathered, through_none, no_item, no_additional_property, one_more, none_up, one_more_up, property_steps_are, additional_steps_none, additional_steps_are, item_steps_none, item_steps_are, branch_steps_are, property_goes, additional_goes, item_goes, branch_goes}

@@ -1,6 +1,6 @@
 use Rattle.std.proofs.Common.{◌≡◌, ◌<◌, ◌+◌, ◌*◌, ◌^◌}
-use Rattle.kube_cel_costs.proofs.Rest.{rest}
-use Rattle.kube_cel_lint.specs.Lint.{branches_of}
+use Rattle.kube_cel_analysis.proofs.Rest.{rest}
+use Rattle.kube_cel_analysis.specs.Lint.{branches_of}
 use Rattle.kube_manifests.proofs.Counted.{rest_nodes}
 use Rattle.kube_manifests.proofs.rules.+count.Given as goal
 use Rattle.kube_manifests.specs.Rules.{saturated_count, rules_in_named, rules_in_nodes}

@@ -1,5 +1,5 @@
 use Rattle.std.proofs.Common.{◌≡◌, ◌++◌, map, drop}
-use Rattle.kube_cel_lint.specs.Findings.{Naming}
+use Rattle.kube_cel_analysis.specs.Findings.{Naming}
 use Rattle.kube_manifests_review.specs.Doubts.{doubt_view}
 use Rattle.kube_manifests_review.specs.Reviewed.{versions_doubts}
 use Rattle.kube_manifests_review.proofs.document.add_versions.Given as goal

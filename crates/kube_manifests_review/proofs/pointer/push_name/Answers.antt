@@ -3,7 +3,7 @@ use Rattle.std.specs.List.{flat_map}
 use Rattle.std.proofs.lemmas.Iterator.{YieldsList-from_chars}
 use Rattle.std.proofs.lemmas.Iterator.Consumers.{YieldsList-end}
 use Rattle.std.proofs.lemmas.List.{append-nil, flat_map_more, map-id}
-use Rattle.kube_cel_lint.specs.Pointers.{escaped_character, token}
+use Rattle.kube_cel_analysis.specs.Pointers.{escaped_character, token}
 use Rattle.kube_manifests_review.proofs.pointer.push_name.Goals as goal
 
 pub loop-character-init : goal.loop-character-init

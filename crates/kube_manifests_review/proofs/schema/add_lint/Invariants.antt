@@ -1,5 +1,5 @@
 use Rattle.std.proofs.Common.{◌≡◌, ◌++◌, map}
-use Rattle.kube_cel_lint.specs.Findings as linter
+use Rattle.kube_cel_analysis.specs.Findings as linter
 use Rattle.kube_manifests_review.specs.Doubts.{doubt_view}
 use Rattle.kube_manifests_review.specs.Reviewed.{doubt_of_finding}
 use Rattle.kube_manifests_review.proofs.schema.add_lint.Given as goal

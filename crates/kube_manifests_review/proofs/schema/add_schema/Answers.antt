@@ -1,5 +1,5 @@
 use Rattle.std.proofs.Common.{◌++◌, [], map, ap, ◌∙◌}
-use Rattle.kube_cel_lint.specs.Lint.{findings}
+use Rattle.kube_cel_analysis.specs.Lint.{findings}
 use Rattle.kube_manifests_review.proofs.Steps.{two_steps}
 use Rattle.kube_manifests_review.proofs.schema.add_schema.Goals as goal
 use Rattle.kube_manifests_review.specs.Doubts.{doubt_view}

@@ -1,6 +1,6 @@
 use Rattle.kubecel_cli.proofs.admit.add_results.Given as goal
 use Rattle.kube_manifests_policies.specs.Verdicts.{result_view}
-use Rattle.kubecel_reports.specs.Items.{finding_view}
+use Rattle.kubecel_io.specs.Items.{finding_view}
 use Rattle.kubecel_cli.specs.Reports.{result_findings}
 use Rattle.std.proofs.Common.{◌≡◌, ◌++◌, flat_map, map, take}
 

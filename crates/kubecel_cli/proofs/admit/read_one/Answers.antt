@@ -1,4 +1,4 @@
-use Rattle.kubecel_documents.specs.Reads.{AreRead, document_view}
+use Rattle.kubecel_io.specs.Reads.{AreRead, document_view}
 use Rattle.kubecel_cli.proofs.Alone.{one_place, one_read, only_one}
 use Rattle.kubecel_cli.proofs.admit.read_one.Goals as goal
 use Rattle.std.proofs.Common.{◌≡◌, [], ◌∷◌, map, sym, subst, ◌∙◌}

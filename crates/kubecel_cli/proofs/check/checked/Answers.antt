@@ -1,7 +1,7 @@
-use Rattle.kubecel_documents.specs.Objects.{all_objects}
-use Rattle.kubecel_documents.specs.Reads.{document_view}
-use Rattle.kubecel_documents.specs.Subjects.{subject_view}
-use Rattle.kubecel_reports.specs.Items.{item_view}
+use Rattle.kubecel_io.specs.Objects.{all_objects}
+use Rattle.kubecel_io.specs.Reads.{document_view}
+use Rattle.kubecel_io.specs.Subjects.{subject_view}
+use Rattle.kubecel_io.specs.Items.{item_view}
 use Rattle.kubecel_cli.proofs.Checking.{checked_so}
 use Rattle.kubecel_cli.proofs.check.checked.Goals as goal
 use Rattle.kubecel_cli.specs.Commands.{check_view}

@@ -1,6 +1,6 @@
 use Rattle.kubecel_cli.proofs.check.error_findings.Given as goal
-use Rattle.kube_cel_errors.specs.Errors.{error_view}
-use Rattle.kubecel_reports.specs.Items.{finding_view}
+use Rattle.kube_cel_walk.specs.Errors.{error_view}
+use Rattle.kubecel_io.specs.Items.{finding_view}
 use Rattle.kubecel_cli.specs.Reports.{error_finding}
 use Rattle.std.proofs.Common.{◌≡◌, map, take}
 

@@ -1,4 +1,4 @@
-use Rattle.kubecel_documents.specs.Subjects.{subject_view}
+use Rattle.kubecel_io.specs.Subjects.{subject_view}
 use Rattle.kubecel_cli.proofs.Judging.{one_more_item}
 use Rattle.kubecel_cli.proofs.check.judge_all.Goals as goal
 use Rattle.kubecel_cli.specs.Runs.{IsJudgedBy}

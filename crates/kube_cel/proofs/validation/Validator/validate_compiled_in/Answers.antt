@@ -5,7 +5,7 @@ use Rattle.kube_cel.proofs.validation.Validator.validate_compiled_in.Goals as go
 use Rattle.kube_cel.specs.Answers.{found_in, report_of}
 use Rattle.kube_cel.specs.Compiled.{compiled_form}
 use Rattle.kube_cel.specs.Raw.{raw_form}
-use Rattle.kube_cel_verdicts.specs.Roots.{root_view}
+use Rattle.kube_cel_walk.specs.Roots.{root_view}
 use Rattle.kube_cel_walk.specs.Answers.{answer}
 use Rattle.kube_schema_defaults.specs.Defaults.{defaulted_value}
 use Rattle.kube_schema_compiled.specs.Compiled.{tree_accessors}

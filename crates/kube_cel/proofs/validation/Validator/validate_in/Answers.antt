@@ -3,7 +3,7 @@ use Rattle.kube_cel.proofs.Reports.{filled_alike, is_answer, reported_found}
 use Rattle.kube_cel.proofs.validation.Validator.validate_in.Goals as goal
 use Rattle.kube_cel.specs.Answers.{found_in, report_of}
 use Rattle.kube_cel.specs.Starts.{with_schema_defaults}
-use Rattle.kube_cel_verdicts.specs.Roots.{root_view}
+use Rattle.kube_cel_walk.specs.Roots.{root_view}
 use Rattle.kube_cel.specs.Raw.{raw_form}
 use Rattle.kube_cel_walk.specs.Answers.{answer, IsAnswer}
 use Rattle.serde_json.specs.View.{view}

@@ -1,4 +1,4 @@
-use Rattle.kube_cel_vap_types.specs.Validations.{expression_view}
+use Rattle.kube_cel_vap.specs.Validations.{expression_view}
 use Rattle.kube_cel_vap.proofs.evaluator.VapEvaluator.compile_expressions.Given as goal
 use Rattle.kube_cel_vap.specs.Expressions.{compile_result, compiled_seen}
 use Rattle.std.proofs.Common.{◌≡◌, map, take}

@@ -1,4 +1,4 @@
-use Rattle.kube_cel_vap_types.specs.Validations.{expression_view}
+use Rattle.kube_cel_vap.specs.Validations.{expression_view}
 use Rattle.kube_cel_vap.proofs.evaluator.VapEvaluator.evaluate.Goals as goal
 use Rattle.kube_cel_vap.proofs.Results.{results_of_compiled}
 use Rattle.kube_cel_vap.specs.Expressions.{compiled_seen}

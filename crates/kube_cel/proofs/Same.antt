@@ -1,0 +1,86 @@
+-- A walk looks only at what the tree keeps of a schema.
+use Rattle.std.proofs.Common.{◌≡◌, ◌+◌, ℕ, zero, suc, List, ◌∷◌, length, Option, Some, None, option_map, option_and_then, unwrap_or, refl, ap, ◌∙◌, codes}
+use Rattle.serde_json.specs.Data.{Data, null, boolean, number, string, array, object, Items, no_items, item, Members, no_members, member}
+use Rattle.serde_json.specs.Events.{items_len}
+use Rattle.serde_json.specs.Find.{as_array, at, get, get_item}
+use Rattle.kube_cel_places.specs.declared.branches.BranchKind.{BranchKind}
+use Rattle.kube_cel_places.specs.declared.branches.BranchKind.TheVariants.{AllOf, OneOf, AnyOf}
+use Rattle.kube_cel_places.specs.Inside.{count_at, keys_at, keys_in}
+use Rattle.kube_cel_places.specs.Raw as seen
+use Rattle.kube_cel_places.specs.Raw.{raw_shape}
+use Rattle.kube_cel_places.specs.Visit.{Visit, goes, candidates}
+use Rattle.kube_cel_places.specs.Step.{Step}
+use Rattle.kube_cel_places.specs.Walk.{leads, places, answers}
+use Rattle.kube_schema_defaults.specs.DefaultsAccessors.{additional, declared_properties, members_or_none, preserves, property}
+use Rattle.kube_schema_defaults.proofs.Fills.{property_is}
+use Rattle.kube_schema_compiled.specs.Tree.{Node, names, nodes_length, nth_node}
+use Rattle.kube_schema_compiled.specs.View.{branches, children_view, items_or_none, named_view, nodes_view, own_view, view_of}
+use Rattle.kube_schema_compiled.proofs.Same.{find_same, maybe_same, unless}
+use Rattle.kube_cel.specs.CompiledShape.{compiled_shape}
+use Rattle.kube_cel.specs.Visits.{with_node_of}
+use Rattle.kube_cel.proofs.PlacesAlike.{Alike, places_same, leads_same, answers_same}
+
+keys_same : (f : Data → Node) (ms : Members) → keys_in ms ≡ names (named_view f ms)
+keys_same f no_members = refl
+keys_same f (member k d ms) = ap (λ ks. k ∷ ks) (keys_same f ms)
+
+names_are : (f : Data → Node) (o : Option Members) → keys_in (unwrap_or o no_members) ≡ names (named_view f (members_or_none o))
+names_are f None = refl
+names_are f (Some ms) = keys_same f ms
+
+length_same : (f : Data → Node) (ds : Items) → items_len ds ≡ nodes_length (nodes_view f ds)
+length_same f no_items = refl
+length_same f (item d ds) = ap suc (length_same f ds)
+
+counts_are : (f : Data → Node) (o : Option Items) → items_len (unwrap_or o no_items) ≡ nodes_length (nodes_view f (items_or_none o))
+counts_are f None = refl
+counts_are f (Some ds) = length_same f ds
+
+nth_same : (f : Data → Node) (i : ℕ) (ds : Items) → option_map f (get_item i ds) ≡ nth_node i (nodes_view f ds)
+nth_same f i no_items = refl
+nth_same f zero (item d ds) = refl
+nth_same f (suc i) (item d ds) = nth_same f i ds
+
+nth_is : (f : Data → Node) (i : ℕ) (o : Option Data) → option_map f (option_and_then (at i) o) ≡ nth_node i (nodes_view f (items_or_none (option_and_then as_array o)))
+nth_is f i None = refl
+nth_is f i (Some null) = refl
+nth_is f i (Some (boolean b)) = refl
+nth_is f i (Some (number n)) = refl
+nth_is f i (Some (string s)) = refl
+nth_is f i (Some (array ds)) = nth_same f i ds
+nth_is f i (Some (object ms)) = refl
+
+module _ (n : ℕ) (s : Data) where
+  counted : (kind : BranchKind) → raw_shape.branch_count kind s ≡ compiled_shape.branch_count kind (view_of (suc n) s)
+  unfolding view_of own_view children_view raw_shape compiled_shape count_at branches
+  counted AllOf = counts_are (view_of n) (option_and_then as_array (get (codes "allOf") s))
+  counted OneOf = counts_are (view_of n) (option_and_then as_array (get (codes "oneOf") s))
+  counted AnyOf = counts_are (view_of n) (option_and_then as_array (get (codes "anyOf") s))
+
+  branched : (kind : BranchKind) (i : ℕ) → option_map (view_of n) (raw_shape.branch kind i s) ≡ compiled_shape.branch kind i (view_of (suc n) s)
+  unfolding view_of own_view children_view raw_shape compiled_shape branches
+  branched AllOf i = nth_is (view_of n) i (get (codes "allOf") s)
+  branched OneOf i = nth_is (view_of n) i (get (codes "oneOf") s)
+  branched AnyOf i = nth_is (view_of n) i (get (codes "anyOf") s)
+
+  pub alike : Alike raw_shape compiled_shape (view_of n) s (view_of (suc n) s)
+  unfolding view_of own_view children_view raw_shape compiled_shape seen.declared_property seen.undeclared_property keys_at declared_properties preserves additional property
+  alike = record {
+    keys = names_are (view_of n) (declared_properties s);
+    property = λ k. ap (option_map (view_of n)) (property_is k s) ∙ find_same (view_of n) k (members_or_none (declared_properties s));
+    items = maybe_same (view_of n) (get (codes "items") s);
+    additional_property = unless (view_of n) (preserves s) (additional s);
+    branch_count = counted;
+    branch = branched;
+  }
+
+pub tree_places : (n : ℕ) (s : Visit Data) → places (goes raw_shape) (candidates raw_shape) n s ≡ places (goes compiled_shape) (candidates compiled_shape) n (with_node_of (view_of n) s)
+tree_places = places_same raw_shape compiled_shape view_of alike
+
+pub tree_leads : (n : ℕ) (ps : List Step) (s : Visit Data) → option_map (with_node_of (view_of n)) (leads (goes raw_shape) ps s) ≡ leads (goes compiled_shape) ps (with_node_of (view_of (n + length ps)) s)
+tree_leads = leads_same raw_shape compiled_shape view_of alike
+
+-- what is found at all places of the tree is what is found at all places of the schema, where the same is found at each visit
+pub tree_answers : {E : Type 0} (found : Visit Data → List E) (found_in_tree : Visit Node → List E) (levels : ℕ) → ((n : ℕ) (s : Visit Data) → s.depth + n ≡ levels → found s ≡ found_in_tree (with_node_of (view_of n) s))
+    → (n : ℕ) (s : Visit Data) → s.depth + n ≡ levels → answers (goes raw_shape) (candidates raw_shape) found n s ≡ answers (goes compiled_shape) (candidates compiled_shape) found_in_tree n (with_node_of (view_of n) s)
+tree_answers = answers_same raw_shape compiled_shape view_of alike

@@ -1,0 +1,34 @@
+//! The branches of a node of a compiled schema, by keyword.
+ghost use Rattle.std.specs.Prelude.{◌≡◌, option_map};
+ghost use Rattle.kube_cel.specs.CompiledShape.{branches_of};
+ghost use Rattle.kube_schema_compiled.specs.Shown.{node_tree};
+ghost use Rattle.kube_schema_compiled.specs.Tree.{nodes_length, nth_node};
+
+use kube_cel_places::BranchKind;
+use kube_schema_compiled::SchemaNode;
+
+/// The number of branches of a keyword.
+pub fn branch_count(node: &SchemaNode<'_>, kind: BranchKind) -> usize
+    ensures { result ≡ nodes_length (branches_of kind (node_tree node.now)) }
+{
+    match kind {
+        BranchKind::AllOf => node.all_of_count(),
+        BranchKind::OneOf => node.one_of_count(),
+        BranchKind::AnyOf => node.any_of_count(),
+    }
+}
+
+/// A branch of a keyword.
+pub fn branch_of<'a>(
+    node: &SchemaNode<'a>,
+    kind: BranchKind,
+    index: usize,
+) -> Option<SchemaNode<'a>>
+    ensures { option_map node_tree result ≡ nth_node index (branches_of kind (node_tree node.now)) }
+{
+    match kind {
+        BranchKind::AllOf => node.all_of(index),
+        BranchKind::OneOf => node.one_of(index),
+        BranchKind::AnyOf => node.any_of(index),
+    }
+}

@@ -1,0 +1,154 @@
+//! The walk over the nodes of a schema.
+ghost use Rattle.std.specs.Prelude.{◌≡◌, ◌++◌, [], IfErr, IfOk, OnOk, map, option_map};
+ghost use Rattle.kube_cel_analysis.specs.Findings.{Naming, finding_view};
+ghost use Rattle.kube_cel_analysis.specs.Lint.{branch_findings, branches_of, findings, named_findings, findings_at};
+ghost use Rattle.kube_cel_analysis.specs.Pointers.{additional_pointer, items_pointer};
+ghost use Rattle.kube_schema_compiled.specs.Shown.{node_tree, whole};
+ghost use Rattle.kube_schema_compiled.specs.Tree.{additional_of, items_of, named_of, nodes_length, nth_node};
+
+use crate::finding::LintFinding;
+use crate::pointer::{additional_pointer, branch_pointer, items_pointer, property_pointer};
+use crate::rule::add_rules;
+use kube_cel_places::BranchKind;
+use kube_schema_compiled::{CompiledSchema, SchemaNode};
+use kube_types_refused::Refused;
+use std::alloc::Global;
+
+/// All that is wrong with the rules of a schema, node by node: a node before those within it, those in the order of properties by their names,
+/// `items`, `additionalProperties`, and the branches of `allOf`, `oneOf` and `anyOf`. Each rule is analysed with its node as the root of a schema.
+///
+/// # Errors
+///
+/// [`Refused`] where memory is refused.
+pub fn lint_schema(alloc: Global, schema: &CompiledSchema) -> Result<Vec<LintFinding>, Refused>
+    ensures findings { IfOk result (λ v. (names : Naming) → map finding_view v.items ≡ findings names [] (whole schema.now)) }
+    ensures memory { IfErr result (λ e. e ≡ Refused.Memory) }
+{
+    let mut found = Vec::new(alloc);
+    lint_node(alloc, "", &schema.root(), &mut found)?;
+    Ok(found)
+}
+
+/// Adds what is wrong with the rules of a node and of those within it.
+#[cycle(walk)]
+fn lint_node(
+    alloc: Global,
+    pointer: &str,
+    node: &SchemaNode<'_>,
+    found: &mut Vec<LintFinding>,
+) -> Result<(), Refused>
+    ensures found { OnOk result ((names : Naming) → map finding_view found.new.items ≡ map finding_view found.old.items ++ findings names pointer.now (node_tree node.now)) }
+    ensures memory { IfErr result (λ e. e ≡ Refused.Memory) }
+{
+    add_rules(alloc, pointer, node, found)?;
+    lint_properties(alloc, pointer, node, found)?;
+    lint_items(alloc, pointer, node, found)?;
+    lint_additional(alloc, pointer, node, found)?;
+    lint_branches(alloc, BranchKind::AllOf, pointer, node, found)?;
+    lint_branches(alloc, BranchKind::OneOf, pointer, node, found)?;
+    lint_branches(alloc, BranchKind::AnyOf, pointer, node, found)?;
+    Ok(())
+}
+
+/// Adds what is wrong within the properties of a node, in the order of their names.
+#[cycle(walk)]
+fn lint_properties(
+    alloc: Global,
+    pointer: &str,
+    node: &SchemaNode<'_>,
+    found: &mut Vec<LintFinding>,
+) -> Result<(), Refused>
+    ensures found { OnOk result ((names : Naming) → map finding_view found.new.items ≡ map finding_view found.old.items ++ named_findings names pointer.now (named_of (node_tree node.now))) }
+    ensures memory { IfErr result (λ e. e ≡ Refused.Memory) }
+{
+    for index in 0..node.property_count() {
+        let Some((name, property)) = node.property(index) else {
+            return Ok(());
+        };
+        let inner = property_pointer(alloc, pointer, name)?;
+        lint_node(alloc, inner.as_str(), &property, found)?;
+    }
+    Ok(())
+}
+
+/// Adds what is wrong within the items of a list.
+#[cycle(walk)]
+fn lint_items(
+    alloc: Global,
+    pointer: &str,
+    node: &SchemaNode<'_>,
+    found: &mut Vec<LintFinding>,
+) -> Result<(), Refused>
+    ensures found { OnOk result ((names : Naming) → map finding_view found.new.items ≡ map finding_view found.old.items ++ findings_at names (items_pointer pointer.now) (items_of (node_tree node.now))) }
+    ensures memory { IfErr result (λ e. e ≡ Refused.Memory) }
+{
+    let Some(items) = node.items() else {
+        return Ok(());
+    };
+    let inner = items_pointer(alloc, pointer)?;
+    lint_node(alloc, inner.as_str(), &items, found)?;
+    Ok(())
+}
+
+/// Adds what is wrong within the members that aren't declared.
+#[cycle(walk)]
+fn lint_additional(
+    alloc: Global,
+    pointer: &str,
+    node: &SchemaNode<'_>,
+    found: &mut Vec<LintFinding>,
+) -> Result<(), Refused>
+    ensures found { OnOk result ((names : Naming) → map finding_view found.new.items ≡ map finding_view found.old.items ++ findings_at names (additional_pointer pointer.now) (additional_of (node_tree node.now))) }
+    ensures memory { IfErr result (λ e. e ≡ Refused.Memory) }
+{
+    let Some(additional) = node.additional_properties() else {
+        return Ok(());
+    };
+    let inner = additional_pointer(alloc, pointer)?;
+    lint_node(alloc, inner.as_str(), &additional, found)?;
+    Ok(())
+}
+
+/// Adds what is wrong within the branches of one keyword, in their order.
+#[cycle(walk)]
+fn lint_branches(
+    alloc: Global,
+    kind: BranchKind,
+    pointer: &str,
+    node: &SchemaNode<'_>,
+    found: &mut Vec<LintFinding>,
+) -> Result<(), Refused>
+    ensures found { OnOk result ((names : Naming) → map finding_view found.new.items ≡ map finding_view found.old.items ++ branch_findings names kind pointer.now 0 (branches_of kind (node_tree node.now))) }
+    ensures memory { IfErr result (λ e. e ≡ Refused.Memory) }
+{
+    for index in 0..branch_count(kind, node) {
+        let Some(branch) = branch(kind, node, index) else {
+            return Ok(());
+        };
+        let inner = branch_pointer(alloc, kind, pointer, index)?;
+        lint_node(alloc, inner.as_str(), &branch, found)?;
+    }
+    Ok(())
+}
+
+/// The number of branches of a keyword.
+fn branch_count(kind: BranchKind, node: &SchemaNode<'_>) -> usize
+    ensures { result ≡ nodes_length (branches_of kind (node_tree node.now)) }
+{
+    match kind {
+        BranchKind::AllOf => node.all_of_count(),
+        BranchKind::OneOf => node.one_of_count(),
+        BranchKind::AnyOf => node.any_of_count(),
+    }
+}
+
+/// A branch of a keyword.
+fn branch<'a>(kind: BranchKind, node: &SchemaNode<'a>, index: usize) -> Option<SchemaNode<'a>>
+    ensures { option_map node_tree result ≡ nth_node index (branches_of kind (node_tree node.now)) }
+{
+    match kind {
+        BranchKind::AllOf => node.all_of(index),
+        BranchKind::OneOf => node.one_of(index),
+        BranchKind::AnyOf => node.any_of(index),
+    }
+}

@@ -1,4 +1,0 @@
-pub mod ErrorLists
-pub mod Errors
-pub mod RuleErrors
-pub mod Texts

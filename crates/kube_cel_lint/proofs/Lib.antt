@@ -1,4 +1,0 @@
-pub mod Named
-pub mod Rules
-pub mod Unique
-pub mod Walks

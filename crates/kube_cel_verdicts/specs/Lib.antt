@@ -1,3 +1,0 @@
-pub mod Roots
-pub mod AddedErrors
-pub mod Verdicts

@@ -1,8 +1,0 @@
--- Trusted by the headline.
--- What a root context says of a whole object.
-use Rattle.kube_cel_verdicts.specs.declared.root.RootContext.{RootContext}
-use Rattle.kube_cel_places.specs.Visit.{Root}
-use Rattle.std.specs.Prelude.{string_bytes}
-
-abbrev pub root_view : RootContext → Root
-root_view r = record { api_version = string_bytes r.api_version; api_group = string_bytes r.api_group; kind = string_bytes r.kind }

@@ -1,0 +1,25 @@
+-- Trusted by the clauses of other library calls.
+-- What errors print.
+use Rattle.kube_cel_walk.specs.declared.error.ValidationError.{ValidationError}
+use Rattle.kube_cel_walk.specs.Errors.{ErrorData, error_view}
+use Rattle.std.specs.List.{flat_map}
+use Rattle.std.specs.Prelude.{ℕ, List, [], ◌∷◌, ◌++◌, length, codes, decimal}
+
+-- the message, after its place unless that is the root
+abbrev pub placed_text : List ℕ → List ℕ → List ℕ
+placed_text [] message = message
+placed_text (b ∷ bs) message = (b ∷ bs) ++ (codes ": " ++ message)
+
+abbrev pub error_text : ErrorData → List ℕ
+error_text e = placed_text e.field_path e.message
+
+-- an error on a line of its own
+abbrev pub line_text : ErrorData → List ℕ
+line_text e = codes "\n  - " ++ error_text e
+
+abbrev pub line_of : ValidationError → List ℕ
+line_of e = line_text (error_view e)
+
+-- their number, then each on a line of its own
+abbrev pub errors_text : List ValidationError → List ℕ
+errors_text es = (decimal (length es) ++ codes " validation error(s):") ++ flat_map line_of es

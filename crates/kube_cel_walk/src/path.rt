@@ -1,0 +1,54 @@
+//! The text of a place's path, which a walk lengthens and cuts back, and the paths that errors have.
+ghost use Rattle.kube_cel_walk.specs.RuleErrors.{joined_path, rule_path};
+ghost use Rattle.kube_cel_places.specs.Visit.{item_path, member_path};
+ghost use Rattle.kube_schema_rules.specs.Rules.{rule_view};
+ghost use Rattle.std.specs.Prelude.{◌≡◌, IfOk, OnOk, string_bytes};
+
+use kube_schema_rules::Rule;
+use std::alloc::{AllocError, Global};
+
+/// Adds a key: `k` to the empty path, else `.k`.
+#[tactic(auto, unfolding(kube_cel_places::specs::Visit::member_path))]
+pub fn push_member(path: &mut String, key: &str) -> Result<(), AllocError>
+    ensures { OnOk result (string_bytes path.new ≡ member_path (string_bytes path.old) key.now) }
+{
+    if !path.is_empty() {
+        path.push_str(".")?;
+    }
+    path.push_str(key)?;
+    Ok(())
+}
+
+/// Adds an index: `[i]`.
+#[tactic(auto, unfolding(kube_cel_places::specs::Visit::item_path))]
+pub fn push_item(path: &mut String, index: usize) -> Result<(), AllocError>
+    ensures { OnOk result (string_bytes path.new ≡ item_path (string_bytes path.old) index) }
+{
+    let step = format!(in *path.allocator(); "[{index}]")?;
+    path.push_str(step.as_str())?;
+    Ok(())
+}
+
+/// The path that the error of a rule has: its place, and behind it the rule's own path, if it has one.
+pub fn error_path(alloc: Global, place: &str, rule: &Rule) -> Result<String, AllocError>
+    ensures { IfOk result (λ s. string_bytes s ≡ rule_path place.now (rule_view rule.now).field_path) }
+{
+    let mut path = String::from_str(alloc, place)?;
+    let Some(own) = &rule.field_path else {
+        return Ok(path);
+    };
+    push_own(&mut path, own.as_str())?;
+    Ok(path)
+}
+
+/// Adds the own path of a rule: one that begins with a dot as it stands, another as a key.
+fn push_own(path: &mut String, own: &str) -> Result<(), AllocError>
+    ensures { OnOk result (string_bytes path.new ≡ joined_path (string_bytes path.old) own.now) }
+{
+    if own.starts_with('.') {
+        path.push_str(own)?;
+        return Ok(());
+    }
+    push_member(path, own)?;
+    Ok(())
+}

@@ -1,0 +1,201 @@
+//! The errors that a rule may give.
+ghost use Rattle.cel_value.specs.Faults.{fault_view};
+ghost use Rattle.kube_cel_walk.specs.Errors.{error_view};
+ghost use Rattle.kube_cel_walk.specs.RuleErrors.{failed_rule, fault_error, malformed_error, no_bool, not_compiled, too_deep, undeclared_name};
+ghost use Rattle.kube_schema_rules.specs.Compilation.{error_view as malformed_view};
+ghost use Rattle.kube_schema_rules.specs.Rules.{rule_view};
+ghost use Rattle.std.specs.Prelude.{◌≡◌, IfOk, None, option_map, string_bytes};
+
+use crate::error::{ErrorKind, ValidationError};
+use crate::path::error_path;
+use cel_value::ExecutionError;
+use kube_schema_rules::{CompilationError, Rule};
+use std::alloc::{AllocError, Global};
+
+/// The error at a place past the greatest depth.
+#[tactic(auto, unfolding(crate::specs::RuleErrors::too_deep))]
+pub fn deep_error(alloc: Global, path: &str) -> Result<ValidationError, AllocError>
+    ensures { IfOk result (λ e. error_view e ≡ too_deep path.now) }
+{
+    Ok(ValidationError {
+        rule: String::new(alloc),
+        message: String::from_str(alloc, "schema nesting exceeds the maximum depth of 64")?,
+        field_path: String::from_str(alloc, path)?,
+        reason: None,
+        kind: ErrorKind::SchemaTooDeep,
+        cause: None,
+    })
+}
+
+/// An error of a rule without a reason of its own.
+fn rule_error(
+    alloc: Global,
+    kind: ErrorKind,
+    rule: &str,
+    message: String,
+    field_path: String,
+    cause: Option<ExecutionError>,
+) -> Result<ValidationError, AllocError>
+    ensures { IfOk result (λ e. error_view e ≡ record {
+      rule = rule.now;
+      message = string_bytes message;
+      field_path = string_bytes field_path;
+      reason = None;
+      kind = kind;
+      cause = option_map fault_view cause;
+    }) }
+{
+    Ok(ValidationError {
+        rule: String::from_str(alloc, rule)?,
+        message,
+        field_path,
+        reason: None,
+        kind,
+        cause,
+    })
+}
+
+/// The error of a malformed rule.
+pub fn malformed_error(
+    alloc: Global,
+    error: &CompilationError,
+    path: &str,
+) -> Result<ValidationError, AllocError>
+    ensures { IfOk result (λ e. error_view e ≡ malformed_error path.now (malformed_view error.now)) }
+{
+    match error {
+        CompilationError::Parse { rule, source } => {
+            let text = rule.as_str();
+            let message = format!(in alloc; "failed to compile rule \"{text}\": {source}")?;
+            unread_error(alloc, text, message, path)
+        }
+        CompilationError::MessageExpressionParse {
+            rule,
+            message_expression,
+            source,
+        } => {
+            let text = rule.as_str();
+            let message = format!(in alloc;
+                "failed to compile messageExpression \"{message_expression}\" for rule \"{text}\": {source}"
+            )?;
+            unread_error(alloc, text, message, path)
+        }
+        CompilationError::InvalidRule(fault) => {
+            let message = format!(in alloc; "invalid rule definition: {fault}")?;
+            let place = String::from_str(alloc, path)?;
+            rule_error(alloc, ErrorKind::InvalidRule, "", message, place, None)
+        }
+        CompilationError::SchemaTooDeep { depth: _ } => deep_error(alloc, path),
+    }
+}
+
+/// The error of a rule with a text that is no CEL expression.
+fn unread_error(
+    alloc: Global,
+    rule: &str,
+    message: String,
+    path: &str,
+) -> Result<ValidationError, AllocError>
+    ensures { IfOk result (λ e. error_view e ≡ not_compiled path.now rule.now (string_bytes message)) }
+{
+    let place = String::from_str(alloc, path)?;
+    let kind = ErrorKind::CompilationFailure;
+    rule_error(alloc, kind, rule, message, place, None)
+}
+
+/// The error of a rule that is false, with what is reported of it.
+pub fn failed_rule_error(
+    alloc: Global,
+    rule: &Rule,
+    message: String,
+    path: &str,
+) -> Result<ValidationError, AllocError>
+    ensures { IfOk result (λ e. error_view e ≡ failed_rule path.now (rule_view rule.now) (string_bytes message)) }
+{
+    Ok(ValidationError {
+        rule: String::from_str(alloc, rule.rule.as_str())?,
+        message,
+        field_path: error_path(alloc, path, rule)?,
+        reason: reason_of(alloc, rule)?,
+        kind: ErrorKind::ValidationFailure,
+        cause: None,
+    })
+}
+
+/// The word that a rule gives for programs.
+fn reason_of(alloc: Global, rule: &Rule) -> Result<Option<String>, AllocError>
+    ensures { IfOk result (λ o. option_map string_bytes o ≡ (rule_view rule.now).reason) }
+{
+    let Some(reason) = &rule.reason else {
+        return Ok(None);
+    };
+    let reason = String::from_str(alloc, reason.as_str())?;
+    Ok(Some(reason))
+}
+
+/// The error of a rule whose value is no bool.
+pub fn no_bool_error(alloc: Global, rule: &Rule, path: &str) -> Result<ValidationError, AllocError>
+    ensures { IfOk result (λ e. error_view e ≡ no_bool path.now (rule_view rule.now)) }
+{
+    let text = rule.rule.as_str();
+    let message = format!(in alloc; "rule \"{text}\" did not evaluate to bool")?;
+    let place = error_path(alloc, path, rule)?;
+    rule_error(alloc, ErrorKind::InvalidResult, text, message, place, None)
+}
+
+/// The name that nothing declares, where that is the fault.
+fn undeclared_name(fault: &ExecutionError) -> Option<&str>
+    ensures { option_map (λ s. s.now) result ≡ undeclared_name (fault_view fault.now) }
+{
+    match fault {
+        ExecutionError::UndeclaredReference(name) => Some(name.as_str()),
+        ExecutionError::NoSuchKey(_) => None,
+        ExecutionError::NoSuchOverload(_) => None,
+        ExecutionError::FunctionError {
+            function: _,
+            message: _,
+        } => None,
+        ExecutionError::Overflow => None,
+        ExecutionError::DivisionByZero => None,
+        ExecutionError::RemainderByZero => None,
+        ExecutionError::IndexOutOfBounds => None,
+        ExecutionError::UnsupportedKey => None,
+        ExecutionError::DuplicateKey => None,
+        ExecutionError::InvalidPattern(_) => None,
+    }
+}
+
+/// The error of a rule that has no value. It keeps why.
+pub fn fault_error(
+    alloc: Global,
+    rule: &Rule,
+    fault: ExecutionError,
+    path: &str,
+) -> Result<ValidationError, AllocError>
+    ensures { IfOk result (λ e. error_view e ≡ fault_error path.now (rule_view rule.now) (fault_view fault) (undeclared_name (fault_view fault))) }
+{
+    let text = rule.rule.as_str();
+    let place = error_path(alloc, path, rule)?;
+    let Some(name) = undeclared_name(&fault) else {
+        let message = format!(in alloc; "rule evaluation error: {fault}")?;
+        return rule_error(
+            alloc,
+            ErrorKind::EvaluationError,
+            text,
+            message,
+            place,
+            Some(fault),
+        );
+    };
+    let message = format!(in alloc;
+        "rule references '{name}', which this kube-cel build does not support (an unsupported CEL macro, or a feature disabled at compile time); it cannot be evaluated client-side"
+    )?;
+    rule_error(
+        alloc,
+        ErrorKind::UnsupportedReference,
+        text,
+        message,
+        place,
+        Some(fault),
+    )
+}

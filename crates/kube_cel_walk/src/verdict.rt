@@ -1,0 +1,261 @@
+//! The verdicts of rules whose names are bound.
+ghost use Rattle.cel_patterns.specs.Book.{Extends, Book};
+ghost use Rattle.cel_patterns.specs.Entries.{entries_of};
+ghost use Rattle.cel_patterns.specs.Extensions.{HoldsForExtensions};
+ghost use Rattle.cel_semantics.specs.Bindings.{binding, bindings_of};
+ghost use Rattle.cel_semantics.specs.Outcome.{outcome_view};
+ghost use Rattle.cel_value.specs.Data.{null};
+ghost use Rattle.cel_value.specs.Parts.{bool_in};
+ghost use Rattle.cel_value.specs.View.{view as cel_view};
+ghost use Rattle.kube_cel_walk.specs.Errors.{error_view};
+ghost use Rattle.kube_cel_walk.specs.Roots.{root_view};
+ghost use Rattle.kube_cel_walk.specs.AddedErrors.{AreAdded, IsVerdict};
+ghost use Rattle.kube_cel_walk.specs.Verdicts.{bound_verdict, compiled_verdict, failed_message, is_applicable, is_old_null, is_old_optional, list_of_option, outcome_in, own_message, message_text, value_error, verdict, with_root};
+ghost use Rattle.kube_schema_rules.specs.Compilation.{compiled_seen, result_view};
+ghost use Rattle.kube_schema_rules.specs.Rules.{rule_view};
+ghost use Rattle.serde_json.specs.View.{view};
+ghost use Rattle.std.specs.Prelude.{◌≡◌, ◌++◌, IfErr, IfOk, List, map, OnOk, option_map, string_bytes, ℕ};
+
+use crate::error::ValidationError;
+use crate::root::RootContext;
+use crate::rule_error::{failed_rule_error, fault_error, malformed_error, no_bool_error};
+use cel::{Answer, PatternBook};
+use cel_value::Value as CelValue;
+use kube_functions::AllFunctions;
+use kube_schema_rules::{CompilationError, CompilationResult, Rule};
+use kube_schema_values::bind_text;
+use kube_types::Refused;
+use serde_json::Value;
+use std::alloc::{AllocError, Global};
+
+/// What the rules of a schema are evaluated in.
+pub type Context<'a> = cel::Context<'a, AllFunctions>;
+
+/// Binds `apiVersion`, `apiGroup` and `kind`, where something is known of the whole object.
+///
+/// # Errors
+///
+/// [`Refused`] where memory is refused.
+pub fn bind_root(
+    alloc: Global,
+    context: &mut Context<'_>,
+    root: Option<&RootContext>,
+) -> Result<(), Refused>
+    ensures bound { OnOk result ((x : List ℕ) → binding x (bindings_of context.new)
+        ≡ binding x (with_root (option_map (λ r. root_view r.now) root.entry) (bindings_of context.old))) }
+    ensures memory { IfErr result (λ e. e ≡ Refused.Memory) }
+{
+    let Some(root) = root else {
+        return Ok(());
+    };
+    context.add_variable("apiVersion", bind_text(alloc, root.api_version.as_str())?)?;
+    context.add_variable("apiGroup", bind_text(alloc, root.api_group.as_str())?)?;
+    context.add_variable("kind", bind_text(alloc, root.kind.as_str())?)?;
+    Ok(())
+}
+
+/// Whether a rule counts at a place: one that speaks of `oldSelf` needs an old counterpart, unless it says otherwise.
+fn is_applicable(rule: &CompilationResult, old: Option<&Value>) -> bool
+    ensures { result ≡ is_applicable (option_map (λ v. view v.now) old.entry) (result_view rule.now) }
+{
+    !rule.is_transition_rule || old.is_some() || is_old_optional(&rule.rule)
+}
+
+/// Whether `oldSelf` is null in a rule: there is no old counterpart, and the rule counts all the same.
+fn is_old_null(rule: &Rule, old: Option<&Value>) -> bool
+    ensures { result ≡ is_old_null (option_map (λ v. view v.now) old.entry) (rule_view rule.now) }
+{
+    old.is_none() && is_old_optional(rule)
+}
+
+/// What `oldSelf` is where there is no old counterpart.
+fn null_old_self() -> CelValue
+    ensures { cel_view result ≡ null }
+{
+    CelValue::Null
+}
+
+/// Whether a rule counts also where there is no old counterpart.
+fn is_old_optional(rule: &Rule) -> bool
+    ensures { result ≡ is_old_optional (rule_view rule.now) }
+{
+    rule.optional_old_self == Some(true)
+}
+
+/// The string that a messageExpression came to.
+fn message_text(outcome: &Answer) -> Option<&str>
+    ensures { option_map (λ s. s.now) result ≡ message_text (outcome_view outcome.now) }
+{
+    match outcome {
+        Ok(value) => value.as_str(),
+        Err(_) => None,
+    }
+}
+
+/// What a rule that is false says itself: its message, else its text.
+fn own_message(alloc: Global, rule: &Rule) -> Result<String, AllocError>
+    ensures { IfOk result (λ s. string_bytes s ≡ own_message (rule_view rule.now)) }
+{
+    if let Some(message) = &rule.message {
+        return String::from_str(alloc, message.as_str());
+    }
+    let text = rule.rule.as_str();
+    format!(in alloc; "failed rule: {text}")
+}
+
+/// What is reported of a rule that is false: the string that its messageExpression comes to, if it does, else what it says itself.
+fn failed_message(
+    alloc: Global,
+    rule: &CompilationResult,
+    context: &Context<'_>,
+    book: &mut PatternBook,
+) -> Result<String, Refused>
+    ensures keeps { (b : Book) → Extends b (entries_of book.new) → Extends b (entries_of book.old) }
+    ensures reported { IfOk result (λ s. HoldsForExtensions (entries_of book.new) (string_bytes s) (λ b. failed_message (rule_view rule.now.rule)
+        (option_map (outcome_in b (bindings_of context.now)) (result_view rule.now).message_tree))) }
+    ensures memory { IfErr result (λ e. e ≡ Refused.Memory) }
+{
+    let Some(program) = &rule.message_program else {
+        return Ok(own_message(alloc, &rule.rule)?);
+    };
+    let outcome = program.execute_with(alloc, context, book)?;
+    let Some(text) = message_text(&outcome) else {
+        return Ok(own_message(alloc, &rule.rule)?);
+    };
+    Ok(String::from_str(alloc, text)?)
+}
+
+/// The error of a rule with this value, unless it is true.
+fn verdict_of_value(
+    alloc: Global,
+    rule: &CompilationResult,
+    value: &CelValue,
+    context: &Context<'_>,
+    path: &str,
+    book: &mut PatternBook,
+) -> Result<Option<ValidationError>, Refused>
+    ensures keeps { (b : Book) → Extends b (entries_of book.new) → Extends b (entries_of book.old) }
+    ensures found { IfOk result (λ o. IsVerdict (entries_of book.new) o (λ b. value_error path.now (rule_view rule.now.rule)
+        (failed_message (rule_view rule.now.rule) (option_map (outcome_in b (bindings_of context.now)) (result_view rule.now).message_tree))
+        (bool_in (cel_view value.now)))) }
+    ensures memory { IfErr result (λ e. e ≡ Refused.Memory) }
+{
+    match value.as_bool() {
+        Some(true) => Ok(None),
+        Some(false) => {
+            let message = failed_message(alloc, rule, context, book)?;
+            let error = failed_rule_error(alloc, &rule.rule, message, path)?;
+            Ok(Some(error))
+        }
+        None => Ok(Some(no_bool_error(alloc, &rule.rule, path)?)),
+    }
+}
+
+/// The error of a rule whose names are bound, unless it is true.
+fn verdict_where_bound(
+    alloc: Global,
+    rule: &CompilationResult,
+    context: &Context<'_>,
+    path: &str,
+    book: &mut PatternBook,
+) -> Result<Option<ValidationError>, Refused>
+    ensures keeps { (b : Book) → Extends b (entries_of book.new) → Extends b (entries_of book.old) }
+    ensures found { IfOk result (λ o. IsVerdict (entries_of book.new) o
+        (λ b. bound_verdict b (bindings_of context.now) path.now (result_view rule.now))) }
+    ensures memory { IfErr result (λ e. e ≡ Refused.Memory) }
+{
+    match rule.program.execute_with(alloc, context, book)? {
+        Err(fault) => Ok(Some(fault_error(alloc, &rule.rule, fault, path)?)),
+        Ok(value) => {
+            let error = verdict_of_value(alloc, rule, &value, context, path, book)?;
+            Ok(error)
+        }
+    }
+}
+
+/// The verdict of a compiled rule where these names are bound, if it has one.
+fn verdict_of_compiled(
+    alloc: Global,
+    rule: &CompilationResult,
+    context: &Context<'_>,
+    old: Option<&Value>,
+    path: &str,
+    book: &mut PatternBook,
+) -> Result<Option<ValidationError>, Refused>
+    ensures keeps { (b : Book) → Extends b (entries_of book.new) → Extends b (entries_of book.old) }
+    ensures found { IfOk result (λ o. IsVerdict (entries_of book.new) o
+        (λ b. compiled_verdict b (bindings_of context.now) (option_map (λ v. view v.now) old.entry) path.now (result_view rule.now))) }
+    ensures memory { IfErr result (λ e. e ≡ Refused.Memory) }
+{
+    if !is_applicable(rule, old) {
+        return Ok(None);
+    }
+    if !is_old_null(&rule.rule, old) {
+        let error = verdict_where_bound(alloc, rule, context, path, book)?;
+        return Ok(error);
+    }
+    let mut inner = context.new_inner_scope();
+    inner.add_variable("oldSelf", null_old_self())?;
+    let with_null = verdict_where_bound(alloc, rule, &inner, path, book)?;
+    Ok(with_null)
+}
+
+/// The verdict of a rule where these names are bound, if it has one. There may be an old counterpart.
+fn verdict_of_rule(
+    alloc: Global,
+    rule: &Result<CompilationResult, CompilationError>,
+    context: &Context<'_>,
+    old: Option<&Value>,
+    path: &str,
+    book: &mut PatternBook,
+) -> Result<Option<ValidationError>, Refused>
+    ensures keeps { (b : Book) → Extends b (entries_of book.new) → Extends b (entries_of book.old) }
+    ensures found { IfOk result (λ o. IsVerdict (entries_of book.new) o
+        (λ b. verdict b (bindings_of context.now) (option_map (λ v. view v.now) old.entry) path.now (compiled_seen rule.now))) }
+    ensures memory { IfErr result (λ e. e ≡ Refused.Memory) }
+{
+    match rule {
+        Err(error) => Ok(Some(malformed_error(alloc, error, path)?)),
+        Ok(rule) => {
+            let error = verdict_of_compiled(alloc, rule, context, old, path, book)?;
+            Ok(error)
+        }
+    }
+}
+
+/// Adds an error, if there is one.
+fn push_listed(
+    error: Option<ValidationError>,
+    errors: &mut Vec<ValidationError>,
+) -> Result<(), AllocError>
+    ensures { OnOk result (map error_view errors.new.items ≡ map error_view errors.old.items ++ list_of_option (option_map error_view error)) }
+{
+    let Some(error) = error else {
+        return Ok(());
+    };
+    errors.push(error)?;
+    Ok(())
+}
+
+/// Adds the verdict of a rule where these names are bound, if it has one. There may be an old counterpart.
+///
+/// # Errors
+///
+/// [`Refused`] where memory is refused.
+pub fn add_verdict(
+    rule: &Result<CompilationResult, CompilationError>,
+    context: &Context<'_>,
+    old: Option<&Value>,
+    path: &str,
+    book: &mut PatternBook,
+    errors: &mut Vec<ValidationError>,
+) -> Result<(), Refused>
+    ensures keeps { (b : Book) → Extends b (entries_of book.new) → Extends b (entries_of book.old) }
+    ensures found { OnOk result (AreAdded (entries_of book.new) errors.old.items errors.new.items
+        (λ b. list_of_option (verdict b (bindings_of context.now) (option_map (λ v. view v.now) old.entry) path.now (compiled_seen rule.now)))) }
+    ensures memory { IfErr result (λ e. e ≡ Refused.Memory) }
+{
+    let error = verdict_of_rule(*errors.allocator(), rule, context, old, path, book)?;
+    push_listed(error, errors)?;
+    Ok(())
+}

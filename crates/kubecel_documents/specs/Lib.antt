@@ -1,4 +1,0 @@
-pub mod Documents
-pub mod Reads
-pub mod Objects
-pub mod Subjects

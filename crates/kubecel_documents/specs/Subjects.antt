@@ -1,8 +1,0 @@
--- Trusted by the clauses of kubecel.
--- What the code's objects stand for.
-use Rattle.kubecel_documents.specs.Reads.{Found}
-use Rattle.kubecel_documents.specs.declared.subject.Subject.{Subject}
-use Rattle.serde_json.specs.View.{view}
-
-abbrev pub subject_view : Subject → Found
-subject_view s = record { file = s.file.now; index = s.index; value = view s.value.now }

@@ -1,0 +1,56 @@
+-- Files that are read one after another.
+use Rattle.kubecel_io.specs.Reads.{AreRead, Found, IsRead, document_view, with_indices}
+use Rattle.kubecel_io.specs.declared.sources.Document.{Document}
+use Rattle.serde_json.specs.Data.{Data}
+use Rattle.serde_json.specs.View.{view}
+use Rattle.serde_json.specs.declared.value.Value.{Value}
+use Rattle.std.proofs.Common.{◌≡◌, ℕ, ◌+◌, List, [], ◌∷◌, ◌++◌, ◌<◌, get_or, take, map, length, string_bytes, Option, refl, arith, sym, ap, subst, ◌∙◌}
+use Rattle.std.proofs.lemmas.List.{append_assoc, append-nil, map-append, take_more}
+use denote.Ref.{Bor}
+
+pub none_read : {S : Type 0} (reads : S → List ℕ → Option (List ℕ) → S → Type 0) (a : S) → AreRead reads a [] [] a
+unfolding AreRead
+none_read reads a = (refl, refl)
+
+-- one file more is read
+pub one_more_read : {S : Type 0} (reads : S → List ℕ → Option (List ℕ) → S → Type 0) (a b c : S) (paths : List (List ℕ)) (path : List ℕ) (found : List Found) (values : List Data)
+    → AreRead reads a paths found b → IsRead reads b path values c → AreRead reads a (paths ++ path ∷ []) (found ++ with_indices path 0 values) c
+unfolding AreRead
+one_more_read reads a b c [] path found values are last =
+    (c, values, [], subst (λ s. IsRead reads s path values c) (sym are.1) last, (refl, refl), ap (λ fs. fs ++ with_indices path 0 values) are.0 ∙ sym (append-nil (with_indices path 0 values)))
+one_more_read reads a b c (first ∷ more) path found values are last =
+    let some = are.1 in
+    let rest = are.2 in (
+      are.0,
+      some,
+      rest ++ with_indices path 0 values,
+      are.3,
+      one_more_read reads are.0 b c more path rest values are.4 last,
+      ap (λ fs. fs ++ with_indices path 0 values) are.5 ∙ append_assoc (with_indices first 0 some) rest (with_indices path 0 values),
+    )
+
+-- one document more is put behind
+pub one_more_document : (file : List ℕ) (n : ℕ) (v : Value) (rest : List Data) (d : Document) (done after : List Document)
+    → string_bytes d.file ≡ file → d.index ≡ n → d.value ≡ v → after ≡ done ++ d ∷ []
+    → map document_view done ++ with_indices file n (view v ∷ rest) ≡ map document_view after ++ with_indices file (n + 1) rest
+unfolding with_indices
+one_more_document file n v rest d done after same_file same_index same_value pushed =
+    let all = with_indices file (n + 1) rest in
+    let same : document_view d ≡ record { file = file; index = n; value = view v } = rw (same_file, same_index, same_value) refl in
+    ap (λ f. map document_view done ++ f ∷ all) (sym same)
+    ∙ sym (append_assoc (map document_view done) (document_view d ∷ []) all)
+    ∙ ap (λ fs. fs ++ all) (sym (ap (map document_view) pushed ∙ map-append document_view done (d ∷ [])))
+
+-- none is left
+pub no_document_left : (file : List ℕ) (n : ℕ) (vs : List Value) (done : List Found) → length vs ≡ 0 → done ++ with_indices file n (map view vs) ≡ done
+unfolding with_indices
+no_document_left file n [] done e = append-nil done
+no_document_left file n (v ∷ vs) done e = absurd (omega arith)
+
+pub fewer_left : (xs ys : List Value) (v : Value) (m n : ℕ) → xs ≡ v ∷ ys → n + 1 ≡ m → m ≡ length xs → n ≡ length ys
+fewer_left xs ys v m n e one all = let longer : length xs ≡ length ys + 1 = rw e (omega arith) in omega (arith, longer, one, all)
+
+-- one path more
+pub one_more_path : (paths : List (Bor (List ℕ))) (i : ℕ) (d : Bor (List ℕ)) → i < length paths
+    → map (λ p. p.now) (take i paths) ++ (get_or paths i d).now ∷ [] ≡ map (λ p. p.now) (take (i + 1) paths)
+one_more_path paths i d below = sym (ap (map (λ p. p.now)) (take_more paths i d below) ∙ map-append (λ p. p.now) (take i paths) (get_or paths i d ∷ []))

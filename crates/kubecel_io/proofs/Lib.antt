@@ -1,0 +1,5 @@
+pub mod Cuts
+pub mod Files
+pub mod Lists
+pub mod Statuses
+pub mod Writes

@@ -1,0 +1,75 @@
+-- Trusted by the clauses of kubecel.
+-- The JSON documents that stand in a text one after another. RFC 8259 says what one of them is, which bytes are white space
+-- (section 2), and how strings end (section 7). A document ends at white space where no bracket is open, at the bracket that
+-- closes its first one, or with the text.
+use Rattle.kubecel_io.specs.declared.cut.Mode.{Mode}
+use Rattle.kubecel_io.specs.declared.cut.Mode.TheVariants.{Outside, Within, Escaped}
+use Rattle.kubecel_io.specs.declared.documents.Reading.{Reading}
+use Rattle.serde_json.specs.Data.{Data}
+use Rattle.serde_json.specs.Read.{read}
+use Rattle.serde_json.specs.View.{view}
+use Rattle.std.specs.List.{list_all}
+use Rattle.std.specs.Prelude.{ℕ, ◌+◌, ◌-◌, ◌==◌, ◌&&◌, ◌||◌, List, [], ◌∷◌, ◌++◌, Bool, false, if◌then◌else◌, Option, Some, option_map, option_and_then, map}
+
+-- blank, tab, line feed, carriage return
+abbrev pub is_space : ℕ → Bool
+is_space x = x == 32 || (x == 9 || (x == 10 || x == 13))
+
+-- an opening brace or bracket
+abbrev pub opens : ℕ → Bool
+opens x = x == 123 || x == 91
+
+-- a closing one
+abbrev pub closes : ℕ → Bool
+closes x = x == 125 || x == 93
+
+-- outside strings, within one, or behind a backslash in one: where the next byte stands
+abbrev pub mode_after : Mode → ℕ → Mode
+mode_after Outside x = if x == 34 then Within else Outside
+mode_after Within x = if x == 92 then Escaped else (if x == 34 then Outside else Within)
+mode_after Escaped x = Within
+
+-- how many brackets are open behind a byte
+abbrev pub depth_after : Mode → ℕ → ℕ → ℕ
+depth_after Outside depth x = if opens x then depth + 1 else (if closes x then depth - 1 else depth)
+depth_after Within depth x = depth
+depth_after Escaped depth x = depth
+
+-- whether a document may end behind a byte
+abbrev pub ends : Mode → ℕ → ℕ → Bool
+ends Outside depth x = depth_after Outside depth x == 0 && (closes x || is_space x)
+ends Within depth x = false
+ends Escaped depth x = false
+
+-- a piece, which is no document where it is white space alone
+abbrev pub with_piece : List ℕ → List (List ℕ) → List (List ℕ)
+with_piece piece rest = if list_all is_space piece then rest else piece ∷ rest
+
+-- the texts of the documents, of which the first has begun with this piece
+unfoldable pub pieces : Mode → ℕ → List ℕ → List ℕ → List (List ℕ)
+pieces mode depth piece [] = with_piece piece []
+pieces mode depth piece (x ∷ xs) =
+    if ends mode depth x then with_piece (piece ++ x ∷ []) (pieces Outside 0 [] xs)
+    else pieces (mode_after mode x) (depth_after mode depth x) (piece ++ x ∷ []) xs
+
+abbrev pub before : Option Data → Option (List Data) → Option (List Data)
+before x xs = option_and_then (λ d. option_map (λ ds. d ∷ ds) xs) x
+
+-- the values of these texts, none where one of them is no JSON
+abbrev pub all_read : List (List ℕ) → Option (List Data)
+all_read [] = Some []
+all_read (p ∷ ps) = before (read p) (all_read ps)
+
+-- the documents of a text, in order; none where one of them is no JSON
+abbrev pub documents : List ℕ → Option (List Data)
+documents text = all_read (pieces Outside 0 [] text)
+
+-- ---- for private clauses
+
+-- these, and then the others, if there are any
+abbrev pub with_documents : List Data → Option (List Data) → Option (List Data)
+with_documents xs ys = option_map (λ zs. xs ++ zs) ys
+
+-- all documents of a text of which this is left
+abbrev pub documents_left : Reading → List ℕ → Option (List Data)
+documents_left r xs = with_documents (map view r.found.items) (all_read (pieces r.mode r.depth r.piece.items xs))

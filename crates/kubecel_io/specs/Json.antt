@@ -1,0 +1,47 @@
+-- Trusted by the clauses of kubecel.
+-- What is written as JSON: an array with an object for each thing.
+use Rattle.kubecel_io.specs.Items.{FindingData, ItemData}
+use Rattle.kubecel_io.specs.Lines.{number_member, verdict_word}
+use Rattle.serde_json.specs.Data.{string}
+use Rattle.serde_json.specs.Written.{compact_text}
+use Rattle.std.specs.List.{flat_map}
+use Rattle.std.specs.Prelude.{ℕ, List, [], ◌∷◌, ◌++◌, codes}
+
+-- a JSON string
+unfoldable pub json_string : List ℕ → List ℕ
+json_string text = compact_text (string text)
+
+-- a member of an object
+unfoldable pub text_member : List ℕ → List ℕ → List ℕ
+text_member head text = head ++ json_string text
+
+unfoldable pub json_finding : FindingData → List ℕ
+json_finding f =
+    text_member (codes "{\"place\":") f.location ++ (text_member (codes ",\"rule\":") f.rule ++ (text_member (codes ",\"message\":") f.message ++ codes "}"))
+
+-- with a comma between two
+abbrev pub later_finding : FindingData → List ℕ
+later_finding f = codes ",\n" ++ json_finding f
+
+abbrev pub json_findings : List FindingData → List ℕ
+json_findings [] = []
+json_findings (f ∷ fs) = json_finding f ++ flat_map later_finding fs
+
+-- what an object says before its findings
+unfoldable pub json_head : ItemData → List ℕ
+json_head i =
+    text_member (codes "{\"file\":") i.file ++ (number_member (codes ",\"index\":") i.index ++ (text_member (codes ",\"kind\":") i.kind
+    ++ (text_member (codes ",\"namespace\":") i.namespace ++ (text_member (codes ",\"name\":") i.name ++ (codes ",\"verdict\":\"" ++ verdict_word i.verdict)))))
+
+unfoldable pub json_item : ItemData → List ℕ
+json_item i = json_head i ++ (codes "\",\"findings\":[" ++ (json_findings i.findings ++ codes "]}"))
+
+abbrev pub later_item : ItemData → List ℕ
+later_item i = codes ",\n" ++ json_item i
+
+abbrev pub json_list : List ItemData → List ℕ
+json_list [] = []
+json_list (i ∷ is) = json_item i ++ flat_map later_item is
+
+abbrev pub json_items : List ItemData → List ℕ
+json_items is = codes "[" ++ (json_list is ++ codes "]\n")

@@ -1,0 +1,9 @@
+pub mod Documents
+pub mod Reads
+pub mod Objects
+pub mod Subjects
+pub mod Items
+pub mod Lines
+pub mod Escapes
+pub mod Json
+pub mod Output

@@ -1,0 +1,81 @@
+//! Texts within XML, and within GitHub's commands.
+ghost use Rattle.kubecel_io.specs.Escapes.{byte_or, data_escape, escape_of, escaped_text, is_control, property_escape, xml_escape};
+ghost use Rattle.std.specs.Io.KnownBytes.{Appends};
+ghost use Rattle.std.specs.Prelude.{◌≡◌, OnOk, option_map};
+
+use std::io;
+use std::io::Write;
+
+/// Where a text stands.
+#[derive(Clone, Copy, Drop)]
+pub(crate) enum Escape {
+    /// In XML, as text or within quotation marks.
+    Xml,
+    /// Behind `::` of a command.
+    Data,
+    /// In a property of a command.
+    Property,
+}
+
+/// What a byte is replaced by in XML.
+fn xml_escape(byte: u8) -> Option<&'static str>
+    ensures { option_map (λ s. s.now) result ≡ xml_escape byte }
+{
+    match byte {
+        b'&' => Some("&amp;"),
+        b'<' => Some("&lt;"),
+        b'>' => Some("&gt;"),
+        b'"' => Some("&quot;"),
+        b'\t' | b'\n' | b'\r' => None,
+        0..=31 => Some("?"),
+        _ => None,
+    }
+}
+
+/// What a byte is replaced by behind `::`.
+fn data_escape(byte: u8) -> Option<&'static str>
+    ensures { option_map (λ s. s.now) result ≡ data_escape byte }
+{
+    match byte {
+        b'%' => Some("%25"),
+        b'\r' => Some("%0D"),
+        b'\n' => Some("%0A"),
+        _ => None,
+    }
+}
+
+/// What a byte is replaced by in a property.
+fn property_escape(byte: u8) -> Option<&'static str>
+    ensures { option_map (λ s. s.now) result ≡ property_escape byte }
+{
+    match byte {
+        b':' => Some("%3A"),
+        b',' => Some("%2C"),
+        _ => data_escape(byte),
+    }
+}
+
+/// Writes a byte, or what it is replaced by.
+fn write_byte<O: Write>(byte: u8, escape: Escape, out: &mut O) -> io::Result<()>
+    ensures { OnOk result (Appends (O.contents out.old) (O.contents out.new) (byte_or byte (escape_of escape byte))) }
+{
+    let replaced = match escape {
+        Escape::Xml => xml_escape(byte),
+        Escape::Data => data_escape(byte),
+        Escape::Property => property_escape(byte),
+    };
+    match replaced {
+        Some(text) => out.write_all(text.as_bytes()),
+        None => out.write_all(&[byte]),
+    }
+}
+
+/// Writes a text with what has to be replaced in it.
+pub(crate) fn write_escaped<O: Write>(text: &str, escape: Escape, out: &mut O) -> io::Result<()>
+    ensures { OnOk result (Appends (O.contents out.old) (O.contents out.new) (escaped_text escape text.now)) }
+{
+    for byte in text.as_bytes() {
+        write_byte(*byte, escape, out)?;
+    }
+    Ok(())
+}

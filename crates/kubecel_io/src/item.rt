@@ -1,0 +1,183 @@
+//! What is reported of each thing that was judged.
+ghost use Rattle.kubecel_io.specs.Items.{finding_view, suffixed_text, item_view, items_status, kind_or_document, prefixed_text, title, finding_text, verdict_status};
+ghost use Rattle.kubecel_io.specs.Lines.{colour, element, level, location, verdict_word};
+ghost use Rattle.std.specs.Prelude.{◌≡◌, ◌≤◌, IfOk, map, max, string_bytes};
+
+use std::alloc::{AllocError, Global};
+
+/// What came of a thing that was to be judged.
+#[derive(Clone, Copy, Drop)]
+pub enum Verdict {
+    /// All rules hold.
+    Pass,
+    /// It is a policy that doesn't apply.
+    Skip,
+    /// Some rule doesn't hold.
+    Fail,
+    /// It couldn't be judged.
+    NotJudged,
+}
+
+/// What was found at one place.
+#[derive(Drop)]
+pub struct Finding {
+    /// Where in the thing, empty at its root.
+    pub location: String,
+    /// The text of the rule that it is about, empty if it is about none.
+    pub rule: String,
+    /// What there is to say.
+    pub message: String,
+}
+
+/// A thing that was to be judged, and what came of it.
+#[derive(Drop)]
+pub struct Item {
+    /// The path of its file.
+    pub file: String,
+    /// How many documents stand before it in the file.
+    pub index: usize,
+    /// Its kind, empty where it has none.
+    pub kind: String,
+    /// Its namespace, empty where it has none.
+    pub namespace: String,
+    /// Its name, empty where it has none.
+    pub name: String,
+    pub verdict: Verdict,
+    /// What was found: why it fails or couldn't be judged, or what else there is to say.
+    pub findings: Vec<Finding>,
+}
+
+impl Verdict {
+    /// The exit status that stands for it.
+    pub(crate) fn status(self) -> u8
+        ensures value { result ≡ verdict_status self }
+        ensures within { result ≤ 2 }
+    {
+        match self {
+            Verdict::Pass | Verdict::Skip => 0,
+            Verdict::Fail => 1,
+            Verdict::NotJudged => 2,
+        }
+    }
+
+    pub(crate) fn word(self) -> &'static str
+        ensures { result.now ≡ verdict_word self }
+    {
+        match self {
+            Verdict::Pass => "pass",
+            Verdict::Skip => "skip",
+            Verdict::Fail => "fail",
+            Verdict::NotJudged => "not judged",
+        }
+    }
+
+    /// What a terminal shows it in: green, blue, red, yellow.
+    pub(crate) fn colour(self) -> &'static str
+        ensures { result.now ≡ colour self }
+    {
+        match self {
+            Verdict::Pass => "\u{1b}[32m",
+            Verdict::Skip => "\u{1b}[34m",
+            Verdict::Fail => "\u{1b}[31m",
+            Verdict::NotJudged => "\u{1b}[33m",
+        }
+    }
+
+    /// GitHub's word for a line about it.
+    pub(crate) fn level(self) -> &'static str
+        ensures { result.now ≡ level self }
+    {
+        match self {
+            Verdict::Pass | Verdict::Skip => "notice",
+            Verdict::Fail | Verdict::NotJudged => "error",
+        }
+    }
+
+    /// JUnit's element for what was found.
+    pub(crate) fn element(self) -> &'static str
+        ensures { result.now ≡ element self }
+    {
+        match self {
+            Verdict::Pass => "system-out",
+            Verdict::Skip => "skipped",
+            Verdict::Fail => "failure",
+            Verdict::NotJudged => "error",
+        }
+    }
+}
+
+fn greater(first: u8, second: u8) -> u8
+    ensures { result ≡ max first second }
+{
+    if first < second { second } else { first }
+}
+
+/// The exit status of a run that judged these: 2 where one couldn't be judged, else 1 where one fails, else 0.
+pub fn status_of(items: &[Item]) -> u8
+    ensures value { result ≡ items_status (map item_view items.now) }
+    ensures within { result ≤ 2 }
+{
+    let mut status = 0;
+    for item in items {
+        status = greater(status, item.verdict.status());
+    }
+    status
+}
+
+/// The first text and a mark where it isn't empty, and then the other.
+fn prefixed_text(alloc: Global, first: &str, mark: &str, text: &str) -> Result<String, AllocError>
+    ensures { IfOk result (λ s. string_bytes s ≡ prefixed_text first.now mark.now text.now) }
+{
+    if first.is_empty() {
+        String::from_str(alloc, text)
+    } else {
+        format!(in alloc; "{first}{mark}{text}")
+    }
+}
+
+/// The first text, and a mark and the other where that isn't empty.
+fn suffixed_text(alloc: Global, text: &str, mark: &str, other: &str) -> Result<String, AllocError>
+    ensures { IfOk result (λ s. string_bytes s ≡ suffixed_text text.now mark.now other.now) }
+{
+    if other.is_empty() {
+        String::from_str(alloc, text)
+    } else {
+        format!(in alloc; "{text}{mark}{other}")
+    }
+}
+
+fn kind_or_document(kind: &str) -> &str
+    ensures { result.now ≡ kind_or_document kind.now }
+{
+    if kind.is_empty() { "document" } else { kind }
+}
+
+impl Finding {
+    /// `PLACE: MESSAGE`.
+    pub(crate) fn finding_text(&self, alloc: Global) -> Result<String, AllocError>
+        ensures { IfOk result (λ s. string_bytes s ≡ finding_text (finding_view self.now)) }
+    {
+        prefixed_text(alloc, self.location.as_str(), ": ", self.message.as_str())
+    }
+}
+
+impl Item {
+    /// `KIND NAMESPACE/NAME`.
+    pub(crate) fn title(&self, alloc: Global) -> Result<String, AllocError>
+        ensures { IfOk result (λ s. string_bytes s ≡ title (item_view self.now)) }
+    {
+        let kind = kind_or_document(self.kind.as_str());
+        let name = prefixed_text(alloc, self.namespace.as_str(), "/", self.name.as_str())?;
+        suffixed_text(alloc, kind, " ", name.as_str())
+    }
+
+    /// `FILE`, or `FILE[INDEX]` where it isn't the first document there.
+    pub(crate) fn location(&self, alloc: Global) -> Result<String, AllocError>
+        ensures { IfOk result (λ s. string_bytes s ≡ location (string_bytes self.now.file) self.now.index) }
+    {
+        match self.index {
+            0 => self.file.clone(),
+            index => format!(in alloc; "{}[{index}]", self.file),
+        }
+    }
+}

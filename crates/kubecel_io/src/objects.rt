@@ -1,0 +1,99 @@
+//! The objects of a document, and what they are called.
+ghost use Rattle.kubecel_io.specs.Objects.{each_item, group_in, identity_of, identity_view, is_same, list_items, metadata_at, objects_in, text_at};
+ghost use Rattle.serde_json.specs.View.{items_view, view};
+ghost use Rattle.std.specs.List.{ends_with};
+ghost use Rattle.std.specs.Prelude.{◌≡◌, codes, map, nat_eq, option_map};
+
+use serde_json::Value;
+use std::slice;
+
+/// What distinguishes objects.
+#[derive(Clone, Copy)]
+pub struct Identity<'v> {
+    pub group: &'v str,
+    pub kind: &'v str,
+    pub namespace: &'v str,
+    pub name: &'v str,
+}
+
+/// The string in a member, empty where there is none.
+fn text_at<'v>(value: &'v Value, key: &str) -> &'v str
+    ensures { result.now ≡ text_at key.now (view value.now) }
+{
+    match value.get(key) {
+        Some(Value::String(text)) => text.as_str(),
+        Some(_) | None => "",
+    }
+}
+
+/// The string in a member of `metadata`, empty where there is none.
+fn metadata_at<'v>(value: &'v Value, key: &str) -> &'v str
+    ensures { result.now ≡ metadata_at key.now (view value.now) }
+{
+    match value.get("metadata") {
+        Some(metadata) => text_at(metadata, key),
+        None => "",
+    }
+}
+
+/// The group in an apiVersion.
+fn group_in(text: &str) -> &str
+    ensures { result.now ≡ group_in text.now }
+{
+    match text.split_once('/') {
+        Some((group, _)) => group,
+        None => "",
+    }
+}
+
+impl<'v> Identity<'v> {
+    /// What an object is called.
+    pub fn of(object: &'v Value) -> Identity<'v>
+        ensures { identity_view result ≡ identity_of (view object.now) }
+    {
+        Identity {
+            group: group_in(text_at(object, "apiVersion")),
+            kind: text_at(object, "kind"),
+            namespace: metadata_at(object, "namespace"),
+            name: metadata_at(object, "name"),
+        }
+    }
+
+    /// Whether objects that are called so are the same one.
+    pub fn is_same(&self, other: &Identity<'_>) -> bool
+        ensures { result ≡ is_same (identity_view self.now) (identity_view other.now) }
+    {
+        self.name == other.name
+            && self.namespace == other.namespace
+            && self.kind == other.kind
+            && self.group == other.group
+    }
+}
+
+/// Whether a text ends with another.
+fn has_end(text: &str, end: &str) -> bool
+    ensures { result ≡ ends_with nat_eq text.now end.now }
+{
+    text.ends_with(end)
+}
+
+/// The items of a list.
+fn list_items(document: &Value) -> Option<&[Value]>
+    ensures { option_map (λ v. items_view v.now) result ≡ list_items (view document.now) }
+{
+    if has_end(text_at(document, "kind"), "List") {
+        Some(document.get("items")?.as_array()?.as_slice())
+    } else {
+        None
+    }
+}
+
+/// The objects of a document: the items of a list, or the document itself.
+pub fn objects_in(document: &Value) -> &[Value]
+    ensures { map view result.now ≡ objects_in (view document.now) }
+{
+    match list_items(document) {
+        Some(items) => items,
+        None => slice::from_ref(document),
+    }
+}

@@ -1,0 +1,102 @@
+//! The files that a command names.
+ghost use Rattle.kubecel_io.specs.Reads.{AreRead, IsRead, document_view, with_indices, text_seen};
+ghost use Rattle.serde_json.specs.View.{view};
+ghost use Rattle.std.specs.Prelude.{◌≡◌, ◌++◌, ⊤, ℕ, List, Option, IfOk, OnOk, map};
+
+use crate::documents::documents_of;
+use kube_types_refused::Refused;
+use serde_json::Value;
+use std::alloc::{AllocError, Global};
+use std::io;
+
+/// The files that a command names.
+pub trait Sources {
+    // That a read at a path, from the first state on, may give this text, or none where it can't be read, and leave the second
+    // state. Of real files nothing is said.
+    ghost reads: { Self → List ℕ → Option (List ℕ) → Self → Type 0 } = { λ _ _ _ _. ⊤ };
+
+    /// The text of a file, or why it can't be read.
+    fn read(&mut self, alloc: Global, path: &str) -> Result<io::Result<String>, Refused>
+        ensures { IfOk result (λ text. reads self.old path.now (text_seen text) self.new) };
+}
+
+/// Why a run stops before it has reported what it found.
+#[derive(Drop)]
+pub enum Stop {
+    /// There was no memory, or a text is too long.
+    Refused(Refused),
+    /// What is wrong, in words.
+    Said(String),
+}
+
+impl From<Refused> for Stop {
+    fn from(refused: Refused) -> Stop {
+        Stop::Refused(refused)
+    }
+}
+
+impl From<AllocError> for Stop {
+    fn from(_error: AllocError) -> Stop {
+        Stop::Refused(Refused::Memory)
+    }
+}
+
+/// A document of a file.
+#[derive(Drop)]
+pub struct Document {
+    /// The path of the file.
+    pub file: String,
+    /// How many documents stand before it in the file.
+    pub index: usize,
+    pub value: Value,
+}
+
+/// The documents of the files at these paths, which are read in order.
+///
+/// # Errors
+/// A file that can't be read, or the place in a file where a document is no JSON.
+pub fn read_documents<S: Sources>(
+    alloc: Global,
+    paths: &[&str],
+    files: &mut S,
+) -> Result<Vec<Document>, Stop>
+    ensures { IfOk result (λ v. AreRead S.reads files.old (map (λ s. s.now) paths.now) (map document_view v.items) files.new) }
+{
+    let mut found = Vec::new(alloc);
+    for path in paths {
+        let values = read_file(alloc, path, files)?;
+        add_values(alloc, path, values, &mut found)?;
+    }
+    Ok(found)
+}
+
+/// The documents of the file at the path.
+fn read_file<S: Sources>(alloc: Global, path: &str, files: &mut S) -> Result<Vec<Value>, Stop>
+    ensures { IfOk result (λ v. IsRead S.reads files.old path.now (map view v.items) files.new) }
+{
+    let text = match files.read(alloc, path)? {
+        Ok(text) => text,
+        Err(error) => return Err(Stop::Said(format!(in alloc; "{path}: {error}")?)),
+    };
+    match documents_of(alloc, text.as_str())? {
+        Ok(values) => Ok(values),
+        Err(fault) => Err(Stop::Said(format!(in alloc; "{path}:{fault}")?)),
+    }
+}
+
+/// Puts the documents of a file behind others.
+fn add_values(
+    alloc: Global,
+    file: &str,
+    values: Vec<Value>,
+    found: &mut Vec<Document>,
+) -> Result<(), AllocError>
+    ensures { OnOk result (map document_view found.new.items
+        ≡ map document_view found.old.items ++ with_indices file.now 0 (map view values.items)) }
+{
+    for (index, value) in values.into_iter().enumerate() {
+        let file = String::from_str(alloc, file)?;
+        found.push(Document { file, index, value })?;
+    }
+    Ok(())
+}

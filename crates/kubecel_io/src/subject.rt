@@ -1,0 +1,20 @@
+//! An object of a document.
+ghost use Rattle.kubecel_io.specs.Objects.{identity_of, identity_view};
+ghost use Rattle.serde_json.specs.View.{view};
+ghost use Rattle.std.specs.Prelude.{◌≡◌};
+
+use crate::objects::Identity;
+use serde_json::Value;
+
+/// An object of a document.
+#[derive(Clone, Copy)]
+pub struct Subject<'d> {
+    /// The path of its file.
+    pub file: &'d str,
+    /// How many documents stand before its document in the file.
+    pub index: usize,
+    pub value: &'d Value,
+    /// What it is called.
+    pub identity: Identity<'d>,
+    ghost its_own: { identity_view identity ≡ identity_of (view value.now) },
+}

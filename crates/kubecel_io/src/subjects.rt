@@ -1,0 +1,55 @@
+//! The objects of documents, one after another.
+ghost use Rattle.kubecel_io.specs.Objects.{all_objects, object_of, objects_in, old_of};
+ghost use Rattle.kubecel_io.specs.Reads.{document_view};
+ghost use Rattle.kubecel_io.specs.Subjects.{subject_view};
+ghost use Rattle.serde_json.specs.View.{view};
+ghost use Rattle.std.specs.Prelude.{◌≡◌, ◌++◌, IfOk, OnOk, map, option_map};
+
+use crate::objects::{Identity, objects_in};
+use crate::sources::Document;
+use crate::subject::Subject;
+use serde_json::Value;
+use std::alloc::{AllocError, Global};
+
+/// The objects of documents, one after another.
+pub fn objects_of(alloc: Global, documents: &[Document]) -> Result<Vec<Subject<'_>>, AllocError>
+    ensures { IfOk result (λ v. map subject_view v.items ≡ all_objects (map document_view documents.now)) }
+{
+    let mut subjects = Vec::with_capacity(alloc, documents.len())?;
+    for document in documents {
+        add_objects(document, &mut subjects)?;
+    }
+    Ok(subjects)
+}
+
+/// Puts the objects of a document behind others.
+fn add_objects<'d>(
+    document: &'d Document,
+    subjects: &mut Vec<Subject<'d>>,
+) -> Result<(), AllocError>
+    ensures { OnOk result (map subject_view subjects.new.items
+        ≡ map subject_view subjects.old.items ++ map (object_of (document_view document.now)) (objects_in (view document.now.value))) }
+{
+    let values = objects_in(&document.value);
+    for value in values {
+        subjects.push(Subject {
+            file: document.file.as_str(),
+            index: document.index,
+            value,
+            identity: Identity::of(value),
+        })?;
+    }
+    Ok(())
+}
+
+/// The first of old objects that is the same one as this.
+pub fn old_of<'d>(olds: &[Subject<'d>], subject: &Subject<'_>) -> Option<&'d Value>
+    ensures { option_map (λ v. view v.now) result ≡ old_of (map (λ f. f.value) (map subject_view olds.now)) (subject_view subject.now).value }
+{
+    for old in olds {
+        if old.identity.is_same(&subject.identity) {
+            return Some(old.value);
+        }
+    }
+    None
+}

@@ -1,5 +1,0 @@
-pub mod Items
-pub mod Lines
-pub mod Escapes
-pub mod Json
-pub mod Output
