@@ -8,3 +8,4 @@ pub mod Sizes
 pub mod Sets
 pub mod Parts
 pub mod Compiles
+pub mod Missing
