@@ -18,7 +18,7 @@ use crate::pointer::keyword_pointer;
 use crate::rule::{add_keys_of, add_validations};
 use crate::text::add_plainly;
 use kube_cel_analysis::{LintFinding, lint_schema};
-use kube_schema_compiled::compile_schema;
+use kube_schema::compile_schema;
 use kube_schema_rules::rule_values;
 use kube_types_refused::Refused;
 use serde_json::Value;
@@ -116,7 +116,7 @@ fn add_no_rule(
     Ok(())
 }
 
-/// Adds what is said of one schema.
+/// Adds the doubts about one schema.
 fn add_location(
     alloc: Global,
     location: &SchemaLocation<'_>,
@@ -134,7 +134,7 @@ fn add_location(
     Ok(())
 }
 
-/// Adds what is said of schemas, in their order.
+/// Adds the doubts about schemas, in their order.
 fn add_each(
     alloc: Global,
     places: &[SchemaLocation<'_>],
@@ -150,7 +150,7 @@ fn add_each(
     Ok(())
 }
 
-/// Adds what is said of a schema and those within it, that of all together first.
+/// Adds the doubts about a schema and those within it, those about all together first.
 fn add_own(
     alloc: Global,
     base: &str,
@@ -166,7 +166,7 @@ fn add_own(
     Ok(())
 }
 
-/// Adds what is said of a schema: what a linter finds, then the rest.
+/// Adds the doubts about a schema: what a linter finds, then the rest.
 pub(crate) fn add_schema(
     alloc: Global,
     base: &str,
