@@ -5,17 +5,9 @@ use crate::types::{put_and_read, scope_of};
 use conformance_rows::texts::push_line;
 use conformance_rows::{Field, Found, Stop, given as rows};
 use kube_cel::cel::Program;
-use kube_cel::{AnalysisWarning, ScopeContext, analyze_rule, check_rule_scope, estimate_rule_cost};
+use kube_cel::{AnalysisWarning, analyze_rule, check_rule_scope, estimate_rule_cost};
 use kube_cel_analysis::{Sizes, estimated_cost};
 use std::alloc::Global;
-
-/// The scope that the row gives, else that of rules in schemas.
-fn scope(given: &[Field]) -> Result<ScopeContext, Stop> {
-    match rows::text(given, "scope") {
-        Some(name) => scope_of(name),
-        None => Ok(ScopeContext::CrdValidation),
-    }
-}
 
 /// Writes a warning of a rule: its kind and message. A copy is equal to it.
 fn put_warning(warning: &AnalysisWarning, rule: &str, out: &mut String) -> Result<(), Stop> {
@@ -32,14 +24,14 @@ fn put_warning(warning: &AnalysisWarning, rule: &str, out: &mut String) -> Resul
     }
 }
 
-/// What the row's rule is warned of by the call that a key names.
+/// What the row's rule is warned of by the call that a key names, where it stands in the scope that the row gives, else in a schema.
 fn warnings_of(
     alloc: Global,
     given: &[Field],
     rule: &str,
     key: &str,
 ) -> Result<Vec<AnalysisWarning>, Stop> {
-    let scope = scope(given)?;
+    let scope = scope_of(rows::text(given, "scope").unwrap_or("CrdValidation"))?;
     if key == "scope warnings" {
         return Ok(check_rule_scope(alloc, rule, scope)?);
     }

@@ -2,50 +2,76 @@
 
 use crate::{analysis, case, causes, commands, findings, policies, types, verdicts};
 use conformance_rows::{Field, Found, Stop};
-use kube_cel::cel::PatternBook;
 use std::alloc::Global;
 
-/// Finds what a field asks of a verdict, a command, a policy, a rule or a value that serde writes. False where it asks something else.
-fn find_of_whole(
-    alloc: Global,
-    given: &[Field],
-    field: &Field,
-    found: &mut Found,
-) -> Result<bool, Stop> {
-    match field.key.as_str() {
-        "errors" | "error parts" | "printed" | "copied" | "told apart" => {
-            verdicts::find(alloc, &case::given(alloc, given)?, field, found)?;
-        }
-        "status" | "output" | "error output" => commands::find(alloc, given, field, found)?,
-        "each write refused" => commands::refuse_each_write(alloc, given, found)?,
-        "result" | "results" | "results written" | "compiled" => {
-            policies::find(alloc, given, field, found)?;
-        }
-        "findings" => findings::find(alloc, given, &mut found.text)?,
-        "scope warnings" | "cost warnings" | "warnings" | "warnings written" | "cost" => {
-            analysis::find(alloc, given, field, found)?;
-        }
-        "causes" | "causes read" | "errors written" => causes::find(alloc, given, field, found)?,
-        "written" => types::written(alloc, given, field, found)?,
-        "differ" => types::differ(alloc, given, field, found)?,
-        _ => return Ok(false),
-    }
-    Ok(true)
+/// What is asked: of a verdict, a command, a policy, a rule or a value that serde writes.
+#[derive(Clone, Copy)]
+enum Area {
+    Verdict,
+    Command,
+    EachWrite,
+    Policy,
+    Findings,
+    Analysis,
+    Causes,
+    Written,
+    Differ,
 }
 
-/// Finds what a field asks, with the row's book of patterns.
+/// The keys that ask something, by area.
+const AREAS: [(&str, Area); 24] = [
+    ("errors", Area::Verdict),
+    ("error parts", Area::Verdict),
+    ("printed", Area::Verdict),
+    ("copied", Area::Verdict),
+    ("told apart", Area::Verdict),
+    ("status", Area::Command),
+    ("output", Area::Command),
+    ("error output", Area::Command),
+    ("each write refused", Area::EachWrite),
+    ("result", Area::Policy),
+    ("results", Area::Policy),
+    ("results written", Area::Policy),
+    ("compiled", Area::Policy),
+    ("findings", Area::Findings),
+    ("scope warnings", Area::Analysis),
+    ("cost warnings", Area::Analysis),
+    ("warnings", Area::Analysis),
+    ("warnings written", Area::Analysis),
+    ("cost", Area::Analysis),
+    ("causes", Area::Causes),
+    ("causes read", Area::Causes),
+    ("errors written", Area::Causes),
+    ("written", Area::Written),
+    ("differ", Area::Differ),
+];
+
+/// The area of a key that asks something here.
+fn area_of(key: &str) -> Result<Area, Stop> {
+    for &(name, area) in AREAS.iter() {
+        if name == key {
+            return Ok(area);
+        }
+    }
+    Err(Stop::Unfit("a key that is known here"))
+}
+
+/// Finds what a field asks of a verdict, a command, a policy, a rule or a value that serde writes.
 pub(crate) fn find(
     alloc: Global,
     given: &[Field],
     field: &Field,
-    book: &mut PatternBook,
     found: &mut Found,
 ) -> Result<(), Stop> {
-    if conformance_parts::find(alloc, given, field, book, found)?
-        || find_of_whole(alloc, given, field, found)?
-    {
-        Ok(())
-    } else {
-        Err(Stop::Unfit("a key that is known here"))
+    match area_of(field.key.as_str())? {
+        Area::Verdict => verdicts::find(alloc, &case::given(alloc, given)?, field, found),
+        Area::Command => commands::find(alloc, given, field, found),
+        Area::EachWrite => commands::refuse_each_write(alloc, given, found),
+        Area::Policy => policies::find(alloc, given, field, found),
+        Area::Findings => findings::find(alloc, given, &mut found.text),
+        Area::Analysis => analysis::find(alloc, given, field, found),
+        Area::Causes => causes::find(alloc, given, field, found),
+        Area::Written => types::written(alloc, given, field, found),
+        Area::Differ => types::differ(alloc, given, field, found),
     }
 }

@@ -62,8 +62,8 @@ pub(crate) fn find(
             }
         }
         _ => {
-            found.expect(field)?;
             let errors = errors_given(alloc, given)?;
+            found.expect(field)?;
             let is_read = put_and_read(alloc, &errors, field.text.as_str(), &mut found.other)?;
             found.end_expected(field, is_read)
         }

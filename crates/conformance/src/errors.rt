@@ -109,21 +109,6 @@ fn put_printed(errors: &[ValidationError], out: &mut String) -> Result<(), Stop>
     Ok(())
 }
 
-/// Writes what a field asks of errors.
-fn put_errors(
-    alloc: Global,
-    asked: &str,
-    errors: &ValidationErrors,
-    out: &mut String,
-) -> Result<(), Stop> {
-    match asked {
-        "printed" => Ok(write!(out, "{errors}")?),
-        "copied" => push_copied(alloc, errors.try_clone()?, out),
-        "errors" => put_printed(errors.as_slice(), out),
-        _ => put_changes(alloc, errors, out),
-    }
-}
-
 /// Writes what a field asks of a verdict.
 pub(crate) fn put_verdict(
     alloc: Global,
@@ -131,9 +116,14 @@ pub(crate) fn put_verdict(
     verdict: &Verdict,
     out: &mut String,
 ) -> Result<(), Stop> {
-    match verdict {
-        Ok(()) => Ok(()),
-        Err(_) if asked == "error parts" => push_parts(alloc, verdict, out),
-        Err(errors) => put_errors(alloc, asked, errors, out),
+    let Err(errors) = verdict else {
+        return Ok(());
+    };
+    match asked {
+        "error parts" => push_parts(alloc, verdict, out),
+        "printed" => Ok(write!(out, "{errors}")?),
+        "copied" => push_copied(alloc, errors.try_clone()?, out),
+        "errors" => put_printed(errors.as_slice(), out),
+        _ => put_changes(alloc, errors, out),
     }
 }

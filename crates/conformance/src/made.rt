@@ -29,17 +29,22 @@ fn case_of(parts: Value) -> Option<Case> {
     })
 }
 
-/// Judges a case in each way, and fills its object's defaults in each: how many errors there are.
-fn judge_case(alloc: Global, text: &str, found: &mut Found) -> Result<usize, Stop> {
-    let Some(case) = case_of(given::json_of(alloc, "case", text)?) else {
-        return Err(Stop::Unfit("case"));
-    };
+/// Fills the defaults of a case's object in each way, and judges the case in each: how many errors there are.
+fn judge_case(alloc: Global, case: &Case, found: &mut Found) -> Result<usize, Stop> {
     found.clear();
     fill_all(alloc, &case.schema, &case.object, found)?;
     found.clear();
-    match judged(alloc, &case, found)? {
+    match judged(alloc, case, found)? {
         Ok(()) => Ok(0),
         Err(errors) => Ok(errors.len()),
+    }
+}
+
+/// The same of the case that a text states.
+fn judge_text(alloc: Global, text: &str, found: &mut Found) -> Result<usize, Stop> {
+    match case_of(given::json_of(alloc, "case", text)?) {
+        Some(case) => judge_case(alloc, &case, found),
+        None => Err(Stop::Unfit("case")),
     }
 }
 
@@ -53,7 +58,7 @@ fn run_schemas(
     let mut errors = 0usize;
     for _ in 0..SCHEMAS {
         maker.make(alloc, "case", 40)?;
-        errors = errors.saturating_add(judge_case(alloc, maker.text.as_str(), found)?);
+        errors = errors.saturating_add(judge_text(alloc, maker.text.as_str(), found)?);
     }
     write!(
         report,

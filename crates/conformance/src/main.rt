@@ -1,5 +1,5 @@
-//! Runs rows (docs/ROWS.md) about the language, schemas with objects, the program's commands, policies and the analysis, each in every way
-//! that the library has for it; and what a grammar makes. The words name the files.
+//! Runs rows (docs/ROWS.md) about the language, schemas with objects, the commands of both programs, policies and the analysis, each in every
+//! way that the library has for it; and what a grammar makes. The words name the files.
 #![tactic(auto)]
 
 mod analysis;
@@ -9,6 +9,7 @@ mod causes;
 mod commands;
 mod errors;
 mod findings;
+mod kubecel;
 mod made;
 mod memory;
 mod policies;

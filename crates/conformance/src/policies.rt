@@ -219,8 +219,12 @@ fn find_results(
     expressions: &[VapExpression],
     found: &mut Found,
 ) -> Result<(), Stop> {
-    let evaluator = built(alloc, given, VapEvaluator::builder())?;
-    find_by(alloc, &evaluator, expressions, found)?;
+    find_by(
+        alloc,
+        &built(alloc, given, VapEvaluator::builder())?,
+        expressions,
+        found,
+    )?;
     let other = built(alloc, given, filled_builder(alloc))?;
     find_by_other(alloc, &other, expressions, found)
 }

@@ -37,7 +37,11 @@ impl Subject for Rows {
         field: &Field,
         found: &mut Found,
     ) -> Result<(), Stop> {
-        areas::find(alloc, given, field, &mut self.book, found)
+        if conformance_parts::find(alloc, given, field, &mut self.book, found)? {
+            Ok(())
+        } else {
+            areas::find(alloc, given, field, found)
+        }
     }
 
     fn generate(

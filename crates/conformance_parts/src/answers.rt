@@ -1,7 +1,7 @@
 //! What answers show.
 
 use cel::{Answer, Refused, Value};
-use conformance_rows::texts::push_all;
+use conformance_rows::texts::push_refused;
 use conformance_rows::{Found, Stop};
 use std::alloc::Global;
 
@@ -9,7 +9,12 @@ use std::alloc::Global;
 pub(crate) type Ran = Result<Answer, Refused>;
 
 /// Writes the text of a value, as `%s` shows it, or else what stands for a text and the value's kind.
-fn put_text(alloc: Global, value: &Value, instead: &str, out: &mut String) -> Result<(), Stop> {
+pub(crate) fn put_text(
+    alloc: Global,
+    value: &Value,
+    instead: &str,
+    out: &mut String,
+) -> Result<(), Stop> {
     match value.text(alloc)? {
         Ok(text) => out.push_str(text.as_str())?,
         Err(kind) => write!(out, "{instead}{kind}")?,
@@ -18,7 +23,7 @@ fn put_text(alloc: Global, value: &Value, instead: &str, out: &mut String) -> Re
 }
 
 /// Writes what a value of a type that prints itself prints. False where it is of none.
-fn put_printed(alloc: Global, value: &Value, out: &mut String) -> Result<bool, Stop> {
+pub(crate) fn put_printed(alloc: Global, value: &Value, out: &mut String) -> Result<bool, Stop> {
     match value {
         Value::Quantity(quantity) => write!(out, "{}", quantity.as_ref())?,
         Value::Ip(address) => write!(out, "{}", address.as_ref())?,
@@ -29,14 +34,6 @@ fn put_printed(alloc: Global, value: &Value, out: &mut String) -> Result<bool, S
         _ => return Ok(false),
     }
     Ok(true)
-}
-
-/// Writes what a value prints, or else its text, or else its kind.
-pub(crate) fn put_shown(alloc: Global, value: &Value, out: &mut String) -> Result<(), Stop> {
-    if !put_printed(alloc, value, out)? {
-        put_text(alloc, value, "", out)?;
-    }
-    Ok(())
 }
 
 /// Writes what is asked of a value, or else what the value is.
@@ -72,12 +69,8 @@ pub(crate) fn put_answer(
             Ok(write!(out, "{error}")?)
         }
         Err(refused) => {
-            let what = match refused {
-                Refused::Memory => "memory",
-                Refused::TooLarge => "too large",
-            };
-            let is_asked = asked == "refused";
-            Ok(push_all(out, &[if is_asked { "" } else { "refused: " }, what])?)
+            let before = if asked == "refused" { "" } else { "refused: " };
+            Ok(push_refused(out, before, *refused)?)
         }
     }
 }

@@ -1,6 +1,6 @@
 //! Values of all types, each made of a text by an expression, and what expressions and the values' own calls answer of them.
 
-use crate::answers::put_shown;
+use crate::answers::{put_printed, put_text};
 use crate::values;
 use crate::ways::executed;
 use cel::{Answer, Context, ExecutionError, Value};
@@ -48,7 +48,8 @@ fn bind_others(alloc: Global, context: &mut KubeContext<'_>, fields: &[Field]) -
 fn put_value(alloc: Global, value: &Value, out: &mut String) -> Result<(), Stop> {
     match value {
         Value::Bool(holds) => Ok(out.push_str(yes_or_no(*holds))?),
-        _ => put_shown(alloc, value, out),
+        _ if put_printed(alloc, value, out)? => Ok(()),
+        _ => put_text(alloc, value, "", out),
     }
 }
 

@@ -70,6 +70,9 @@ fn find_of_schemas(
     Ok(true)
 }
 
+/// The keys of what is asked of an expression.
+const OF_EXPRESSIONS: [&str; 5] = ["value", "kind", "prints", "error", "refused"];
+
 /// Finds what a field asks of an item, or else of an expression or a schema. False where it asks something else.
 fn find_of_values(
     alloc: Global,
@@ -77,15 +80,12 @@ fn find_of_values(
     field: &Field,
     found: &mut Found,
 ) -> Result<bool, Stop> {
-    if let Some(item) = item_given(given, false) {
-        items::find(alloc, given, item, field, found)?;
-        return Ok(true);
-    }
-    match field.key.as_str() {
-        "value" | "kind" | "prints" | "error" | "refused" => {
+    match item_given(given, false) {
+        Some(item) => items::find(alloc, given, item, field, found)?,
+        None if OF_EXPRESSIONS.contains(&field.key.as_str()) => {
             ways::find(alloc, given, field, found)?;
-            Ok(true)
         }
-        _ => find_of_schemas(alloc, given, field, found),
+        None => return find_of_schemas(alloc, given, field, found),
     }
+    Ok(true)
 }

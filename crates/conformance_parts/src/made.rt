@@ -156,17 +156,28 @@ fn run_texts_in(
     Ok(())
 }
 
-/// Reads texts of a type by an expression, and reads back what is printed of them by another one.
-fn run_texts(
+/// Reads texts of a type by an expression in a context, and reads back what is printed of them by another one.
+fn run_texts_by(
     alloc: Global,
+    context: &mut KubeContext<'_>,
     maker: &mut Maker,
     (of, again): (&str, &str),
     report: &mut String,
 ) -> Result<(), Stop> {
     let read = compiled(alloc, maker_of(of).unwrap_or(""))?;
     let again = compiled(alloc, again)?;
+    run_texts_in(alloc, context, maker, of, (&read, &again), report)
+}
+
+/// The same where all functions are known.
+fn run_texts(
+    alloc: Global,
+    maker: &mut Maker,
+    item: (&str, &str),
+    report: &mut String,
+) -> Result<(), Stop> {
     let mut context: KubeContext<'_> = Context::default(alloc).with_all();
-    run_texts_in(alloc, &mut context, maker, of, (&read, &again), report)
+    run_texts_by(alloc, &mut context, maker, item, report)
 }
 
 /// Escapes names and takes the escaping back, and reads back what is printed of the texts of types.

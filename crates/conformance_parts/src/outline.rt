@@ -1,7 +1,7 @@
 //! Trees as outlines: each node in a line of its own, and its parts below it, two blanks further in.
 
 use cel::{BinaryOperator, Expr, MacroKind, UnaryOperator, Value};
-use conformance_rows::texts::{push_all, push_bytes, push_line, push_times};
+use conformance_rows::texts::{push_all, push_bytes, push_indented};
 use std::alloc::AllocError;
 
 /// How an operator on two values is written.
@@ -79,12 +79,15 @@ fn write_literal(value: &Value, out: &mut String) -> Result<(), AllocError> {
 
 /// Writes the line of a node.
 fn write_line(expr: &Expr, depth: usize, out: &mut String) -> Result<(), AllocError> {
-    let (what, name) = said(expr);
-    push_line(out, "")?;
-    push_times(out, "  ", depth)?;
     match expr {
-        Expr::Literal(value) => write_literal(value, out),
-        _ => push_all(out, &[what, name]),
+        Expr::Literal(value) => {
+            push_indented(out, depth, &[])?;
+            write_literal(value, out)
+        }
+        _ => {
+            let (what, name) = said(expr);
+            push_indented(out, depth, &[what, name])
+        }
     }
 }
 
@@ -148,9 +151,7 @@ fn write_entries(
 ) -> Result<(), AllocError> {
     let below = depth.saturating_add(1);
     for pair in pairs {
-        push_line(out, "")?;
-        push_times(out, "  ", depth)?;
-        out.push_str("entry")?;
+        push_indented(out, depth, &["entry"])?;
         write_node(&pair.0, below, out)?;
         write_node(&pair.1, below, out)?;
     }

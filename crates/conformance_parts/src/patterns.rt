@@ -1,7 +1,7 @@
 //! What a book of patterns answers, to a pattern that it is asked of for the first time and to one that it holds.
 
 use cel::PatternBook;
-use conformance_rows::given::{limit, needed};
+use conformance_rows::given::{needed, number};
 use conformance_rows::{Field, Found, Stop};
 
 /// Finds whether a pattern has a match in a text.
@@ -51,7 +51,10 @@ pub(crate) fn spans(
     found: &mut Found,
 ) -> Result<(), Stop> {
     let asked = (needed(given, "pattern")?, needed(given, "text")?);
-    let most = limit(given)?;
+    let most = match number(given, "limit")? {
+        Some(limit) => Some(limit as usize),
+        None => None,
+    };
     find_spans(book, asked, most, "find_all", found)?;
     find_spans(book, asked, most, "find_all again", found)
 }

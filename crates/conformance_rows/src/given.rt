@@ -3,7 +3,7 @@
 use crate::row::{Field, Stop};
 use crate::texts::push_times;
 use serde_json::Value;
-use std::alloc::Global;
+use std::alloc::{AllocError, Global};
 
 /// The text that was given last by a key.
 pub fn text<'a>(given: &'a [Field], key: &str) -> Option<&'a str> {
@@ -23,6 +23,14 @@ pub fn needed<'a>(given: &'a [Field], key: &'static str) -> Result<&'a str, Stop
     }
 }
 
+/// The lines of what was given last by a key, none where nothing was.
+pub fn lines<'a>(alloc: Global, given: &'a [Field], key: &str) -> Result<Vec<&'a str>, AllocError> {
+    match text(given, key) {
+        Some(text) => text.lines().collect(alloc),
+        None => Ok(Vec::new(alloc)),
+    }
+}
+
 /// The number that was given last by a key, if any was.
 pub fn number(given: &[Field], key: &'static str) -> Result<Option<u64>, Stop> {
     match text(given, key) {
@@ -37,14 +45,6 @@ pub fn number(given: &[Field], key: &'static str) -> Result<Option<u64>, Stop> {
 /// The number that was given last by a key, and another one where none was.
 pub fn number_or(given: &[Field], key: &'static str, other: u64) -> Result<u64, Stop> {
     Ok(number(given, key)?.unwrap_or(other))
-}
-
-/// How many are wanted, where a row says so.
-pub fn limit(given: &[Field]) -> Result<Option<usize>, Stop> {
-    match number(given, "limit")? {
-        Some(limit) => Ok(Some(limit as usize)),
-        None => Ok(None),
-    }
 }
 
 /// Whether the standard functions are known, and whether those of Kubernetes are.

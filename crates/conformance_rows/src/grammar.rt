@@ -149,7 +149,7 @@ impl Maker {
     pub(crate) fn new(alloc: Global, grammar: &str, seed: u64) -> Result<Maker, Stop> {
         Ok(Maker {
             grammar: Grammar::read(alloc, grammar)?,
-            random: Random::new(seed),
+            random: Random { state: seed },
             text: String::new(alloc),
         })
     }

@@ -3,16 +3,20 @@
 use crate::questions::maker;
 use crate::row::Field;
 
-/// The keys of what is given, but for names that are bound and items.
-const GIVEN: [&str; 42] = [
+/// The keys of what is given, but for names that are bound, items and files.
+const GIVEN: [&str; 53] = [
+    "admit",
     "after",
     "before",
+    "by",
+    "check",
     "command",
     "depth",
     "expression",
     "expressions",
     "failing read",
     "field",
+    "form",
     "functions",
     "json",
     "levels",
@@ -35,10 +39,12 @@ const GIVEN: [&str; 42] = [
     "params",
     "pattern",
     "policy",
+    "progress",
     "refused error write",
     "refused read",
     "refused write",
     "request",
+    "review",
     "root context",
     "rule",
     "schema",
@@ -46,6 +52,11 @@ const GIVEN: [&str; 42] = [
     "text",
     "text length",
     "type",
+    "with namespace",
+    "with object",
+    "with old object",
+    "with params",
+    "with request",
     "within",
 ];
 
@@ -58,6 +69,18 @@ pub fn bound_name(key: &str) -> Option<&str> {
     }
 }
 
+/// The text of the file at a path that was given last: the key of such a field is `file` and the path.
+pub fn file_given<'g>(given: &'g [Field], path: &str) -> Option<&'g str> {
+    for field in given.iter().rev() {
+        if let Some(name) = field.key.as_str().strip_prefix("file ") {
+            if name == path {
+                return Some(field.text.as_str());
+            }
+        }
+    }
+    None
+}
+
 /// The type of the item that a field of this key gives, and whether it is the other one.
 pub fn item_type(key: &str) -> (&str, bool) {
     match key.strip_prefix("other ") {
@@ -68,7 +91,10 @@ pub fn item_type(key: &str) -> (&str, bool) {
 
 /// Whether a field of this key gives something.
 pub fn gives(key: &str) -> bool {
-    GIVEN.contains(&key) || bound_name(key).is_some() || maker(item_type(key).0).is_some()
+    GIVEN.contains(&key)
+        || key.starts_with("file ")
+        || bound_name(key).is_some()
+        || maker(item_type(key).0).is_some()
 }
 
 /// The field that gave the item, or the other one, last.

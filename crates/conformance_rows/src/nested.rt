@@ -13,17 +13,24 @@ pub struct Nesting {
     pub levels: u64,
 }
 
+/// The steps from a level to the next, by the keys that give how many levels there are.
+const STEPS: [(&str, &str); 6] = [
+    ("nested items", "items"),
+    ("nested properties", "properties a"),
+    ("nested additional properties", "additionalProperties"),
+    ("nested all of", "allOf 0"),
+    ("nested one of", "oneOf 0"),
+    ("nested any of", "anyOf 0"),
+];
+
 /// The step from a level to the next, by the key that gives how many levels there are.
 fn step_of(key: &str) -> Option<&'static str> {
-    match key {
-        "nested items" => Some("items"),
-        "nested properties" => Some("properties a"),
-        "nested additional properties" => Some("additionalProperties"),
-        "nested all of" => Some("allOf 0"),
-        "nested one of" => Some("oneOf 0"),
-        "nested any of" => Some("anyOf 0"),
-        _ => None,
+    for &(name, step) in STEPS.iter() {
+        if name == key {
+            return Some(step);
+        }
     }
+    None
 }
 
 /// The levels that a row gave last, and none where it gave none.

@@ -3,15 +3,11 @@
 /// The state of the sequence.
 #[derive(Clone, Copy)]
 pub(crate) struct Random {
-    state: u64,
+    /// Where the sequence begins, and then how far it is.
+    pub(crate) state: u64,
 }
 
 impl Random {
-    /// The sequence of a seed.
-    pub(crate) fn new(seed: u64) -> Random {
-        Random { state: seed }
-    }
-
     /// The next number.
     fn next(&mut self) -> u64 {
         self.state = self.state.wrapping_add(0x9e37_79b9_7f4a_7c15);

@@ -1,5 +1,6 @@
 //! Writing texts.
 
+use kube_types_refused::Refused;
 use serde_json::Value;
 use std::alloc::{AllocError, Global};
 
@@ -17,6 +18,18 @@ pub fn push_line(text: &mut String, line: &str) -> Result<(), AllocError> {
         text.push('\n')?;
     }
     text.push_str(line)
+}
+
+/// The lines of a text, none of an empty one.
+pub fn words_of(alloc: Global, text: &str) -> Result<Vec<String>, AllocError> {
+    let mut words = Vec::new(alloc);
+    if text.is_empty() {
+        return Ok(words);
+    }
+    for word in text.split('\n') {
+        words.push(String::from_str(alloc, word)?)?;
+    }
+    Ok(words)
 }
 
 /// `yes` or `no`.
@@ -115,6 +128,22 @@ pub fn push_optional_member(
 /// Puts a member that is true or false into a JSON object that is being written.
 pub fn push_bool(object: &mut String, key: &str, holds: bool) -> Result<(), AllocError> {
     push_json(object, key, if holds { "true" } else { "false" })
+}
+
+/// Puts what was refused behind a text, and what stands before it.
+pub fn push_refused(text: &mut String, before: &str, refused: Refused) -> Result<(), AllocError> {
+    text.push_str(before)?;
+    text.push_str(match refused {
+        Refused::Memory => "memory",
+        Refused::TooLarge => "too large",
+    })
+}
+
+/// Begins a line so many levels further in, two blanks each.
+pub fn push_indented(text: &mut String, depth: usize, parts: &[&str]) -> Result<(), AllocError> {
+    push_line(text, "")?;
+    push_times(text, "  ", depth)?;
+    push_all(text, parts)
 }
 
 /// A text, repeated.

@@ -8,5 +8,7 @@ pub mod Alike
 pub mod Changed
 pub mod CompiledNodes
 pub mod Marks
+pub mod Parts
 pub mod RawNodes
 pub mod Reports
+pub mod UnderBooks

@@ -5,6 +5,7 @@ pub mod AddedVerdicts
 pub mod Answers
 pub mod Compiled
 pub mod Named
+pub mod Parts
 pub mod Raw
 pub mod RuleSets
 pub mod Starts

@@ -16,10 +16,11 @@ ghost use Rattle.std.specs.Prelude.{◌≡◌, ◌++◌, ℕ, IfErr, IfOk, List,
 
 use crate::branches::{branch_count, branch_of};
 use cel::PatternBook;
+use cel_demand::Demand;
 use cel_value::Value as CelValue;
 use kube_cel_walk::verdict::{Context, add_verdict};
-use kube_cel_walk::{Node, ValidationError};
-use kube_schema::{CompilationError, CompilationResult, SchemaNode, bind_node};
+use kube_cel_walk::{Node, NodeDemands, ValidationError};
+use kube_schema::{CompilationError, CompilationResult, SchemaNode, bind_node_part};
 use kube_schema_rules::BranchKind;
 use kube_types::Refused;
 use serde_json::Value;
@@ -139,9 +140,20 @@ impl Node for CompiledNode<'_> {
     }
 
     #[tactic(auto, unfolding(crate::specs::Compiled::compiled_form))]
-    fn bind(&self, alloc: Global, value: &Value, depth: usize) -> Result<CelValue, Refused> {
-        let bound = bind_node(alloc, &self.node, value, depth)?;
-        Ok(bound)
+    fn demands(&self, _alloc: Global) -> Result<NodeDemands<'_>, Refused> {
+        Ok(NodeDemands::Known(self.node.demands()))
+    }
+
+    #[tactic(auto, unfolding(crate::specs::Compiled::compiled_form))]
+    fn bind_part(
+        &self,
+        alloc: Global,
+        value: &Value,
+        depth: usize,
+        demand: &Demand,
+    ) -> Result<CelValue, Refused> {
+        let part = bind_node_part(alloc, &self.node, value, depth, demand)?;
+        Ok(part)
     }
 
     #[tactic(auto, unfolding(crate::specs::Compiled::compiled_form))]

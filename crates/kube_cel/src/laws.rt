@@ -1,9 +1,13 @@
 //! Laws of validation and of places, each the contract of a call that does nothing.
-ghost use Rattle.cel_patterns.specs.Book.{Book};
+ghost use Rattle.cel_patterns.specs.Book.{Book, Extends, IsBook, IsPlain, IsRefused};
+ghost use Rattle.cel_patterns.specs.Entries.{entries_of};
+ghost use Rattle.cel_patterns.specs.declared.book.PatternBook.{PatternBook};
 ghost use Rattle.kube_cel.specs.Added.{NodeStep, with_rules};
 ghost use Rattle.kube_cel.specs.AddedVerdicts.{AddsAlone};
+ghost use Rattle.kube_cel.specs.Answers.{report_of};
 ghost use Rattle.kube_cel.specs.Compiled.{compiled_form};
 ghost use Rattle.kube_cel.specs.CompiledShape.{compiled_shape};
+ghost use Rattle.kube_cel.specs.Parts.{is_branch, part_along};
 ghost use Rattle.kube_cel.specs.Raw.{raw_form};
 ghost use Rattle.kube_cel.specs.Starts.{defaulted_start, tree_start};
 ghost use Rattle.kube_cel.specs.Visits.{with_node_of};
@@ -11,11 +15,14 @@ ghost use Rattle.kube_schema_rules.specs.Raw.{raw_shape};
 ghost use Rattle.kube_schema_rules.specs.Step.{Step};
 ghost use Rattle.kube_schema_rules.specs.Visit.{Visit, candidates, goes, Root, root_visit};
 ghost use Rattle.kube_schema_rules.specs.Walk.{answers, leads, places};
-ghost use Rattle.kube_cel_walk.specs.Answers.{answer};
+ghost use Rattle.kube_cel_walk.specs.Answers.{answer, bound_at};
+ghost use Rattle.kube_cel_walk.specs.Errors.{ErrorData};
+ghost use Rattle.kube_cel_walk.specs.WalkAccessors.{WalkAccessors};
 ghost use Rattle.kube_schema.specs.Tree.{Node};
 ghost use Rattle.kube_schema.specs.View.{view_of};
 ghost use Rattle.serde_json.specs.Data.{Data, Items};
-ghost use Rattle.std.specs.Prelude.{◌≡◌, ◌+◌, ℕ, List, length, option_map, Option};
+ghost use Rattle.std.specs.List.{list_any};
+ghost use Rattle.std.specs.Prelude.{◌≡◌, ◌+◌, ℕ, List, length, option_map, ◌≤◌, ◌↔◌, Option, Result, Some, false};
 
 /// The places of a schema are those of its tree, in the same order, and the same steps lead to the same visits: the node is the tree of the
 /// schema there.
@@ -53,4 +60,55 @@ pub fn added_rules_leave_all_other_errors()
         → AddsAlone b more node (defaulted_start schema value old root)
         (answer raw_form b 65 (defaulted_start schema value old root))
         (answer raw_form b 65 (defaulted_start (with_rules more node schema) value old root)) }
+{}
+
+/// What is answered rests on a book only by which texts the book refuses, whatever form the schema has. So all plain books give one list.
+pub fn books_that_refuse_alike_give_one_list<S>()
+    ensures alike { (a b : Book) → ((text : List ℕ) → IsRefused a text ↔ IsRefused b text)
+        → (form : WalkAccessors S) (root : Visit S) → answer form a 65 root ≡ answer form b 65 root }
+    ensures plain { (a b : Book) → IsBook a → IsBook b → IsPlain a → IsPlain b
+        → (form : WalkAccessors S) (root : Visit S) → answer form a 65 root ≡ answer form b 65 root }
+{}
+
+/// One book that is lent to two calls, by the schema and by its tree in either order, gives one list: what the first call answers holds under
+/// each book that has the entries between the calls, and the book has them also at the end.
+pub fn one_lent_book_gives_one_list()
+    ensures tree_second { (between after : Book) (schema value : Data) (old : Option Data) (root : Option Root)
+        (first second : Result (Unit {0}) (List ErrorData)) → Extends after between
+        → ((b : Book) → Extends b between → first ≡ report_of (answer raw_form b 65 (defaulted_start schema value old root)))
+        → ((b : Book) → Extends b after
+        → second ≡ report_of (answer compiled_form b 65 (tree_start (view_of 65 schema) value old root))) → first ≡ second }
+    ensures tree_first { (between after : Book) (schema value : Data) (old : Option Data) (root : Option Root)
+        (first second : Result (Unit {0}) (List ErrorData)) → Extends after between
+        → ((b : Book) → Extends b between
+        → first ≡ report_of (answer compiled_form b 65 (tree_start (view_of 65 schema) value old root)))
+        → ((b : Book) → Extends b after → second ≡ report_of (answer raw_form b 65 (defaulted_start schema value old root)))
+        → first ≡ second }
+{}
+
+/// Where a lent book refuses at the end only what reads as no pattern, the call has answered what every plain book gives.
+pub fn a_plain_lent_book_gives_the_plain_list<S>()
+    ensures { (lent : PatternBook) (plain : Book) → IsPlain (entries_of lent) → IsBook plain → IsPlain plain
+        → (form : WalkAccessors S) (root : Visit S) (answered : Result (Unit {0}) (List ErrorData))
+        → ((b : Book) → Extends b (entries_of lent) → answered ≡ report_of (answer form b 65 root))
+        → answered ≡ report_of (answer form plain 65 root) }
+{}
+
+/// What `self` is at a place is the part of the root's `self` that CEL finds along the steps: at each step the member at the property's name
+/// (escaped, but in a map), or the item at the index. Steps to branches stay at the value, whose node then binds it anew: they are left out.
+/// The same holds of `oldSelf`, where there is one. So a value that was bound at the root need not be bound again at the places within it.
+pub fn self_is_the_part_of_the_roots()
+    ensures schema { (root place : Visit Data) (steps : List Step) → root.depth + length steps ≤ 65 → list_any is_branch steps ≡ false
+        → leads (goes raw_form.shape) steps root ≡ Some place
+        → part_along raw_form steps root (bound_at raw_form root root.value) ≡ Some (bound_at raw_form place place.value) }
+    ensures schema_old { (root place : Visit Data) (steps : List Step) (old part : Data) → root.depth + length steps ≤ 65
+        → list_any is_branch steps ≡ false → leads (goes raw_form.shape) steps root ≡ Some place → root.old ≡ Some old → place.old ≡ Some part
+        → part_along raw_form steps root (bound_at raw_form root old) ≡ Some (bound_at raw_form place part) }
+    ensures tree { (root place : Visit Node) (steps : List Step) → root.depth + length steps ≤ 65 → list_any is_branch steps ≡ false
+        → leads (goes compiled_form.shape) steps root ≡ Some place
+        → part_along compiled_form steps root (bound_at compiled_form root root.value) ≡ Some (bound_at compiled_form place place.value) }
+    ensures tree_old { (root place : Visit Node) (steps : List Step) (old part : Data) → root.depth + length steps ≤ 65
+        → list_any is_branch steps ≡ false → leads (goes compiled_form.shape) steps root ≡ Some place
+        → root.old ≡ Some old → place.old ≡ Some part
+        → part_along compiled_form steps root (bound_at compiled_form root old) ≡ Some (bound_at compiled_form place part) }
 {}

@@ -36,17 +36,21 @@ pub mod validation;
 pub use cel;
 pub use kube_cel_analysis::{
     AnalysisWarning, LintFinding, LintKind, ScopeContext, WarningKind, analyze_rule,
-    check_rule_scope, estimate_rule_cost, lint_schema,
+    check_rule_scope, estimate_rule_cost, laws as analysis_laws, lint_schema,
 };
 pub use kube_cel_vap::{
     AdmissionRequest, CompiledVapExpression, GroupVersionKind, GroupVersionResource, VapError,
     VapEvaluator, VapEvaluatorBuilder, VapExpression, VapResult, laws as policy_laws,
+    request_value,
 };
-pub use kube_cel_walk::{ErrorKind, RootContext, ValidationError, ValidationErrors};
-pub use kube_functions::{Context, KubeCelExt};
+pub use kube_cel_walk::{
+    ErrorKind, RootContext, ValidationError, ValidationErrors, laws as error_laws,
+};
+pub use kube_functions::{Context, KubeCelExt, KubeFunctions, laws as function_laws, printed};
 pub use kube_schema::{
     CompilationError, CompilationResult, CompiledSchema, Rule, RuleFault, SchemaFormat, SchemaNode,
-    apply_defaults, compile_schema, escape_field_name, unescape_field_name,
+    apply_defaults, bind, bind_plain, compile_schema, escape_field_name, laws as schema_laws,
+    unescape_field_name,
 };
 pub use kube_types::Refused;
 pub use validation::{Validator, validate, validate_compiled};

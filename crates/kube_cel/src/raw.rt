@@ -1,4 +1,6 @@
 //! The nodes of a schema as JSON.
+ghost use Rattle.cel_demand.specs.Demand.{part_of};
+ghost use Rattle.cel_demand.specs.Part.{both_read};
 ghost use Rattle.cel_patterns.specs.Book.{Extends, Book};
 ghost use Rattle.cel_patterns.specs.Entries.{entries_of};
 ghost use Rattle.cel_semantics.specs.Bindings.{bindings_of};
@@ -8,6 +10,7 @@ ghost use Rattle.kube_schema_rules.specs.Step.{keyword};
 ghost use Rattle.kube_cel_walk.specs.AddedErrors.{AreAdded};
 ghost use Rattle.kube_cel_walk.specs.Verdicts.{list_of_option, verdict};
 ghost use Rattle.kube_schema_rules.specs.Compilation.{compiled_rule, compiled_rules};
+ghost use Rattle.kube_schema_rules.specs.Demands.{AreDemands, rule_read, rules_read};
 ghost use Rattle.serde_json.specs.Data.{Data};
 ghost use Rattle.serde_json.specs.Find.{get, get_member, as_array, as_object};
 ghost use Rattle.serde_json.specs.View.{items_view, members_view, view};
@@ -16,11 +19,12 @@ ghost use Rattle.std.specs.Prelude.{◌≡◌, ℕ, codes, IfErr, IfOk, List, ma
 
 use crate::cache::RuleCache;
 use cel::PatternBook;
+use cel_demand::Demand;
 use cel_value::Value as CelValue;
 use kube_cel_walk::verdict::{Context, add_verdict};
-use kube_cel_walk::{Node, ValidationError};
-use kube_schema::{bind, rule_values};
-use kube_schema_rules::BranchKind;
+use kube_cel_walk::{Node, NodeDemands, ValidationError};
+use kube_schema::{Demands, bind, rule_values};
+use kube_schema_rules::{BranchKind, no_demands, with_rule};
 use kube_types::Refused;
 use serde_json::{Map, Value};
 use std::alloc::{AllocError, Global};
@@ -90,6 +94,38 @@ fn branches_of(node: &Value, kind: BranchKind) -> Option<&Vec<Value>>
         ≡ option_and_then as_array (get (keyword kind) (view node.now)) }
 {
     node.get(kind.keyword())?.as_array()
+}
+
+/// What a rule reads or what is read besides.
+fn with_demands(
+    alloc: Global,
+    rule: &Value,
+    cache: &RuleCache,
+    demands: Demands,
+) -> Result<Demands, Refused>
+    ensures value { IfOk result (λ d. option_map part_of d.value
+        ≡ both_read (rule_read (codes "self") (compiled_rule (view rule.now))) (option_map part_of demands.value)) }
+    ensures old { IfOk result (λ d. option_map part_of d.old
+        ≡ both_read (rule_read (codes "oldSelf") (compiled_rule (view rule.now))) (option_map part_of demands.old)) }
+    ensures memory { IfErr result (λ e. e ≡ Refused.Memory) }
+{
+    let compiled = cache.compiled(rule)?;
+    let more = with_rule(alloc, &compiled, demands)?;
+    Ok(more)
+}
+
+/// What rules read as JSON gives them.
+fn demands_of(alloc: Global, rules: &[Value], cache: &RuleCache) -> Result<Demands, Refused>
+    ensures demands { IfOk result (λ d. AreDemands d (λ x. rules_read x (compiled_rules (items_view rules.now)))) }
+    ensures memory { IfErr result (λ e. e ≡ Refused.Memory) }
+{
+    let mut demands = no_demands();
+    let mut left = rules.len();
+    while left > 0 {
+        left -= 1;
+        demands = with_demands(alloc, &rules[left], cache, demands)?;
+    }
+    Ok(demands)
 }
 
 /// Adds the verdict of a rule as JSON gives it, if it has one.
@@ -199,9 +235,21 @@ impl Node for JsonNode<'_> {
     }
 
     #[tactic(auto, unfolding(crate::specs::Raw::raw_form, kube_schema_rules::specs::Raw::raw_shape))]
-    fn bind(&self, alloc: Global, value: &Value, depth: usize) -> Result<CelValue, Refused> {
-        let bound = bind(alloc, self.schema, value, depth)?;
-        Ok(bound)
+    fn demands(&self, alloc: Global) -> Result<NodeDemands<'_>, Refused> {
+        let demands = demands_of(alloc, rule_values(self.schema), self.cache)?;
+        Ok(NodeDemands::Made(demands))
+    }
+
+    #[tactic(auto, unfolding(crate::specs::Raw::raw_form, kube_schema_rules::specs::Raw::raw_shape))]
+    fn bind_part(
+        &self,
+        alloc: Global,
+        value: &Value,
+        depth: usize,
+        _demand: &Demand,
+    ) -> Result<CelValue, Refused> {
+        let whole = bind(alloc, self.schema, value, depth)?;
+        Ok(whole)
     }
 
     #[tactic(auto, unfolding(crate::specs::Raw::raw_form, kube_schema_rules::specs::Raw::raw_shape))]

@@ -1,6 +1,9 @@
 pub mod Rest
 pub mod Named
+pub mod Nodes
 pub mod Rules
 pub mod Unique
+pub mod Unknown
 pub mod Walks
+pub mod Equals
 pub mod Sums

@@ -10,6 +10,7 @@ use Rattle.cel_syntax.specs.CallNames.{is_called, is_called_in_any, is_called_in
 use Rattle.cel_syntax.specs.Names.{AreNames}
 use Rattle.cel_syntax_ast.specs.FreeNames.{is_free, is_free_in_any, is_free_in_pairs}
 use Rattle.cel_syntax_ast.specs.Term.{Term, literal, ident, select, has, index, unary, binary, conditional, list_of, map_with, call, qualified, macro, Terms, no_terms, term_and, Pairs, no_pairs, pair_and}
+use Rattle.kube_cel_analysis.specs.Findings.{Naming}
 use Rattle.kube_schema_rules.proofs.Sorted.{key_cmp, keys_sorted, same_key}
 use Rattle.kube_schema_rules.specs.Inside.{in_order, insert_key}
 
@@ -160,3 +161,8 @@ mutual
 
 pub free_names : (t : Term) → (names : List (List ℕ)) × AreNames names (λ x. is_free x t)
 free_names t = (in_order (frees t), record { ascending = keys_sorted (frees t); exactly = λ x. ordered_any x (frees t) ∙ free_here x t })
+
+-- ---- all trees at once
+
+pub naming : Naming
+naming = record { called = λ t. (called_names t).0; free = λ t. (free_names t).0; called_are = λ t. (called_names t).1; free_are = λ t. (free_names t).1 }

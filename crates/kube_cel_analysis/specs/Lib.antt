@@ -3,6 +3,7 @@ pub mod Estimates
 pub mod Findings
 pub mod Pointers
 pub mod Lint
+pub mod Nodes
 pub mod Cost
 pub mod Scopes
 pub mod Sizes

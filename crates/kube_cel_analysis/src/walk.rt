@@ -2,6 +2,7 @@
 ghost use Rattle.std.specs.Prelude.{◌≡◌, ◌++◌, [], IfErr, IfOk, OnOk, map, option_map};
 ghost use Rattle.kube_cel_analysis.specs.Findings.{Naming, finding_view};
 ghost use Rattle.kube_cel_analysis.specs.Lint.{branch_findings, branches_of, findings, named_findings, findings_at};
+ghost use Rattle.kube_cel_analysis.specs.Nodes.{AreFoundAtNodes};
 ghost use Rattle.kube_cel_analysis.specs.Pointers.{additional_pointer, items_pointer};
 ghost use Rattle.kube_schema.specs.Shown.{node_tree, whole};
 ghost use Rattle.kube_schema.specs.Tree.{additional_of, items_of, named_of, nodes_length, nth_node};
@@ -21,6 +22,7 @@ use std::alloc::Global;
 ///
 /// [`Refused`] where memory is refused.
 pub fn lint_schema(alloc: Global, schema: &CompiledSchema) -> Result<Vec<LintFinding>, Refused>
+    ensures nodes { IfOk result (λ v. (names : Naming) × AreFoundAtNodes names (whole schema.now) (map finding_view v.items)) }
     ensures findings { IfOk result (λ v. (names : Naming) → map finding_view v.items ≡ findings names [] (whole schema.now)) }
     ensures memory { IfErr result (λ e. e ≡ Refused.Memory) }
 {

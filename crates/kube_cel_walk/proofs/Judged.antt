@@ -1,16 +1,18 @@
 -- What is found at one place.
+use Rattle.cel_demand.specs.Alike.{NamesAlike}
+use Rattle.cel_demand.specs.Part.{Part}
 use Rattle.cel_patterns.specs.Book.{Book}
 use Rattle.cel_semantics.specs.Bindings.{Bindings, binding}
 use Rattle.kube_cel_walk.specs.Errors.{ErrorData}
 use Rattle.kube_cel_walk.specs.RuleErrors.{too_deep}
 use Rattle.kube_schema_rules.specs.Visit.{Visit}
-use Rattle.kube_cel_walk.proofs.Bound.{old_under, root_under}
-use Rattle.kube_cel_walk.proofs.Ruled.{verdict_alike}
+use Rattle.kube_cel_walk.proofs.ReadVerdicts.{names_rooted, verdicts_read}
 use Rattle.kube_cel_walk.specs.Verdicts.{list_of_option, verdict, with_old, with_root}
 use Rattle.kube_cel_walk.specs.Answers.{bound_at, place_bindings, rule_verdicts, verdicts}
 use Rattle.kube_cel_walk.specs.WalkAccessors.{WalkAccessors, is_none_of}
 use Rattle.kube_schema_rules.specs.Compilation.{Compiled, Malformed}
-use Rattle.std.proofs.Common.{◌≡◌, ◌==◌, ℕ, List, [], ◌∷◌, Bool, true, false, Option, option_map, Result, codes, if◌then◌else◌, refl, ap, ◌∙◌, arith}
+use Rattle.kube_schema_rules.specs.Demands.{rules_read}
+use Rattle.std.proofs.Common.{◌≡◌, ◌==◌, ℕ, List, [], ◌∷◌, Bool, true, false, Option, option_map, Result, codes, if◌then◌else◌, refl, sym, ap, ◌∙◌, arith}
 use Rattle.std.proofs.lemmas.Bool.Decides.{nat_tests}
 use Rattle.std.specs.List.{flat_map}
 
@@ -20,14 +22,10 @@ none_in f (x ∷ xs) h = cc
 
 module _ {S : Type 0} (form : WalkAccessors S) where
   -- `self`, then `oldSelf`, then the names of the whole object
-  pub placed : (s : Visit S) (e0 e1 e2 : Bindings) → ((y : List ℕ) → binding y e0 ≡ binding y ((codes "self", bound_at form s s.value) ∷ []))
-      → ((y : List ℕ) → binding y e1 ≡ binding y (with_old (option_map (bound_at form s) s.old) e0)) → ((y : List ℕ) → binding y e2 ≡ binding y (with_root s.root e1))
-      → (y : List ℕ) → binding y e2 ≡ binding y (place_bindings form s)
+  pub placed : (read : List ℕ → Option Part) (s : Visit S) (e1 e2 : Bindings) → NamesAlike read e1 (with_old (option_map (bound_at form s) s.old) ((codes "self", bound_at form s s.value) ∷ []))
+      → ((y : List ℕ) → binding y e2 ≡ binding y (with_root s.root e1)) → NamesAlike read e2 (place_bindings form s)
   unfolding place_bindings
-  placed s e0 e1 e2 h0 h1 h2 y =
-      let old = option_map (bound_at form s) s.old in
-      let e : Bindings = (codes "self", bound_at form s s.value) ∷ [] in
-      h2 y ∙ root_under s.root e1 (with_old old e0) h1 y ∙ root_under s.root (with_old old e0) (with_old old e) (old_under old e0 e h0) y
+  placed read s e1 e2 h1 h2 = names_rooted read s.root e2 e1 (with_old (option_map (bound_at form s) s.old) ((codes "self", bound_at form s s.value) ∷ [])) h1 h2
 
   at_depth : Book → Visit S → Bool → List ErrorData
   at_depth b s t = if t then too_deep s.path ∷ [] else rule_verdicts form b (place_bindings form s) s
@@ -42,8 +40,8 @@ module _ {S : Type 0} (form : WalkAccessors S) where
   unfolding verdicts at_depth rule_verdicts
   none_found b s t n = ap (at_depth b s) t ∙ none_in (λ r. list_of_option (verdict b (place_bindings form s) s.old s.path r)) (form.rules s.node) n
 
-  pub rules_found : (b : Book) (s : Visit S) (e : Bindings) → (s.depth == 65) ≡ false → ((y : List ℕ) → binding y (place_bindings form s) ≡ binding y e)
+  pub rules_found : (b : Book) (s : Visit S) (e : Bindings) → (s.depth == 65) ≡ false → NamesAlike (λ x. rules_read x (form.rules s.node)) e (place_bindings form s)
       → verdicts form b s ≡ flat_map (λ r. list_of_option (verdict b e s.old s.path r)) (form.rules s.node)
   unfolding verdicts at_depth rule_verdicts
   rules_found b s e t h =
-      ap (at_depth b s) t ∙ (λ i. flat_map (λ r. list_of_option (verdict_alike b (place_bindings form s) e s.old s.path r h i)) (form.rules s.node))
+      ap (at_depth b s) t ∙ sym (verdicts_read b e (place_bindings form s) s.old s.path (form.rules s.node) h)

@@ -1,6 +1,8 @@
 pub mod Equals
+pub mod EqualLists
 pub mod Bound
 pub mod Ruled
+pub mod ReadVerdicts
 pub mod Cut
 pub mod Entries
 pub mod Gathered

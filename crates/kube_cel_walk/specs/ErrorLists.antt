@@ -1,8 +1,16 @@
 -- Trusted by the headline.
--- The list that the errors of a validation were made of.
+-- The list that the errors of a validation were made of, and which lists are equal.
 use Rattle.kube_cel_walk.specs.declared.error.ValidationError.{ValidationError}
 use Rattle.kube_cel_walk.specs.declared.error.ValidationErrors.{ValidationErrors}
-use Rattle.std.specs.Prelude.{List}
+use Rattle.kube_cel_walk.specs.Errors.{ErrorData, SameFields}
+use Rattle.std.specs.Prelude.{List, [], ◌∷◌}
 
 abbrev pub errors_in : ValidationErrors → List ValidationError
 errors_in e = e.errors.items
+
+-- as many errors, and at each place the same fields
+abbrev pub SameErrors : List ErrorData → List ErrorData → Type 0
+SameErrors [] [] = Unit {0}
+SameErrors [] (f ∷ fs) = ⊥
+SameErrors (e ∷ es) [] = ⊥
+SameErrors (e ∷ es) (f ∷ fs) = SameFields e f × SameErrors es fs

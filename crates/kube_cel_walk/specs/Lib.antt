@@ -8,3 +8,4 @@ pub mod Verdicts
 pub mod Answers
 pub mod WalkAccessors
 pub mod Visits
+pub mod Demands

@@ -1,13 +1,18 @@
 //! The errors at one place.
+ghost use Rattle.cel_demand.specs.Alike.{NamesAlike};
+ghost use Rattle.cel_demand.specs.Demand.{part_of};
+ghost use Rattle.cel_demand.specs.Part.{Part};
 ghost use Rattle.cel_patterns.specs.Book.{Extends, Book};
 ghost use Rattle.cel_patterns.specs.Entries.{entries_of};
-ghost use Rattle.cel_semantics.specs.Bindings.{binding, bindings_of};
+ghost use Rattle.cel_semantics.specs.Bindings.{Bindings, bindings_of};
 ghost use Rattle.kube_cel_walk.specs.AddedErrors.{AreAdded};
 ghost use Rattle.kube_cel_walk.specs.Verdicts.{with_old};
 ghost use Rattle.kube_cel_walk.specs.Answers.{bound_at, place_bindings, verdicts};
 ghost use Rattle.kube_cel_walk.specs.Visits.{visit_at};
+ghost use Rattle.kube_schema_values.specs.Conversion.{to_cel, levels};
+ghost use Rattle.kube_schema_rules.specs.Demands.{rules_read};
 ghost use Rattle.serde_json.specs.View.{view};
-ghost use Rattle.std.specs.Prelude.{◌≡◌, IfErr, IfOk, List, OnOk, option_map, ℕ};
+ghost use Rattle.std.specs.Prelude.{◌≡◌, ◌∷◌, codes, IfErr, IfOk, List, OnOk, Option, option_map, ℕ};
 
 use crate::error::ValidationError;
 use crate::node::Node;
@@ -15,38 +20,79 @@ use crate::rule_error::deep_error;
 use crate::state::WalkState;
 use crate::verdict::{Context, bind_root};
 use cel::PatternBook;
+use cel_demand::Demand;
 use kube_types::Refused;
+use serde_json::Value;
 use std::alloc::Global;
 
 /// The number of steps at which a schema is too deep: its rules count up to depth 64.
 pub(crate) const TOO_DEEP: usize = 65;
 
-/// Binds `oldSelf`, where there is an old counterpart.
+/// Binds a name to as much of a value at a node as is demanded, if anything is.
+fn bind_name<N: Node>(
+    alloc: Global,
+    context: &mut Context<'_>,
+    name: &str,
+    node: &N,
+    value: &Value,
+    depth: usize,
+    demand: &Option<Demand>,
+) -> Result<(), Refused>
+    ensures bound { OnOk result ((read : List ℕ → Option Part) (f : Bindings) → option_map part_of demand.now ≡ read name.now
+        → NamesAlike read (bindings_of context.old) f → NamesAlike read (bindings_of context.new)
+        ((name.now, to_cel N.form.accessors (levels depth) (N.seen node.now) (view value.now)) ∷ f)) }
+    ensures memory { IfErr result (λ e. e ≡ Refused.Memory) }
+{
+    let Some(demand) = demand else {
+        return Ok(());
+    };
+    let part = node.bind_part(alloc, value, depth, demand)?;
+    context.add_variable(name, part)?;
+    Ok(())
+}
+
+/// Binds `oldSelf` as far as is demanded, where there is an old counterpart.
 fn bind_old<N: Node>(
     alloc: Global,
     context: &mut Context<'_>,
     state: &WalkState<'_, N>,
+    demand: &Option<Demand>,
 ) -> Result<(), Refused>
-    ensures bound { OnOk result ((path x : List ℕ) → binding x (bindings_of context.new)
-        ≡ binding x (with_old (option_map (bound_at N.form (visit_at N.seen state.now path)) (option_map (λ v. view v.now) state.now.old)) (bindings_of context.old))) }
+    ensures bound { OnOk result ((read : List ℕ → Option Part) (f : Bindings) (path : List ℕ)
+        → option_map part_of demand.now ≡ read (codes "oldSelf") → NamesAlike read (bindings_of context.old) f
+        → NamesAlike read (bindings_of context.new) (with_old (option_map (bound_at N.form (visit_at N.seen state.now path))
+        (option_map (λ v. view v.now) state.now.old)) f)) }
     ensures memory { IfErr result (λ e. e ≡ Refused.Memory) }
 {
     let Some(old) = state.old else {
         return Ok(());
     };
-    context.add_variable("oldSelf", state.node.bind(alloc, old, state.depth)?)
+    let node = &state.node;
+    bind_name(alloc, context, "oldSelf", node, old, state.depth, demand)?;
+    Ok(())
 }
 
-/// The names that all rules at a place have, bound: `self`, `oldSelf` where there is an old counterpart, and those of the whole
-/// object where it is known.
+/// The names that all rules at a place have, each bound as far as a rule reads it: `self`, `oldSelf` where there is an old counterpart,
+/// and those of the whole object where it is known.
 fn context_at<'c, N: Node>(alloc: Global, state: &WalkState<'_, N>) -> Result<Context<'c>, Refused>
-    ensures bound { IfOk result (λ c. (path x : List ℕ) → binding x (bindings_of c) ≡ binding x (place_bindings N.form (visit_at N.seen state.now path))) }
+    ensures bound { IfOk result (λ c. (path : List ℕ) → NamesAlike (λ x. rules_read x (N.form.rules (N.seen state.now.node)))
+        (bindings_of c) (place_bindings N.form (visit_at N.seen state.now path))) }
     ensures memory { IfErr result (λ e. e ≡ Refused.Memory) }
 {
+    let known = state.node.demands(alloc)?;
+    let demands = known.get();
     let mut context = Context::default(alloc);
-    let value = state.node.bind(alloc, state.value, state.depth)?;
-    context.add_variable("self", value)?;
-    bind_old(alloc, &mut context, state)?;
+    let (node, value) = (&state.node, state.value);
+    bind_name(
+        alloc,
+        &mut context,
+        "self",
+        node,
+        value,
+        state.depth,
+        &demands.value,
+    )?;
+    bind_old(alloc, &mut context, state, &demands.old)?;
     bind_root(alloc, &mut context, state.root)?;
     Ok(context)
 }

@@ -3,6 +3,7 @@
 #![tactic(auto)]
 
 pub mod copy;
+pub mod demands;
 pub mod error;
 pub mod judge;
 pub mod laws;
@@ -14,6 +15,7 @@ pub mod state;
 pub mod verdict;
 pub mod walk;
 
+pub use demands::NodeDemands;
 pub use error::{ErrorKind, ValidationError, ValidationErrors};
 pub use node::Node;
 pub use root::RootContext;

@@ -1,4 +1,6 @@
 //! A node of a schema, as a walk asks of it.
+ghost use Rattle.cel_demand.specs.Alike.{Alike};
+ghost use Rattle.cel_demand.specs.Demand.{part_of};
 ghost use Rattle.cel_patterns.specs.Book.{Extends, Book};
 ghost use Rattle.cel_patterns.specs.Entries.{entries_of};
 ghost use Rattle.cel_semantics.specs.Bindings.{bindings_of};
@@ -7,14 +9,18 @@ ghost use Rattle.kube_schema_rules.specs.Inside.{in_order};
 ghost use Rattle.kube_cel_walk.specs.AddedErrors.{AreAdded};
 ghost use Rattle.kube_cel_walk.specs.Verdicts.{list_of_option, verdict};
 ghost use Rattle.kube_cel_walk.specs.WalkAccessors.{WalkAccessors, is_none_of};
+ghost use Rattle.kube_cel_walk.specs.Demands.{demands_in};
 ghost use Rattle.kube_schema_values.specs.Conversion.{to_cel, levels};
+ghost use Rattle.kube_schema_rules.specs.Demands.{AreDemands, rules_read};
 ghost use Rattle.serde_json.specs.View.{view};
 ghost use Rattle.std.specs.List.{flat_map};
 ghost use Rattle.std.specs.Prelude.{◌≡◌, ℕ, IfErr, IfOk, List, map, OnOk, Option, option_map, Some};
 
+use crate::demands::NodeDemands;
 use crate::error::ValidationError;
 use crate::verdict::Context;
 use cel::PatternBook;
+use cel_demand::Demand;
 use cel_value::Value as CelValue;
 use kube_schema_rules::BranchKind;
 use kube_types::Refused;
@@ -54,9 +60,21 @@ pub trait Node: Copy {
     fn branch(&self, kind: BranchKind, index: usize) -> Option<Self>
         ensures { option_map seen result ≡ form.shape.branch kind index (seen self.now) };
 
-    /// The CEL value of a value at a node that stands `depth` steps from the root.
-    fn bind(&self, alloc: Global, value: &Value, depth: usize) -> Result<CelValue, Refused>
-        ensures value { IfOk result (λ v. cel_view v ≡ to_cel form.accessors (levels depth) (seen self.now) (view value.now)) }
+    /// How much of the values at a place the node's rules read.
+    fn demands(&self, alloc: Global) -> Result<NodeDemands<'_>, Refused>
+        ensures demands { IfOk result (λ d. AreDemands (demands_in d) (λ x. rules_read x (form.rules (seen self.now)))) }
+        ensures memory { IfErr result (λ e. e ≡ Refused.Memory) };
+
+    /// As much as is demanded of the CEL value of a value at a node that stands `depth` steps from the root.
+    fn bind_part(
+        &self,
+        alloc: Global,
+        value: &Value,
+        depth: usize,
+        demand: &Demand,
+    ) -> Result<CelValue, Refused>
+        ensures value { IfOk result (λ v. Alike (part_of demand.now) (cel_view v)
+            (to_cel form.accessors (levels depth) (seen self.now) (view value.now))) }
         ensures memory { IfErr result (λ e. e ≡ Refused.Memory) };
 
     /// Whether the node has no rules.

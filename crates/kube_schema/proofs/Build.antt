@@ -19,8 +19,7 @@ use Rattle.kube_schema.specs.declared.nodes.Children.{Children}
 use Rattle.kube_schema.specs.declared.nodes.TableNode.{TableNode}
 use Rattle.kube_schema_values.specs.Node.{format_of, is_map, is_embedded}
 use Rattle.kube_schema_values.specs.DefaultsAccessors.{declared_properties, members_or_none, preserves, default_in}
-use Rattle.kube_schema_rules.specs.declared.compilation.CompilationError.{CompilationError}
-use Rattle.kube_schema_rules.specs.declared.compilation.CompilationResult.{CompilationResult}
+use Rattle.kube_schema_rules.specs.declared.node_rules.NodeRules.{NodeRules}
 use Rattle.kube_schema_values.specs.declared.format.SchemaFormat.TheVariants as format
 use Rattle.kube_schema_rules.specs.Compilation.{compiled_rules, compiled_seen, past_depth}
 use Rattle.kube_schema_rules.specs.Rules.{rule_items}
@@ -161,13 +160,13 @@ built t0 t1 t7 t8 n k r shown p a k7 k8 e =
 
 -- ---- what the tree is, by the schema
 
-pub own_same : (k : Keywords) (s : Data) → map compiled_seen k.validations.items ≡ compiled_rules (rule_items s) → k.format ≡ format_of s → k.is_map ≡ is_map s → k.preserve_unknown_fields ≡ preserves s → k.embedded_resource ≡ is_embedded s
+pub own_same : (k : Keywords) (s : Data) → map compiled_seen k.validations.rules.items ≡ compiled_rules (rule_items s) → k.format ≡ format_of s → k.is_map ≡ is_map s → k.preserve_unknown_fields ≡ preserves s → k.embedded_resource ≡ is_embedded s
     → k.max_length ≡ limit (codes "maxLength") s → k.max_items ≡ limit (codes "maxItems") s → k.max_properties ≡ limit (codes "maxProperties") s → option_map view k.default ≡ default_in s → keywords_view k ≡ own_view s
 unfolding keywords_view own_view
 own_same k s a b c d e f g h i = rw (a, b, c, d, e, f, g, h, i) refl
 
 -- the keywords of a marker
-pub marker_same : (vs : Vec (Result CompilationResult CompilationError) Global) (o : Option Value) (s : Data) → map compiled_seen vs.items ≡ Err (past_depth 65) ∷ [] → option_map view o ≡ default_in s
+pub marker_same : (vs : NodeRules) (o : Option Value) (s : Data) → map compiled_seen vs.rules.items ≡ Err (past_depth 65) ∷ [] → option_map view o ≡ default_in s
     → keywords_view (record { validations = vs; format = format.None; is_map = false; preserve_unknown_fields = false; embedded_resource = false; max_length = None; max_items = None; max_properties = None; default = o }) ≡ marker_view s
 unfolding keywords_view marker_view
 marker_same vs o s a b = rw (a, b) refl

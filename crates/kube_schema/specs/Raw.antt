@@ -20,7 +20,7 @@ use Rattle.kube_schema.specs.Tree.{Own, Node, node, Maybe, nothing, just, Named,
 
 unfoldable pub keywords_view : Keywords → Own
 keywords_view k = record {
-  validations = map compiled_seen k.validations.items;
+  validations = map compiled_seen k.validations.rules.items;
   format = k.format;
   is_map = k.is_map;
   preserves = k.preserve_unknown_fields;

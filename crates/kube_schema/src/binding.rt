@@ -2,13 +2,17 @@
 //! schema types and the escaping of property names).
 ghost use Rattle.std.specs.Prelude.{◌≡◌, IfErr, IfOk, option_map};
 ghost use Rattle.serde_json.specs.View.{view as json_view};
+ghost use Rattle.cel_demand.specs.Alike.{Alike};
+ghost use Rattle.cel_demand.specs.Demand.{part_of};
 ghost use Rattle.cel_value.specs.View.{view};
 ghost use Rattle.kube_schema_values.specs.Conversion.{to_cel, levels, member_node};
 ghost use Rattle.kube_schema.specs.Shown.{node_tree};
 ghost use Rattle.kube_schema.specs.CompiledConversion.{tree_accessors};
 
 use crate::node::SchemaNode;
+use cel_demand::Demand;
 use cel_value::{Refused, Value};
+use kube_schema_parts::bind_part_at;
 use kube_schema_values::{Node, SchemaFormat, bind_at};
 use serde_json::Value as Json;
 use std::alloc::Global;
@@ -75,6 +79,27 @@ pub fn bind_node(
     ensures memory { IfErr result (λ e. e ≡ Refused.Memory) }
 {
     bind_at(alloc, CompiledNode { node: *node }, value, depth)
+}
+
+/// As much of the CEL value of a JSON value as is demanded of it, at a node of a compiled schema that stands `depth` steps below the root.
+/// What isn't demanded may be missing.
+///
+/// # Errors
+///
+/// [`Refused`] where memory is refused.
+pub fn bind_node_part(
+    alloc: Global,
+    node: &SchemaNode<'_>,
+    value: &Json,
+    depth: usize,
+    demand: &Demand,
+) -> Result<Value, Refused>
+    ensures value { IfOk result (λ v. Alike (part_of demand.now) (view v)
+        (to_cel tree_accessors (levels depth) (node_tree node.now) (json_view value.now))) }
+    ensures memory { IfErr result (λ e. e ≡ Refused.Memory) }
+{
+    let part = bind_part_at(alloc, CompiledNode { node: *node }, value, depth, demand)?;
+    Ok(part)
 }
 
 // The node of a member: its property, else the node of members that aren't declared.

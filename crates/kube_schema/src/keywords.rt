@@ -6,7 +6,7 @@ ghost use Rattle.kube_schema.specs.View.{limit, branches, own_view, marker_view}
 ghost use Rattle.kube_schema.specs.Raw.{keywords_view};
 
 use crate::nodes::Keywords;
-use kube_schema_rules::{CompilationError, rules_of};
+use kube_schema_rules::{CompilationError, NodeRules, rules_of};
 use kube_schema_values::SchemaFormat;
 use kube_schema_values::node::{format_of, is_embedded, is_map};
 use kube_types_refused::Refused;
@@ -21,7 +21,8 @@ pub(crate) fn keywords_of(alloc: Global, schema: &Value) -> Result<Keywords, Ref
     ensures keywords { IfOk result (λ k. keywords_view k ≡ own_view (view schema.now)) }
     ensures memory { IfErr result (λ e. e ≡ Refused.Memory) }
 {
-    let validations = rules_of(alloc, schema)?;
+    let rules = rules_of(alloc, schema)?;
+    let validations = NodeRules::of(alloc, rules)?;
     let default = copy_default(schema)?;
     Ok(Keywords {
         validations,
@@ -38,11 +39,13 @@ pub(crate) fn keywords_of(alloc: Global, schema: &Value) -> Result<Keywords, Ref
 
 // What stands for a schema past the greatest depth.
 #[tactic(auto, unfolding(crate::specs::View::marker_view, crate::specs::Raw::keywords_view))]
-pub(crate) fn marker_of(alloc: Global, schema: &Value) -> Result<Keywords, AllocError>
-    ensures { IfOk result (λ k. keywords_view k ≡ marker_view (view schema.now)) }
+pub(crate) fn marker_of(alloc: Global, schema: &Value) -> Result<Keywords, Refused>
+    ensures keywords { IfOk result (λ k. keywords_view k ≡ marker_view (view schema.now)) }
+    ensures memory { IfErr result (λ e. e ≡ Refused.Memory) }
 {
-    let mut validations = Vec::with_capacity(alloc, 1)?;
-    validations.push(Err(CompilationError::SchemaTooDeep { depth: TOO_DEEP }))?;
+    let mut rules = Vec::with_capacity(alloc, 1)?;
+    rules.push(Err(CompilationError::SchemaTooDeep { depth: TOO_DEEP }))?;
+    let validations = NodeRules::of(alloc, rules)?;
     let default = copy_default(schema)?;
     Ok(Keywords {
         validations,
@@ -59,7 +62,7 @@ pub(crate) fn marker_of(alloc: Global, schema: &Value) -> Result<Keywords, Alloc
 
 pub(crate) fn no_keywords(alloc: Global) -> Keywords {
     Keywords {
-        validations: Vec::new(alloc),
+        validations: NodeRules::none(alloc),
         format: SchemaFormat::None,
         is_map: false,
         preserve_unknown_fields: false,

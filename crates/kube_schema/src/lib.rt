@@ -32,11 +32,12 @@ mod sharing;
 mod table;
 pub mod table_laws;
 
-pub use binding::bind_node;
+pub use binding::{bind_node, bind_node_part};
 pub use compile::compile_schema;
 pub use defaults::fill_node;
 pub use kube_schema_rules::{
-    CompilationError, CompilationResult, Rule, RuleFault, compile_rule, rule_values, rules_of,
+    CompilationError, CompilationResult, Demands, Rule, RuleFault, compile_rule, laws as rule_laws,
+    rule_values, rules_of,
 };
 pub use kube_schema_values::{
     SchemaFormat, apply_defaults, bind, bind_plain, bind_text, bound_laws, escape_field_name,

@@ -5,7 +5,7 @@ ghost use Rattle.kube_schema.specs.Tree.{Node, count, find};
 
 use crate::nodes::{NodeId, PropertyLink, TableNode};
 use crate::table::Table;
-use kube_schema_rules::{CompilationError, CompilationResult};
+use kube_schema_rules::{CompilationError, CompilationResult, Demands};
 use kube_schema_values::SchemaFormat;
 use kube_types_refused::Refused;
 use serde_json::Value;
@@ -203,6 +203,7 @@ impl<'a> SchemaNode<'a> {
     ghost use Rattle.std.specs.List.{list_any};
     ghost use Rattle.serde_json.specs.View.{view};
     ghost use Rattle.kube_schema_rules.specs.Compilation.{compiled_seen, error_view};
+    ghost use Rattle.kube_schema_rules.specs.Demands.{AreDemands, rules_read};
     ghost use Rattle.kube_schema_values.specs.Without.{HasNoDefaults};
     ghost use Rattle.kube_schema.specs.CompiledDefaults.{tree_accessors};
     ghost use Rattle.kube_schema.specs.Shown.{node_tree};
@@ -341,7 +342,14 @@ impl<'a> SchemaNode<'a> {
     pub fn validations(&self) -> &'a [Result<CompilationResult, CompilationError>]
         ensures { map compiled_seen result.now ≡ (own (node_tree self.now)).validations }
     {
-        self.raw().keywords.validations.as_slice()
+        self.raw().keywords.validations.rules.as_slice()
+    }
+
+    /// How much of the values at a place the rules of the node read.
+    pub fn demands(&self) -> &'a Demands
+        ensures { AreDemands result.now (λ x. rules_read x (own (node_tree self.now)).validations) }
+    {
+        &self.raw().keywords.validations.demands
     }
 
     /// Whether a rule of the node was not compiled.

@@ -1,5 +1,5 @@
 //! Nodes as they lie in the table of a compiled schema.
-use kube_schema_rules::{CompilationError, CompilationResult};
+use kube_schema_rules::NodeRules;
 use kube_schema_values::SchemaFormat;
 use serde_json::Value;
 
@@ -17,7 +17,7 @@ pub struct PropertyLink {
 // What a node says of itself.
 #[derive(Debug, Drop)]
 pub struct Keywords {
-    pub validations: Vec<Result<CompilationResult, CompilationError>>,
+    pub validations: NodeRules,
     pub format: SchemaFormat,
     pub is_map: bool,
     pub preserve_unknown_fields: bool,

@@ -7,3 +7,4 @@ pub mod Raw
 pub mod Sorted
 pub mod Steps
 pub mod Compiled
+pub mod RulesRead

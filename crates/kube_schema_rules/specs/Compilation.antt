@@ -8,7 +8,7 @@ use Rattle.cel_syntax_ast.specs.Term.{Term}
 use Rattle.cel_syntax_ast.specs.FreeNames.{is_free}
 use Rattle.cel.specs.Program.{program_term}
 use Rattle.kube_schema_rules.specs.Rules.{Fields, Fault, fault_text, fault_view, rule_of, rule_view, ◌>>=◌}
-use Rattle.kube_schema_rules.specs.declared.compilation.CompilationResult.{CompilationResult}
+use Rattle.kube_schema_rules.specs.declared.result.CompilationResult.{CompilationResult}
 use Rattle.kube_schema_rules.specs.declared.compilation.CompilationError.{CompilationError}
 use Rattle.kube_schema_rules.specs.declared.compilation.CompilationError.TheVariants as error
 

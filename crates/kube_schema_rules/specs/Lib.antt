@@ -6,3 +6,5 @@ pub mod Step
 pub mod Walk
 pub mod Rules
 pub mod Compilation
+pub mod Reads
+pub mod Demands

@@ -3,27 +3,17 @@ ghost use Rattle.std.specs.Prelude.{◌≡◌, IfErr, IfOk, map, option_map};
 ghost use Rattle.serde_json.specs.View.{view};
 ghost use Rattle.kube_schema_rules.specs.Rules.{rule_view, rule_items};
 ghost use Rattle.cel.specs.Program.{program_term};
+ghost use Rattle.cel_syntax_ast.specs.Term.{term};
 ghost use Rattle.kube_schema_rules.specs.Compilation.{compile_result, compiled_seen, compiled_rule, compiled_rules, result_view, with_tree, with_trees};
 
+use crate::demands::text_demands;
+use crate::result::CompilationResult;
 use crate::rule::{Rule, RuleFault, rule_values};
-use cel::{ParseErrors, Program};
+use cel::{Expr, ParseErrors, Program};
 use kube_types_refused::Refused;
 use serde_json::Value;
 use std::alloc::Global;
 use std::fmt;
-
-/// A rule that was read, with its programs.
-#[derive(Debug, Drop)]
-pub struct CompilationResult {
-    /// The program of the rule's text.
-    pub program: Program,
-    /// The rule.
-    pub rule: Rule,
-    /// Whether the rule speaks of the value before a change: `oldSelf` is a free name of it.
-    pub is_transition_rule: bool,
-    /// The program of the rule's messageExpression, where it has one.
-    pub message_program: Option<Program>,
-}
 
 /// Why a rule was not compiled.
 #[derive(Debug, Drop)]
@@ -150,7 +140,7 @@ fn compile_message(
     ensures memory { IfErr result (λ e. e ≡ Refused.Memory) }
 {
     let Some(text) = &rule.message_expression else {
-        return Ok(Ok(with_programs(rule, program, None)));
+        return Ok(Ok(with_programs(alloc, rule, program, None)?));
     };
     match Program::compile(alloc, text.as_str())? {
         Err(source) => Ok(Err(CompilationError::MessageExpressionParse {
@@ -158,23 +148,41 @@ fn compile_message(
             rule: rule.rule,
             source,
         })),
-        Ok(message_program) => Ok(Ok(with_programs(rule, program, Some(message_program)))),
+        Ok(message_program) => {
+            let compiled = with_programs(alloc, rule, program, Some(message_program))?;
+            Ok(Ok(compiled))
+        }
     }
 }
 
 // A rule with the programs of its texts.
 fn with_programs(
+    alloc: Global,
     rule: Rule,
     program: Program,
     message_program: Option<Program>,
-) -> CompilationResult
-    ensures { result_view result ≡ with_trees (rule_view rule) (program_term program) (option_map program_term message_program) }
+) -> Result<CompilationResult, Refused>
+    ensures rule { IfOk result (λ r. result_view r
+        ≡ with_trees (rule_view rule) (program_term program) (option_map program_term message_program)) }
+    ensures memory { IfErr result (λ e. e ≡ Refused.Memory) }
 {
     let is_transition_rule = program.expression().has_free_name("oldSelf");
-    CompilationResult {
+    let demands = text_demands(alloc, program.expression(), expression_of(&message_program))?;
+    Ok(CompilationResult {
         program,
         rule,
         is_transition_rule,
         message_program,
+        demands,
+    })
+}
+
+// The tree of a program that may be there.
+fn expression_of(program: &Option<Program>) -> Option<&Expr>
+    ensures { option_map (λ e. term e.now) result ≡ option_map program_term program.now }
+{
+    match program {
+        Some(program) => Some(program.expression()),
+        None => None,
     }
 }

@@ -4,10 +4,16 @@
 
 pub mod branches;
 pub mod compilation;
+pub mod demands;
 pub mod laws;
+pub mod node_rules;
+pub mod result;
 pub mod rule;
 
 pub use branches::BranchKind;
-pub use compilation::{CompilationError, CompilationResult, compile_rule, rules_of};
+pub use compilation::{CompilationError, compile_rule, rules_of};
+pub use demands::{Demands, no_demands, with_rule};
 pub use kube_types_refused::Refused;
+pub use node_rules::NodeRules;
+pub use result::CompilationResult;
 pub use rule::{Rule, RuleFault, rule_values};

@@ -9,8 +9,9 @@ use Rattle.kubecel_io.specs.Subjects.{subject_view}
 use Rattle.kubecel_io.specs.declared.subject.Subject.{Subject}
 use Rattle.kubecel_io.specs.Items.{ItemData}
 use Rattle.kubecel_cli.proofs.Judging.{items_otherwise}
+use Rattle.kubecel_cli.proofs.Definitions.{unless_otherwise}
 use Rattle.kubecel_cli.specs.Commands.{CheckData}
-use Rattle.kubecel_cli.specs.Runs.{AreChecked, AreItems, AreReviewed, IsJudged, IsJudgedBy, IsReviewed, IsSetOf}
+use Rattle.kubecel_cli.specs.Runs.{AreChecked, AreItems, AreReviewed, AreUnread, IsJudged, IsJudgedBy, IsReviewed, IsSetOf, UnlessAny}
 use Rattle.serde_json.specs.Data.{Data, Items}
 use Rattle.serde_json.specs.View.{items_of}
 use Rattle.std.proofs.Common.{◌≡◌, ℕ, ◌<◌, List, [], ◌∷◌, length, map, Option, Result, Ok, Err, refl, sym, ap, subst, arith, ◌∙◌}
@@ -34,16 +35,20 @@ some_of [] fs some are = absurd (omega arith)
 some_of (s ∷ ss) [] some are = absurd cc
 some_of (s ∷ ss) (f ∷ fs) some are = omega arith
 
-pub checked_so : {S : Type 0} (reads : S → List ℕ → Option (List ℕ) → S → Type 0) (before : S) (asked : CheckData) (after : S) (items : List ItemData)
-    (crds olds objects : List Found) (with_crds with_olds : S) (set : CrdSet) (old_subjects subjects : List Subject)
+pub checked_so : {S : Type 0} (reads : S → List ℕ → Option (List ℕ) → S → Type 0) (before : S) (asked : CheckData) (after : S) (unread items : List ItemData)
+    (crds olds objects : List Found) (with_crds with_olds : S) (set : CrdSet) (definitions old_subjects subjects : List Subject)
     → AreRead reads before asked.crds crds with_crds → AreRead reads with_crds asked.olds olds with_olds → AreRead reads with_olds asked.objects objects after
-    → IsSetOf crds set → map subject_view old_subjects ≡ all_objects olds → map subject_view subjects ≡ all_objects objects → 0 < length subjects
-    → AreItems (IsJudgedBy set (map (λ f. f.value) (map subject_view old_subjects))) (map subject_view subjects) items → AreChecked reads before asked after items
-checked_so reads before asked after items crds olds objects with_crds with_olds set old_subjects subjects crds_read olds_read objects_read of old_are are some judged =
+    → IsSetOf crds set → map subject_view definitions ≡ all_objects crds → map subject_view old_subjects ≡ all_objects olds → map subject_view subjects ≡ all_objects objects
+    → 0 < length subjects → AreUnread (map subject_view definitions) unread
+    → UnlessAny unread (AreItems (IsJudgedBy set (map (λ f. f.value) (map subject_view old_subjects))) (map subject_view subjects)) items → AreChecked reads before asked after items
+checked_so reads before asked after unread items crds olds objects with_crds with_olds set definitions old_subjects subjects crds_read olds_read objects_read of crds_are old_are are some those judged =
     let versions = of.0 in
     let values = map (λ f. f.value) (map subject_view old_subjects) in
-    let by_versions = items_otherwise (IsJudgedBy set values) (IsJudged versions values) (λ f i x. (x.0, x.1 versions of.2, x.2)) (map subject_view subjects) items judged in
-    let of_objects = subst (λ fs. AreItems (IsJudged versions values) fs items) are by_versions in
+    let all_judged = AreItems (IsJudged versions values) in
+    let by_versions : UnlessAny unread (all_judged (map subject_view subjects)) items =
+    unless_otherwise unread (AreItems (IsJudgedBy set values) (map subject_view subjects)) (all_judged (map subject_view subjects)) items
+    (items_otherwise (IsJudgedBy set values) (IsJudged versions values) (λ f i x. (x.0, x.1 versions of.2, x.2)) (map subject_view subjects) items) judged in
+    let of_objects = subst (λ fs. UnlessAny unread (all_judged fs) items) are by_versions in
     record {
       crds = crds;
       olds = olds;
@@ -56,7 +61,9 @@ checked_so reads before asked after items crds olds objects with_crds with_olds 
       versions = versions;
       whole = of.1;
       some = some_of subjects (all_objects objects) some are;
-      judged = subst (λ os. AreItems (IsJudged versions (map (λ f. f.value) os)) (all_objects objects) items) old_are of_objects;
+      unread = unread;
+      definitions = subst (λ fs. AreUnread fs unread) crds_are those;
+      judged = subst (λ os. UnlessAny unread (AreItems (IsJudged versions (map (λ f. f.value) os)) (all_objects objects)) items) old_are of_objects;
     }
 
 pub reviewed_so : {S : Type 0} (reads : S → List ℕ → Option (List ℕ) → S → Type 0) (before : S) (paths : List (List ℕ)) (after : S) (items : List ItemData)

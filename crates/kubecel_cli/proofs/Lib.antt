@@ -1,5 +1,6 @@
 pub mod Judging
 pub mod Writes
 pub mod Alone
+pub mod Definitions
 pub mod Checking
 pub mod Admitting

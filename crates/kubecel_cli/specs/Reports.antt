@@ -11,6 +11,8 @@ use Rattle.kube_manifests_policies.specs.Verdicts.{Labelled, ItemReportData, Ver
 use Rattle.kube_manifests_policies.specs.declared.verdict.PolicyDecision.{PolicyDecision}
 use Rattle.kube_manifests_policies.specs.declared.verdict.PolicyDecision.TheVariants as decision
 use Rattle.kube_manifests_review.specs.Doubts.{Finding, kind_text}
+use Rattle.kube_manifests_review.specs.declared.finding.ReviewKind.{ReviewKind}
+use Rattle.kube_manifests_review.specs.declared.finding.ReviewKind.TheVariants as kind
 use Rattle.kubecel_io.specs.Objects.{identity_of}
 use Rattle.kubecel_io.specs.Reads.{Found}
 use Rattle.kubecel_io.specs.Items.{FindingData, ItemData}
@@ -71,6 +73,38 @@ reviewed_item f findings = item_of f (pass_unless (map review_finding findings))
 abbrev pub no_crd_item : Found → ItemData
 no_crd_item f = item_of f verdict.NotJudged
     (remark (codes "it is no CustomResourceDefinition of apiextensions.k8s.io/v1"))
+
+-- ---- definitions of which something isn't read
+
+-- whether no schema reads what stands there, though it was meant as a keyword or as rules: a key one letter off a
+-- keyword, or `x-kubernetes-validations` that is no list
+abbrev pub is_unread : ReviewKind → Bool
+is_unread (kind.Lint k) = false
+is_unread kind.Document = false
+is_unread kind.Call = false
+is_unread kind.Pattern = false
+is_unread kind.Literal = false
+is_unread kind.Double = false
+is_unread kind.OldSelf = false
+is_unread kind.Message = false
+is_unread kind.Keyword = true
+is_unread kind.Rules = true
+is_unread kind.NoRules = false
+
+abbrev pub unread_finding : Finding → List FindingData
+unread_finding f = if is_unread f.kind then review_finding f ∷ [] else []
+
+-- of all that a review finds, in its order
+abbrev pub unread_findings : List Finding → List FindingData
+unread_findings fs = flat_map unread_finding fs
+
+abbrev pub is_none : List FindingData → Bool
+is_none [] = true
+is_none (f ∷ fs) = false
+
+-- nothing can be judged by such a definition; of one that is read whole there is nothing to say
+abbrev pub unread_items : Found → List FindingData → List ItemData
+unread_items f findings = if is_none findings then [] else item_of f verdict.NotJudged findings ∷ []
 
 -- ---- policies
 

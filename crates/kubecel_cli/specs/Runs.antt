@@ -18,13 +18,13 @@ use Rattle.kube_manifests_review.specs.Reviewed.{crd_findings}
 use Rattle.kubecel_io.specs.Objects.{all_objects, old_of}
 use Rattle.kubecel_io.specs.Reads.{AreRead, Found}
 use Rattle.kubecel_io.specs.declared.sources.Stop.{Stop}
-use Rattle.kubecel_io.specs.Items.{ItemData, item_view, items_status}
+use Rattle.kubecel_io.specs.Items.{FindingData, ItemData, item_view, items_status}
 use Rattle.kubecel_cli.specs.Commands.{AdmitData, Asked, CheckData, check, review, admit}
 use Rattle.kubecel_cli.specs.declared.report.Report.{Report}
-use Rattle.kubecel_cli.specs.Reports.{judged_item, no_crd_item, policy_item, reviewed_item}
+use Rattle.kubecel_cli.specs.Reports.{judged_item, no_crd_item, policy_item, reviewed_item, unread_findings, unread_items}
 use Rattle.serde_json.specs.Data.{Data}
 use Rattle.serde_json.specs.View.{items_of}
-use Rattle.std.specs.Prelude.{◌≡◌, ℕ, ◌<◌, List, [], ◌∷◌, map, length, true, false, Option, Some, None, Result, Ok, Err}
+use Rattle.std.specs.Prelude.{◌≡◌, ℕ, ◌<◌, List, [], ◌∷◌, ◌++◌, map, length, true, false, Option, Some, None, Result, Ok, Err}
 
 -- each thing, in order, is reported as one item
 abbrev pub AreItems : (Found → ItemData → Type 0) → List Found → List ItemData → Type 0
@@ -44,6 +44,23 @@ pub record IsReviewed (f : Found) (i : ItemData) : Type 0 where
   pub is_definition : is_crd f.value ≡ true
       → (b : Book) × IsBook b × ((names : Naming) → i ≡ reviewed_item f (crd_findings names f.value b))
   pub is_none : is_crd f.value ≡ false → i ≡ no_crd_item f
+
+-- this isn't read of a definition; which book of patterns it is decides of no such finding
+abbrev pub IsUnread : Found → List FindingData → Type 0
+IsUnread f findings =
+    (b : Book) × IsBook b × ((names : Naming) → findings ≡ unread_findings (crd_findings names f.value b))
+
+-- each definition of which something isn't read is reported, in order, as one item
+abbrev pub AreUnread : List Found → List ItemData → Type 0
+AreUnread [] items = items ≡ []
+AreUnread (f ∷ fs) items =
+    (findings : List FindingData) × (rest : List ItemData) × (items ≡ unread_items f findings ++ rest)
+    × IsUnread f findings × AreUnread fs rest
+
+-- what was reported before stands alone; where that is nothing, this holds of what is reported
+abbrev pub UnlessAny : List ItemData → (List ItemData → Type 0) → List ItemData → Type 0
+UnlessAny [] Are items = Are items
+UnlessAny (i ∷ is) Are items = items ≡ i ∷ is
 
 -- ---- what a policy is judged over
 
@@ -72,8 +89,9 @@ module _ {S : Type 0} (reads : S → List ℕ → Option (List ℕ) → S → Ty
 
   -- ---- what a command finds
 
-  -- The definitions, the old objects and the objects were read in order. All definitions are whole, there is
-  -- an object, and each is judged.
+  -- The definitions, the old objects and the objects were read in order. All definitions are whole, and there is
+  -- an object. Definitions of which something isn't read are reported as not judged, and nothing else is; where
+  -- there is none, each object is judged.
   pub record AreChecked (before : S) (asked : CheckData) (after : S) (items : List ItemData) : Type 0 where
     pub crds : List Found
     pub olds : List Found
@@ -86,8 +104,10 @@ module _ {S : Type 0} (reads : S → List ℕ → Option (List ℕ) → S → Ty
     pub versions : List (Version Data)
     pub whole : versions_of (items_of (map (λ f. f.value) crds)) ≡ Ok versions
     pub some : 0 < length (all_objects objects)
-    pub judged : AreItems (IsJudged versions (map (λ f. f.value) (all_objects olds)))
-        (all_objects objects) items
+    pub unread : List ItemData
+    pub definitions : AreUnread (all_objects crds) unread
+    pub judged : UnlessAny unread
+        (AreItems (IsJudged versions (map (λ f. f.value) (all_objects olds))) (all_objects objects)) items
 
   -- The definitions were read. There is one, and each is reviewed.
   pub record AreReviewed (before : S) (paths : List (List ℕ)) (after : S) (items : List ItemData)

@@ -7,7 +7,7 @@ ghost use Rattle.kubecel_io.specs.Reads.{document_view};
 ghost use Rattle.kubecel_io.specs.Subjects.{subject_view};
 ghost use Rattle.kubecel_io.specs.Items.{finding_view, item_view};
 ghost use Rattle.kubecel_cli.specs.Commands.{check_view};
-ghost use Rattle.kubecel_cli.specs.Runs.{AreChecked, AreItems, IsJudgedBy, IsSetOf};
+ghost use Rattle.kubecel_cli.specs.Runs.{AreChecked, AreItems, IsJudgedBy, IsSetOf, UnlessAny};
 ghost use Rattle.kubecel_cli.specs.Reports.{error_finding, judged_item, why_not};
 ghost use Rattle.serde_json.specs.Data.{Data};
 ghost use Rattle.serde_json.specs.View.{view};
@@ -16,6 +16,7 @@ ghost use Rattle.std.specs.Prelude.{◌≡◌, IfOk, List, map, option_map, stri
 use crate::command::Check;
 use crate::item::{item_of, remark};
 use crate::report::{Report, ReportFormat};
+use crate::unread::unread_items;
 use kube_manifests::{CrdSet, Judgement, NotJudged, ValidationError, is_crd};
 use kubecel_io::{
     Document, Finding, Item, Refused, Sources, Stop, Subject, Verdict, objects_of, old_of,
@@ -43,12 +44,22 @@ pub(crate) fn checked<S: Sources, E: Write>(
     let olds = read_documents(alloc, check.olds, files)?;
     let objects = read_documents(alloc, check.objects, files)?;
     let set = set_of(alloc, crds.as_slice())?;
+    let definitions = objects_of(alloc, crds.as_slice())?;
     let olds = objects_of(alloc, olds.as_slice())?;
     let subjects = objects_of(alloc, objects.as_slice())?;
     if subjects.is_empty() {
         return Err(Stop::Said(String::from_str(alloc, "there is no object to judge")?));
     }
-    Ok(judge_all(alloc, &set, olds.as_slice(), subjects.as_slice(), form, err)?)
+    let unread = unread_items(alloc, definitions.as_slice())?;
+    Ok(judge_unless_any(
+        alloc,
+        unread,
+        &set,
+        olds.as_slice(),
+        subjects.as_slice(),
+        form,
+        err,
+    )?)
 }
 
 /// The set of definitions.
@@ -87,6 +98,31 @@ fn place_of(alloc: Global, documents: &[Document], at: usize) -> Result<String, 
         Some(document) if document.index == 0 => document.file.clone(),
         Some(document) => format!(in alloc; "{}[{}]", document.file, document.index),
         None => Ok(String::new(alloc)),
+    }
+}
+
+/// Judges objects by a set, unless something isn't read of definitions: then these are reported.
+fn judge_unless_any<E: Write>(
+    alloc: Global,
+    unread: Vec<Item>,
+    set: &CrdSet,
+    olds: &[Subject<'_>],
+    subjects: &[Subject<'_>],
+    form: ReportFormat,
+    err: &mut E,
+) -> Result<Report, Refused>
+    ensures { IfOk result (λ r. UnlessAny (map item_view unread.items)
+        (AreItems (IsJudgedBy set.now (map (λ f. f.value) (map subject_view olds.now)))
+        (map subject_view subjects.now)) (map item_view r.items.items)) }
+{
+    match unread.as_slice() {
+        [] => judge_all(alloc, set, olds, subjects, form, err),
+        [_, ..] => Ok(Report {
+            items: unread,
+            noun: "no object was judged; definitions that aren't read whole",
+            rules: None,
+            compared: None,
+        }),
     }
 }
 

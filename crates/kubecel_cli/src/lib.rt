@@ -7,6 +7,7 @@ mod command;
 mod item;
 mod report;
 mod review;
+mod unread;
 
 ghost use Rattle.kubecel_cli.specs.Commands.{command_view};
 ghost use Rattle.kubecel_cli.specs.Runs.{AreFound, IsReported};

@@ -84,12 +84,19 @@ fn review_findings(alloc: Global, found: &[ReviewFinding]) -> Result<Vec<Finding
 {
     let mut findings = Vec::with_capacity(alloc, found.len())?;
     for finding in found {
-        let kind = finding.kind;
-        findings.push(Finding {
-            location: finding.pointer.clone()?,
-            rule: finding.rule.clone()?,
-            message: format!(in alloc; "{kind}: {}", finding.message)?,
-        })?;
+        findings.push(review_finding(alloc, finding)?)?;
     }
     Ok(findings)
+}
+
+/// A finding as it is reported.
+pub(crate) fn review_finding(alloc: Global, found: &ReviewFinding) -> Result<Finding, AllocError>
+    ensures { IfOk result (λ f. finding_view f ≡ review_finding (doubts.finding_view found.now)) }
+{
+    let kind = found.kind;
+    Ok(Finding {
+        location: found.pointer.clone()?,
+        rule: found.rule.clone()?,
+        message: format!(in alloc; "{kind}: {}", found.message)?,
+    })
 }

@@ -1,4 +1,4 @@
-use Rattle.kube_cel_analysis.proofs.Named.{called_names, free_names}
+use Rattle.kube_cel_analysis.proofs.Named.{called_names, free_names, naming}
 use Rattle.kube_cel_analysis.proofs.laws.each_tree_has_its_names.Goals as goal
 
 pub returns-clause-called : goal.returns-clause-called
@@ -6,3 +6,6 @@ returns-clause-called c = called_names
 
 pub returns-clause-free : goal.returns-clause-free
 returns-clause-free c = free_names
+
+pub returns-clause-naming : goal.returns-clause-naming
+returns-clause-naming c = naming

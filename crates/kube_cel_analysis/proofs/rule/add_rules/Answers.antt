@@ -5,7 +5,7 @@ use Rattle.kube_cel_analysis.proofs.rule.add_rules.Goals as goal
 use Rattle.kube_cel_analysis.specs.Findings.{Finding, finding_view, rule_findings, rules_findings}
 use Rattle.kube_schema_rules.specs.Compilation.{compiled_seen}
 use Rattle.kube_schema_rules.specs.declared.compilation.CompilationError.{CompilationError}
-use Rattle.kube_schema_rules.specs.declared.compilation.CompilationResult.{CompilationResult}
+use Rattle.kube_schema_rules.specs.declared.result.CompilationResult.{CompilationResult}
 use Rattle.kube_schema.specs.Shown.{node_tree}
 
 pub loop-rule-preserved : goal.loop-rule-preserved

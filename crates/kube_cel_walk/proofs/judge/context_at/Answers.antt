@@ -1,18 +1,20 @@
-use Rattle.cel_semantics.specs.Bindings.{binding, bindings_of}
-use Rattle.cel_value.specs.View.{view as cel_view}
-use Rattle.kube_cel_walk.proofs.Bound.{bound}
+use Rattle.cel_demand.specs.Alike.{NamesAlike}
+use Rattle.cel_demand.specs.Demand.{part_of}
+use Rattle.cel_semantics.specs.Bindings.{bindings_of}
+use Rattle.kube_cel_walk.proofs.ReadVerdicts.{none_read}
 use Rattle.kube_cel_walk.proofs.judge.context_at.Goals as goal
 use Rattle.kube_cel_walk.proofs.Judged.{placed}
-use Rattle.kube_cel_walk.specs.Answers.{bound_at}
 use Rattle.kube_cel_walk.specs.Visits.{visit_at}
-use Rattle.serde_json.specs.View.{view}
-use Rattle.std.proofs.Common.{[], codes, ap}
+use Rattle.kube_schema_rules.specs.Demands.{rules_read}
+use Rattle.std.proofs.Common.{ℕ, List, [], option_map, codes, sym, ap, ◌∙◌, subst}
 
 pub returns-clause-bound : goal.returns-clause-bound
 returns-clause-bound g c = λ path.
     let s = visit_at g.N.Node.seen c.args.state.now path in
-    placed g.N.Node.form s (bindings_of c.add_variable.new.self) (bindings_of c.bind_old.new.context) (bindings_of c.bind_root.new.context)
-    (λ x. bound x (codes "self") (cel_view c.in_ok-value.value) (bound_at g.N.Node.form s (view c.args.state.now.value.now)) (binding x (bindings_of c.add_variable.new.self))
-    (binding x (bindings_of c.default-context.result)) [] (c.in_ok-add_variable.ensures.variables x) c.in_ok-value.ensures.value
-    (ap (λ e. binding x e) c.default-context.ensures.variables))
-    (c.in_ok-bind_old.ensures.bound path) c.in_ok-bind_root.ensures.bound
+    let read = λ (x : List ℕ). rules_read x (g.N.Node.form.rules (g.N.Node.seen c.args.state.now.node)) in
+    let value = ap (λ d. option_map part_of d.value) c.get-demands.ensures ∙ c.in_ok-known.ensures.demands.0 in
+    let old = ap (λ d. option_map part_of d.old) c.get-demands.ensures ∙ c.in_ok-known.ensures.demands.1 in
+    let none = subst (λ e. NamesAlike read e []) (sym c.default-context.ensures.variables) (λ x. none_read (read x)) in
+    placed g.N.Node.form read s (bindings_of c.bind_old.new.context) (bindings_of c.bind_root.new.context)
+    (c.in_ok-bind_old.ensures.bound read _ path old (c.in_ok-bind_name.ensures.bound read [] value none))
+    c.in_ok-bind_root.ensures.bound

@@ -27,4 +27,4 @@ returns-clause-found g c = λ b h.
     let s = visit_at g.N.Node.seen c.args.state.now c.args.path.now in
     c.in_ok-add_verdicts.ensures.found b h
     ∙ sym (ap (λ r. map error_view c.args.errors.now.items ++ r)
-    (rules_found g.N.Node.form b s (bindings_of c.in_ok-context.context) t (λ y. sym (c.in_ok-context.ensures.bound c.args.path.now y))))
+    (rules_found g.N.Node.form b s (bindings_of c.in_ok-context.context) t (c.in_ok-context.ensures.bound c.args.path.now)))

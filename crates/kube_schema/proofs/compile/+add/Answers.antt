@@ -56,7 +56,7 @@ add_children-returns-clause-adds t c =
 
 pub add_node-returns-then-levels-eq0-clause-adds : goal.add_node-returns-then-levels-eq0-clause-adds
 add_node-returns-then-levels-eq0-clause-adds t c =
-    marked _ _ _ _ c.args.levels (view c.args.schema.now) c.in_ok-number.ensures c.in_ok-marker.ensures c.if-levels-eq0.true
+    marked _ _ _ _ c.args.levels (view c.args.schema.now) c.in_ok-number.ensures c.in_ok-marker.ensures.keywords c.if-levels-eq0.true
 
 pub add_node-replace_node-requires-clause-within : goal.add_node-replace_node-requires-clause-within
 add_node-replace_node-requires-clause-within t c =

@@ -1,4 +1,6 @@
+use Rattle.std.proofs.Common.{map, ap, ◌∙◌}
 use Rattle.serde_json.specs.View.{view}
+use Rattle.kube_schema_rules.specs.Compilation.{compiled_seen}
 use Rattle.kube_schema.proofs.Build.{own_same}
 use Rattle.kube_schema.proofs.keywords.keywords_of.Goals as goal
 
@@ -14,4 +16,4 @@ returns-clause-keywords c =
       max_items = c.limit-2.result;
       max_properties = c.limit-3.result;
       default = c.in_ok-default.default;
-    }) (view c.args.schema.now) c.in_ok-validations.ensures.rules c.format_of.ensures c.is_map.ensures c.preserves.ensures c.is_embedded.ensures c.limit.ensures c.limit-2.ensures c.limit-3.ensures c.in_ok-default.ensures
+    }) (view c.args.schema.now) (ap (λ r. map compiled_seen r.items) c.in_ok-validations.ensures.rules ∙ c.in_ok-rules.ensures.rules) c.format_of.ensures c.is_map.ensures c.preserves.ensures c.is_embedded.ensures c.limit.ensures c.limit-2.ensures c.limit-3.ensures c.in_ok-default.ensures

@@ -1,0 +1,71 @@
+//! Which part of a value an expression needs.
+ghost use Rattle.std.specs.Prelude.{◌≡◌, IfOk, IfErr, string_bytes};
+ghost use Rattle.cel_demand.specs.Part.{member, no_members};
+ghost use Rattle.cel_demand.specs.Demand.{part_of, members_view};
+
+use cel_value::Refused;
+use std::alloc::Global;
+use std::rc::Rc;
+
+/// Which part of a value an expression needs.
+#[derive(Debug, Drop)]
+pub enum Demand {
+    /// Not more than that there is a value.
+    Nothing,
+    /// All of it.
+    Whole,
+    /// How many items a list has, and this part of each of them.
+    Items(Box<Demand>),
+    /// Which of these members a map has, and these parts of them.
+    Members(Vec<(Rc<String>, Demand)>),
+}
+
+impl Demand {
+    /// The same demand once more.
+    ///
+    /// # Errors
+    /// `Memory` alone.
+    #[cycle(copies)]
+    pub fn copy(&self, alloc: Global) -> Result<Demand, Refused>
+        ensures same { IfOk result (λ d. part_of d ≡ part_of self.now) }
+        ensures memory { IfErr result (λ e. e ≡ Refused.Memory) }
+    {
+        match self {
+            Demand::Nothing => Ok(Demand::Nothing),
+            Demand::Whole => Ok(Demand::Whole),
+            Demand::Items(item) => Ok(Demand::Items(Box::new(alloc, item.copy(alloc)?)?)),
+            Demand::Members(members) => Ok(Demand::Members(copy_members(alloc, members)?)),
+        }
+    }
+}
+
+/// The same members once more.
+#[cycle(copies)]
+pub(crate) fn copy_members(
+    alloc: Global,
+    members: &Vec<(Rc<String>, Demand)>,
+) -> Result<Vec<(Rc<String>, Demand)>, Refused>
+    ensures same { IfOk result (λ es. members_view es.items ≡ members_view members.now.items) }
+    ensures memory { IfErr result (λ e. e ≡ Refused.Memory) }
+{
+    let mut copies = Vec::with_capacity(alloc, members.len())?;
+    for member in members {
+        copies.push((member.0.clone()?, member.1.copy(alloc)?))?;
+    }
+    Ok(copies)
+}
+
+/// One member.
+pub(crate) fn one_member(
+    alloc: Global,
+    name: &Rc<String>,
+    demand: Demand,
+) -> Result<Vec<(Rc<String>, Demand)>, Refused>
+    ensures one { IfOk result (λ es. members_view es.items
+        ≡ member (string_bytes name.now.value) (part_of demand) no_members) }
+    ensures memory { IfErr result (λ e. e ≡ Refused.Memory) }
+{
+    let mut members = Vec::new(alloc);
+    members.push((name.clone()?, demand))?;
+    Ok(members)
+}

@@ -1,0 +1,108 @@
+//! Commands of `kubecel` that rows give, over files in memory.
+
+use conformance_rows::keys::file_given;
+use conformance_rows::{Field, MANY, Narrow, Ran, Stop, given as rows};
+use kubecel_cli::{Admit, Check, Command, Output, Refused, ReportFormat, Sources, run};
+use std::alloc::Global;
+use std::io;
+
+/// The files that a row gives, by their paths.
+#[derive(Drop)]
+struct Files<'g> {
+    given: &'g [Field],
+}
+
+impl Sources for Files<'_> {
+    fn read(&mut self, alloc: Global, path: &str) -> Result<io::Result<String>, Refused> {
+        match file_given(self.given, path) {
+            Some(text) => Ok(Ok(String::from_str(alloc, text)?)),
+            None => Ok(Err(io::Error::from(io::ErrorKind::NotFound))),
+        }
+    }
+}
+
+/// The form of output that a row asks for.
+fn output(given: &[Field]) -> Result<Output, Stop> {
+    match rows::text(given, "form") {
+        None | Some("text") => Ok(Output::Text),
+        Some("coloured") => Ok(Output::Coloured),
+        Some("json") => Ok(Output::Json),
+        Some("github") => Ok(Output::Github),
+        Some("junit") => Ok(Output::Junit),
+        Some(_) => Err(Stop::Unfit("form")),
+    }
+}
+
+/// The paths that a row's command names.
+#[derive(Drop)]
+struct Paths<'g> {
+    crds: Vec<&'g str>,
+    olds: Vec<&'g str>,
+    objects: Vec<&'g str>,
+    reviewed: Vec<&'g str>,
+}
+
+/// Whether a row gives a command.
+fn names_command(given: &[Field]) -> bool {
+    rows::text(given, "check").is_some()
+        || rows::text(given, "review").is_some()
+        || rows::text(given, "admit").is_some()
+}
+
+/// A row's command, by what it gives and these paths.
+fn command_of<'l, 'g>(given: &'g [Field], paths: &'l Paths<'g>) -> Command<'l, 'g> {
+    match rows::text(given, "admit") {
+        Some(policy) => Command::Admit(Admit {
+            policy,
+            request: rows::text(given, "with request"),
+            object: rows::text(given, "with object"),
+            old: rows::text(given, "with old object"),
+            params: rows::text(given, "with params"),
+            namespace: rows::text(given, "with namespace"),
+        }),
+        None if paths.reviewed.is_empty() => Command::Check(Check {
+            crds: paths.crds.as_slice(),
+            olds: paths.olds.as_slice(),
+            objects: paths.objects.as_slice(),
+        }),
+        None => Command::Review(paths.reviewed.as_slice()),
+    }
+}
+
+/// Runs a command over a row's files and two writers, the first of which takes a number of writes.
+fn run_command(
+    alloc: Global,
+    command: Command<'_, '_>,
+    form: ReportFormat,
+    given: &[Field],
+    writes: u64,
+) -> Ran {
+    let mut out = Narrow::new(alloc, writes);
+    let mut err = Narrow::new(alloc, MANY);
+    let mut files = Files { given };
+    let status = run(alloc, command, form, &mut files, &mut out, &mut err);
+    Ran {
+        status,
+        out: out.bytes,
+        err: err.bytes,
+        is_alone: false,
+    }
+}
+
+/// Runs a row's command, with a standard output that takes `writes` writes and refuses each further one.
+pub(crate) fn run_given(alloc: Global, given: &[Field], writes: u64) -> Result<Ran, Stop> {
+    if !names_command(given) {
+        return Err(Stop::Unfit("command"));
+    }
+    let form = ReportFormat {
+        output: output(given)?,
+        progress: rows::text(given, "progress").is_some(),
+    };
+    let paths = Paths {
+        crds: rows::lines(alloc, given, "by")?,
+        olds: rows::lines(alloc, given, "before")?,
+        objects: rows::lines(alloc, given, "check")?,
+        reviewed: rows::lines(alloc, given, "review")?,
+    };
+    Ok(run_command(alloc, command_of(given, &paths), form, given, writes))
+}

@@ -1,0 +1,69 @@
+//! What a command did.
+
+use crate::found::Found;
+use crate::row::{Field, Stop};
+use std::alloc::Global;
+
+/// The status of a run, and what it wrote.
+#[derive(Drop)]
+pub struct Ran {
+    pub status: u8,
+    pub out: Vec<u8>,
+    pub err: Vec<u8>,
+    /// Whether it may write to one stream alone.
+    pub is_alone: bool,
+}
+
+impl Ran {
+    /// Finds the status, or what was written to one stream.
+    pub fn find(&self, alloc: Global, field: &Field, found: &mut Found) -> Result<(), Stop> {
+        let (status, out, err) = (self.status, self.out.as_slice(), self.err.as_slice());
+        let text = field.text.as_str();
+        match field.key.as_str() {
+            "output" => self.put(alloc, out, err, text, found),
+            "error output" => self.put(alloc, err, out, text, found),
+            _ => Ok(write!(found.text, "{status}")?),
+        }
+    }
+
+    /// Writes what was written to one stream, as a field's text has it, and what was written to the other, where the run may not write there.
+    fn put(
+        &self,
+        alloc: Global,
+        written: &[u8],
+        other: &[u8],
+        text: &str,
+        found: &mut Found,
+    ) -> Result<(), Stop> {
+        found.other = String::from_utf8_lossy(alloc, written)?;
+        let written = found.other.as_str();
+        let said = if text.is_empty() || text.ends_with('\n') {
+            Some(written)
+        } else {
+            written.strip_suffix("\n")
+        };
+        match said {
+            Some(said) if other.is_empty() || !self.is_alone => found.text.push_str(said)?,
+            _ => {
+                found.text.push_str(written)?;
+                found.text.push_str("with no line feed, or beside this: ")?;
+                let other = String::from_utf8_lossy(alloc, other)?;
+                found.text.push_str(other.as_str())?;
+            }
+        }
+        Ok(())
+    }
+
+    /// Whether another run did the same.
+    pub fn is_same(&self, other: &Ran) -> bool {
+        self.status == other.status && self.out == other.out && self.err == other.err
+    }
+
+    /// Whether this run was cut short: it ends with 2, wrote a beginning of what the whole run writes, and nothing to standard error where that
+    /// may not stand beside it.
+    pub fn is_cut(&self, whole: &Ran) -> bool {
+        self.status == 2
+            && (self.err.is_empty() || !self.is_alone)
+            && whole.out.as_slice().starts_with(self.out.as_slice())
+    }
+}

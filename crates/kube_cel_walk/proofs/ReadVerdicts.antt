@@ -1,0 +1,113 @@
+-- A verdict depends only on what the rule reads.
+use Rattle.cel_demand.proofs.Named.{both_reads_alike}
+use Rattle.cel_demand.proofs.Parts.{alike-refl}
+use Rattle.cel_demand.proofs.Read.{meaning_reads}
+use Rattle.cel_demand.specs.Alike.{NamesAlike, ReadAlike}
+use Rattle.cel_demand.specs.Part.{Part, part_read}
+use Rattle.cel_demand.specs.Reads.{reads_of}
+use Rattle.cel_patterns.specs.Book.{Book}
+use Rattle.cel_semantics.specs.Bindings.{Bindings, binding}
+use Rattle.cel_syntax_ast.specs.Term.{Term}
+use Rattle.cel_value.specs.Data.{Data, null, text}
+use Rattle.kube_cel_walk.specs.Errors.{ErrorData}
+use Rattle.kube_schema_rules.specs.Visit.{Root}
+use Rattle.kube_cel_walk.specs.Verdicts.{is_applicable, is_old_null, list_of_option, outcome_in, failed_message, outcome_error, bound_verdict, rule_bindings, verdict, with_root}
+use Rattle.kube_functions.specs.Kube.{all_library}
+use Rattle.kube_schema_rules.specs.Compilation.{Compiled, Malformed}
+use Rattle.kube_schema_rules.specs.Demands.{rule_read, rules_read}
+use Rattle.kube_schema_rules.specs.Reads.{texts_read}
+use Rattle.serde_json.specs.Data.{Data as Json}
+use Rattle.std.proofs.Common.{◌≡◌, ℕ, List, [], ◌∷◌, ◌++◌, codes, Bool, true, false, Option, Some, None, option_map, Result, Ok, Err, if◌then◌else◌, refl, sym, ap, ◌∙◌, subst, true≢false}
+use Rattle.std.proofs.lemmas.Bool.{false_from_ne_true}
+use Rattle.std.proofs.lemmas.Slice.Eq.{bytes_eq-Decides}
+use Rattle.std.specs.List.{flat_map}
+use Rattle.std.specs.Str.{bytes_eq}
+
+pub read-refl : (p : Option Part) (o : Option Data) → ReadAlike p o o
+read-refl None o = tt
+read-refl (Some p) None = tt
+read-refl (Some p) (Some v) = alike-refl p v
+
+-- ---- one more name
+
+same_more : (p : Option Part) (b : Bool) (v : Data) (o q : Option Data) → ReadAlike p o q → ReadAlike p (if b then Some v else o) (if b then Some v else q)
+same_more p true v o q h = read-refl p (Some v)
+same_more p false v o q h = h
+
+-- the same in both
+pub names_under : (read : List ℕ → Option Part) (n : List ℕ) (v : Data) (e f : Bindings) → NamesAlike read e f → NamesAlike read ((n, v) ∷ e) ((n, v) ∷ f)
+names_under read n v e f h x = same_more (read x) (bytes_eq x n) v (binding x e) (binding x f) (h x)
+
+other_name : (x n : List ℕ) → bytes_eq x n ≡ false → bytes_eq n x ≡ false
+other_name x n e = false_from_ne_true (bytes_eq n x) (λ k. true≢false (sym ((bytes_eq-Decides x n).1 (sym ((bytes_eq-Decides n x).0 k))) ∙ e))
+
+named_at : (read : List ℕ → Option Part) (n : List ℕ) (v : Data) (d e f : Bindings) → NamesAlike read e f → ReadAlike (read n) (binding n d) (Some v) → ((x : List ℕ) → bytes_eq n x ≡ false → binding x d ≡ binding x e)
+    → (x : List ℕ) (b : Bool) → bytes_eq x n ≡ b → ReadAlike (read x) (binding x d) (if b then Some v else binding x f)
+named_at read n v d e f h here others x true is = subst (λ y. ReadAlike (read y) (binding y d) (Some v)) (sym ((bytes_eq-Decides x n).0 is)) here
+named_at read n v d e f h here others x false is = subst (λ o. ReadAlike (read x) o (binding x f)) (sym (others x (other_name x n is))) (h x)
+
+-- in the first as far as it is read
+pub names_named : (read : List ℕ → Option Part) (n : List ℕ) (v : Data) (d e f : Bindings) → NamesAlike read e f → ReadAlike (read n) (binding n d) (Some v) → ((x : List ℕ) → bytes_eq n x ≡ false → binding x d ≡ binding x e)
+    → NamesAlike read d ((n, v) ∷ f)
+names_named read n v d e f h here others x = named_at read n v d e f h here others x (bytes_eq x n) refl
+
+-- a variable that was added
+pub named_new : (n : List ℕ) (v : Data) (e d : Bindings) → ((x : List ℕ) → binding x d ≡ (if bytes_eq n x then Some v else binding x e)) → binding n d ≡ Some v
+named_new n v e d h = h n ∙ ap (λ b. if b then Some v else binding n e) ((bytes_eq-Decides n n).1 refl)
+
+pub named_others : (n : List ℕ) (v : Data) (e d : Bindings) → ((x : List ℕ) → binding x d ≡ (if bytes_eq n x then Some v else binding x e)) → (x : List ℕ) → bytes_eq n x ≡ false → binding x d ≡ binding x e
+named_others n v e d h x other = h x ∙ ap (λ b. if b then Some v else binding x e) other
+
+-- no name
+pub none_read : (p : Option Part) → ReadAlike p None None
+none_read None = tt
+none_read (Some p) = tt
+
+-- what is known of the whole object
+pub names_rooted : (read : List ℕ → Option Part) (root : Option Root) (d e f : Bindings) → NamesAlike read e f → ((x : List ℕ) → binding x d ≡ binding x (with_root root e)) → NamesAlike read d (with_root root f)
+names_rooted read None d e f h same x = subst (λ o. ReadAlike (read x) o (binding x f)) (sym (same x)) (h x)
+names_rooted read (Some r) d e f h same x =
+    let e1 : Bindings = (codes "apiVersion", text r.api_version) ∷ e in
+    let f1 : Bindings = (codes "apiVersion", text r.api_version) ∷ f in
+    let e2 : Bindings = (codes "apiGroup", text r.api_group) ∷ e1 in
+    let f2 : Bindings = (codes "apiGroup", text r.api_group) ∷ f1 in
+    let all = names_under read (codes "kind") (text r.kind) e2 f2 (names_under read (codes "apiGroup") (text r.api_group) e1 f1 (names_under read (codes "apiVersion") (text r.api_version) e f h)) in
+    subst (λ o. ReadAlike (read x) o (binding x (with_root (Some r) f))) (sym (same x)) (all x)
+
+-- ---- verdicts
+
+outcome_reads : (b : Book) (t : Term) (e f : Bindings) → NamesAlike (λ x. part_read x (reads_of t)) e f → outcome_in b e t ≡ outcome_in b f t
+unfolding outcome_in
+outcome_reads b t e f h = meaning_reads all_library b t e f h
+
+bound_reads : (b : Book) (path : List ℕ) (c : Compiled) (m : Option Term) (e f : Bindings) → NamesAlike (λ x. texts_read x c.tree m) e f
+    → outcome_error path c.fields (failed_message c.fields (option_map (outcome_in b e) m)) (outcome_in b e c.tree) ≡ outcome_error path c.fields (failed_message c.fields (option_map (outcome_in b f) m)) (outcome_in b f c.tree)
+bound_reads b path c None e f h = λ i. outcome_error path c.fields (failed_message c.fields None) (outcome_reads b c.tree e f h i)
+bound_reads b path c (Some t) e f h =
+    let tree = λ (x : List ℕ). (both_reads_alike (part_read x (reads_of c.tree)) (part_read x (reads_of t)) (binding x e) (binding x f) (h x)).0 in
+    let message = λ (x : List ℕ). (both_reads_alike (part_read x (reads_of c.tree)) (part_read x (reads_of t)) (binding x e) (binding x f) (h x)).1 in
+    λ i. outcome_error path c.fields (failed_message c.fields (Some (outcome_reads b t e f message i))) (outcome_reads b c.tree e f tree i)
+
+null_under : (n : Bool) (read : List ℕ → Option Part) (e f : Bindings) → NamesAlike read e f → NamesAlike read (if n then (codes "oldSelf", null) ∷ e else e) (if n then (codes "oldSelf", null) ∷ f else f)
+null_under true read e f h = names_under read (codes "oldSelf") null e f h
+null_under false read e f h = h
+
+compiled_reads : (b : Book) (path : List ℕ) (c : Compiled) (e f : Bindings) → NamesAlike (λ x. texts_read x c.tree c.message_tree) e f → bound_verdict b e path c ≡ bound_verdict b f path c
+unfolding bound_verdict
+compiled_reads b path c e f h = bound_reads b path c c.message_tree e f h
+
+pub verdict_reads : (b : Book) (e f : Bindings) (old : Option Json) (path : List ℕ) (r : Result Compiled Malformed) → NamesAlike (λ x. rule_read x r) e f → verdict b e old path r ≡ verdict b f old path r
+unfolding verdict
+verdict_reads b e f old path (Err m) h = refl
+verdict_reads b e f old path (Ok c) h =
+    ap (λ x. if is_applicable old c then x else None)
+    (compiled_reads b path c (rule_bindings e old c.fields) (rule_bindings f old c.fields) (null_under (is_old_null old c.fields) (λ x. texts_read x c.tree c.message_tree) e f h))
+
+-- those of all rules of a node
+pub verdicts_read : (b : Book) (e f : Bindings) (old : Option Json) (path : List ℕ) (rs : List (Result Compiled Malformed)) → NamesAlike (λ x. rules_read x rs) e f
+    → flat_map (λ r. list_of_option (verdict b e old path r)) rs ≡ flat_map (λ r. list_of_option (verdict b f old path r)) rs
+verdicts_read b e f old path [] h = refl
+verdicts_read b e f old path (r ∷ rs) h =
+    let first = λ (x : List ℕ). (both_reads_alike (rule_read x r) (rules_read x rs) (binding x e) (binding x f) (h x)).0 in
+    let rest = λ (x : List ℕ). (both_reads_alike (rule_read x r) (rules_read x rs) (binding x e) (binding x f) (h x)).1 in
+    λ i. list_of_option (verdict_reads b e f old path r first i) ++ verdicts_read b e f old path rs rest i

@@ -1,0 +1,176 @@
+-- What is demanded of a bound object or list is alike in the parts that were bound.
+use Rattle.std.proofs.Common.{◌≡◌, ℕ, suc, Box, ◌+◌, ◌<◌, List, [], ◌∷◌, ◌++◌, map, length, take, get_or, Bool, true, false, not, Bor, Option, Some, None, is_some, option_copied, option_map, refl, sym, ap, ◌∙◌, subst, inl, inr, true≢false}
+use Rattle.std.proofs.lemmas.Map.Text.{is_eq-slice_cmp}
+use Rattle.std.proofs.lemmas.Slice.Eq.{bytes_eq-Decides}
+use Rattle.std.proofs.lemmas.List.{map-append, take_more}
+use Rattle.std.specs.Option.{option_map_or}
+use Rattle.std.specs.Ordering.{eq_by_cmp}
+use Rattle.std.specs.Str.{bytes_eq}
+use Rattle.std.specs.declared.alloc.Global.{Global}
+use Rattle.serde_json.specs.Data as json
+use Rattle.serde_json.specs.Find.{get_member}
+use Rattle.serde_json.specs.View.{view as json_view, items_view as json_items_view}
+use Rattle.serde_json.specs.declared.value.Value.{Value as Json}
+use Rattle.cel_demand.proofs.Parts.{alike_equal}
+use Rattle.cel_demand.specs.Alike.{Alike, OptionsAlike, ListsAlike, MembersAlike}
+use Rattle.cel_demand.specs.Demand.{part_of, part_step, members_view}
+use Rattle.cel_demand.specs.declared.demand.Demand.{Demand, Demand-F, fold-roll-Demand}
+use Rattle.cel_demand.specs.declared.demand.Demand.TheVariants as demand
+use Rattle.cel_demand.specs.Part.{Part, nothing, whole, each_item, some_members, Members, no_members, member}
+use Rattle.cel_demand.specs.Places.{Entry, name_of}
+use Rattle.cel_value.specs.Data.{Data, Entries, no_entries, list, map_of, text_key}
+use Rattle.cel_value.specs.Find.{find}
+use Rattle.cel_value.specs.Keys.{key_order, put}
+use Rattle.cel_value.specs.View.{view, items_of}
+use Rattle.cel_value.specs.declared.value.Value.{Value}
+use Rattle.kube_schema_values.proofs.Bounds.{bound_within, items_by_is}
+use Rattle.kube_schema_values.proofs.Fields.{found_in_object}
+use Rattle.kube_schema_values.specs.Conversion.{ConversionAccessors, items_by, member_by, member_key, member_node, object_by, or_else, to_cel, to_cel_by}
+use Rattle.kube_schema_values.specs.Fields.{field_besides}
+use Rattle.kube_schema_parts.specs.Parts.{AreParts}
+use Rattle.kube_schema_values.proofs.Found.{find-put, find-put_other}
+use Rattle.kube_schema_values.specs.Plain.{plain}
+
+-- ---- what was found
+
+pub none_seen : (o : Option Value) → is_some o ≡ false → option_map view o ≡ None
+none_seen None h = refl
+none_seen (Some v) h = absurd (true≢false h)
+
+pub copied : (r : Option (Bor Json)) → option_map (λ v. json_view v.now) r ≡ option_map json_view (option_copied r)
+copied None = refl
+copied (Some v) = refl
+
+-- ---- what demands stand for
+
+pub nothing_part : part_of demand.Nothing ≡ nothing
+nothing_part = ap part_of (sym demand.rolls-Nothing) ∙ fold-roll-Demand Part part_step Demand-F.Nothing
+
+pub whole_part : part_of demand.Whole ≡ whole
+whole_part = ap part_of (sym demand.rolls-Whole) ∙ fold-roll-Demand Part part_step Demand-F.Whole
+
+pub items_part : (b : Box Demand Global) → part_of (demand.Items b) ≡ each_item (part_of b.value)
+items_part b = ap part_of (sym (demand.rolls-Items b)) ∙ fold-roll-Demand Part part_step (Demand-F.Items b)
+
+pub members_part : (ms : _) → part_of (demand.Members ms) ≡ some_members (members_view ms.items)
+members_part ms = ap part_of (sym (demand.rolls-Members ms)) ∙ fold-roll-Demand Part part_step (Demand-F.Members ms)
+
+pub alike_by : (d : Demand) (p : Part) (v w : Data) → part_of d ≡ p → Alike p v w → Alike (part_of d) v w
+alike_by d p v w e h = subst (λ q. Alike q v w) (sym e) h
+
+-- ---- lists
+
+pub lists_last : {A : Type 0} (R : A → A → Type 0) (vs ws : List A) (v w : A) → ListsAlike R vs ws → R v w → ListsAlike R (vs ++ v ∷ []) (ws ++ w ∷ [])
+lists_last R [] [] v w h k = (k, tt)
+lists_last R [] (y ∷ ws) v w h k = absurd h
+lists_last R (x ∷ vs) [] v w h k = absurd h
+lists_last R (x ∷ vs) (y ∷ ws) v w h k = (h.0, lists_last R vs ws v w h.1 k)
+
+-- ---- members
+
+pub members_last : (es : List Entry) (e : Entry) (g h : List ℕ → Option Data) → MembersAlike (members_view es) g h → OptionsAlike (Alike (part_of e.1)) (g (name_of e)) (h (name_of e)) → MembersAlike (members_view (es ++ e ∷ [])) g h
+members_last [] e g h a k = (k, tt)
+members_last (d ∷ ds) e g h a k = (a.0, members_last ds e g h a.1 k)
+
+-- names that differ are other keys
+other_key : (x n : List ℕ) → bytes_eq x n ≡ false → eq_by_cmp key_order (text_key x) (text_key n) ≡ false
+other_key x n e = is_eq-slice_cmp x n ∙ e
+
+-- one more entry, at a key that only the second has
+module _ (n : List ℕ) (v w : Data) (es fs : Entries) (new : find (text_key n) es ≡ None) (there : find (text_key n) fs ≡ Some w) where
+  at_name : (b : Bool) (x : List ℕ) (p : Part) → bytes_eq x n ≡ b → OptionsAlike (Alike p) (find (text_key x) es) (find (text_key x) fs) → OptionsAlike (Alike p) (find (text_key x) (put (text_key n) v es)) (find (text_key x) fs)
+  at_name true x p e h =
+      let same : x ≡ n = (bytes_eq-Decides x n).0 e in
+      let none : find (text_key x) es ≡ None = ap (λ y. find (text_key y) es) same ∙ new in
+      let some : find (text_key x) fs ≡ Some w = ap (λ y. find (text_key y) fs) same ∙ there in
+      absurd (subst (λ o. OptionsAlike (Alike p) None o) some (subst (λ o. OptionsAlike (Alike p) o (find (text_key x) fs)) none h))
+  at_name false x p e h = subst (λ o. OptionsAlike (Alike p) o (find (text_key x) fs)) (sym (find-put_other (text_key x) (text_key n) v es (other_key x n e))) h
+
+  pub put_alike : (ms : Members) → MembersAlike ms (λ x. find (text_key x) es) (λ x. find (text_key x) fs) → MembersAlike ms (λ x. find (text_key x) (put (text_key n) v es)) (λ x. find (text_key x) fs)
+  put_alike no_members h = tt
+  put_alike (member x p ms) h = (at_name (bytes_eq x n) x p refl h.0, put_alike ms h.1)
+
+  still_none : (b : Bool) (x : List ℕ) → bytes_eq x n ≡ b → find (text_key x) fs ≡ None → find (text_key x) es ≡ None → find (text_key x) (put (text_key n) v es) ≡ None
+  still_none true x e h k =
+      let same : x ≡ n = (bytes_eq-Decides x n).0 e in
+      absurd (true≢false (ap is_some (sym there ∙ ap (λ y. find (text_key y) fs) (sym same) ∙ h)))
+  still_none false x e h k = find-put_other (text_key x) (text_key n) v es (other_key x n e) ∙ k
+
+  pub put_within : ((x : List ℕ) → find (text_key x) fs ≡ None → find (text_key x) es ≡ None) → (x : List ℕ) → find (text_key x) fs ≡ None → find (text_key x) (put (text_key n) v es) ≡ None
+  put_within within x h = still_none (bytes_eq x n) x refl h (within x h)
+
+  pub put_here : (p : Part) → Alike p v w → OptionsAlike (Alike p) (find (text_key n) (put (text_key n) v es)) (find (text_key n) fs)
+  put_here p h = subst (λ o. OptionsAlike (Alike p) (find (text_key n) (put (text_key n) v es)) o) (sym there) (subst (λ o. OptionsAlike (Alike p) o (Some w)) (sym (find-put (text_key n) v es)) h)
+
+-- neither has it
+pub neither : (p : Part) (o q : Option Data) → o ≡ None → q ≡ None → OptionsAlike (Alike p) o q
+neither p o q h k = subst (λ z. OptionsAlike (Alike p) z q) (sym h) (subst (λ z. OptionsAlike (Alike p) None z) (sym k) tt)
+
+-- ---- what stands in a bound object
+
+module _ {S : Type 0} (accessors : ConversionAccessors S) (f : S → json.Data → Data) (s : S) (ms : json.Members) (n : List ℕ) (key : member_key accessors s n ≡ n) where
+  pub member_there : (d : json.Data) → Some d ≡ get_member n ms → find (text_key n) (object_by accessors f s ms) ≡ Some (member_by accessors f s n d)
+  member_there d e = ap (λ k. find (text_key k) (object_by accessors f s ms)) (sym key) ∙ found_in_object accessors f s ms n
+      ∙ ap (λ o. or_else (option_map (member_by accessors f s n) o) (field_besides (accessors.is_embedded s) n)) (sym e)
+
+  pub member_absent : None ≡ get_member n ms → accessors.is_embedded s ≡ false → find (text_key n) (object_by accessors f s ms) ≡ None
+  unfolding field_besides
+  member_absent e alone = ap (λ k. find (text_key k) (object_by accessors f s ms)) (sym key) ∙ found_in_object accessors f s ms n
+      ∙ (λ i. or_else (option_map (member_by accessors f s n) (sym e i)) (field_besides (alone i) n))
+
+-- ---- one member more
+
+pub part_put : (done : List Entry) (m : Entry) (v w : Data) (es fs more : Entries) → find (text_key (name_of m)) es ≡ None → find (text_key (name_of m)) fs ≡ Some w → Alike (part_of m.1) v w → more ≡ put (text_key (name_of m)) v es
+    → AreParts (members_view done) es fs → AreParts (members_view (done ++ m ∷ [])) more fs
+part_put done m v w es fs more new there alike is k =
+    let n = name_of m in
+    subst (λ z. AreParts (members_view (done ++ m ∷ [])) z fs) (sym is) (
+      members_last done m (λ x. find (text_key x) (put (text_key n) v es)) (λ x. find (text_key x) fs) (put_alike n v w es fs new there (members_view done) k.0) (put_here n v w es fs new there (part_of m.1) alike),
+      put_within n v w es fs new there k.1,
+    )
+
+pub part_missing : (done : List Entry) (m : Entry) (es fs : Entries) → find (text_key (name_of m)) fs ≡ None → AreParts (members_view done) es fs → AreParts (members_view (done ++ m ∷ [])) es fs
+part_missing done m es fs none k =
+    let n = name_of m in (
+      members_last done m (λ x. find (text_key x) es) (λ x. find (text_key x) fs) k.0 (neither (part_of m.1) (find (text_key n) es) (find (text_key n) fs) (k.1 n none) none),
+      k.1,
+    )
+
+pub no_parts : (es fs : Entries) → es ≡ no_entries → AreParts no_members es fs
+no_parts es fs e = (tt, λ x h. ap (find (text_key x)) e)
+
+pub not_true : (b : Bool) → not b ≡ true → b ≡ false
+not_true false h = refl
+not_true true h = absurd (true≢false (sym h))
+
+-- ---- one item more
+
+pub items_more : (R : Data → Data → Type 0) (parts : List Value) (part : Value) (f : Json → Data) (items : List Json) (i : ℕ) (x : Json) → i < length items → x ≡ get_or items i x
+    → ListsAlike R (map view parts) (map f (take i items)) → R (view part) (f x) → ListsAlike R (map view (parts ++ part ∷ [])) (map f (take (i + 1) items))
+items_more R parts part f items i x lt is h k =
+    let next : map f (take (i + 1) items) ≡ map f (take i items) ++ f x ∷ [] = ap (map f) (take_more items i x lt ∙ ap (λ y. take i items ++ y ∷ []) (sym is)) ∙ map-append f (take i items) (x ∷ []) in
+    subst (λ ys. ListsAlike R (map view (parts ++ part ∷ [])) ys) (sym next)
+    (subst (λ vs. ListsAlike R vs (map f (take i items) ++ f x ∷ [])) (sym (map-append view parts (part ∷ []))) (lists_last R (map view parts) (map f (take i items)) (view part) (f x) h k))
+
+-- ---- what lists and objects are bound to
+
+module _ {S : Type 0} (accessors : ConversionAccessors S) where
+  pub list_bound : (k n : ℕ) (s p : S) (d : json.Data) (vs : List Json) → k ≡ suc n → d ≡ json.array (json_items_view vs) → accessors.items s ≡ Some p
+      → to_cel accessors k s d ≡ list (items_of (map (λ v. to_cel accessors n p (json_view v)) vs))
+  unfolding to_cel_by
+  list_bound k n s p d vs e is inner =
+      bound_within accessors k n s d e ∙ ap (to_cel_by accessors (to_cel accessors n) s) is
+      ∙ ap (λ o. option_map_or (λ p. list (items_by (to_cel accessors n p) (json_items_view vs))) o (plain (json.array (json_items_view vs)))) inner
+      ∙ ap list (items_by_is (to_cel accessors n p) vs)
+
+  pub object_bound : (k n : ℕ) (s : S) (d : json.Data) (ms : json.Members) → k ≡ suc n → d ≡ json.object ms → to_cel accessors k s d ≡ map_of (object_by accessors (to_cel accessors n) s ms)
+  unfolding to_cel_by
+  object_bound k n s d ms e is = bound_within accessors k n s d e ∙ ap (to_cel_by accessors (to_cel accessors n) s) is
+
+  pub member_inside : (f : S → json.Data → Data) (s p : S) (n : List ℕ) (d : json.Data) → Some p ≡ member_node accessors s n → f p d ≡ member_by accessors f s n d
+  unfolding member_by
+  member_inside f s p n d is = ap (λ o. option_map_or (λ p. f p d) o (plain d)) is
+
+  pub member_plain : (f : S → json.Data → Data) (s : S) (n : List ℕ) (d : json.Data) → None ≡ member_node accessors s n → plain d ≡ member_by accessors f s n d
+  unfolding member_by
+  member_plain f s n d is = ap (λ o. option_map_or (λ p. f p d) o (plain d)) is

@@ -1,0 +1,13 @@
+use Rattle.std.proofs.Common.{◌≡◌, string_bytes, sym, ap, ◌∙◌}
+use Rattle.std.proofs.lemmas.Slice.Eq.{bytes_eq-Decides}
+use Rattle.kube_schema_values.specs.Conversion.{key_in}
+use Rattle.kube_schema_parts.proofs.parts.is_found_by.Goals as goal
+
+pub returns-then-is_map-clause-found : goal.returns-then-is_map-clause-found
+returns-then-is_map-clause-found g c = λ h. ap (λ b. key_in b c.args.name.now) (sym c.is_map.ensures ∙ c.if-is_map.true)
+
+pub returns-clause-found : goal.returns-clause-found
+returns-clause-found g c = λ h.
+    let text : c.as_str.result.now ≡ string_bytes c.in_ok-key.key.value = c.as_str.ensures.value ∙ ap (λ z. string_bytes z) c.deref.ensures in
+    let same : c.as_str.result.now ≡ c.args.name.now = (bytes_eq-Decides c.as_str.result.now c.args.name.now).0 (sym c.eq.ensures ∙ h) in
+    ap (λ b. key_in b c.args.name.now) (sym c.is_map.ensures ∙ c.if-is_map.false) ∙ sym c.in_ok-key.ensures.key ∙ sym text ∙ same

@@ -1,0 +1,297 @@
+//! The part of a JSON value's CEL value that is read.
+ghost use Rattle.std.specs.Prelude.{◌≡◌, ◌≤◌, ◌-◌, ◌++◌, ◌∷◌, [], List, true, None, Some, IfErr, IfOk, IfSome, OnOk, map, option_map, string_bytes};
+ghost use Rattle.serde_json.specs.Data.{array, object};
+ghost use Rattle.serde_json.specs.Find.{get_member};
+ghost use Rattle.serde_json.specs.View.{view as json_view, items_view, members_view};
+ghost use Rattle.cel_demand.specs.Alike.{Alike, ListsAlike};
+ghost use Rattle.cel_demand.specs.Demand.{part_of, members_view as demands_view};
+ghost use Rattle.cel_demand.specs.Part.{each_item, some_members};
+ghost use Rattle.cel_demand.specs.Places.{Entry};
+ghost use Rattle.cel_value.specs.Data as bound_data;
+ghost use Rattle.cel_value.specs.Data.{text_key};
+ghost use Rattle.cel_value.specs.Find.{find};
+ghost use Rattle.cel_value.specs.Keys.{put};
+ghost use Rattle.cel_value.specs.View.{view, entries_view};
+ghost use Rattle.kube_schema_values.specs.Conversion.{to_cel, levels, member_by, member_key, object_by};
+ghost use Rattle.kube_schema_parts.specs.Parts.{AreParts};
+
+use cel_demand::Demand;
+use cel_value::{Entries, Key, Refused, Value};
+use kube_schema_values::{MemberKeys, Node, bind_at, bind_plain_with};
+use serde_json::{Map as Members, Value as Json};
+use std::alloc::Global;
+use std::rc::Rc;
+
+/// The greatest depth at which a schema is looked at.
+const MAX_DEPTH: usize = 64;
+
+/// As much of the CEL value of a JSON value as is demanded of it, at a node of a schema that stands `depth` steps below the root. What
+/// isn't demanded may be missing.
+///
+/// # Errors
+///
+/// [`Refused`] where memory is refused.
+pub fn bind_part_at<N: Node>(
+    alloc: Global,
+    node: N,
+    value: &Json,
+    depth: usize,
+    demand: &Demand,
+) -> Result<Value, Refused>
+    ensures value { IfOk result (λ v. Alike (part_of demand.now) (view v)
+        (to_cel N.accessors (levels depth) (N.seen node) (json_view value.now))) }
+    ensures memory { IfErr result (λ e. e ≡ Refused.Memory) }
+{
+    let mut keys = MemberKeys::new(alloc);
+    let part = part_with(alloc, node, value, depth, demand, &mut keys)?;
+    Ok(part)
+}
+
+// The same, sharing the keys that were made before.
+#[cycle(part)]
+fn part_with<N: Node>(
+    alloc: Global,
+    node: N,
+    value: &Json,
+    depth: usize,
+    demand: &Demand,
+    keys: &mut MemberKeys,
+) -> Result<Value, Refused>
+    ensures value { IfOk result (λ v. Alike (part_of demand.now) (view v)
+        (to_cel N.accessors (levels depth) (N.seen node) (json_view value.now))) }
+    ensures memory { IfErr result (λ e. e ≡ Refused.Memory) }
+{
+    match demand {
+        Demand::Nothing => Ok(Value::Null),
+        Demand::Whole => {
+            let whole = bind_at(alloc, node, value, depth)?;
+            Ok(whole)
+        }
+        Demand::Items(item) => {
+            let list = list_part(alloc, node, value, depth, item, keys)?;
+            Ok(list)
+        }
+        Demand::Members(members) => {
+            let map = map_part(alloc, node, value, depth, members, keys)?;
+            Ok(map)
+        }
+    }
+}
+
+// A part of each item, where the value is a list whose items have a node and aren't demanded whole. Anything else is bound whole.
+#[cycle(part)]
+fn list_part<N: Node>(
+    alloc: Global,
+    node: N,
+    value: &Json,
+    depth: usize,
+    item: &Demand,
+    keys: &mut MemberKeys,
+) -> Result<Value, Refused>
+    ensures value { IfOk result (λ v. Alike (each_item (part_of item.now)) (view v)
+        (to_cel N.accessors (levels depth) (N.seen node) (json_view value.now))) }
+    ensures memory { IfErr result (λ e. e ≡ Refused.Memory) }
+{
+    if let Some(items) = list_of(value, depth, item) {
+        if let Some(inner) = node.items() {
+            let parts = item_parts(alloc, inner, items, depth + 1, item, keys)?;
+            let list = Value::from_items(alloc, parts)?;
+            return Ok(list);
+        }
+    }
+    let whole = bind_at(alloc, node, value, depth)?;
+    Ok(whole)
+}
+
+// The parts of items, at one node.
+#[cycle(part)]
+fn item_parts<N: Node>(
+    alloc: Global,
+    node: N,
+    items: &Vec<Json>,
+    depth: usize,
+    item: &Demand,
+    keys: &mut MemberKeys,
+) -> Result<Vec<Value>, Refused>
+    ensures items { IfOk result (λ parts. ListsAlike (Alike (part_of item.now)) (map view parts.items)
+        (map (λ v. to_cel N.accessors (levels depth) (N.seen node) (json_view v)) items.now.items)) }
+    ensures memory { IfErr result (λ e. e ≡ Refused.Memory) }
+{
+    if items.len() > 1 {
+        keys.keep_names();
+    }
+    let mut parts = Vec::with_capacity(alloc, items.len())?;
+    for value in items {
+        let part = part_with(alloc, node, value, depth, item, keys)?;
+        parts.push(part)?;
+    }
+    Ok(parts)
+}
+
+// Some members of a map, where the value is an object and its members can be found by these names. Anything else is bound whole.
+#[cycle(part)]
+fn map_part<N: Node>(
+    alloc: Global,
+    node: N,
+    value: &Json,
+    depth: usize,
+    members: &Vec<(Rc<String>, Demand)>,
+    keys: &mut MemberKeys,
+) -> Result<Value, Refused>
+    ensures value { IfOk result (λ v. Alike (some_members (demands_view members.now.items)) (view v)
+        (to_cel N.accessors (levels depth) (N.seen node) (json_view value.now))) }
+    ensures memory { IfErr result (λ e. e ≡ Refused.Memory) }
+{
+    if let Some(object) = object_of(value, depth) {
+        let found = member_parts(alloc, node, object, depth, members, keys)?;
+        if let Some(parts) = found {
+            let map = Value::from_entries(alloc, parts)?;
+            return Ok(map);
+        }
+    }
+    let whole = bind_at(alloc, node, value, depth)?;
+    Ok(whole)
+}
+
+// The parts of members; none where one of them can't be had alone.
+#[cycle(part)]
+fn member_parts<N: Node>(
+    alloc: Global,
+    node: N,
+    object: &Members<String, Json>,
+    depth: usize,
+    members: &Vec<(Rc<String>, Demand)>,
+    keys: &mut MemberKeys,
+) -> Result<Option<Entries>, Refused>
+    requires { depth ≤ 64 }
+    ensures members { IfOk result (λ found. IfSome found (λ parts. AreParts (demands_view members.now.items) (entries_view parts.entries)
+        (object_by N.accessors (to_cel N.accessors (64 - depth)) (N.seen node) (members_view object.now.entries)))) }
+    ensures memory { IfErr result (λ e. e ≡ Refused.Memory) }
+{
+    let mut parts = Entries::new(alloc);
+    for member in members {
+        if !add_part(alloc, node, object, depth, member, &mut parts, keys)? {
+            return Ok(None);
+        }
+    }
+    Ok(Some(parts))
+}
+
+// Adds the part of one more member, if the object has it. Answers false where it can't be found by its name, where it is a field that an
+// object of its kind has though it isn't there, or where it was there before.
+#[cycle(part)]
+fn add_part<N: Node>(
+    alloc: Global,
+    node: N,
+    object: &Members<String, Json>,
+    depth: usize,
+    member: &(Rc<String>, Demand),
+    parts: &mut Entries,
+    keys: &mut MemberKeys,
+) -> Result<bool, Refused>
+    requires { depth ≤ 64 }
+    ensures added { IfOk result (λ added. added ≡ true → (bound : bound_data.Entries) → bound ≡ object_by N.accessors (to_cel N.accessors (64 - depth)) (N.seen node)
+        (members_view object.now.entries) → (done : List Entry) → AreParts (demands_view done) (entries_view parts.old.entries) bound
+        → AreParts (demands_view (done ++ member.now ∷ [])) (entries_view parts.new.entries) bound) }
+    ensures memory { IfErr result (λ e. e ≡ Refused.Memory) }
+{
+    let name = member.0.as_str();
+    let is_found = is_found_by(&node, name, keys)?;
+    if !is_found {
+        return Ok(false);
+    }
+    let Some(value) = member_of(object, name) else {
+        return Ok(!node.is_embedded());
+    };
+    let part = member_part(alloc, node, name, value, depth, &member.1, keys)?;
+    let is_new = put_new(parts, member.0.clone()?, part)?;
+    Ok(is_new)
+}
+
+// A part of a member at its node, or the whole of it, plainly.
+#[cycle(part)]
+#[tactic(auto, unfolding(kube_schema_values::specs::Conversion::member_by))]
+fn member_part<N: Node>(
+    alloc: Global,
+    node: N,
+    name: &str,
+    member: &Json,
+    depth: usize,
+    demand: &Demand,
+    keys: &mut MemberKeys,
+) -> Result<Value, Refused>
+    requires { depth ≤ 64 }
+    ensures value { IfOk result (λ v. Alike (part_of demand.now) (view v)
+        (member_by N.accessors (to_cel N.accessors (64 - depth)) (N.seen node) name.now (json_view member.now))) }
+    ensures memory { IfErr result (λ e. e ≡ Refused.Memory) }
+{
+    let Some(inner) = node.member(name) else {
+        let plain = bind_plain_with(alloc, member, keys)?;
+        return Ok(plain);
+    };
+    let part = part_with(alloc, inner, member, depth + 1, demand, keys)?;
+    Ok(part)
+}
+
+// The items of a list, at a depth that counts and where less than the whole of each is demanded.
+fn list_of<'a>(value: &'a Json, depth: usize, item: &Demand) -> Option<&'a Vec<Json>>
+    ensures within { IfSome result (λ _. depth ≤ 64) }
+    ensures items { IfSome result (λ items. json_view value.now ≡ array (items_view items.now.items)) }
+{
+    if depth > MAX_DEPTH {
+        return None;
+    }
+    if matches!(item, Demand::Whole) {
+        return None;
+    }
+    match value {
+        Json::Array(items) => Some(items),
+        _ => None,
+    }
+}
+
+// The members of an object, at a depth that counts.
+fn object_of(value: &Json, depth: usize) -> Option<&Members<String, Json>>
+    ensures within { IfSome result (λ _. depth ≤ 64) }
+    ensures members { IfSome result (λ m. json_view value.now ≡ object (members_view m.now.entries)) }
+{
+    if depth > MAX_DEPTH {
+        return None;
+    }
+    match value {
+        Json::Object(members) => Some(members),
+        _ => None,
+    }
+}
+
+// Whether a name is the key of the member of that name.
+fn is_found_by<N: Node>(node: &N, name: &str, keys: &mut MemberKeys) -> Result<bool, Refused>
+    ensures found { IfOk result (λ is_found. is_found ≡ true
+        → member_key N.accessors (N.seen node.now) name.now ≡ name.now) }
+    ensures memory { IfErr result (λ e. e ≡ Refused.Memory) }
+{
+    if node.is_map() {
+        return Ok(true);
+    }
+    let key = keys.escaped(name)?;
+    Ok(key.as_str() == name)
+}
+
+// The member of a name.
+fn member_of<'a>(object: &'a Members<String, Json>, name: &str) -> Option<&'a Json>
+    ensures { option_map (λ v. json_view v.now) result ≡ get_member name.now (members_view object.now.entries) }
+{
+    object.get(name)
+}
+
+// Puts a value into a map at a text that is shared. Answers whether nothing was there.
+fn put_new(entries: &mut Entries, key: Rc<String>, value: Value) -> Result<bool, Refused>
+    ensures entered { OnOk result (entries_view entries.new.entries
+        ≡ put (text_key (string_bytes key.value)) (view value) (entries_view entries.old.entries)) }
+    ensures new { IfOk result (λ is_new. is_new ≡ true
+        → find (text_key (string_bytes key.value)) (entries_view entries.old.entries) ≡ None) }
+    ensures memory { IfErr result (λ e. e ≡ Refused.Memory) }
+{
+    let before = entries.insert(Key::String(key), value)?;
+    Ok(before.is_none())
+}

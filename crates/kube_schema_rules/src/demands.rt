@@ -1,0 +1,124 @@
+//! How much of the values at a place rules read.
+ghost use Rattle.std.specs.Prelude.{◌≡◌, codes, IfErr, IfOk, map, None, option_map};
+ghost use Rattle.cel_syntax_ast.specs.Term.{term};
+ghost use Rattle.cel_demand.specs.Demand.{part_of};
+ghost use Rattle.cel_demand.specs.Part.{both_read, part_read};
+ghost use Rattle.cel_demand.specs.Reads.{reads_of};
+ghost use Rattle.kube_schema_rules.specs.Compilation.{compiled_seen};
+ghost use Rattle.kube_schema_rules.specs.Demands.{AreDemands, rule_read, rules_read};
+ghost use Rattle.kube_schema_rules.specs.Reads.{texts_read};
+
+use crate::compilation::CompilationError;
+use crate::result::CompilationResult;
+use cel::Expr;
+use cel_demand::{Demand, both_demands, demand_on, demands_of};
+use kube_types_refused::Refused;
+use std::alloc::Global;
+
+/// How much rules read of `self` and of `oldSelf`; none of what they don't name.
+#[derive(Debug, Drop)]
+pub struct Demands {
+    /// Of the value, `self`.
+    pub value: Option<Demand>,
+    /// Of the value before a change, `oldSelf`.
+    pub old: Option<Demand>,
+}
+
+/// Nothing is read.
+pub fn no_demands() -> Demands
+    ensures { AreDemands result (λ x. None) }
+{
+    Demands {
+        value: None,
+        old: None,
+    }
+}
+
+/// What an expression reads.
+fn expression_demands(alloc: Global, expression: &Expr) -> Result<Demands, Refused>
+    ensures demands { IfOk result (λ d. AreDemands d (λ x. part_read x (reads_of (term expression.now)))) }
+    ensures memory { IfErr result (λ e. e ≡ Refused.Memory) }
+{
+    let names = demands_of(alloc, expression)?;
+    let value = demand_on(alloc, "self", &names)?;
+    let old = demand_on(alloc, "oldSelf", &names)?;
+    Ok(Demands { value, old })
+}
+
+/// What one reads or another.
+fn joined(alloc: Global, first: &Demands, second: &Demands) -> Result<Demands, Refused>
+    ensures value { IfOk result (λ d. option_map part_of d.value
+        ≡ both_read (option_map part_of first.now.value) (option_map part_of second.now.value)) }
+    ensures old { IfOk result (λ d. option_map part_of d.old
+        ≡ both_read (option_map part_of first.now.old) (option_map part_of second.now.old)) }
+    ensures memory { IfErr result (λ e. e ≡ Refused.Memory) }
+{
+    let value = both_demands(alloc, &first.value, &second.value)?;
+    let old = both_demands(alloc, &first.old, &second.old)?;
+    Ok(Demands { value, old })
+}
+
+/// What a rule reads whose text and whose messageExpression are these.
+pub(crate) fn text_demands(
+    alloc: Global,
+    text: &Expr,
+    message: Option<&Expr>,
+) -> Result<Demands, Refused>
+    ensures demands { IfOk result (λ d. AreDemands d
+        (λ x. texts_read x (term text.now) (option_map (λ e. term e.now) message.entry))) }
+    ensures memory { IfErr result (λ e. e ≡ Refused.Memory) }
+{
+    let of_text = expression_demands(alloc, text)?;
+    let Some(message) = message else {
+        return Ok(of_text);
+    };
+    let of_message = expression_demands(alloc, message)?;
+    let demands = joined(alloc, &of_text, &of_message)?;
+    Ok(demands)
+}
+
+/// What a rule reads or what is read besides. A malformed rule reads nothing.
+///
+/// # Errors
+///
+/// [`Refused`] where memory is refused.
+pub fn with_rule(
+    alloc: Global,
+    rule: &Result<CompilationResult, CompilationError>,
+    demands: Demands,
+) -> Result<Demands, Refused>
+    ensures value { IfOk result (λ d. option_map part_of d.value
+        ≡ both_read (rule_read (codes "self") (compiled_seen rule.now)) (option_map part_of demands.value)) }
+    ensures old { IfOk result (λ d. option_map part_of d.old
+        ≡ both_read (rule_read (codes "oldSelf") (compiled_seen rule.now)) (option_map part_of demands.old)) }
+    ensures memory { IfErr result (λ e. e ≡ Refused.Memory) }
+{
+    match rule {
+        Err(_error) => Ok(demands),
+        Ok(rule) => {
+            let more = joined(alloc, &rule.demands, &demands)?;
+            Ok(more)
+        }
+    }
+}
+
+/// What one of these rules reads.
+///
+/// # Errors
+///
+/// [`Refused`] where memory is refused.
+pub fn rules_demands(
+    alloc: Global,
+    rules: &[Result<CompilationResult, CompilationError>],
+) -> Result<Demands, Refused>
+    ensures demands { IfOk result (λ d. AreDemands d (λ x. rules_read x (map compiled_seen rules.now))) }
+    ensures memory { IfErr result (λ e. e ≡ Refused.Memory) }
+{
+    let mut demands = no_demands();
+    let mut left = rules.len();
+    while left > 0 {
+        left -= 1;
+        demands = with_rule(alloc, &rules[left], demands)?;
+    }
+    Ok(demands)
+}
