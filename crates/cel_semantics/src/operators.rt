@@ -51,7 +51,7 @@ pub enum Progress {
     Open(Option<ExecutionError>),
 }
 
-/// One more operand, after operands whose first fault is `fault`. The bool `stop` decides.
+/// Takes one more operand of `&&`, `||` or a macro, after operands whose first fault is `fault`: the bool `stop` decides.
 ///
 /// # Errors
 /// `Memory` alone.

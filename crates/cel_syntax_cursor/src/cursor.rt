@@ -15,7 +15,7 @@ use cel_syntax_literals::takes_minus;
 /// The tokens that are left.
 #[derive(Clone, Copy)]
 pub struct Cursor<'a> {
-    /// They, in order.
+    /// The tokens that aren't consumed yet, the next one first.
     pub rest: &'a [Token<'a>],
 }
 

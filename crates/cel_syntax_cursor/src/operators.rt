@@ -40,7 +40,7 @@ fn operator_of(punctuator: Punctuator) -> Option<(u8, BinaryOperator)>
     }
 }
 
-/// The same of a word.
+/// The operator that a word is, and how loosely it binds.
 fn word_operator(word: &[u8]) -> Option<(u8, BinaryOperator)>
     ensures { result ≡ spec.word_operator word.now }
 {
@@ -52,7 +52,7 @@ fn word_operator(word: &[u8]) -> Option<(u8, BinaryOperator)>
     }
 }
 
-/// The same of a token.
+/// The operator that a token is, and how loosely it binds.
 pub(crate) fn token_operator(token: Token<'_>) -> Option<(u8, BinaryOperator)>
     ensures { result ≡ spec.operator (token_of token.entry) }
 {

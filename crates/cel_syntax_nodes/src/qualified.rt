@@ -53,7 +53,7 @@ const OF_FORMAT: [&[u8]; 14] = [
     b"datetime",
 ];
 
-/// The functions of that library.
+/// The names of the functions of a library, which stand behind its name and a dot.
 #[tactic(auto, unfolding(crate::specs::Calls::functions_of))]
 fn functions_of(library: &[u8]) -> &'static [&'static [u8]]
     ensures { map (λ w. w.now) result.now ≡ spec.functions_of library.now }

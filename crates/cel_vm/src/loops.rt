@@ -34,7 +34,7 @@ fn loop_text(stop: bool) -> &'static str
     if stop { "exists" } else { "all" }
 }
 
-/// Past a loop, with its outcome.
+/// Pushes an outcome and jumps over a loop, if the jump goes no further than the end.
 fn leave(
     answer: Answer,
     offset: usize,
@@ -68,7 +68,8 @@ fn answer_over_none(alloc: Global, kind: MacroKind) -> Result<Answer, Refused>
     }
 }
 
-/// Into a loop over these items, with the first of them, or past it where there is none.
+/// Enters a loop over these items: pushes its state, at the first item, and a slot for a pending error.
+/// With no items, pushes the macro's outcome and jumps over the loop.
 fn enter(
     alloc: Global,
     kind: MacroKind,
@@ -111,7 +112,8 @@ fn enter(
     }
 }
 
-/// The start of a loop.
+/// Starts a loop: pops its range and enters it. An error, or the fault of a value that is no range, is pushed in place of
+/// the macro's outcome, and the loop jumped over.
 #[inline(never)]
 pub(crate) fn begin(
     alloc: Global,
@@ -155,7 +157,7 @@ fn outcome_after(
     }
 }
 
-/// Out of the innermost loop, with this outcome.
+/// Ends the innermost loop early: pops it with its slot for a pending error, and pushes this outcome.
 #[inline(never)]
 fn close(answer: Answer, stacks: &mut Stacks) -> Result<LoopStep, AllocError>
     ensures { IfOk result (λ e. (k : Option Fault) (ab : List (Option Fault)) (l : Loop) (ls : List Loop)
@@ -168,7 +170,7 @@ fn close(answer: Answer, stacks: &mut Stacks) -> Result<LoopStep, AllocError>
     Ok(LoopStep::AfterLoop)
 }
 
-/// Past the last item of the innermost loop, with its outcome.
+/// Ends the innermost loop after its last item: pops it with its slot for a pending error, and pushes its outcome.
 #[inline(never)]
 fn end_loop(alloc: Global, rule: ResultRule, stacks: &mut Stacks) -> Result<LoopStep, Refused>
     ensures value { IfOk result (λ e. (k : Option Fault) (ab : List (Option Fault)) (l : Loop) (ls : List Loop)
@@ -189,7 +191,7 @@ fn end_loop(alloc: Global, rule: ResultRule, stacks: &mut Stacks) -> Result<Loop
     }
 }
 
-/// The next item of the innermost loop, or its end.
+/// Goes to the next item of the innermost loop, or ends it.
 #[inline(always)]
 fn next_item(
     alloc: Global,
@@ -210,7 +212,8 @@ fn next_item(
     }
 }
 
-/// After an item of a loop that the bool `stop` ends.
+/// Takes the outcome at an item of `all` or `exists`: the bool `stop` ends the loop; else its error is kept pending, and
+/// the next item follows.
 #[inline(never)]
 fn take_outcome(
     alloc: Global,
@@ -257,7 +260,7 @@ fn held(alloc: Global, answer: Answer) -> Result<Result<Option<Value>, Execution
     }
 }
 
-/// What an item gives.
+/// What an item adds to the result of its macro, by the outcome of the body there.
 fn iteration_result_from(
     alloc: Global,
     end: End,
@@ -274,7 +277,7 @@ fn iteration_result_from(
     }
 }
 
-/// Into the innermost loop what its item gives, then its next item or its end.
+/// Adds what an item gives to the innermost loop, and goes to the next item. An error ends the loop.
 fn gather(
     alloc: Global,
     kind: MacroKind,
@@ -298,7 +301,7 @@ fn gather(
     }
 }
 
-/// After an item of a loop that gathers.
+/// Takes the outcome at an item of a macro that collects: adds what the item gives, and goes to the next item.
 #[inline(never)]
 fn collect(
     alloc: Global,
@@ -322,7 +325,7 @@ fn collect(
     }
 }
 
-/// After an item of a `map` without a filter.
+/// Takes the outcome at an item of `map` without a filter: adds it, and goes to the next item. An error ends the loop.
 #[inline(always)]
 fn take_image(
     alloc: Global,
@@ -345,7 +348,7 @@ fn take_image(
     }
 }
 
-/// After an item.
+/// Takes the outcome at an item of a macro of any kind.
 #[inline(always)]
 fn turn_back(
     alloc: Global,

@@ -92,7 +92,7 @@ pub(crate) fn guard(
     }
 }
 
-/// The name of a test.
+/// The name that the fault of a test bears.
 fn test_text(test: Test) -> &'static str
     ensures { result.now ≡ test_name test }
 {

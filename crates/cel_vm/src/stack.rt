@@ -11,7 +11,7 @@ use cel_semantics::operators::Answer;
 use cel_value::{ExecutionError, Refused, Value};
 use std::alloc::AllocError;
 
-/// One more at the end.
+/// Pushes one more element.
 // Where there is room, this is no more than some stores, so it is inlined, as all is that each item of a loop needs.
 #[inline(always)]
 pub fn push_last<T: Drop>(list: &mut Vec<T>, last: T) -> Result<(), AllocError>

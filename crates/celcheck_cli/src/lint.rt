@@ -80,7 +80,7 @@ fn write_finding<O: Write>(finding: &LintFinding, out: &mut O) -> io::Result<()>
     writeln!(out, "#{}: {kind}: {}", finding.pointer, finding.message)
 }
 
-/// The word of a kind.
+/// The word that a kind of finding prints as.
 fn kind_text(kind: LintKind) -> &'static str
     ensures { result.now ≡ kind_text kind }
 {

@@ -41,7 +41,7 @@ fn run_words(
     }
 }
 
-/// Runs a row's command line, whose standard output takes so many writes.
+/// Runs a row's command line, with a standard output that takes `writes` writes and refuses each further one.
 fn run_given(alloc: Global, given: &[Field], writes: u64) -> Result<Ran, Stop> {
     let failing = rows::number_or(given, "failing read", MANY)?;
     let refused = rows::number_or(given, "refused read", MANY)?;

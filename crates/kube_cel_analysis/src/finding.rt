@@ -5,7 +5,7 @@
 pub enum LintKind {
     /// The rule is malformed, or one of its texts isn't read.
     Compile,
-    /// It calls a function that there isn't.
+    /// It calls an unknown function.
     Function,
     /// It uses a name that isn't there where it runs.
     Scope,

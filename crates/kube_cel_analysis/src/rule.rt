@@ -72,7 +72,7 @@ fn is_unknown(name: &str) -> bool
     }
 }
 
-/// That there is no function of this name.
+/// The finding for an unknown function.
 fn unknown_finding(
     alloc: Global,
     pointer: &str,
@@ -89,7 +89,7 @@ fn unknown_finding(
     })
 }
 
-/// Adds that there is no function of this name, if there is none.
+/// Adds a finding if the function is unknown.
 fn add_name(
     alloc: Global,
     pointer: &str,
@@ -105,7 +105,7 @@ fn add_name(
     Ok(())
 }
 
-/// Adds which of these functions there aren't, in their order.
+/// Adds a finding for each unknown function, in their order.
 fn add_names(
     alloc: Global,
     pointer: &str,

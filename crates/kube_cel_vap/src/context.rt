@@ -49,7 +49,7 @@ pub(crate) fn outcome_of(
     program.execute_with(alloc, context, book)
 }
 
-/// The value of what was set, else null.
+/// The value that was set, or null.
 fn value_or_null(alloc: Global, value: &Option<Json>) -> Result<Value, Refused>
     ensures value { IfOk result (λ v. view v ≡ value_or_null (option_map json_view value.now)) }
     ensures memory { IfErr result (λ e. e ≡ Refused.Memory) }
@@ -60,7 +60,7 @@ fn value_or_null(alloc: Global, value: &Option<Json>) -> Result<Value, Refused>
     }
 }
 
-/// The value of the request that was set, else of one of which nothing is known.
+/// The value of the request that was set, or of an empty request.
 fn request_or_empty(alloc: Global, request: &Option<AdmissionRequest>) -> Result<Value, Refused>
     ensures value { IfOk result (λ v. view v
         ≡ request_value (unwrap_or (option_map request_view request.now) empty_request)) }
@@ -72,7 +72,7 @@ fn request_or_empty(alloc: Global, request: &Option<AdmissionRequest>) -> Result
     }
 }
 
-/// Binds a name to what was set, if it was.
+/// Binds a name to the value that was set, if one was.
 fn bind_given(
     alloc: Global,
     context: &mut PolicyContext<'_>,

@@ -28,7 +28,7 @@ fn empty_context<'a>(alloc: Global) -> PolicyContext<'a>
     Context::default(alloc)
 }
 
-/// The value of what is given, else null.
+/// The value that is given, or null.
 fn value_or_null(alloc: Global, value: &Option<Json>) -> Result<Value, Refused>
     ensures value { IfOk result (λ v. view v ≡ value_or_null (option_map json_view value.now)) }
     ensures memory { IfErr result (λ e. e ≡ Refused.Memory) }
@@ -39,7 +39,7 @@ fn value_or_null(alloc: Global, value: &Option<Json>) -> Result<Value, Refused>
     }
 }
 
-/// The value of the request that is given, else of one of which nothing is known.
+/// The value of the request that is given, or of an empty request.
 fn request_or_empty(alloc: Global, request: &Option<AdmissionRequest>) -> Result<Value, Refused>
     ensures value { IfOk result (λ v. view v
         ≡ request_value (unwrap_or (option_map request_view request.now) empty_request)) }
@@ -51,7 +51,7 @@ fn request_or_empty(alloc: Global, request: &Option<AdmissionRequest>) -> Result
     }
 }
 
-/// Binds a name to what is given, if it is.
+/// Binds a name to the value that is given, if one is.
 fn bind_given(
     alloc: Global,
     context: &mut PolicyContext<'_>,

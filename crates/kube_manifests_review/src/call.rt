@@ -180,7 +180,7 @@ fn add_pattern(
     add_refused(alloc, text, second_text(receiver, args), doubts)
 }
 
-/// Adds what is said of a call in a form that there is.
+/// Adds the doubts about a call in a form that there is.
 fn add_known(
     alloc: Global,
     text: Text<'_>,
@@ -250,7 +250,7 @@ fn add_unknown(
     Ok(())
 }
 
-/// Adds what is said of a call.
+/// Adds the doubts about a call.
 pub(crate) fn add_call(
     alloc: Global,
     text: Text<'_>,

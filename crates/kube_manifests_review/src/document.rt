@@ -48,7 +48,7 @@ fn version_pointer(alloc: Global, index: usize) -> Result<String, AllocError>
     format!(in alloc; "/spec/versions/{index}/schema/openAPIV3Schema")
 }
 
-/// Adds what is said of a version by its schema.
+/// Adds the doubts about a version, by its schema.
 fn add_version(
     alloc: Global,
     base: &str,
@@ -72,7 +72,7 @@ fn add_version(
     Ok(())
 }
 
-/// Adds what is said of versions, in their order.
+/// Adds the doubts about versions, in their order.
 fn add_versions(alloc: Global, versions: &[Value], doubts: &mut Vec<Doubt>) -> Result<(), Refused>
     ensures doubts { OnOk result ((names : Naming) → AddsDoubts doubts.old.items doubts.new.items
         (spec.versions_doubts names 0 (items_view versions.now))) }
@@ -107,7 +107,7 @@ fn add_no_version(
     Ok(())
 }
 
-/// What may be said of a document.
+/// The doubts about a document.
 pub(crate) fn doubts_of(alloc: Global, crd: &Value) -> Result<Vec<Doubt>, Refused>
     ensures doubts { IfOk result (λ v. (names : Naming) → map doubt_view v.items
         ≡ spec.crd_doubts names (view crd.now)) }

@@ -1,8 +1,8 @@
-//! What a review may say, with its condition.
+//! Findings that a review may have, each with its condition.
 
 use crate::finding::ReviewFinding;
 
-/// Under which condition something is said.
+/// When a finding is reported.
 #[derive(Drop)]
 pub(crate) enum Condition {
     /// In any case.
@@ -18,7 +18,7 @@ pub(crate) enum Condition {
     },
 }
 
-/// What may be said, and when.
+/// A finding, and when it is reported.
 #[derive(Drop)]
 pub(crate) struct Doubt {
     pub(crate) finding: ReviewFinding,

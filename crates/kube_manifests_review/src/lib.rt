@@ -9,7 +9,7 @@
 //! use serde_json::Value;
 //! use std::alloc::Global;
 //!
-//! /// How many things to look at a document has, none where there is no memory.
+//! /// How many things to look at a document has; `None` where there is no memory.
 //! fn things_to_look_at(alloc: Global, crd: &Value) -> Option<usize> {
 //!     match review_crd(alloc, crd) {
 //!         Ok(found) => Some(found.len()),

@@ -1,17 +1,17 @@
-//! What is said of a call, in words.
+//! The messages of findings about calls.
 ghost use Rattle.std.specs.Prelude.{◌≡◌, IfOk, string_bytes};
 ghost use Rattle.kube_manifests_review.specs.Calls as spec;
 
 use std::alloc::{AllocError, Global};
 
-/// That the function is unknown.
+/// The message that the function is unknown.
 pub(crate) fn unknown_text(alloc: Global, name: &str) -> Result<String, AllocError>
     ensures { IfOk result (λ s. string_bytes s ≡ spec.unknown_text name.now) }
 {
     format!(in alloc; "function '{name}' is unknown")
 }
 
-/// That the function has no form with or without a receiver and with this number of arguments.
+/// The message that the function has no form with or without a receiver and with this number of arguments.
 pub(crate) fn wrong_text(
     alloc: Global,
     name: &str,
@@ -31,21 +31,21 @@ pub(crate) fn wrong_text(
     }
 }
 
-/// That the function isn't one of `oldSelf`.
+/// The message that the function isn't one of `oldSelf`.
 pub(crate) fn old_self_text(alloc: Global, name: &str) -> Result<String, AllocError>
     ensures { IfOk result (λ s. string_bytes s ≡ spec.old_self_text name.now) }
 {
     format!(in alloc; "'oldSelf' is no optional: {name}() always fails")
 }
 
-/// That the call of the function with a string fails.
+/// The message that the call of the function with a string fails.
 pub(crate) fn fails_text(alloc: Global, name: &str, string: &str) -> Result<String, AllocError>
     ensures { IfOk result (λ s. string_bytes s ≡ spec.fails_text name.now string.now) }
 {
     format!(in alloc; "{name}('{string}') always fails")
 }
 
-/// That a pattern is refused.
+/// The message that a pattern is refused.
 pub(crate) fn pattern_text(alloc: Global, pattern: &str) -> Result<String, AllocError>
     ensures { IfOk result (λ s. string_bytes s ≡ spec.pattern_text pattern.now) }
 {

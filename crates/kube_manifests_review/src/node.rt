@@ -40,7 +40,7 @@ fn add_literal(
     Ok(())
 }
 
-/// Adds what is said of a call whose receiver may be there.
+/// Adds the doubts about a call whose receiver may be there.
 fn add_method(
     alloc: Global,
     text: Text<'_>,
@@ -60,7 +60,7 @@ fn add_method(
     Ok(())
 }
 
-/// Adds what is said of a node.
+/// Adds the doubts about a node.
 fn add_node(
     alloc: Global,
     text: Text<'_>,
@@ -92,7 +92,7 @@ fn add_node(
     Ok(())
 }
 
-/// Adds what is said of the nodes of a tree, in their order.
+/// Adds the doubts about the nodes of a tree, in their order.
 pub(crate) fn add_tree(
     alloc: Global,
     text: Text<'_>,

@@ -52,7 +52,7 @@ fn is_refused(pattern: &str, book: &mut PatternBook) -> Result<bool, Refused>
     Ok(found.is_none())
 }
 
-/// Whether what has this condition is said.
+/// Whether a condition holds, by a book of patterns.
 fn is_due(alloc: Global, condition: Condition, book: &mut PatternBook) -> Result<bool, Refused>
     ensures keeps { Extends (entries_of book.new) (entries_of book.old) }
     ensures value { IfOk result (λ r. HoldsForExtensions (entries_of book.new) r
@@ -66,7 +66,7 @@ fn is_due(alloc: Global, condition: Condition, book: &mut PatternBook) -> Result
     }
 }
 
-/// Adds what may be said, if it is said.
+/// Adds the finding of a doubt, if its condition holds.
 fn add_due(
     alloc: Global,
     doubt: Doubt,
@@ -86,7 +86,7 @@ fn add_due(
     Ok(())
 }
 
-/// Of what may be said, what is said.
+/// The findings of those doubts whose condition holds, in order.
 fn due(
     alloc: Global,
     doubts: Vec<Doubt>,

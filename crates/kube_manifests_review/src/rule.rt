@@ -50,7 +50,7 @@ fn add_kind(
     Ok(())
 }
 
-/// Adds what is said of a messageExpression, where there is one.
+/// Adds the doubts about a messageExpression, where there is one.
 fn add_message(
     alloc: Global,
     text: Text<'_>,
@@ -69,7 +69,7 @@ fn add_message(
     Ok(())
 }
 
-/// Adds what is said of the text of a rule.
+/// Adds the doubts about the text of a rule.
 fn add_text(
     alloc: Global,
     pointer: &str,
@@ -90,7 +90,7 @@ fn add_text(
     Ok(())
 }
 
-/// Adds what is said of the messageExpression of a rule, where it has one.
+/// Adds the doubts about the messageExpression of a rule, where it has one.
 fn add_message_text(
     alloc: Global,
     pointer: &str,
@@ -112,7 +112,7 @@ fn add_message_text(
     Ok(())
 }
 
-/// Adds what is said of a compiled rule.
+/// Adds the doubts about a compiled rule.
 fn add_compiled(
     alloc: Global,
     pointer: &str,
@@ -128,7 +128,7 @@ fn add_compiled(
     Ok(())
 }
 
-/// Adds what is said of a rule that may be compiled.
+/// Adds the doubts about a rule that may be compiled.
 fn add_result(
     alloc: Global,
     pointer: &str,
@@ -174,7 +174,7 @@ pub(crate) fn add_keys_of(
     Ok(())
 }
 
-/// Adds what is said of a rule.
+/// Adds the doubts about a rule.
 fn add_rule(
     alloc: Global,
     pointer: &str,
@@ -198,7 +198,7 @@ fn add_rule(
     Ok(())
 }
 
-/// Adds what is said of rules, in their order.
+/// Adds the doubts about rules, in their order.
 fn add_rules(
     alloc: Global,
     pointer: &str,
@@ -216,7 +216,7 @@ fn add_rules(
     Ok(())
 }
 
-/// Adds what is said of the rules of a schema, where it has any.
+/// Adds the doubts about the rules of a schema, where it has any.
 pub(crate) fn add_validations(
     alloc: Global,
     pointer: &str,

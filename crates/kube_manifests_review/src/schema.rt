@@ -116,7 +116,7 @@ fn add_no_rule(
     Ok(())
 }
 
-/// Adds what is said of one schema.
+/// Adds the doubts about one schema.
 fn add_location(
     alloc: Global,
     location: &SchemaLocation<'_>,
@@ -134,7 +134,7 @@ fn add_location(
     Ok(())
 }
 
-/// Adds what is said of schemas, in their order.
+/// Adds the doubts about schemas, in their order.
 fn add_each(
     alloc: Global,
     places: &[SchemaLocation<'_>],
@@ -150,7 +150,7 @@ fn add_each(
     Ok(())
 }
 
-/// Adds what is said of a schema and those within it, that of all together first.
+/// Adds the doubts about a schema and those within it, those about all together first.
 fn add_own(
     alloc: Global,
     base: &str,
@@ -166,7 +166,7 @@ fn add_own(
     Ok(())
 }
 
-/// Adds what is said of a schema: what a linter finds, then the rest.
+/// Adds the doubts about a schema: what a linter finds, then the rest.
 pub(crate) fn add_schema(
     alloc: Global,
     base: &str,

@@ -18,7 +18,7 @@ pub(crate) struct Text<'a> {
     pub(crate) is_message: bool,
 }
 
-/// Adds what is said of a text.
+/// Adds the doubts about a text.
 pub(crate) fn add_said(
     alloc: Global,
     text: Text<'_>,
@@ -42,7 +42,7 @@ pub(crate) fn add_said(
     Ok(())
 }
 
-/// Adds what is said in any case, and of no rule.
+/// Adds a doubt that holds in any case, and is of no rule.
 pub(crate) fn add_plainly(
     alloc: Global,
     pointer: &str,

@@ -180,7 +180,7 @@ fn numeral_digits(whole: &[u8], fraction: &[u8]) -> Option<u128>
     digits_number(start, fraction)
 }
 
-/// That number times a whole number, if the product is below 2 to the 127.
+/// The digits of a numeral as one number, times a whole number, if the product is below 2 to the 127.
 pub(crate) fn numeral_size(whole: &[u8], fraction: &[u8], times: u64) -> Option<u128>
     requires whole_digits { AllDigits 10 whole.now }
     requires fraction_digits { AllDigits 10 fraction.now }

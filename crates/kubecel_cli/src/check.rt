@@ -25,7 +25,7 @@ use serde_json::Value;
 use std::alloc::{AllocError, Global};
 use std::io::Write;
 
-/// After how many objects it is said how many were judged so far.
+/// The number of objects after which a run says how many were judged so far.
 const STEP: usize = 100;
 
 /// Judges objects. All files are read, in order, before anything is judged.
