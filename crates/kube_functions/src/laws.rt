@@ -1,11 +1,15 @@
 //! Laws of the sets of functions, each the contract of a call that does nothing.
-ghost use Rattle.std.specs.Prelude.{◌≡◌, ℕ, Bool, true, List, [], ◌∷◌, length, codes, is_some, Option, Some, None};
-ghost use Rattle.cel_patterns.specs.Book.{Book};
-ghost use Rattle.cel_semantics.specs.declared.functions.Form.TheVariants.{Known};
+ghost use Rattle.std.specs.Prelude.{◌≡◌, ◌↔◌, ℕ, Bool, true, List, [], ◌∷◌, length, codes, is_some, Option, Some, None};
+ghost use Rattle.cel_patterns.specs.Book.{Book, IsBook, IsPlain, IsRefused, found_by, matched_by, pattern_of_text};
+ghost use Rattle.cel_semantics.specs.Bindings.{Bindings};
+ghost use Rattle.cel_semantics.specs.Meaning.{meaning};
+ghost use Rattle.cel_semantics.specs.declared.functions.Form.TheVariants.{Known, Unknown};
 ghost use Rattle.cel_stdlib.specs.Standard.{standard_library};
+ghost use Rattle.cel_syntax_ast.specs.Term.{Term};
 ghost use Rattle.cel_value.specs.Data.{Data};
 ghost use Rattle.kube_functions.specs.Kube.{all_library, kube_library};
 ghost use Rattle.kube_functions.specs.Overloads.{address_operand, is_address};
+ghost use Rattle.kube_functions.specs.declared.sets.KubeFunctions.{KubeFunctions};
 ghost use Rattle.kube_functions.specs.declared.sets.KubeFunctions.TheVariants.{Standard};
 ghost use Rattle.kube_functions_types.specs.Strings.{string_of};
 
@@ -28,4 +32,37 @@ pub fn standard_calls_are_kept()
 pub fn addresses_have_strings()
     ensures method { (v : Data) (book : Book) → is_address v ≡ true → all_library.answer_of (codes "string") (Some v) [] book ≡ string_of v }
     ensures global { (v : Data) (book : Book) → is_address v ≡ true → all_library.answer_of (codes "string") None (v ∷ []) book ≡ string_of v }
+{}
+
+/// Whether a name is unknown depends on the name alone: unknown in one form, with a receiver or without and with any number of arguments, it is
+/// unknown in all of them.
+pub fn names_alone_are_unknown()
+    ensures { (functions : KubeFunctions) (name : List ℕ) (receiver other : Bool) (count number : ℕ)
+        → (kube_library functions).form_of name receiver count ≡ Unknown
+        → (kube_library functions).form_of name other number ≡ Unknown }
+{}
+
+/// What a pattern finds rests on a book only by whether the book refuses it.
+pub fn books_that_refuse_alike_find_the_same()
+    ensures matches { (a b : Book) (pattern text : List ℕ) → (IsRefused a pattern ↔ IsRefused b pattern)
+        → matched_by a pattern text ≡ matched_by b pattern text }
+    ensures spans { (a b : Book) (pattern text : List ℕ) (limit : Option ℕ) → (IsRefused a pattern ↔ IsRefused b pattern)
+        → found_by a pattern text limit ≡ found_by b pattern text limit }
+{}
+
+/// A plain book refuses exactly the texts that read as no pattern. So all plain books refuse the same.
+pub fn plain_books_refuse_what_is_no_pattern()
+    ensures refused { (book : Book) → IsBook book → IsPlain book → (text : List ℕ)
+        → IsRefused book text ↔ (pattern_of_text text ≡ None) }
+    ensures alike { (a b : Book) → IsBook a → IsBook b → IsPlain a → IsPlain b → (text : List ℕ)
+        → IsRefused a text ↔ IsRefused b text }
+{}
+
+/// What a tree means rests on a book only by which texts the book refuses. So all plain books mean the same: they refuse what reads as no
+/// pattern, and nothing else.
+pub fn books_that_refuse_alike_mean_the_same()
+    ensures alike { (functions : KubeFunctions) (a b : Book) → ((text : List ℕ) → IsRefused a text ↔ IsRefused b text)
+        → (t : Term) (e : Bindings) → meaning (kube_library functions) a t e ≡ meaning (kube_library functions) b t e }
+    ensures plain { (functions : KubeFunctions) (a b : Book) → IsBook a → IsBook b → IsPlain a → IsPlain b
+        → (t : Term) (e : Bindings) → meaning (kube_library functions) a t e ≡ meaning (kube_library functions) b t e }
 {}

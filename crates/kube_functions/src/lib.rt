@@ -32,5 +32,9 @@ mod operands;
 mod overloads;
 mod sets;
 
+pub use cel_value::Refused;
 pub use context::{Context, KubeCelExt};
+pub use kube_functions_format::{laws as format_laws, printed};
+pub use kube_functions_lists::laws as list_laws;
+pub use kube_functions_strings::laws as string_laws;
 pub use sets::{AllFunctions, KubeFunctions};
