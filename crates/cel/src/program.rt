@@ -1,5 +1,5 @@
 //! Programs: an expression with its code.
-ghost use Rattle.std.specs.Prelude.{◌≡◌, ℕ, IfOk, IfErr, MatchResult, map};
+ghost use Rattle.std.specs.Prelude.{◌≡◌, ◌≤◌, ◌+◌, ◌*◌, ℕ, IfOk, IfErr, MatchResult, length, map};
 ghost use Rattle.cel_patterns.specs.Book.{Book, IsBook, Extends};
 ghost use Rattle.cel_patterns.specs.Entries.{entries_of};
 ghost use Rattle.cel_patterns.specs.Extensions.{HoldsForExtensions};
@@ -16,6 +16,7 @@ ghost use Rattle.cel_semantics.specs.Outcome.{outcome_view};
 ghost use Rattle.cel_vm.proofs.Sets.{same_code-prop};
 ghost use Rattle.cel_vm.specs.Code.{code_of};
 ghost use Rattle.cel_vm.specs.Op.{op};
+ghost use Rattle.cel_vm.specs.Size.{nodes};
 
 use cel_patterns::PatternBook;
 use cel_semantics::{Answer, Context, Functions};
@@ -73,7 +74,8 @@ impl Program {
 
     /// Its code: that of its tree, with fewer than five instructions for each node.
     pub fn code(&self) -> &[Instr]
-        ensures { map op result.now ≡ code_of (program_term self.now) }
+        ensures code { map op result.now ≡ code_of (program_term self.now) }
+        ensures short { length result.now + 2 ≤ 5 * nodes (program_term self.now) }
     {
         self.code.as_slice()
     }

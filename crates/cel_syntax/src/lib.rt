@@ -27,4 +27,5 @@ mod reading;
 pub use cel_syntax_ast::{BinaryOperator, Expr, MacroKind, UnaryOperator};
 pub use cel_syntax_references::References;
 pub use error::ParseErrors;
+pub use kube_types_refused::Refused;
 pub use reading::parse;

@@ -1,5 +1,6 @@
 //! Why an execution has no value.
 use crate::key::Key;
+use kube_types::Refused;
 
 /// Why an expression has no value. Its text is fixed, and says no more than this.
 #[derive(Debug, Drop)]
@@ -26,4 +27,43 @@ pub enum ExecutionError {
     DuplicateKey,
     /// A pattern that the function cannot use.
     InvalidPattern(String),
+}
+
+impl ExecutionError {
+    ghost use Rattle.std.specs.Prelude.{◌≡◌, IfErr, IfOk};
+    ghost use Rattle.cel_value.specs.Faults.{fault_view};
+
+    /// The same error once more.
+    ///
+    /// # Errors
+    /// `Memory` alone.
+    pub fn try_clone(&self) -> Result<ExecutionError, Refused>
+        ensures same { IfOk result (λ e. fault_view e ≡ fault_view self.now) }
+        ensures memory { IfErr result (λ e. e ≡ Refused.Memory) }
+    {
+        match self {
+            ExecutionError::UndeclaredReference(name) => {
+                Ok(ExecutionError::UndeclaredReference(name.clone()?))
+            }
+            ExecutionError::NoSuchKey(key) => Ok(ExecutionError::NoSuchKey(key.try_clone()?)),
+            ExecutionError::NoSuchOverload(name) => {
+                Ok(ExecutionError::NoSuchOverload(name.clone()?))
+            }
+            ExecutionError::FunctionError { function, message } => {
+                Ok(ExecutionError::FunctionError {
+                    function: function.clone()?,
+                    message: message.clone()?,
+                })
+            }
+            ExecutionError::Overflow => Ok(ExecutionError::Overflow),
+            ExecutionError::DivisionByZero => Ok(ExecutionError::DivisionByZero),
+            ExecutionError::RemainderByZero => Ok(ExecutionError::RemainderByZero),
+            ExecutionError::IndexOutOfBounds => Ok(ExecutionError::IndexOutOfBounds),
+            ExecutionError::UnsupportedKey => Ok(ExecutionError::UnsupportedKey),
+            ExecutionError::DuplicateKey => Ok(ExecutionError::DuplicateKey),
+            ExecutionError::InvalidPattern(function) => {
+                Ok(ExecutionError::InvalidPattern(function.clone()?))
+            }
+        }
+    }
 }

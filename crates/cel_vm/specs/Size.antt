@@ -1,4 +1,4 @@
--- Trusted by laws alone.
+-- Trusted by the clauses of other library calls.
 -- How many nodes a tree has.
 use Rattle.std.specs.Prelude.{ℕ, ◌+◌}
 use Rattle.cel_syntax_ast.specs.Term.{Term, Terms, Pairs, literal, ident, select, has, index, unary, binary, conditional, list_of, map_with, call, qualified, macro, no_terms, term_and, no_pairs, pair_and}

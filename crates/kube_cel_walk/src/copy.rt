@@ -73,34 +73,7 @@ fn clone_cause(cause: &Option<ExecutionError>) -> Result<Option<ExecutionError>,
     ensures memory { IfErr result (λ e. e ≡ Refused.Memory) }
 {
     match cause {
-        Some(cause) => Ok(Some(clone_fault(cause)?)),
+        Some(cause) => Ok(Some(cause.try_clone()?)),
         None => Ok(None),
-    }
-}
-
-/// An equal cause.
-fn clone_fault(cause: &ExecutionError) -> Result<ExecutionError, Refused>
-    ensures same { IfOk result (λ e. fault_view e ≡ fault_view cause.now) }
-    ensures memory { IfErr result (λ e. e ≡ Refused.Memory) }
-{
-    match cause {
-        ExecutionError::UndeclaredReference(name) => {
-            Ok(ExecutionError::UndeclaredReference(name.clone()?))
-        }
-        ExecutionError::NoSuchKey(key) => Ok(ExecutionError::NoSuchKey(key.try_clone()?)),
-        ExecutionError::NoSuchOverload(name) => Ok(ExecutionError::NoSuchOverload(name.clone()?)),
-        ExecutionError::FunctionError { function, message } => Ok(ExecutionError::FunctionError {
-            function: function.clone()?,
-            message: message.clone()?,
-        }),
-        ExecutionError::Overflow => Ok(ExecutionError::Overflow),
-        ExecutionError::DivisionByZero => Ok(ExecutionError::DivisionByZero),
-        ExecutionError::RemainderByZero => Ok(ExecutionError::RemainderByZero),
-        ExecutionError::IndexOutOfBounds => Ok(ExecutionError::IndexOutOfBounds),
-        ExecutionError::UnsupportedKey => Ok(ExecutionError::UnsupportedKey),
-        ExecutionError::DuplicateKey => Ok(ExecutionError::DuplicateKey),
-        ExecutionError::InvalidPattern(function) => {
-            Ok(ExecutionError::InvalidPattern(function.clone()?))
-        }
     }
 }

@@ -30,7 +30,7 @@ letters (shape_of k ns s p) = s
 abbrev shape_rank : Shape → Shape → Ordering
 shape_rank = then_cmp (on numbers (slice_cmp int_cmp)) (on letters (slice_cmp nat_cmp))
 
-abbrev class : Data → ℕ
+abbrev pub class : Data → ℕ
 class d = class_of (shape d)
 
 shape_compares : (x y : Shape) → shape_order x y ≡ cond ((class_of x == class_of y) && is_ordered (class_of x)) (Some (shape_rank x y)) None
@@ -40,7 +40,7 @@ is_some_cond : (b : Bool) (o : Ordering) → is_some (cond b (Some o) None) ≡ 
 is_some_cond true o = refl
 is_some_cond false o = refl
 
-some_compared : (d e : Data) → is_some (comparison d e) ≡ ((class d == class e) && is_ordered (class d))
+pub some_compared : (d e : Data) → is_some (comparison d e) ≡ ((class d == class e) && is_ordered (class d))
 some_compared d e = ap is_some (shape_compares (shape d) (shape e)) ∙ is_some_cond _ _
 
 same_trans : (k l m : ℕ) → (k == l) ≡ true → (k == m) ≡ true → (l == m) ≡ true
@@ -56,7 +56,7 @@ third d x y h k =
     let b = both (class d == class y) (is_ordered (class d)) (sym (some_compared d y) ∙ k) in
     some_compared x y ∙ and_true _ _ (same_trans (class d) (class x) (class y) a.0 b.0) (ordered_at (class d) (class x) a.0 a.1)
 
-itself : (d x : Data) → is_some (comparison d x) ≡ true → is_some (comparison d d) ≡ true
+pub itself : (d x : Data) → is_some (comparison d x) ≡ true → is_some (comparison d d) ≡ true
 itself d x h =
     let a = both (class d == class x) (is_ordered (class d)) (sym (some_compared d x) ∙ h) in
     some_compared d d ∙ and_true _ _ (nat_eq_equiv.refl (class d)) a.1
@@ -87,10 +87,10 @@ one_for_all d (e ∷ ds) = two_ways _ _ to from
 abbrev flat : Data → Shape
 flat d = cond (has_order d) (shape d) (leaf 0 [] [])
 
-abbrev total_order : Data → Data → Ordering
+abbrev pub total_order : Data → Data → Ordering
 total_order = then_cmp (on class_number nat_cmp) (on flat shape_rank)
 
-total : IsTotalOrder total_order
+pub total : IsTotalOrder total_order
 total = then_total (on_total class_number nat_cmp_total) (on_total flat (then_total (on_total numbers (lists_total int_cmp_total)) (on_total letters nat_list_cmp_total)))
 
 and_false : (a : Bool) → (a && false) ≡ false
@@ -136,7 +136,7 @@ agree false true k l x y h g =
     ap (λ e. unwrap_or (cond e (Some (shape_rank x y)) None) (nat_cmp 0 l)) (and_false (k == l)) ∙ sym (untied 0 l (shape_rank (leaf 0 [] []) y) (zero_apart l g))
 agree false false k l x y h g = ap (λ e. unwrap_or (cond e (Some (shape_rank x y)) None) (nat_cmp 0 0)) (and_false (k == l))
 
-same_order : (d e : Data) → order_of_all d e ≡ total_order d e
+pub same_order : (d e : Data) → order_of_all d e ≡ total_order d e
 same_order d e =
     ap (λ o. unwrap_or o (nat_cmp (class_number d) (class_number e))) (shape_compares (shape d) (shape e))
     ∙ agree (has_order d) (has_order e) (class d) (class e) (shape d) (shape e) refl refl

@@ -4,3 +4,4 @@ pub mod Stable
 pub mod Classes
 pub mod Occurrences
 pub mod ByKey
+pub mod InOrder

@@ -1,11 +1,11 @@
 //! Laws of lists and sets, each the contract of a call that does nothing.
-ghost use Rattle.std.specs.Prelude.{◌≡◌, ◌↔◌, List, [], ◌∷◌, ◌++◌, true, if◌then◌else◌};
+ghost use Rattle.std.specs.Prelude.{◌≡◌, ◌↔◌, List, [], ◌∷◌, ◌++◌, true, filter, if◌then◌else◌, Ok};
 ghost use Rattle.std.specs.List.{find, IsDistinct};
 ghost use Rattle.std.specs.List.Sorted.{IsSortedBy, IsStableBy};
-ghost use Rattle.cel_value.specs.Data.{Data};
+ghost use Rattle.cel_value.specs.Data.{Data, bool};
 ghost use Rattle.cel_value.specs.Same.{same};
 ghost use Rattle.kube_functions_lists.specs.Lists.{distinct_items};
-ghost use Rattle.kube_functions_lists.specs.Orders.{ascending, goes_before, have_order};
+ghost use Rattle.kube_functions_lists.specs.Orders.{ascending, goes_before, have_order, order_of};
 ghost use Rattle.kube_functions_lists.specs.Sets.{is_in, have_same};
 
 /// Of each value `distinct` keeps the first occurrence, where it stood among the others, and no two items that it keeps are equal.
@@ -21,6 +21,12 @@ pub fn sort_gives_the_one_stable_order()
     ensures ascends { (ds : List Data) → have_order ds ≡ true → IsSortedBy goes_before (ascending ds) }
     ensures stable { (ds : List Data) → have_order ds ≡ true → IsStableBy goes_before ds (ascending ds) }
     ensures one { (ds es : List Data) → have_order ds ≡ true → IsSortedBy goes_before es → IsStableBy goes_before ds es → es ≡ ascending ds }
+{}
+
+/// What `sort` gives is in order as `isSorted` says, by comparing neighbours, and of values that are equal each stays where it stood among them.
+pub fn sorted_lists_are_in_order()
+    ensures in_order { (ds : List Data) → have_order ds ≡ true → order_of (ascending ds) ≡ Ok (bool true) }
+    ensures equals_stay { (ds : List Data) (v : Data) → have_order ds ≡ true → filter (same v) (ascending ds) ≡ filter (same v) ds }
 {}
 
 /// `sets.equivalent` holds exactly where the same values are in both lists.

@@ -6,3 +6,4 @@ pub mod CutSteps
 pub mod Joining
 pub mod KeysApart
 pub mod Decoded
+pub mod FromLeft

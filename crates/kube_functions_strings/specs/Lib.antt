@@ -5,5 +5,6 @@ pub mod Escapes
 pub mod Encoders
 pub mod Regex
 pub mod Pieces
+pub mod Separators
 pub mod Cuts
 pub mod Joins

@@ -1,6 +1,10 @@
 //! What is proved of the definitions alone.
+ghost use Rattle.std.specs.List.{range_with_len};
+ghost use Rattle.std.specs.Prelude.{◌≡◌, ℕ, suc, List, [], ◌∷◌, length, map};
 ghost use Rattle.kube_functions_strings.specs.Encoders.{DecodesEncodings};
 ghost use Rattle.kube_functions_strings.specs.Escapes.{KeysDiffer};
+ghost use Rattle.kube_functions_strings.specs.Pieces.{separators};
+ghost use Rattle.kube_functions_strings.specs.Separators.{AreFromLeft};
 
 /// No two strings have one escaped key: `escapeKey` is injective.
 pub fn escaped_keys_differ()
@@ -10,4 +14,13 @@ pub fn escaped_keys_differ()
 /// Decoding gives the bytes of which a text is the encoding, and no others.
 pub fn decoding_undoes_encoding()
     ensures { DecodesEncodings }
+{}
+
+/// `split` and `replace` cut at the separators from the left, each the first that begins at or after the end of the one before it, and at no
+/// others. An empty one stands once at each place between characters, before the first and behind the last.
+pub fn separators_stand_from_the_left()
+    ensures from_left { (text part : List ℕ) (c : ℕ) → AreFromLeft text (c ∷ part) 0 (separators text (c ∷ part)) }
+    ensures no_others { (text part : List ℕ) (c : ℕ) (spans : List (ℕ × ℕ)) → AreFromLeft text (c ∷ part) 0 spans
+        → spans ≡ separators text (c ∷ part) }
+    ensures empty { (text : List ℕ) → separators text [] ≡ map (λ k. (k, k)) (range_with_len 0 (suc (length text))) }
 {}

@@ -1,5 +1,5 @@
-//! Laws of binding, each the contract of a call that does nothing.
-ghost use Rattle.std.specs.Prelude.{◌≡◌, ◌≤◌, ◌↔◌, ℕ, List, Some, option_map};
+//! Laws of binding and of formats, each the contract of a call that does nothing, or that only compares.
+ghost use Rattle.std.specs.Prelude.{◌≡◌, ◌≤◌, ◌↔◌, ℕ, List, Some, option_map, IsTrue};
 ghost use Rattle.base64.specs.Engines.{standard};
 ghost use Rattle.base64.specs.GeneralPurpose.{encode_of, IsBytes};
 ghost use Rattle.serde_json.specs.Data.{Data as Json, Members};
@@ -11,6 +11,9 @@ ghost use Rattle.kube_schema_conversion.specs.Conversion.{to_cel, levels, member
 ghost use Rattle.kube_schema_conversion.specs.Fields.{field_besides};
 ghost use Rattle.kube_schema_conversion.specs.Node.{is_embedded};
 ghost use Rattle.kube_schema_conversion.specs.Formats.{bytes_or_text};
+ghost use Rattle.kube_schema_conversion.specs.declared.format.SchemaFormat.TheVariants as format;
+
+use crate::format::SchemaFormat;
 
 /// At a depth of 65 and more, what the schema says counts for nothing.
 pub fn deep_values_are_plain()
@@ -38,3 +41,17 @@ pub fn bytes_are_encoded()
     ensures { (encoded decoded_bytes : List ℕ) → IsBytes encoded → IsBytes decoded_bytes
         → (bytes_or_text encoded ≡ bytes decoded_bytes) ↔ (encoded ≡ encode_of standard decoded_bytes) }
 {}
+
+/// Two formats are equal exactly where they are the same one.
+pub fn equal_formats(a: SchemaFormat, b: SchemaFormat) -> bool
+    ensures { IsTrue result ↔ (a ≡ b) }
+{
+    a == b
+}
+
+/// By default texts stay strings.
+pub fn default_format() -> SchemaFormat
+    ensures { result ≡ format.None }
+{
+    SchemaFormat::default()
+}

@@ -2,6 +2,7 @@
 #![tactic(auto)]
 
 pub mod compilation;
+pub mod laws;
 pub mod rule;
 
 pub use compilation::{CompilationError, CompilationResult, compile_rule, rules_of};

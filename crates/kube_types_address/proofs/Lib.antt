@@ -4,3 +4,4 @@ pub mod Numbers
 pub mod Printing
 pub mod Readings
 pub mod Sets
+pub mod OfTexts

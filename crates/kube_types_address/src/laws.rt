@@ -15,6 +15,12 @@ pub fn a_cidr_text_has_one_answer()
     ensures { (text : List ℕ) (r : Result Network (List ℕ)) → IsCidrAnswer text r ↔ (r ≡ cidr_of text) }
 {}
 
+/// What was read is an address that isn't mapped, or a network of such an address: the laws below hold of it.
+pub fn what_is_read_is_an_address()
+    ensures address { (text : List ℕ) (a : Address) → ip_of text ≡ Ok a → IsAddress a × (is_mapped a ≡ false) }
+    ensures network { (text : List ℕ) (c : Network) → cidr_of text ≡ Ok c → IsNetwork c × (is_mapped c.ip ≡ false) }
+{}
+
 /// A CIDR contains another exactly where every address of the other is one of its own.
 pub fn containment_is_of_sets()
     ensures { (outer inner : Network) → IsNetwork outer → IsNetwork inner → (encloses outer inner ≡ true)

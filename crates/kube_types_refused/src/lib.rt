@@ -5,6 +5,7 @@ ghost use Rattle.kube_types_refused.specs.declared.Refused.TheVariants.{Memory};
 ghost use Rattle.std.specs.Prelude.{◌≡◌};
 
 use std::alloc::{AllocError, AllocFailed};
+use std::{fmt, io};
 
 /// Why a call gave no answer at all.
 ///
@@ -30,5 +31,34 @@ impl<T: Drop> From<AllocFailed<T>> for Refused {
 
     fn from(_error: AllocFailed<T>) -> Refused {
         Refused::Memory
+    }
+}
+
+impl fmt::Display for Refused {
+    ghost use Rattle.std.specs.Prelude.{Some};
+    ghost use Rattle.kube_types_refused.specs.Texts.{refusal_text};
+
+    ghost output = { λ r. Some (refusal_text r) };
+
+    fn fmt<W: fmt::Write>(&self, f: &mut fmt::Formatter<W>) -> fmt::Result {
+        match self {
+            Refused::Memory => write!(f, "memory is refused"),
+            Refused::TooLarge => write!(f, "a text is too large"),
+        }
+    }
+}
+
+/// So that a program whose `main` answers an `io::Result` hands a refusal on by `?`.
+impl From<Refused> for io::Error {
+    ghost use Rattle.std.specs.IoError.{error_kind};
+    ghost use Rattle.kube_types_refused.specs.Texts.{refusal_kind};
+
+    ghost from_gives = { λ r e. error_kind e ≡ refusal_kind r };
+
+    fn from(refused: Refused) -> io::Error {
+        match refused {
+            Refused::Memory => io::Error::from(io::ErrorKind::OutOfMemory),
+            Refused::TooLarge => io::Error::from(io::ErrorKind::InvalidInput),
+        }
     }
 }
