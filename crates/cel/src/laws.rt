@@ -6,11 +6,11 @@ ghost use Rattle.cel_semantics.specs.Library.{Library};
 ghost use Rattle.cel_semantics.specs.Meaning.{meaning};
 ghost use Rattle.cel_syntax_ast.specs.FreeNames.{is_free};
 ghost use Rattle.cel_syntax_ast.specs.Term.{Term};
-ghost use Rattle.cel_vm.specs.Code.{code_of};
-ghost use Rattle.cel_vm.specs.Size.{nodes};
+ghost use Rattle.cel_vm_code.specs.Code.{code_of};
+ghost use Rattle.cel_vm_code.specs.Size.{nodes};
 
 /// The code of a tree has fewer than five instructions for each of its nodes.
-#[tactic(auto, using(cel_vm::proofs::Sizes::code_is_short))]
+#[tactic(auto, using(cel_vm_code::proofs::Sizes::code_is_short))]
 pub fn code_is_short()
     ensures { (t : Term) → length (code_of t) + 2 ≤ 5 * nodes t }
 {}

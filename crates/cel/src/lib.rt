@@ -31,14 +31,14 @@ pub mod program;
 pub use cel_patterns::PatternBook;
 pub use cel_semantics::{Answer, Context, Form, Functions};
 pub use cel_stdlib::StandardFunctions;
-pub use cel_syntax::{ParseErrors, laws as syntax_laws};
+pub use cel_syntax::{ParseErrors, References, laws as syntax_laws};
 pub use cel_syntax_ast::{BinaryOperator, Expr, MacroKind, UnaryOperator};
-pub use cel_syntax_references::References;
 pub use cel_value::{
     Duration, Entries, ExecutionError, Key, Kind, List, MAX_VALUE_LEVELS, Map, OptionalValue,
     Refused, Timestamp, Value, laws as value_laws,
 };
-pub use cel_vm::{Instr, Operation, Test, run_code};
+pub use cel_vm::run_code;
+pub use cel_vm_code::{Instr, Operation, Test};
 pub use kube_types::{
     FormatKind, IntegerError, KubeCIDR, KubeFormat, KubeIP, KubeQuantity, KubeSemver, KubeUrl,
 };

@@ -5,26 +5,26 @@ ghost use Rattle.cel_patterns.specs.Entries.{entries_of};
 ghost use Rattle.cel_patterns.specs.Extensions.{HoldsForExtensions};
 ghost use Rattle.cel_syntax.specs.Reading.{TextDerives, tree_of};
 ghost use Rattle.kube_types_refused.specs.declared.Refused.TheVariants.{Memory};
-ghost use Rattle.cel_syntax_references.specs.Calls.{is_called};
-ghost use Rattle.cel_syntax_references.specs.Names.{AreNames};
-ghost use Rattle.cel_syntax_references.specs.References.{variable_names, function_names};
+ghost use Rattle.cel_syntax.specs.CallNames.{is_called};
+ghost use Rattle.cel_syntax.specs.Names.{AreNames};
+ghost use Rattle.cel_syntax.specs.References.{variable_names, function_names};
 ghost use Rattle.cel_syntax_ast.specs.FreeNames.{is_free};
 ghost use Rattle.cel_syntax_ast.specs.Term.{Term, term};
 ghost use Rattle.cel_semantics.specs.Bindings.{bindings_of, functions_of};
 ghost use Rattle.cel_semantics.specs.Meaning.{meaning};
 ghost use Rattle.cel_semantics.specs.Outcome.{outcome_view};
 ghost use Rattle.cel_vm.proofs.Sets.{same_code-prop};
-ghost use Rattle.cel_vm.specs.Code.{code_of};
-ghost use Rattle.cel_vm.specs.Op.{op};
-ghost use Rattle.cel_vm.specs.Size.{nodes};
+ghost use Rattle.cel_vm_code.specs.Code.{code_of};
+ghost use Rattle.cel_vm_code.specs.Op.{op};
+ghost use Rattle.cel_vm_code.specs.Size.{nodes};
 
 use cel_patterns::PatternBook;
 use cel_semantics::{Answer, Context, Functions};
-use cel_syntax::{ParseErrors, parse};
+use cel_syntax::{ParseErrors, References, parse};
 use cel_syntax_ast::Expr;
-use cel_syntax_references::References;
 use cel_value::Refused;
-use cel_vm::{Instr, compile_tree, run_code};
+use cel_vm::run_code;
+use cel_vm_code::{Instr, compile_tree};
 use std::alloc::Global;
 
 /// An expression, ready to be run.

@@ -1,11 +1,10 @@
 -- Trusted by the headline.
 -- What a call means (CEL language definition, "Functions"): first how its name may be called, then its receiver and its arguments, then
 -- that none of them holds a double.
-use Rattle.std.specs.Prelude.{ℕ, List, [], ◌∷◌, Bool, true, false, ◌||◌, Option, Some, None, Err, if◌then◌else◌}
+use Rattle.std.specs.Prelude.{ℕ, List, [], ◌∷◌, false, ◌||◌, Option, Some, None, Err, if◌then◌else◌}
 use Rattle.std.specs.List.{list_any}
 use Rattle.std.specs.Option.{option_map_or}
 use Rattle.cel_patterns.specs.Book.{Book}
-use Rattle.cel_syntax_ast.specs.Term.{Terms, no_terms, term_and}
 use Rattle.cel_value.specs.Data.{Data}
 use Rattle.cel_value.specs.Faults.{undeclared, no_overload}
 use Rattle.cel_value.specs.Same.{has_double}
@@ -18,10 +17,6 @@ use Rattle.cel_semantics.specs.declared.functions.Form.TheVariants.{Unknown, Wro
 abbrev pub receiver_of : List Data → Option Data
 receiver_of [] = None
 receiver_of (d ∷ ds) = Some d
-
-abbrev pub is_there : Terms → Bool
-is_there no_terms = false
-is_there (term_and t ts) = true
 
 abbrev pub by_form : Form → List ℕ → Outcome → Outcome
 by_form Unknown name r = Err (undeclared name)

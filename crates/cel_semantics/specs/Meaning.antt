@@ -4,14 +4,14 @@
 use Rattle.std.specs.Prelude.{List, [], ◌∷◌, map, codes, true, false, None, Ok, Err}
 use Rattle.std.specs.Option.{option_map_or}
 use Rattle.cel_patterns.specs.Book.{Book}
-use Rattle.cel_syntax_ast.specs.Term.{Term, literal, ident, select, has, index, unary, binary, conditional, list_of, map_with, call, qualified, macro, Terms, no_terms, term_and, count_of, Pairs, no_pairs, pair_and}
+use Rattle.cel_syntax_ast.specs.Term.{Term, literal, ident, select, has, index, unary, binary, conditional, list_of, map_with, call, qualified, macro, Terms, no_terms, term_and, count_of, Pairs, no_pairs, pair_and, is_there}
 use Rattle.cel_syntax_ast.specs.declared.expr.BinaryOperator.{BinaryOperator}
 use Rattle.cel_syntax_ast.specs.declared.expr.BinaryOperator.TheVariants.{Or, And, Less, LessOrEqual, Greater, GreaterOrEqual, Equal, NotEqual, In, Add, Subtract, Multiply, Divide, Remainder}
 use Rattle.cel_value.specs.Data.{Data, text_key, list, map_of, no_entries}
 use Rattle.cel_value.specs.Faults.{undeclared}
 use Rattle.cel_value.specs.View.{items_of}
 use Rattle.cel_semantics.specs.Bindings.{Bindings, binding}
-use Rattle.cel_semantics.specs.Calls.{receiver_of, is_there, by_form, call_outcome}
+use Rattle.cel_semantics.specs.Calls.{receiver_of, by_form, call_outcome}
 use Rattle.cel_semantics.specs.Decisions.{decision, truth, branch_outcome}
 use Rattle.cel_semantics.specs.Library.{Library}
 use Rattle.cel_semantics.specs.Macros.{macro_name, macro_of, iteration_result_of}

@@ -1,1 +1,12 @@
+pub mod Sets
+pub mod FreeNamesRead
+pub mod Signs
+pub mod Turns
+pub mod Climbs
+pub mod Steps
+pub mod Rows
+pub mod Levels
+pub mod Complete
+pub mod Sound
+pub mod Last
 pub mod Trees

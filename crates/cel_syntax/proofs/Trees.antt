@@ -9,10 +9,10 @@ use Rattle.cel_syntax_lexer.specs.Cut.{tokens_of_text}
 use Rattle.cel_syntax_lexer.proofs.CutOf.{cuts_of_cut, cut_of_cuts}
 use Rattle.cel_syntax_ast.specs.Term.{Term, term}
 use Rattle.cel_syntax_ast.specs.declared.expr.Expr.{Expr}
-use Rattle.cel_syntax_parser.specs.Grammar.{Derives}
-use Rattle.cel_syntax_parser.specs.Parser.{tree_of_tokens}
-use Rattle.cel_syntax_parser.proofs.Complete.{complete_parse}
-use Rattle.cel_syntax_parser.proofs.Sound.{sound_parse}
+use Rattle.cel_syntax.specs.Grammar.{Derives}
+use Rattle.cel_syntax.specs.Parser.{tree_of_tokens}
+use Rattle.cel_syntax.proofs.Complete.{complete_parse}
+use Rattle.cel_syntax.proofs.Sound.{sound_parse}
 use Rattle.cel_syntax.specs.Reading.{TextDerives, tree_of, tree_of_cut}
 
 pub complete_text : (z : List ℕ) (t : Term) → TextDerives z t → tree_of z ≡ Some t

@@ -6,8 +6,8 @@ use Rattle.cel_syntax_lexer.specs.Tokens.{Cuts}
 use Rattle.cel_syntax_lexer.specs.Cut.{tokens_of_text}
 use Rattle.cel_syntax_ast.specs.Term.{Term, term}
 use Rattle.cel_syntax_ast.specs.declared.expr.Expr.{Expr}
-use Rattle.cel_syntax_parser.specs.Grammar.{Derives}
-use Rattle.cel_syntax_parser.specs.Parser.{tree_of_tokens}
+use Rattle.cel_syntax.specs.Grammar.{Derives}
+use Rattle.cel_syntax.specs.Parser.{tree_of_tokens}
 use Rattle.cel_syntax.specs.declared.error.ParseErrors.{ParseErrors}
 
 -- The text cuts into tokens that derive the tree.

@@ -20,12 +20,22 @@
 //! (`specs/Reading.antt`). Laws: a text derives at most one tree, and the tree as a function of the text is the grammar's.
 #![tactic(auto)]
 
+mod bound;
+mod calls;
+mod cursor;
 mod error;
+mod grammar;
 pub mod laws;
+mod names;
+mod operators;
+mod parser;
 mod reading;
+mod references;
+mod syntax_error;
+mod variables;
 
 pub use cel_syntax_ast::{BinaryOperator, Expr, MacroKind, UnaryOperator};
-pub use cel_syntax_references::References;
 pub use error::ParseErrors;
 pub use kube_types_refused::Refused;
 pub use reading::parse;
+pub use references::References;

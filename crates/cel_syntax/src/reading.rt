@@ -6,9 +6,9 @@ ghost use Rattle.cel_syntax_ast.specs.Term.{Term, term};
 ghost use Rattle.cel_syntax.specs.Reading.{TextDerives, tree_of, tree_seen};
 
 use crate::error::ParseErrors;
+use crate::parser::parse_tokens;
 use cel_syntax_ast::Expr;
 use cel_syntax_lexer::lexer::tokens;
-use cel_syntax_parser::parse_tokens;
 use kube_types_refused::Refused;
 use std::alloc::Global;
 

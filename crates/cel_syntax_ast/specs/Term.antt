@@ -1,6 +1,6 @@
 -- Trusted by the headline.
 -- The tree of an expression as plain data, without its memory (abstract syntax of the CEL language definition).
-use Rattle.std.specs.Prelude.{ℕ, suc, zero, List, [], ◌∷◌, Option, Some, None, string_bytes, Box}
+use Rattle.std.specs.Prelude.{ℕ, suc, zero, List, [], ◌∷◌, Option, Some, None, string_bytes, Box, Bool, true, false}
 use Rattle.std.specs.declared.alloc.Global.{Global}
 use Rattle.cel_value.specs.Data.{Data}
 use Rattle.cel_value.specs.View.{view}
@@ -78,3 +78,7 @@ term_step (Expr-F.Macro k r x f b) = macro k r.value (string_bytes x.value) (one
 -- the term that an expression stands for
 abbrev pub term : Expr → Term
 term = fold-Expr Term term_step
+
+abbrev pub is_there : Terms → Bool
+is_there no_terms = false
+is_there (term_and t ts) = true

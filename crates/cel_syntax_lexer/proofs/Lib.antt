@@ -1,3 +1,11 @@
+pub mod Bits
+pub mod Numerals
+pub mod Codes
+pub mod Walk
+pub mod Texts
+pub mod Minus
+pub mod Decimals
+pub mod Plain
 pub mod Spelling
 pub mod Numbers
 pub mod Strings

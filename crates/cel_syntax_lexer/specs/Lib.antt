@@ -1,3 +1,8 @@
+pub mod Number
+pub mod Escape
+pub mod StringValues
+pub mod Literal
+pub mod Plain
 pub mod Token
 pub mod Spelling
 pub mod Numbers

@@ -1,11 +1,77 @@
-//! Laws of the definitions, each the contract of a call that does nothing.
-
-ghost use Rattle.std.specs.Prelude.{◌≡◌, ℕ, List, [], ◌++◌, true, MatchOption};
+//! Laws of tokens and of the values of literals, each the contract of a call that does nothing.
 ghost use Rattle.cel_syntax_lexer.specs.Cut.{tokens_of_text};
-ghost use Rattle.cel_syntax_lexer.specs.declared.string_literal.Quotes.{Quotes};
+ghost use Rattle.cel_syntax_lexer.specs.Literal.{literal_value, takes_minus};
+ghost use Rattle.cel_syntax_lexer.specs.Plain.{is_free_of};
 ghost use Rattle.cel_syntax_lexer.specs.Strings.{is_closed};
-ghost use Rattle.cel_syntax_lexer.specs.Token.{Token};
+ghost use Rattle.cel_syntax_lexer.specs.Token.{Token, number, quoted};
 ghost use Rattle.cel_syntax_lexer.specs.Tokens.{Cuts, CutsInto, CutsIntoNone};
+ghost use Rattle.cel_syntax_lexer.specs.declared.string_literal.Quotes.{Quotes};
+ghost use Rattle.cel_value.specs.Data.{bytes, double, int, text, uint};
+ghost use Rattle.std.specs.Fmt.{decimal};
+ghost use Rattle.std.specs.Prelude.{◌≡◌, ◌^◌, ◌<◌, ◌≤◌, ◌∷◌, [], ◌++◌, Bool, List, ℕ, Some, None, codes, false, neg_ℤ, pos, true, MatchOption};
+ghost use Rattle.std.specs.Str.{is_utf8};
+
+/// A literal has no value with a minus that does not belong to it.
+pub fn minus_has_its_literals()
+    ensures { (t : Token) → takes_minus t ≡ false → literal_value true t ≡ None }
+{}
+
+/// The decimal digits of a number have that number as their value.
+pub fn decimal_digits_write_their_number()
+    ensures int { (n : ℕ) → n < 2 ^ 63 → literal_value false (number (decimal n)) ≡ Some (int (pos n)) }
+    ensures negative { (n : ℕ) → n ≤ 2 ^ 63 → literal_value true (number (decimal n)) ≡ Some (int (neg_ℤ (pos n))) }
+    ensures uint { (n : ℕ) → n < 2 ^ 64 → literal_value false (number (decimal n ++ 117 ∷ [])) ≡ Some (uint n) }
+{}
+
+/// What stands between quotes and has neither the quote nor a backslash is the value, and a raw backslash stands for itself.
+pub fn plain_bodies_write_themselves()
+    ensures string { (s : List ℕ) → is_free_of 34 s ≡ true → is_free_of 92 s ≡ true → is_utf8 s ≡ true
+        → literal_value false (quoted (34 ∷ s ++ 34 ∷ [])) ≡ Some (text s) }
+    ensures bytes { (s : List ℕ) → is_free_of 34 s ≡ true → is_free_of 92 s ≡ true
+        → literal_value false (quoted (98 ∷ 34 ∷ s ++ 34 ∷ [])) ≡ Some (bytes s) }
+    ensures raw { (s : List ℕ) → is_free_of 34 s ≡ true → is_utf8 s ≡ true
+        → literal_value false (quoted (114 ∷ 34 ∷ s ++ 34 ∷ [])) ≡ Some (text s) }
+{}
+
+/// Strings and bytes whose values the section "String and Bytes Values" of the CEL language definition gives.
+pub fn strings_of_the_language_definition()
+    ensures empty { literal_value false (quoted (codes "\"\"")) ≡ Some (text []) }
+    ensures other_quotes { literal_value false (quoted (codes "'\"\"'")) ≡ Some (text (codes "\"\"")) }
+    ensures tripled { literal_value false (quoted (codes "'''x''x'''")) ≡ Some (text (codes "x''x")) }
+    ensures quote { literal_value false (quoted (codes "\"\\\"\"")) ≡ Some (text (codes "\"")) }
+    ensures backslash { literal_value false (quoted (codes "\"\\\\\"")) ≡ Some (text (codes "\\")) }
+    ensures raw { literal_value false (quoted (codes "r\"\\\\\"")) ≡ Some (text (codes "\\\\")) }
+    ensures letters { literal_value false (quoted (codes "b\"abc\"")) ≡ Some (bytes (codes "abc")) }
+    ensures in_utf8 { literal_value false (quoted (98 ∷ 34 ∷ 195 ∷ 191 ∷ 34 ∷ [])) ≡ Some (bytes (195 ∷ 191 ∷ [])) }
+    ensures octal_pair { literal_value false (quoted (codes "b\"\\303\\277\"")) ≡ Some (bytes (195 ∷ 191 ∷ [])) }
+    ensures octal { literal_value false (quoted (codes "b\"\\377\"")) ≡ Some (bytes (255 ∷ [])) }
+    ensures octal_text { literal_value false (quoted (codes "\"\\377\"")) ≡ Some (text (195 ∷ 191 ∷ [])) }
+{}
+
+/// Escapes that have no value.
+pub fn escapes_that_are_not_read()
+    ensures unknown { literal_value false (quoted (codes "'\\q'")) ≡ None }
+    ensures cut_short { literal_value false (quoted (codes "'\\x4'")) ≡ None }
+    ensures octal_past_a_byte { literal_value false (quoted (codes "'\\400'")) ≡ None }
+    ensures surrogate { literal_value false (quoted (codes "'\\ud800'")) ≡ None }
+    ensures past_unicode { literal_value false (quoted (codes "'\\U00110000'")) ≡ None }
+    ensures unicode_in_bytes { literal_value false (quoted (codes "b'\\u0041'")) ≡ None }
+    ensures with_minus { literal_value true (quoted (codes "'a'")) ≡ None }
+{}
+
+/// Numbers in each of their forms.
+pub fn forms_of_numbers()
+    ensures hexadecimal { literal_value true (number (codes "0xfF")) ≡ Some (int (neg_ℤ (pos 255))) }
+    ensures unsigned { literal_value false (number (codes "0x10U")) ≡ Some (uint 16) }
+    ensures no_minus { literal_value true (number (codes "1u")) ≡ None }
+    ensures too_large { literal_value false (number (codes "9223372036854775808")) ≡ None }
+    ensures least { literal_value true (number (codes "9223372036854775809")) ≡ None }
+    ensures fraction { (negative : Bool) → literal_value negative (number (codes "1.5")) ≡ Some double }
+    ensures no_whole { (negative : Bool) → literal_value negative (number (codes ".5E+3")) ≡ Some double }
+    ensures exponent { (negative : Bool) → literal_value negative (number (codes "1e400")) ≡ Some double }
+    ensures no_fraction { (negative : Bool) → literal_value negative (number (codes "1.")) ≡ None }
+    ensures no_exponent { (negative : Bool) → literal_value negative (number (codes "1e")) ≡ None }
+{}
 
 /// A text cuts into at most one list of tokens.
 pub fn one_cut()

@@ -9,7 +9,7 @@ ghost use Rattle.cel_value.specs.View.{view, items_view, entries_view};
 use crate::error::ExecutionError;
 use crate::key::Key;
 use crate::value::{Entries, List, Map, Value};
-use kube_types::Refused;
+use kube_types_refused::Refused;
 use std::alloc::Global;
 use std::rc::Rc;
 

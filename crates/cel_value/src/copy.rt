@@ -6,7 +6,7 @@ ghost use Rattle.cel_value.specs.Keys.{key_view};
 use crate::key::Key;
 use crate::kind::Kind;
 use crate::value::Value;
-use kube_types::Refused;
+use kube_types_refused::Refused;
 
 impl Key {
     /// The same key. Its text is shared.

@@ -1,6 +1,6 @@
 //! Why an execution has no value.
 use crate::key::Key;
-use kube_types::Refused;
+use kube_types_refused::Refused;
 
 /// Why an expression has no value. Its text is fixed, and says no more than this.
 #[derive(Debug, Drop)]

@@ -12,7 +12,11 @@ ghost use Rattle.kube_types_url.specs.Shown.{url_view};
 
 use crate::value::{List, Map, OptionalValue, Value};
 use cel_value_times::{Duration, Timestamp};
-use kube_types::{KubeCIDR, KubeFormat, KubeIP, KubeQuantity, KubeSemver, KubeUrl};
+use kube_types_address::{KubeCIDR, KubeIP};
+use kube_types_formats::KubeFormat;
+use kube_types_quantity::KubeQuantity;
+use kube_types_semver::KubeSemver;
+use kube_types_url::KubeUrl;
 
 impl Value {
     /// The bool that it is.

@@ -11,7 +11,12 @@ mod optionals;
 
 use crate::key::Key;
 use cel_value_times::{Duration, Timestamp};
-use kube_types::{KubeCIDR, KubeFormat, KubeIP, KubeQuantity, KubeSemver, KubeUrl, Refused};
+use kube_types_address::{KubeCIDR, KubeIP};
+use kube_types_formats::KubeFormat;
+use kube_types_quantity::KubeQuantity;
+use kube_types_refused::Refused;
+use kube_types_semver::KubeSemver;
+use kube_types_url::KubeUrl;
 use std::collections::BTreeMap;
 use std::marker::Model;
 use std::rc::Rc;

@@ -4,7 +4,5 @@ pub mod Finish
 pub mod Stacks
 pub mod Tops
 pub mod Rounds
-pub mod Sizes
 pub mod Sets
 pub mod Parts
-pub mod Compiles

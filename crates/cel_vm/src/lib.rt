@@ -1,9 +1,7 @@
-//! Flat code of CEL expressions, made of their trees, and the machine with explicit stacks that runs it.
+//! The machine with explicit stacks that runs the flat code of CEL expressions.
 #![tactic(auto)]
 
 mod calls;
-mod compile;
-mod instr;
 mod items;
 mod loops;
 mod operands;
@@ -13,6 +11,4 @@ mod stack;
 mod state;
 mod turns;
 
-pub use compile::compile_tree;
-pub use instr::{Instr, Operation, Test};
 pub use run::run_code;

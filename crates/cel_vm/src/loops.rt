@@ -7,13 +7,12 @@ ghost use Rattle.cel_semantics.specs.Macros.{iteration_result_view};
 ghost use Rattle.cel_semantics.specs.Outcome.{Outcome, and_then, outcome_view};
 ghost use Rattle.cel_semantics.specs.Ranges.{range_list};
 ghost use Rattle.cel_vm.specs.Machine.{Loop, go, after_begin, after_next, may_lead_to, limit, loop_name, next_iteration, first_iteration, over_none, result_in_optional, iteration_result_at, after_deciding_item, after_collected_item, after_iteration};
-ghost use Rattle.cel_vm.specs.Op.{op, next};
+ghost use Rattle.cel_vm_code.specs.Op.{op, next};
 ghost use Rattle.cel_vm.specs.State.{at_end, outcomes, values_of, pending_of, loops_of};
 ghost use Rattle.cel_vm.specs.Correct.{Enters, Advances, Top};
 ghost use Rattle.cel_vm.specs.declared.state.LoopStep.TheVariants.{AfterLoop};
 ghost use Rattle.cel_vm.specs.declared.state.ResultRule.TheVariants.{Collected};
 
-use crate::instr::Instr;
 use crate::items::{give, go_on, top_item};
 use crate::stack::{
     drop_answer, keeps_none, pop_answer, pop_loop, pop_pending, push_answer, push_loop,
@@ -25,6 +24,7 @@ use cel_semantics::operators::{Answer, Progress, absorb, no_such_overload, undec
 use cel_semantics::ranges::{Range, range_in};
 use cel_syntax_ast::MacroKind;
 use cel_value::{ExecutionError, Refused, Value};
+use cel_vm_code::Instr;
 use std::alloc::{AllocError, Global};
 
 /// The name of the macro whose loop stops at this bool.

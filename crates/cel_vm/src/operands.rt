@@ -6,17 +6,17 @@ ghost use Rattle.cel_value.specs.View.{view};
 ghost use Rattle.cel_semantics.specs.Decisions.{truth};
 ghost use Rattle.cel_semantics.specs.Outcome.{Outcome, outcome_view};
 ghost use Rattle.cel_vm.specs.Machine.{after_guard, after_branch, after_left_operand, after_right_operand, logic_name, taken};
-ghost use Rattle.cel_vm.specs.Op.{test_name};
+ghost use Rattle.cel_vm_code.specs.Op.{test_name};
 ghost use Rattle.cel_vm.specs.State.{outcomes, pending};
 ghost use Rattle.cel_vm.specs.Correct.{Turns, TurnsValues, Lacks};
 
-use crate::instr::Test;
 use crate::stack::{
     drop_answer, drop_pending, is_clear, is_on_top, pop_answer, pop_pending, push_answer,
     push_pending, put_top, top,
 };
 use cel_semantics::operators::{Answer, Progress, absorb, no_such_overload, undecided_answer};
 use cel_value::{ExecutionError, Refused, Value};
+use cel_vm_code::Test;
 use std::alloc::{AllocError, Global};
 
 /// The program counter after a jump over `offset` instructions, if it is no later than the end.

@@ -6,7 +6,7 @@ use Rattle.kube_cel_analysis.specs.declared.finding.LintKind.{LintKind}
 use Rattle.kube_cel_analysis.specs.declared.finding.LintKind.TheVariants.{Compile, Function, Scope, Cost, Bounds, Depth}
 use Rattle.kube_cel_analysis.specs.Findings.{Finding, Naming, finding_view}
 use Rattle.kube_cel_analysis.specs.Lint.{findings}
-use Rattle.kube_schema_compiled.specs.View.{view_of}
+use Rattle.kube_schema.specs.View.{view_of}
 use Rattle.serde_json.specs.Data.{Data}
 use Rattle.std.specs.List.{flat_map}
 use Rattle.std.specs.Prelude.{◌≡◌, ℕ, List, [], ◌∷◌, ◌++◌, map, Option, codes}

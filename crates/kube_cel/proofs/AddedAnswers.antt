@@ -9,18 +9,18 @@ use Rattle.kube_cel.specs.Raw.{raw_form}
 use Rattle.kube_cel.specs.Starts.{with_schema_defaults, defaulted_start}
 use Rattle.kube_cel_walk.specs.Errors.{ErrorData}
 use Rattle.kube_cel_walk.specs.RuleErrors.{too_deep}
-use Rattle.kube_cel_places.proofs.Candidates.{visit_places}
-use Rattle.kube_cel_places.proofs.Found.{flat_map_same}
-use Rattle.kube_cel_places.proofs.Raw.{raw_names_all}
-use Rattle.kube_cel_places.specs.declared.branches.BranchKind.TheVariants.{AllOf, OneOf, AnyOf}
-use Rattle.kube_cel_places.specs.Raw.{raw_shape}
-use Rattle.kube_cel_places.specs.Visit.{Root, Visit, candidates, goes, root_visit}
-use Rattle.kube_cel_places.specs.Step.{Step}
-use Rattle.kube_cel_places.specs.Walk.{answers, if_some, leads, places}
+use Rattle.kube_schema_rules.proofs.Candidates.{visit_places}
+use Rattle.kube_schema_rules.proofs.Found.{flat_map_same}
+use Rattle.kube_schema_rules.proofs.Raw.{raw_names_all}
+use Rattle.kube_schema_rules.specs.declared.branches.BranchKind.TheVariants.{AllOf, OneOf, AnyOf}
+use Rattle.kube_schema_rules.specs.Raw.{raw_shape}
+use Rattle.kube_schema_rules.specs.Visit.{Root, Visit, candidates, goes, root_visit}
+use Rattle.kube_schema_rules.specs.Step.{Step}
+use Rattle.kube_schema_rules.specs.Walk.{answers, if_some, leads, places}
 use Rattle.kube_cel.specs.Visits.{with_node_of}
 use Rattle.kube_cel_walk.specs.Verdicts.{list_of_option, verdict, with_old, with_root}
 use Rattle.kube_cel_walk.specs.Answers.{answer, bound_at, place_bindings, rule_verdicts, verdicts}
-use Rattle.kube_schema_conversion.specs.Conversion.{levels}
+use Rattle.kube_schema_values.specs.Conversion.{levels}
 use Rattle.kube_schema_rules.specs.Compilation.{Compiled, Malformed, compiled_rule, compiled_rules}
 use Rattle.kube_schema_rules.specs.Rules.{rule_items}
 use Rattle.serde_json.specs.Data.{Data, null, boolean, number, string, array, object, Items, no_items, item}

@@ -5,9 +5,9 @@ use Rattle.kube_cel.specs.Raw.{raw_form}
 use Rattle.kube_cel.specs.Starts.{compiled_start, with_schema_defaults, source_start}
 use Rattle.kube_cel_walk.specs.Errors.{ErrorData}
 use Rattle.kube_cel_walk.specs.RuleErrors.{too_deep}
-use Rattle.kube_cel_places.proofs.Candidates.{NamesAll}
-use Rattle.kube_cel_places.specs.Raw.{raw_shape}
-use Rattle.kube_cel_places.specs.Visit.{Visit, Root, root_visit}
+use Rattle.kube_schema_rules.proofs.Candidates.{NamesAll}
+use Rattle.kube_schema_rules.specs.Raw.{raw_shape}
+use Rattle.kube_schema_rules.specs.Visit.{Visit, Root, root_visit}
 use Rattle.kube_cel.proofs.Named.{compiled_names_all}
 use Rattle.kube_cel.proofs.Same.{tree_answers}
 use Rattle.kube_cel.specs.CompiledShape.{compiled_shape}
@@ -16,20 +16,20 @@ use Rattle.kube_cel_walk.specs.declared.root.RootContext.{RootContext}
 use Rattle.kube_cel_walk.specs.Roots.{root_view}
 use Rattle.kube_cel_walk.specs.Verdicts.{list_of_option, verdict, with_old, with_root}
 use Rattle.kube_cel_walk.specs.Answers.{bound_at, place_bindings, rule_verdicts, verdicts, answer}
-use Rattle.kube_schema_conversion.specs.Conversion.{to_cel}
-use Rattle.kube_schema_conversion.specs.Conversion as accessors
-use Rattle.kube_schema_defaults.specs.Defaults.{defaulted_value}
-use Rattle.kube_schema_defaults.specs.DefaultsAccessors as raw_accessors
+use Rattle.kube_schema_values.specs.Conversion.{to_cel}
+use Rattle.kube_schema_values.specs.Conversion as accessors
+use Rattle.kube_schema_values.specs.Defaults.{defaulted_value}
+use Rattle.kube_schema_values.specs.DefaultsAccessors as raw_accessors
 use Rattle.kube_schema_rules.specs.Compilation.{compiled_rules}
 use Rattle.kube_schema_rules.specs.Rules.{rule_items}
-use Rattle.kube_schema_compiled.proofs.Same.{filled_same}
-use Rattle.kube_schema_compiled.specs.Compiled as tree_fill
-use Rattle.kube_schema_compiled.specs.declared.node.CompiledSchema.{CompiledSchema}
-use Rattle.kube_schema_compiled.specs.Shown.{whole}
-use Rattle.kube_schema_compiled.specs.Tree.{Node, own}
-use Rattle.kube_schema_compiled.specs.View.{view_of, own_view, children_view}
-use Rattle.kube_schema.proofs.Same.{bound_same}
-use Rattle.kube_schema.specs.Compiled as tree_conversion
+use Rattle.kube_schema.proofs.SameDefaults.{filled_same}
+use Rattle.kube_schema.specs.CompiledDefaults as tree_fill
+use Rattle.kube_schema.specs.declared.node.CompiledSchema.{CompiledSchema}
+use Rattle.kube_schema.specs.Shown.{whole}
+use Rattle.kube_schema.specs.Tree.{Node, own}
+use Rattle.kube_schema.specs.View.{view_of, own_view, children_view}
+use Rattle.kube_schema.proofs.SameBinding.{bound_same}
+use Rattle.kube_schema.specs.CompiledConversion as tree_conversion
 use Rattle.serde_json.specs.Data.{Data}
 use Rattle.serde_json.specs.declared.value.Value.{Value}
 use Rattle.serde_json.specs.View.{view}

@@ -1,11 +1,11 @@
 -- The tree of a schema, as a walk asks of it.
 use Rattle.kube_cel.specs.Named.{named_property}
-use Rattle.kube_cel_places.proofs.Sorted.{key_cmp, ordered_already}
-use Rattle.kube_cel_places.specs.Inside.{in_order}
+use Rattle.kube_schema_rules.proofs.Sorted.{key_cmp, ordered_already}
+use Rattle.kube_schema_rules.specs.Inside.{in_order}
 use Rattle.kube_cel_walk.specs.Verdicts.{list_of_option}
-use Rattle.kube_schema_compiled.specs.declared.node.SchemaNode.{SchemaNode}
-use Rattle.kube_schema_compiled.specs.Shown.{node_tree}
-use Rattle.kube_schema_compiled.specs.Tree.{Node, Named, no_named, named, names, named_of, nth_named, property_of}
+use Rattle.kube_schema.specs.declared.node.SchemaNode.{SchemaNode}
+use Rattle.kube_schema.specs.Shown.{node_tree}
+use Rattle.kube_schema.specs.Tree.{Node, Named, no_named, named, names, named_of, nth_named, property_of}
 use Rattle.std.proofs.Common.{Bor, ◌≡◌, ◌≤◌, ◌+◌, ℕ, zero, suc, List, [], ◌∷◌, ◌++◌, length, map, take, Option, Some, None, refl, sym, ap, ◌∙◌, arith, add-one, append-nil, option_map, IfSome}
 use Rattle.std.proofs.lemmas.List.{map-append, take_all}
 use Rattle.std.specs.List.Sorted.{IsStrictlySortedBy}

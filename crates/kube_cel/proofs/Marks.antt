@@ -4,24 +4,24 @@ use Rattle.std.proofs.Common.{◌≡◌, ◌+◌, ℕ, zero, suc, List, [], ◌�
 use Rattle.std.specs.Option.{option_map_or}
 use Rattle.serde_json.specs.Data.{Data, Items}
 use Rattle.serde_json.specs.Find.{as_bool, as_str, at, get}
-use Rattle.kube_cel_places.specs.Raw as seen
-use Rattle.kube_cel_places.specs.Raw.{raw_shape}
-use Rattle.kube_cel_places.specs.StepAccessors.{StepAccessors}
-use Rattle.kube_cel_places.specs.Visit.{Root, Visit, visit, candidates, goes, further, unless_there, member_path, item_path}
-use Rattle.kube_cel_places.specs.Step as place
-use Rattle.kube_cel_places.specs.Walk.{leads, places}
-use Rattle.kube_schema_conversion.specs.Conversion as bind
-use Rattle.kube_schema_conversion.specs.Conversion.{to_cel}
-use Rattle.kube_schema_conversion.specs.declared.format.SchemaFormat.TheVariants as formats
-use Rattle.kube_schema_conversion.specs.Formats.{format_named}
-use Rattle.kube_schema_conversion.specs.Node as asked
-use Rattle.kube_schema_defaults.specs.Defaults.{defaulted_value}
-use Rattle.kube_schema_defaults.specs.DefaultsAccessors as fill
+use Rattle.kube_schema_rules.specs.Raw as seen
+use Rattle.kube_schema_rules.specs.Raw.{raw_shape}
+use Rattle.kube_schema_rules.specs.StepAccessors.{StepAccessors}
+use Rattle.kube_schema_rules.specs.Visit.{Root, Visit, visit, candidates, goes, further, unless_there, member_path, item_path}
+use Rattle.kube_schema_rules.specs.Step as place
+use Rattle.kube_schema_rules.specs.Walk.{leads, places}
+use Rattle.kube_schema_values.specs.Conversion as bind
+use Rattle.kube_schema_values.specs.Conversion.{to_cel}
+use Rattle.kube_schema_values.specs.declared.format.SchemaFormat.TheVariants as formats
+use Rattle.kube_schema_values.specs.Formats.{format_named}
+use Rattle.kube_schema_values.specs.Node as asked
+use Rattle.kube_schema_values.specs.Defaults.{defaulted_value}
+use Rattle.kube_schema_values.specs.DefaultsAccessors as fill
 use Rattle.kube_cel.specs.Added.{NodeStep, left_after, left_behind}
 use Rattle.kube_cel.specs.Visits.{with_node_of}
 use Rattle.kube_cel.proofs.PlacesAlike as walk
-use Rattle.kube_schema_compiled.proofs.Same as filling
-use Rattle.kube_schema.proofs.Same as binding
+use Rattle.kube_schema.proofs.SameDefaults as filling
+use Rattle.kube_schema.proofs.SameBinding as binding
 use Rattle.kube_cel.proofs.AddedKept.{counts_added, default_stays, embedded_stays, format_stays, int_or_string_stays, keys_added, maps_added, names_added, undeclared_added}
 use Rattle.kube_cel.proofs.AddedParts.{added, additional_added, branch_added, items_added, property_added}
 

@@ -1,10 +1,10 @@
 -- The tree of a schema names all its parts.
 use Rattle.std.proofs.Common.{◌≡◌, ◌<◌, ℕ, zero, suc, List, IsSome, Ordering, Less, Equal, Greater, refl, sym, inl, inr, arith, Some}
 use Rattle.std.specs.Ordering.{match_ordering}
-use Rattle.kube_cel_places.proofs.Candidates.{NamesAll}
-use Rattle.kube_cel_places.proofs.Ordered.{IsIn}
-use Rattle.kube_cel_places.proofs.Sorted.{key_cmp, same_key}
-use Rattle.kube_schema_compiled.specs.Tree.{Named, no_named, named, Nodes, no_nodes, more, find, named_of, names, nodes_length, nth_node}
+use Rattle.kube_schema_rules.proofs.Candidates.{NamesAll}
+use Rattle.kube_schema_rules.proofs.Ordered.{IsIn}
+use Rattle.kube_schema_rules.proofs.Sorted.{key_cmp, same_key}
+use Rattle.kube_schema.specs.Tree.{Named, no_named, named, Nodes, no_nodes, more, find, named_of, names, nodes_length, nth_node}
 use Rattle.kube_cel.specs.CompiledShape.{branches_of, compiled_shape}
 
 in_names : (k : List ℕ) (ns : Named) → IsSome (find k ns) → IsIn k (names ns)

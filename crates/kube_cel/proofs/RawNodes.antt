@@ -1,11 +1,11 @@
 -- A schema as JSON, as a walk asks of it.
 use Rattle.kube_cel.specs.Raw.{raw_form}
-use Rattle.kube_cel_places.proofs.Candidates.{NamesAll}
-use Rattle.kube_cel_places.proofs.Raw.{raw_names_all}
-use Rattle.kube_cel_places.specs.declared.branches.BranchKind.{BranchKind}
-use Rattle.kube_cel_places.specs.Inside.{keys_in, keys_at, count_at, in_order}
-use Rattle.kube_cel_places.specs.Raw.{declared_property, raw_shape}
-use Rattle.kube_cel_places.specs.Step.{keyword}
+use Rattle.kube_schema_rules.proofs.Candidates.{NamesAll}
+use Rattle.kube_schema_rules.proofs.Raw.{raw_names_all}
+use Rattle.kube_schema_rules.specs.declared.branches.BranchKind.{BranchKind}
+use Rattle.kube_schema_rules.specs.Inside.{keys_in, keys_at, count_at, in_order}
+use Rattle.kube_schema_rules.specs.Raw.{declared_property, raw_shape}
+use Rattle.kube_schema_rules.specs.Step.{keyword}
 use Rattle.kube_cel_walk.proofs.Entries.{names_of, keys_of_map, member_in_order}
 use Rattle.serde_json.proofs.Views.{Entry, items_len-items_view}
 use Rattle.serde_json.specs.Data.{Data, null, boolean, number, string, array, object, no_items, Members, no_members}

@@ -8,9 +8,9 @@ use Rattle.kube_cel_walk.specs.declared.error.ValidationError.{ValidationError}
 use Rattle.kube_cel_walk.specs.declared.error.ValidationErrors.{ValidationErrors}
 use Rattle.kube_cel_walk.specs.ErrorLists.{errors_in}
 use Rattle.kube_cel_walk.specs.Errors.{ErrorData, error_view}
-use Rattle.kube_cel_places.proofs.Candidates.{NamesAll, visit_answers}
-use Rattle.kube_cel_places.specs.Visit.{Visit, Root, root_visit, goes}
-use Rattle.kube_cel_places.specs.Walk.{AreFoundAtPlaces}
+use Rattle.kube_schema_rules.proofs.Candidates.{NamesAll, visit_answers}
+use Rattle.kube_schema_rules.specs.Visit.{Visit, Root, root_visit, goes}
+use Rattle.kube_schema_rules.specs.Walk.{AreFoundAtPlaces}
 use Rattle.kube_cel_walk.specs.Answers.{answer, verdicts, IsAnswer}
 use Rattle.kube_cel_walk.specs.WalkAccessors.{WalkAccessors}
 use Rattle.serde_json.specs.Data.{Data}

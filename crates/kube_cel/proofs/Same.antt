@@ -3,19 +3,19 @@ use Rattle.std.proofs.Common.{◌≡◌, ◌+◌, ℕ, zero, suc, List, ◌∷�
 use Rattle.serde_json.specs.Data.{Data, null, boolean, number, string, array, object, Items, no_items, item, Members, no_members, member}
 use Rattle.serde_json.specs.Events.{items_len}
 use Rattle.serde_json.specs.Find.{as_array, at, get, get_item}
-use Rattle.kube_cel_places.specs.declared.branches.BranchKind.{BranchKind}
-use Rattle.kube_cel_places.specs.declared.branches.BranchKind.TheVariants.{AllOf, OneOf, AnyOf}
-use Rattle.kube_cel_places.specs.Inside.{count_at, keys_at, keys_in}
-use Rattle.kube_cel_places.specs.Raw as seen
-use Rattle.kube_cel_places.specs.Raw.{raw_shape}
-use Rattle.kube_cel_places.specs.Visit.{Visit, goes, candidates}
-use Rattle.kube_cel_places.specs.Step.{Step}
-use Rattle.kube_cel_places.specs.Walk.{leads, places, answers}
-use Rattle.kube_schema_defaults.specs.DefaultsAccessors.{additional, declared_properties, members_or_none, preserves, property}
-use Rattle.kube_schema_defaults.proofs.Fills.{property_is}
-use Rattle.kube_schema_compiled.specs.Tree.{Node, names, nodes_length, nth_node}
-use Rattle.kube_schema_compiled.specs.View.{branches, children_view, items_or_none, named_view, nodes_view, own_view, view_of}
-use Rattle.kube_schema_compiled.proofs.Same.{find_same, maybe_same, unless}
+use Rattle.kube_schema_rules.specs.declared.branches.BranchKind.{BranchKind}
+use Rattle.kube_schema_rules.specs.declared.branches.BranchKind.TheVariants.{AllOf, OneOf, AnyOf}
+use Rattle.kube_schema_rules.specs.Inside.{count_at, keys_at, keys_in}
+use Rattle.kube_schema_rules.specs.Raw as seen
+use Rattle.kube_schema_rules.specs.Raw.{raw_shape}
+use Rattle.kube_schema_rules.specs.Visit.{Visit, goes, candidates}
+use Rattle.kube_schema_rules.specs.Step.{Step}
+use Rattle.kube_schema_rules.specs.Walk.{leads, places, answers}
+use Rattle.kube_schema_values.specs.DefaultsAccessors.{additional, declared_properties, members_or_none, preserves, property}
+use Rattle.kube_schema_values.proofs.Fills.{property_is}
+use Rattle.kube_schema.specs.Tree.{Node, names, nodes_length, nth_node}
+use Rattle.kube_schema.specs.View.{branches, children_view, items_or_none, named_view, nodes_view, own_view, view_of}
+use Rattle.kube_schema.proofs.SameDefaults.{find_same, maybe_same, unless}
 use Rattle.kube_cel.specs.CompiledShape.{compiled_shape}
 use Rattle.kube_cel.specs.Visits.{with_node_of}
 use Rattle.kube_cel.proofs.PlacesAlike.{Alike, places_same, leads_same, answers_same}

@@ -4,10 +4,10 @@ use Rattle.cel_patterns.specs.Book.{Book}
 use Rattle.kube_cel.specs.Added.{NodeStep, left_behind}
 use Rattle.kube_cel.specs.Raw.{raw_form}
 use Rattle.kube_cel_walk.specs.Errors.{ErrorData}
-use Rattle.kube_cel_places.specs.Raw.{raw_shape}
-use Rattle.kube_cel_places.specs.Visit.{Visit, goes}
-use Rattle.kube_cel_places.specs.Step.{Step}
-use Rattle.kube_cel_places.specs.Walk.{ArePlaces, if_some, leads}
+use Rattle.kube_schema_rules.specs.Raw.{raw_shape}
+use Rattle.kube_schema_rules.specs.Visit.{Visit, goes}
+use Rattle.kube_schema_rules.specs.Step.{Step}
+use Rattle.kube_schema_rules.specs.Walk.{ArePlaces, if_some, leads}
 use Rattle.kube_cel_walk.specs.Verdicts.{list_of_option, verdict}
 use Rattle.kube_cel_walk.specs.Answers.{place_bindings, verdicts}
 use Rattle.kube_schema_rules.specs.Compilation.{Compiled, Malformed, compiled_rules}

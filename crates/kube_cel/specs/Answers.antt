@@ -4,7 +4,7 @@ use Rattle.cel_patterns.specs.Book.{Book, IsBook}
 use Rattle.kube_cel_walk.specs.declared.error.ValidationErrors.{ValidationErrors}
 use Rattle.kube_cel_walk.specs.ErrorLists.{errors_in}
 use Rattle.kube_cel_walk.specs.Errors.{ErrorData, error_view}
-use Rattle.kube_cel_places.specs.Visit.{Visit}
+use Rattle.kube_schema_rules.specs.Visit.{Visit}
 use Rattle.kube_cel_walk.specs.Answers.{answer, IsAnswer}
 use Rattle.kube_cel_walk.specs.WalkAccessors.{WalkAccessors}
 use Rattle.std.specs.Prelude.{◌≡◌, List, [], ◌∷◌, map, Result, Ok, Err}

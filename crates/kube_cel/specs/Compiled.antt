@@ -2,8 +2,8 @@
 -- A schema that was compiled, as its tree of nodes.
 use Rattle.kube_cel.specs.CompiledShape.{compiled_shape}
 use Rattle.kube_cel_walk.specs.WalkAccessors.{WalkAccessors}
-use Rattle.kube_schema_compiled.specs.Tree.{Node, own}
-use Rattle.kube_schema.specs.Compiled.{tree_accessors}
+use Rattle.kube_schema.specs.Tree.{Node, own}
+use Rattle.kube_schema.specs.CompiledConversion.{tree_accessors}
 
 -- its rules were read when it was compiled
 unfoldable pub compiled_form : WalkAccessors Node

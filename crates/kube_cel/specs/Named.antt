@@ -1,9 +1,9 @@
 -- Scaffolding: only proofs and private clauses cite it.
 -- A name with its node, as a compiled schema hands both out and as a walk takes them.
 use Rattle.kube_cel.specs.declared.compiled.CompiledNode.{CompiledNode}
-use Rattle.kube_schema_compiled.specs.declared.node.SchemaNode.{SchemaNode}
-use Rattle.kube_schema_compiled.specs.Shown.{node_tree}
-use Rattle.kube_schema_compiled.specs.Tree.{Node}
+use Rattle.kube_schema.specs.declared.node.SchemaNode.{SchemaNode}
+use Rattle.kube_schema.specs.Shown.{node_tree}
+use Rattle.kube_schema.specs.Tree.{Node}
 use Rattle.std.specs.Borrow.{Bor}
 use Rattle.std.specs.Prelude.{ℕ, List, Option, Some}
 

@@ -1,10 +1,10 @@
 -- Trusted by the headline.
 -- A schema as JSON.
-use Rattle.kube_cel_places.specs.Raw.{raw_shape}
+use Rattle.kube_schema_rules.specs.Raw.{raw_shape}
 use Rattle.kube_cel_walk.specs.WalkAccessors.{WalkAccessors}
 use Rattle.kube_schema_rules.specs.Compilation.{compiled_rules}
 use Rattle.kube_schema_rules.specs.Rules.{rule_items}
-use Rattle.kube_schema_conversion.specs.Conversion.{raw}
+use Rattle.kube_schema_values.specs.Conversion.{raw}
 use Rattle.serde_json.specs.Data.{Data}
 
 -- its rules are read where they stand

@@ -1,14 +1,14 @@
 -- Trusted by the headline.
 -- The visits where calls begin.
-use Rattle.kube_cel_places.specs.Visit.{Visit, Root, root_visit}
+use Rattle.kube_schema_rules.specs.Visit.{Visit, Root, root_visit}
 use Rattle.kube_cel_walk.specs.declared.root.RootContext.{RootContext}
 use Rattle.kube_cel_walk.specs.Roots.{root_view}
-use Rattle.kube_schema_defaults.specs.Defaults.{defaulted_value}
-use Rattle.kube_schema_defaults.specs.DefaultsAccessors.{raw}
-use Rattle.kube_schema_compiled.specs.Compiled.{tree_accessors}
-use Rattle.kube_schema_compiled.specs.declared.node.CompiledSchema.{CompiledSchema}
-use Rattle.kube_schema_compiled.specs.Shown.{whole}
-use Rattle.kube_schema_compiled.specs.Tree.{Node}
+use Rattle.kube_schema_values.specs.Defaults.{defaulted_value}
+use Rattle.kube_schema_values.specs.DefaultsAccessors.{raw}
+use Rattle.kube_schema.specs.CompiledDefaults.{tree_accessors}
+use Rattle.kube_schema.specs.declared.node.CompiledSchema.{CompiledSchema}
+use Rattle.kube_schema.specs.Shown.{whole}
+use Rattle.kube_schema.specs.Tree.{Node}
 use Rattle.serde_json.specs.Data.{Data}
 use Rattle.serde_json.specs.declared.value.Value.{Value}
 use Rattle.serde_json.specs.View.{view}

@@ -1,6 +1,6 @@
 -- Trusted by laws alone.
 -- The same place of two forms of a schema.
-use Rattle.kube_cel_places.specs.Visit.{Visit, visit}
+use Rattle.kube_schema_rules.specs.Visit.{Visit, visit}
 
 -- a visit, with the node that another form of the schema has there
 abbrev pub with_node_of : {S T : Type 0} → (S → T) → Visit S → Visit T

@@ -1,11 +1,11 @@
 //! The branches of a node of a compiled schema, by keyword.
 ghost use Rattle.std.specs.Prelude.{◌≡◌, option_map};
 ghost use Rattle.kube_cel.specs.CompiledShape.{branches_of};
-ghost use Rattle.kube_schema_compiled.specs.Shown.{node_tree};
-ghost use Rattle.kube_schema_compiled.specs.Tree.{nodes_length, nth_node};
+ghost use Rattle.kube_schema.specs.Shown.{node_tree};
+ghost use Rattle.kube_schema.specs.Tree.{nodes_length, nth_node};
 
-use kube_cel_places::BranchKind;
-use kube_schema_compiled::SchemaNode;
+use kube_schema::SchemaNode;
+use kube_schema_rules::BranchKind;
 
 /// The number of branches of a keyword.
 pub fn branch_count(node: &SchemaNode<'_>, kind: BranchKind) -> usize

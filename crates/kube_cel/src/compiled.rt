@@ -3,13 +3,13 @@ ghost use Rattle.cel_patterns.specs.Book.{Extends, Book};
 ghost use Rattle.cel_patterns.specs.Entries.{entries_of};
 ghost use Rattle.cel_semantics.specs.Bindings.{bindings_of};
 ghost use Rattle.kube_cel.specs.Named.{named_node, named_property};
-ghost use Rattle.kube_cel_places.specs.Inside.{in_order};
+ghost use Rattle.kube_schema_rules.specs.Inside.{in_order};
 ghost use Rattle.kube_cel.specs.CompiledShape.{compiled_shape};
 ghost use Rattle.kube_cel_walk.specs.AddedErrors.{AreAdded};
 ghost use Rattle.kube_cel_walk.specs.Verdicts.{list_of_option, verdict};
 ghost use Rattle.kube_schema_rules.specs.Compilation.{compiled_seen};
-ghost use Rattle.kube_schema_compiled.specs.Shown.{node_tree};
-ghost use Rattle.kube_schema_compiled.specs.Tree.{Node as Tree, named_of, names, property_of};
+ghost use Rattle.kube_schema.specs.Shown.{node_tree};
+ghost use Rattle.kube_schema.specs.Tree.{Node as Tree, named_of, names, property_of};
 ghost use Rattle.serde_json.specs.View.{view};
 ghost use Rattle.std.specs.List.{flat_map};
 ghost use Rattle.std.specs.Prelude.{◌≡◌, ◌++◌, ℕ, IfErr, IfOk, List, map, OnOk, Option, option_map, Some};
@@ -17,10 +17,10 @@ ghost use Rattle.std.specs.Prelude.{◌≡◌, ◌++◌, ℕ, IfErr, IfOk, List,
 use crate::branches::{branch_count, branch_of};
 use cel::PatternBook;
 use cel_value::Value as CelValue;
-use kube_cel_places::BranchKind;
 use kube_cel_walk::verdict::{Context, add_verdict};
 use kube_cel_walk::{Node, ValidationError};
 use kube_schema::{CompilationError, CompilationResult, SchemaNode, bind_node};
+use kube_schema_rules::BranchKind;
 use kube_types::Refused;
 use serde_json::Value;
 use std::alloc::{AllocError, Global};
@@ -94,8 +94,8 @@ fn add_verdicts(
 
 impl Node for CompiledNode<'_> {
     ghost use Rattle.kube_cel.specs.Compiled.{compiled_form};
-    ghost use Rattle.kube_schema_compiled.specs.Shown.{node_tree};
-    ghost use Rattle.kube_schema_compiled.specs.Tree.{Node as Tree};
+    ghost use Rattle.kube_schema.specs.Shown.{node_tree};
+    ghost use Rattle.kube_schema.specs.Tree.{Node as Tree};
 
     ghost Seen = { Tree };
 

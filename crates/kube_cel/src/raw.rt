@@ -2,9 +2,9 @@
 ghost use Rattle.cel_patterns.specs.Book.{Extends, Book};
 ghost use Rattle.cel_patterns.specs.Entries.{entries_of};
 ghost use Rattle.cel_semantics.specs.Bindings.{bindings_of};
-ghost use Rattle.kube_cel_places.specs.Inside.{in_order, keys_in};
-ghost use Rattle.kube_cel_places.specs.Raw.{declared_property, undeclared_property};
-ghost use Rattle.kube_cel_places.specs.Step.{keyword};
+ghost use Rattle.kube_schema_rules.specs.Inside.{in_order, keys_in};
+ghost use Rattle.kube_schema_rules.specs.Raw.{declared_property, undeclared_property};
+ghost use Rattle.kube_schema_rules.specs.Step.{keyword};
 ghost use Rattle.kube_cel_walk.specs.AddedErrors.{AreAdded};
 ghost use Rattle.kube_cel_walk.specs.Verdicts.{list_of_option, verdict};
 ghost use Rattle.kube_schema_rules.specs.Compilation.{compiled_rule, compiled_rules};
@@ -17,10 +17,10 @@ ghost use Rattle.std.specs.Prelude.{◌≡◌, ℕ, codes, IfErr, IfOk, List, ma
 use crate::cache::RuleCache;
 use cel::PatternBook;
 use cel_value::Value as CelValue;
-use kube_cel_places::BranchKind;
 use kube_cel_walk::verdict::{Context, add_verdict};
 use kube_cel_walk::{Node, ValidationError};
 use kube_schema::{bind, rule_values};
+use kube_schema_rules::BranchKind;
 use kube_types::Refused;
 use serde_json::{Map, Value};
 use std::alloc::{AllocError, Global};
@@ -57,7 +57,7 @@ fn properties_of(node: &Value) -> Option<&Map<String, Value>>
 }
 
 /// The schema of a declared name.
-#[tactic(auto, unfolding(kube_cel_places::specs::Raw::declared_property))]
+#[tactic(auto, unfolding(kube_schema_rules::specs::Raw::declared_property))]
 fn declared<'a>(node: &'a Value, key: &str) -> Option<&'a Value>
     ensures { option_map (λ v. view v.now) result ≡ declared_property key.now (view node.now) }
 {
@@ -65,7 +65,7 @@ fn declared<'a>(node: &'a Value, key: &str) -> Option<&'a Value>
 }
 
 /// The schema of all names that aren't declared.
-#[tactic(auto, unfolding(kube_cel_places::specs::Raw::undeclared_property))]
+#[tactic(auto, unfolding(kube_schema_rules::specs::Raw::undeclared_property))]
 fn undeclared(node: &Value) -> Option<&Value>
     ensures { option_map (λ v. view v.now) result ≡ undeclared_property (view node.now) }
 {
@@ -143,7 +143,7 @@ impl Node for JsonNode<'_> {
 
     ghost form = { raw_form };
 
-    #[tactic(auto, unfolding(crate::specs::Raw::raw_form, kube_cel_places::specs::Raw::raw_shape))]
+    #[tactic(auto, unfolding(crate::specs::Raw::raw_form, kube_schema_rules::specs::Raw::raw_shape))]
     fn properties(&self, alloc: Global) -> Result<Vec<(&str, Self)>, AllocError> {
         match properties_of(self.schema) {
             Some(members) => {
@@ -154,7 +154,7 @@ impl Node for JsonNode<'_> {
         }
     }
 
-    #[tactic(auto, unfolding(crate::specs::Raw::raw_form, kube_cel_places::specs::Raw::raw_shape))]
+    #[tactic(auto, unfolding(crate::specs::Raw::raw_form, kube_schema_rules::specs::Raw::raw_shape))]
     fn property(&self, name: &str) -> Option<Self> {
         let schema = declared(self.schema, name)?;
         Some(JsonNode {
@@ -163,7 +163,7 @@ impl Node for JsonNode<'_> {
         })
     }
 
-    #[tactic(auto, unfolding(crate::specs::Raw::raw_form, kube_cel_places::specs::Raw::raw_shape))]
+    #[tactic(auto, unfolding(crate::specs::Raw::raw_form, kube_schema_rules::specs::Raw::raw_shape))]
     fn items(&self) -> Option<Self> {
         let schema = self.schema.get("items")?;
         Some(JsonNode {
@@ -172,7 +172,7 @@ impl Node for JsonNode<'_> {
         })
     }
 
-    #[tactic(auto, unfolding(crate::specs::Raw::raw_form, kube_cel_places::specs::Raw::raw_shape))]
+    #[tactic(auto, unfolding(crate::specs::Raw::raw_form, kube_schema_rules::specs::Raw::raw_shape))]
     fn additional_property(&self) -> Option<Self> {
         let schema = undeclared(self.schema)?;
         Some(JsonNode {
@@ -181,7 +181,7 @@ impl Node for JsonNode<'_> {
         })
     }
 
-    #[tactic(auto, unfolding(crate::specs::Raw::raw_form, kube_cel_places::specs::Raw::raw_shape))]
+    #[tactic(auto, unfolding(crate::specs::Raw::raw_form, kube_schema_rules::specs::Raw::raw_shape))]
     fn branch_count(&self, kind: BranchKind) -> usize {
         match branches_of(self.schema, kind) {
             Some(branches) => branches.len(),
@@ -189,7 +189,7 @@ impl Node for JsonNode<'_> {
         }
     }
 
-    #[tactic(auto, unfolding(crate::specs::Raw::raw_form, kube_cel_places::specs::Raw::raw_shape))]
+    #[tactic(auto, unfolding(crate::specs::Raw::raw_form, kube_schema_rules::specs::Raw::raw_shape))]
     fn branch(&self, kind: BranchKind, index: usize) -> Option<Self> {
         let schema = self.schema.get(kind.keyword())?.get(index)?;
         Some(JsonNode {
@@ -198,13 +198,13 @@ impl Node for JsonNode<'_> {
         })
     }
 
-    #[tactic(auto, unfolding(crate::specs::Raw::raw_form, kube_cel_places::specs::Raw::raw_shape))]
+    #[tactic(auto, unfolding(crate::specs::Raw::raw_form, kube_schema_rules::specs::Raw::raw_shape))]
     fn bind(&self, alloc: Global, value: &Value, depth: usize) -> Result<CelValue, Refused> {
         let bound = bind(alloc, self.schema, value, depth)?;
         Ok(bound)
     }
 
-    #[tactic(auto, unfolding(crate::specs::Raw::raw_form, kube_cel_places::specs::Raw::raw_shape))]
+    #[tactic(auto, unfolding(crate::specs::Raw::raw_form, kube_schema_rules::specs::Raw::raw_shape))]
     fn is_without_rules(&self) -> bool {
         rule_values(self.schema).is_empty()
     }

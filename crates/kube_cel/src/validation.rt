@@ -6,8 +6,8 @@ ghost use Rattle.kube_cel.specs.Raw.{raw_form};
 ghost use Rattle.kube_cel.specs.Compiled.{compiled_form};
 ghost use Rattle.kube_cel.specs.Starts.{compiled_start, call_start, source_start};
 ghost use Rattle.kube_cel_walk.specs.Answers.{answer, IsAnswer};
-ghost use Rattle.kube_schema_compiled.specs.Shown.{whole};
-ghost use Rattle.kube_schema_compiled.specs.View.{view_of};
+ghost use Rattle.kube_schema.specs.Shown.{whole};
+ghost use Rattle.kube_schema.specs.View.{view_of};
 ghost use Rattle.serde_json.specs.Data.{Data};
 ghost use Rattle.std.specs.Prelude.{◌≡◌, IfErr, IfOk, None};
 

@@ -6,12 +6,12 @@ use Rattle.std.proofs.lemmas.Slice.Eq.{bytes_eq-Decides}
 use Rattle.std.specs.List.{filter, list_any}
 use Rattle.std.specs.Ordering.{match_ordering}
 use Rattle.std.specs.Str.{bytes_eq}
-use Rattle.cel_syntax_references.specs.Calls.{is_called, is_called_in_any, is_called_in_pairs}
-use Rattle.cel_syntax_references.specs.Names.{AreNames}
+use Rattle.cel_syntax.specs.CallNames.{is_called, is_called_in_any, is_called_in_pairs}
+use Rattle.cel_syntax.specs.Names.{AreNames}
 use Rattle.cel_syntax_ast.specs.FreeNames.{is_free, is_free_in_any, is_free_in_pairs}
 use Rattle.cel_syntax_ast.specs.Term.{Term, literal, ident, select, has, index, unary, binary, conditional, list_of, map_with, call, qualified, macro, Terms, no_terms, term_and, Pairs, no_pairs, pair_and}
-use Rattle.kube_cel_places.proofs.Sorted.{key_cmp, keys_sorted, same_key}
-use Rattle.kube_cel_places.specs.Inside.{in_order, insert_key}
+use Rattle.kube_schema_rules.proofs.Sorted.{key_cmp, keys_sorted, same_key}
+use Rattle.kube_schema_rules.specs.Inside.{in_order, insert_key}
 
 -- ---- truth values
 

@@ -1,6 +1,6 @@
 -- What is left of the properties of a node, behind the first ones.
 use Rattle.std.proofs.Common.{◌≡◌, ◌∙◌, ◌+◌, ◌≤◌, ℕ, zero, suc, List, length, Option, Some, None, refl, sym, ap, add-one, arith, Bool, false, ◌||◌, unwrap_or}
-use Rattle.kube_schema_compiled.specs.Tree.{Node, Named, no_named, named, names, nth_named}
+use Rattle.kube_schema.specs.Tree.{Node, Named, no_named, named, names, nth_named}
 use Rattle.kube_cel_analysis.specs.Bounds.{first_bound, is_unbounded, has_unbounded}
 
 abbrev pub rest : ℕ → Named → Named

@@ -1,7 +1,7 @@
 -- What is found of one rule, part by part.
 use Rattle.std.proofs.Common.{◌≡◌, ℕ, List, [], ◌∷◌, ◌++◌, map, Some, refl, ap, ◌∙◌, subst, append_assoc}
-use Rattle.cel_syntax_references.specs.Calls.{is_called}
-use Rattle.cel_syntax_references.specs.Names.{AreNames}
+use Rattle.cel_syntax.specs.CallNames.{is_called}
+use Rattle.cel_syntax.specs.Names.{AreNames}
 use Rattle.cel_syntax_ast.specs.FreeNames.{is_free}
 use Rattle.cel_syntax_ast.specs.Term.{Term}
 use Rattle.kube_cel_analysis.specs.Scopes.{names_warnings}
@@ -11,7 +11,7 @@ use Rattle.kube_cel_analysis.specs.declared.warning.AnalysisWarning.{AnalysisWar
 use Rattle.kube_cel_analysis.specs.Estimates.{AreWarnings, estimates}
 use Rattle.kube_cel_analysis.proofs.Unique.{names_alike}
 use Rattle.kube_cel_analysis.specs.Findings.{Finding, Naming, names_findings, warning_finding, warnings_at}
-use Rattle.kube_schema_compiled.specs.Tree.{Node}
+use Rattle.kube_schema.specs.Tree.{Node}
 
 reported_are : (names : Naming) (rule : List ℕ) (n : Node) (t : Term) (ws : List Warning) → AreWarnings CrdValidation rule n (Some t) ws → ws ≡ warnings_at names rule n t
 reported_are names rule n t ws h =

@@ -8,7 +8,7 @@ use Rattle.std.specs.List.{AllByRecursion, list_any}
 use Rattle.std.specs.List.Sorted.{IsStrictlySortedBy}
 use Rattle.std.specs.Ordering.{ordering_reverse}
 use Rattle.std.specs.Str.{bytes_eq}
-use Rattle.cel_syntax_references.specs.Names.{AreNames}
+use Rattle.cel_syntax.specs.Names.{AreNames}
 
 abbrev name_cmp : List ℕ → List ℕ → Ordering
 name_cmp = slice_cmp nat_cmp

@@ -3,7 +3,7 @@
 -- `maxLength` limit what a rule may cost; where there is none, a size is assumed).
 use Rattle.std.specs.Prelude.{ℕ, Bool, false, ◌&&◌, ◌||◌, is_some, is_none, unwrap_or, Option, option_map}
 use Rattle.kube_cel_analysis.specs.Cost.{Sizes}
-use Rattle.kube_schema_compiled.specs.Tree.{Node, Named, no_named, named, named_of, items_of, own}
+use Rattle.kube_schema.specs.Tree.{Node, Named, no_named, named, named_of, items_of, own}
 
 -- of a node that has items; the assumed size where it says none
 abbrev pub list_bound : Node → Option ℕ

@@ -9,7 +9,7 @@ use Rattle.kube_cel_analysis.specs.Warnings.{Warning}
 use Rattle.kube_cel_analysis.specs.declared.scope.ScopeContext.{ScopeContext}
 use Rattle.kube_cel_analysis.specs.declared.warning.WarningKind.TheVariants.{CostExceeded, MissingBounds}
 use Rattle.kube_cel_analysis.specs.Bounds.{sizes_of, has_unbounded}
-use Rattle.kube_schema_compiled.specs.Tree.{Node, named_of}
+use Rattle.kube_schema.specs.Tree.{Node, named_of}
 
 abbrev pub cost_warning : List ℕ → ℕ → Warning
 cost_warning rule c = record {

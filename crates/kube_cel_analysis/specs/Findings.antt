@@ -4,8 +4,8 @@ use Rattle.std.specs.Prelude.{ℕ, List, [], ◌∷◌, ◌++◌, map, Bool, tru
 use Rattle.std.specs.List.{flat_map}
 use Rattle.cel_semantics.specs.declared.functions.Form.{Form}
 use Rattle.cel_semantics.specs.declared.functions.Form.TheVariants.{Unknown, Wrong, Known}
-use Rattle.cel_syntax_references.specs.Calls.{is_called}
-use Rattle.cel_syntax_references.specs.Names.{AreNames}
+use Rattle.cel_syntax.specs.CallNames.{is_called}
+use Rattle.cel_syntax.specs.Names.{AreNames}
 use Rattle.cel_syntax_ast.specs.FreeNames.{is_free}
 use Rattle.cel_syntax_ast.specs.Term.{Term}
 use Rattle.kube_cel_analysis.specs.Scopes.{names_warnings}
@@ -19,7 +19,7 @@ use Rattle.kube_cel_analysis.specs.declared.finding.LintKind.{LintKind}
 use Rattle.kube_cel_analysis.specs.declared.finding.LintKind.TheVariants.{Compile, Function, Scope, Cost, Bounds, Depth}
 use Rattle.kube_functions.specs.Kube.{all_library}
 use Rattle.kube_schema_rules.specs.Compilation.{Compiled, Malformed, unread, unread_message, invalid, past_depth, error_text}
-use Rattle.kube_schema_compiled.specs.Tree.{Node}
+use Rattle.kube_schema.specs.Tree.{Node}
 
 pub record Finding : Type 0 where
   pub pointer : List ℕ

@@ -3,7 +3,7 @@
 use Rattle.std.specs.Prelude.{◌≡◌, ℕ, List, [], ◌∷◌, ◌++◌, codes, Bool, Option, Some, None, if◌then◌else◌}
 use Rattle.std.specs.List.{list_any}
 use Rattle.std.specs.Str.{bytes_eq}
-use Rattle.cel_syntax_references.specs.Names.{AreNames}
+use Rattle.cel_syntax.specs.Names.{AreNames}
 use Rattle.cel_syntax_ast.specs.FreeNames.{is_free}
 use Rattle.cel_syntax_ast.specs.Term.{Term}
 use Rattle.kube_cel_analysis.specs.declared.scope.ScopeContext.{ScopeContext}

@@ -6,7 +6,7 @@ ghost use Rattle.kube_cel_analysis.specs.Cost.{cost};
 ghost use Rattle.kube_cel_analysis.specs.Warnings.{warning_view};
 ghost use Rattle.kube_cel_analysis.specs.Bounds.{sizes_of};
 ghost use Rattle.kube_cel_analysis.specs.Estimates.{AreWarnings, bounds_warning, bounds_warnings, cost_warning, cost_warnings, estimates, is_macro, text_estimates};
-ghost use Rattle.kube_schema_compiled.specs.Shown.{node_tree, whole};
+ghost use Rattle.kube_schema.specs.Shown.{node_tree, whole};
 
 use crate::cost::estimated_cost;
 use crate::scope::{ScopeContext, check_expression_scope};
@@ -14,7 +14,7 @@ use crate::sizes::{has_unbounded, sizes_of};
 use crate::warning::{AnalysisWarning, WarningKind};
 use cel_syntax::parse;
 use cel_syntax_ast::Expr;
-use kube_schema_compiled::{CompiledSchema, SchemaNode};
+use kube_schema::{CompiledSchema, SchemaNode};
 use kube_types_refused::Refused;
 use std::alloc::{AllocError, Global};
 

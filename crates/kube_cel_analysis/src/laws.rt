@@ -1,7 +1,7 @@
 //! Laws of findings, each the contract of a call that does nothing.
 ghost use Rattle.std.specs.Prelude.{ℕ, List};
-ghost use Rattle.cel_syntax_references.specs.Calls.{is_called};
-ghost use Rattle.cel_syntax_references.specs.Names.{AreNames};
+ghost use Rattle.cel_syntax.specs.CallNames.{is_called};
+ghost use Rattle.cel_syntax.specs.Names.{AreNames};
 ghost use Rattle.cel_syntax_ast.specs.FreeNames.{is_free};
 ghost use Rattle.cel_syntax_ast.specs.Term.{Term};
 

@@ -1,11 +1,11 @@
 //! What is wrong with the rules of one node.
 ghost use Rattle.std.specs.Prelude.{◌≡◌, ◌++◌, [], ◌∷◌, IfErr, IfOk, OnOk, map};
-ghost use Rattle.cel_syntax_references.specs.Names.{names_of};
+ghost use Rattle.cel_syntax.specs.Names.{names_of};
 ghost use Rattle.kube_cel_analysis.specs.Warnings.{warning_view};
 ghost use Rattle.kube_cel_analysis.specs.Findings.{Naming, compiled_findings, error_finding, finding_view, is_unknown, kind_of_error, kind_of_warning, name_findings, names_findings, rule_findings, rule_of_error, rules_findings, unknown_finding, warning_finding};
 ghost use Rattle.kube_schema_rules.specs.Compilation.{compiled_seen, error_view, result_view};
-ghost use Rattle.kube_schema_compiled.specs.Shown.{node_tree};
-ghost use Rattle.kube_schema_compiled.specs.Tree.{own};
+ghost use Rattle.kube_schema.specs.Shown.{node_tree};
+ghost use Rattle.kube_schema.specs.Tree.{own};
 
 use crate::analysis::analyze_expression;
 use crate::finding::{LintFinding, LintKind};
@@ -13,7 +13,7 @@ use crate::scope::ScopeContext;
 use crate::warning::{AnalysisWarning, WarningKind};
 use cel_semantics::{Form, Functions};
 use kube_functions::AllFunctions;
-use kube_schema_compiled::SchemaNode;
+use kube_schema::SchemaNode;
 use kube_schema_rules::{CompilationError, CompilationResult};
 use kube_types_refused::Refused;
 use std::alloc::{AllocError, Global};

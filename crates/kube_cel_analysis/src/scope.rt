@@ -3,7 +3,7 @@ ghost use Rattle.std.specs.List.{list_any};
 ghost use Rattle.std.specs.Prelude.{◌≡◌, ◌++◌, IfErr, IfOk, OnOk, Some, map};
 ghost use Rattle.std.specs.Str.{bytes_eq};
 ghost use Rattle.cel_syntax.specs.Reading.{tree_of};
-ghost use Rattle.cel_syntax_references.specs.Names.{names_of};
+ghost use Rattle.cel_syntax.specs.Names.{names_of};
 ghost use Rattle.cel_syntax_ast.specs.Term.{term};
 ghost use Rattle.kube_cel_analysis.specs.Scopes.{AreScopeWarnings, is_available, name_warnings, names_warnings, scope_name, scope_warning, valid_variables};
 ghost use Rattle.kube_cel_analysis.specs.Warnings.{warning_view};

@@ -2,11 +2,11 @@
 ghost use Rattle.std.specs.Prelude.{◌≡◌};
 ghost use Rattle.kube_cel_analysis.specs.Sizes.{sizes_view};
 ghost use Rattle.kube_cel_analysis.specs.Bounds.{first_bound, has_unbounded, is_unbounded, list_bound, sizes_of, text_bound};
-ghost use Rattle.kube_schema_compiled.specs.Shown.{node_tree};
-ghost use Rattle.kube_schema_compiled.specs.Tree.{named_of};
+ghost use Rattle.kube_schema.specs.Shown.{node_tree};
+ghost use Rattle.kube_schema.specs.Tree.{named_of};
 
 use crate::cost::Sizes;
-use kube_schema_compiled::SchemaNode;
+use kube_schema::SchemaNode;
 
 /// The size that is taken where a schema says none.
 const USUAL_SIZE: u64 = 1000;

@@ -3,14 +3,14 @@ ghost use Rattle.std.specs.Prelude.{◌≡◌, ◌++◌, [], IfErr, IfOk, OnOk, 
 ghost use Rattle.kube_cel_analysis.specs.Findings.{Naming, finding_view};
 ghost use Rattle.kube_cel_analysis.specs.Lint.{branch_findings, branches_of, findings, named_findings, findings_at};
 ghost use Rattle.kube_cel_analysis.specs.Pointers.{additional_pointer, items_pointer};
-ghost use Rattle.kube_schema_compiled.specs.Shown.{node_tree, whole};
-ghost use Rattle.kube_schema_compiled.specs.Tree.{additional_of, items_of, named_of, nodes_length, nth_node};
+ghost use Rattle.kube_schema.specs.Shown.{node_tree, whole};
+ghost use Rattle.kube_schema.specs.Tree.{additional_of, items_of, named_of, nodes_length, nth_node};
 
 use crate::finding::LintFinding;
 use crate::pointer::{additional_pointer, branch_pointer, items_pointer, property_pointer};
 use crate::rule::add_rules;
-use kube_cel_places::BranchKind;
-use kube_schema_compiled::{CompiledSchema, SchemaNode};
+use kube_schema::{CompiledSchema, SchemaNode};
+use kube_schema_rules::BranchKind;
 use kube_types_refused::Refused;
 use std::alloc::Global;
 

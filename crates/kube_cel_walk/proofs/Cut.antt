@@ -1,5 +1,5 @@
 -- A path that was lengthened is cut back.
-use Rattle.kube_cel_places.specs.Visit.{member_path, item_path}
+use Rattle.kube_schema_rules.specs.Visit.{member_path, item_path}
 use Rattle.std.proofs.Common.{◌≡◌, ◌<◌, ℕ, List, [], ◌∷◌, ◌++◌, length, take, refl, arith, get_or, lit<, length-append}
 use Rattle.std.proofs.Math.Seq.{take-append_seam}
 use Rattle.std.specs.String.Boundary.{IsSplitPoint}

@@ -1,6 +1,6 @@
 -- A map's entries, as a walk meets them.
-use Rattle.kube_cel_places.proofs.Sorted.{key_cmp, ordered_already}
-use Rattle.kube_cel_places.specs.Inside.{keys_in, keys_at, in_order}
+use Rattle.kube_schema_rules.proofs.Sorted.{key_cmp, ordered_already}
+use Rattle.kube_schema_rules.specs.Inside.{keys_in, keys_at, in_order}
 use Rattle.serde_json.proofs.Views.{Entry}
 use Rattle.serde_json.specs.Data.{Data, no_members}
 use Rattle.serde_json.specs.Find.{get_member, as_object}

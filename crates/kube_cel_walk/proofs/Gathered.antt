@@ -1,14 +1,14 @@
 -- What a walk finds through the steps of each kind, and that it is the answer when joined.
 use Rattle.cel_patterns.specs.Book.{Book}
 use Rattle.kube_cel_walk.specs.Errors.{ErrorData}
-use Rattle.kube_cel_places.proofs.Found.{flat_map-map, flat_map_none, answers_end, answers_more}
-use Rattle.kube_cel_places.specs.declared.branches.BranchKind.{BranchKind}
-use Rattle.kube_cel_places.specs.declared.branches.BranchKind.TheVariants.{AllOf, OneOf, AnyOf}
-use Rattle.kube_cel_places.specs.Inside.{keys_at, count_at, in_order, up_to}
-use Rattle.kube_cel_places.specs.StepAccessors.{StepAccessors}
-use Rattle.kube_cel_places.specs.Visit.{Visit, further, unless_there, member_path, item_path, goes, candidates, property_steps, item_steps, additional_steps, branch_steps}
-use Rattle.kube_cel_places.specs.Step.{Step, property, item, additional_property, branch}
-use Rattle.kube_cel_places.specs.Walk.{if_some, answers}
+use Rattle.kube_schema_rules.proofs.Found.{flat_map-map, flat_map_none, answers_end, answers_more}
+use Rattle.kube_schema_rules.specs.declared.branches.BranchKind.{BranchKind}
+use Rattle.kube_schema_rules.specs.declared.branches.BranchKind.TheVariants.{AllOf, OneOf, AnyOf}
+use Rattle.kube_schema_rules.specs.Inside.{keys_at, count_at, in_order, up_to}
+use Rattle.kube_schema_rules.specs.StepAccessors.{StepAccessors}
+use Rattle.kube_schema_rules.specs.Visit.{Visit, further, unless_there, member_path, item_path, goes, candidates, property_steps, item_steps, additional_steps, branch_steps}
+use Rattle.kube_schema_rules.specs.Step.{Step, property, item, additional_property, branch}
+use Rattle.kube_schema_rules.specs.Walk.{if_some, answers}
 use Rattle.kube_cel_walk.proofs.Entries.{names_of, keys_of_map, keys_of_none}
 use Rattle.kube_cel_walk.specs.Answers.{verdicts, answer, answer_if_reached, found_through}
 use Rattle.kube_cel_walk.specs.WalkAccessors.{WalkAccessors}

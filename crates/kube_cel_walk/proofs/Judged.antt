@@ -3,7 +3,7 @@ use Rattle.cel_patterns.specs.Book.{Book}
 use Rattle.cel_semantics.specs.Bindings.{Bindings, binding}
 use Rattle.kube_cel_walk.specs.Errors.{ErrorData}
 use Rattle.kube_cel_walk.specs.RuleErrors.{too_deep}
-use Rattle.kube_cel_places.specs.Visit.{Visit}
+use Rattle.kube_schema_rules.specs.Visit.{Visit}
 use Rattle.kube_cel_walk.proofs.Bound.{old_under, root_under}
 use Rattle.kube_cel_walk.proofs.Ruled.{verdict_alike}
 use Rattle.kube_cel_walk.specs.Verdicts.{list_of_option, verdict, with_old, with_root}

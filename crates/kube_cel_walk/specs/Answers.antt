@@ -6,12 +6,12 @@ use Rattle.cel_semantics.specs.Bindings.{Bindings}
 use Rattle.cel_value.specs.Data.{Data}
 use Rattle.kube_cel_walk.specs.Errors.{ErrorData}
 use Rattle.kube_cel_walk.specs.RuleErrors.{too_deep}
-use Rattle.kube_cel_places.specs.Visit.{Visit, goes, candidates}
-use Rattle.kube_cel_places.specs.Step.{Step}
-use Rattle.kube_cel_places.specs.Walk.{answers, AreFoundAtPlaces, if_some}
+use Rattle.kube_schema_rules.specs.Visit.{Visit, goes, candidates}
+use Rattle.kube_schema_rules.specs.Step.{Step}
+use Rattle.kube_schema_rules.specs.Walk.{answers, AreFoundAtPlaces, if_some}
 use Rattle.kube_cel_walk.specs.Verdicts.{list_of_option, verdict, with_old, with_root}
 use Rattle.kube_cel_walk.specs.WalkAccessors.{WalkAccessors}
-use Rattle.kube_schema_conversion.specs.Conversion.{to_cel, levels}
+use Rattle.kube_schema_values.specs.Conversion.{to_cel, levels}
 use Rattle.serde_json.specs.Data.{Data as Json}
 use Rattle.std.specs.List.{flat_map}
 use Rattle.std.specs.Prelude.{ℕ, ◌==◌, List, [], ◌∷◌, if◌then◌else◌, Option, option_map, codes}

@@ -1,7 +1,7 @@
 -- Trusted by the headline.
 -- What a root context says of a whole object.
 use Rattle.kube_cel_walk.specs.declared.root.RootContext.{RootContext}
-use Rattle.kube_cel_places.specs.Visit.{Root}
+use Rattle.kube_schema_rules.specs.Visit.{Root}
 use Rattle.std.specs.Prelude.{string_bytes}
 
 abbrev pub root_view : RootContext → Root

@@ -4,7 +4,7 @@ use Rattle.cel_value.specs.Faults.{Fault, undeclared}
 use Rattle.cel_value.specs.Texts.{fault_text}
 use Rattle.kube_cel_walk.specs.declared.error.ErrorKind.TheVariants.{CompilationFailure, InvalidRule, ValidationFailure, InvalidResult, EvaluationError, UnsupportedReference, SchemaTooDeep}
 use Rattle.kube_cel_walk.specs.Errors.{ErrorData}
-use Rattle.kube_cel_places.specs.Visit.{member_path}
+use Rattle.kube_schema_rules.specs.Visit.{member_path}
 use Rattle.kube_schema_rules.specs.Compilation.{Malformed, unread, unread_message, invalid, past_depth}
 use Rattle.kube_schema_rules.specs.Rules as schema
 use Rattle.std.specs.Prelude.{ℕ, ◌==◌, List, [], ◌++◌, if◌then◌else◌, Option, Some, None, codes, slice_index}

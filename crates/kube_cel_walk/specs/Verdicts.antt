@@ -9,7 +9,7 @@ use Rattle.cel_value.specs.Data.{Data, null, text}
 use Rattle.cel_value.specs.Parts.{bool_in, text_in}
 use Rattle.kube_cel_walk.specs.Errors.{ErrorData}
 use Rattle.kube_cel_walk.specs.RuleErrors.{failed_rule, no_bool, fault_error, undeclared_name, malformed_error}
-use Rattle.kube_cel_places.specs.Visit.{Root}
+use Rattle.kube_schema_rules.specs.Visit.{Root}
 use Rattle.kube_functions.specs.Kube.{all_library}
 use Rattle.kube_schema_rules.specs.Compilation.{Compiled, Malformed}
 use Rattle.kube_schema_rules.specs.Rules as schema

@@ -1,6 +1,6 @@
 -- Scaffolding: only proofs and private clauses cite it.
 -- The visit that a walk is at.
-use Rattle.kube_cel_places.specs.Visit.{Visit, visit}
+use Rattle.kube_schema_rules.specs.Visit.{Visit, visit}
 use Rattle.kube_cel_walk.specs.Roots.{root_view}
 use Rattle.kube_cel_walk.specs.declared.state.WalkState.{WalkState}
 use Rattle.serde_json.specs.View.{view}

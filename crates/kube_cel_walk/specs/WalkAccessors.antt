@@ -1,8 +1,8 @@
 -- Trusted by the headline.
 -- The form in which a schema is held: what places, bindings and verdicts ask of its nodes.
-use Rattle.kube_cel_places.specs.StepAccessors.{StepAccessors}
+use Rattle.kube_schema_rules.specs.StepAccessors.{StepAccessors}
 use Rattle.kube_schema_rules.specs.Compilation.{Compiled, Malformed}
-use Rattle.kube_schema_conversion.specs.Conversion.{ConversionAccessors}
+use Rattle.kube_schema_values.specs.Conversion.{ConversionAccessors}
 use Rattle.std.specs.Prelude.{List, [], ◌∷◌, Bool, true, false, Result}
 
 pub record WalkAccessors (S : Type 0) : Type 0 where

@@ -1,6 +1,6 @@
 //! The text of a place's path, which a walk lengthens and cuts back, and the paths that errors have.
 ghost use Rattle.kube_cel_walk.specs.RuleErrors.{joined_path, rule_path};
-ghost use Rattle.kube_cel_places.specs.Visit.{item_path, member_path};
+ghost use Rattle.kube_schema_rules.specs.Visit.{item_path, member_path};
 ghost use Rattle.kube_schema_rules.specs.Rules.{rule_view};
 ghost use Rattle.std.specs.Prelude.{◌≡◌, IfOk, OnOk, string_bytes};
 
@@ -8,7 +8,7 @@ use kube_schema_rules::Rule;
 use std::alloc::{AllocError, Global};
 
 /// Adds a key: `k` to the empty path, else `.k`.
-#[tactic(auto, unfolding(kube_cel_places::specs::Visit::member_path))]
+#[tactic(auto, unfolding(kube_schema_rules::specs::Visit::member_path))]
 pub fn push_member(path: &mut String, key: &str) -> Result<(), AllocError>
     ensures { OnOk result (string_bytes path.new ≡ member_path (string_bytes path.old) key.now) }
 {
@@ -20,7 +20,7 @@ pub fn push_member(path: &mut String, key: &str) -> Result<(), AllocError>
 }
 
 /// Adds an index: `[i]`.
-#[tactic(auto, unfolding(kube_cel_places::specs::Visit::item_path))]
+#[tactic(auto, unfolding(kube_schema_rules::specs::Visit::item_path))]
 pub fn push_item(path: &mut String, index: usize) -> Result<(), AllocError>
     ensures { OnOk result (string_bytes path.new ≡ item_path (string_bytes path.old) index) }
 {

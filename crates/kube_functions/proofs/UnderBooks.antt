@@ -2,7 +2,8 @@
 use Rattle.kube_functions.proofs.Alike.{found_by-alike, matched_by-alike}
 use Rattle.cel_patterns.specs.Book.{Book, IsRefused, found_by, matched_by}
 use Rattle.cel_semantics.specs.Bindings.{Bindings}
-use Rattle.cel_semantics.specs.Calls.{receiver_of, is_there, by_form, call_outcome}
+use Rattle.cel_semantics.specs.Calls.{receiver_of, by_form, call_outcome}
+use Rattle.cel_syntax_ast.specs.Term.{is_there, Term, literal, ident, select, has, index, unary, binary, conditional, list_of, map_with, call, qualified, macro, Terms, no_terms, term_and, count_of, Pairs, no_pairs, pair_and}
 use Rattle.cel_semantics.specs.Decisions.{truth, branch_outcome}
 use Rattle.cel_semantics.specs.Library.{Library}
 use Rattle.cel_semantics.specs.Macros.{macro_name, macro_of, iteration_result_of}
@@ -22,7 +23,6 @@ use Rattle.cel_stdlib.specs.declared.names.Function.{Function}
 use Rattle.cel_stdlib.specs.declared.names.Function.TheVariants.{One, Two, Many}
 use Rattle.cel_stdlib.specs.declared.names.OfTwo.{OfTwo}
 use Rattle.cel_stdlib.specs.declared.names.OfTwo.TheVariants.{Contains, StartsWith, EndsWith, Matches}
-use Rattle.cel_syntax_ast.specs.Term.{Term, literal, ident, select, has, index, unary, binary, conditional, list_of, map_with, call, qualified, macro, Terms, no_terms, term_and, count_of, Pairs, no_pairs, pair_and}
 use Rattle.cel_value.specs.Data.{Data, text_key, list, map_of, no_entries}
 use Rattle.cel_value.specs.Faults.{no_overload}
 use Rattle.cel_value.specs.Same.{has_double}

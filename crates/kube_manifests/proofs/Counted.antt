@@ -3,9 +3,9 @@ use Rattle.std.proofs.Common.{◌≡◌, ◌<◌, ◌≤◌, ◌+◌, ◌-◌, �
 use Rattle.std.proofs.lemmas.List.{length-map}
 use Rattle.kube_cel_analysis.proofs.Rest.{rest, rest_at, rest_none, rest_past}
 use Rattle.kube_cel_analysis.specs.Lint.{branches_of}
-use Rattle.kube_cel_places.specs.declared.branches.BranchKind.TheVariants.{AllOf, OneOf, AnyOf}
+use Rattle.kube_schema_rules.specs.declared.branches.BranchKind.TheVariants.{AllOf, OneOf, AnyOf}
 use Rattle.kube_manifests.specs.Rules.{saturated_count, rules_in, rules_in_maybe, rules_in_named, rules_in_nodes, rules_in_option}
-use Rattle.kube_schema_compiled.specs.Tree.{Node, node, Maybe, nothing, just, Named, Nodes, no_nodes, more, additional_of, as_option, items_of, named_of, names, nodes_length, nth_named, nth_node, own}
+use Rattle.kube_schema.specs.Tree.{Node, node, Maybe, nothing, just, Named, Nodes, no_nodes, more, additional_of, as_option, items_of, named_of, names, nodes_length, nth_named, nth_node, own}
 
 more_at_most : (m a b c : ℕ) → min (min (a + b) m + c) m ≡ min (a + (b + c)) m
 more_at_most m a b c = omega arith

@@ -13,9 +13,9 @@ use Rattle.kube_manifests.specs.declared.version.CrdVersion.{CrdVersion}
 use Rattle.kube_manifests.specs.Documents.{Fault, add_document, each}
 use Rattle.kube_manifests.specs.Sets.{IsJudgement, all_compiled, with_tree, version_view, versions_of}
 use Rattle.kube_manifests.specs.Versions.{Version, chosen_version, root_of}
-use Rattle.kube_schema_compiled.specs.Shown.{whole}
-use Rattle.kube_schema_compiled.specs.Tree.{Node}
-use Rattle.kube_schema_compiled.specs.View.{view_of}
+use Rattle.kube_schema.specs.Shown.{whole}
+use Rattle.kube_schema.specs.Tree.{Node}
+use Rattle.kube_schema.specs.View.{view_of}
 use Rattle.serde_json.specs.Data.{Data, Items}
 
 -- a choice among versions with trees is one among versions with schemas

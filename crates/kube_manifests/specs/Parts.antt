@@ -11,7 +11,7 @@ use Rattle.kube_manifests.specs.declared.version.CrdVersion.{CrdVersion}
 use Rattle.kube_manifests.specs.Documents.{Crd, Entry, Location}
 use Rattle.kube_manifests.specs.Sets.{version_view}
 use Rattle.kube_manifests.specs.Versions.{Version}
-use Rattle.kube_schema_compiled.specs.Tree.{Node}
+use Rattle.kube_schema.specs.Tree.{Node}
 use Rattle.std.specs.Borrow.{Bor}
 
 abbrev pub crd_view : CrdParts → Crd

@@ -1,7 +1,7 @@
 -- Trusted by the clauses of other library calls.
 -- How many rules a schema has: Kubernetes API reference, JSONSchemaProps (x-kubernetes-validations).
 use Rattle.std.specs.Prelude.{ℕ, ◌+◌, ◌-◌, ◌^◌, length, min, Option, Some, None}
-use Rattle.kube_schema_compiled.specs.Tree.{Node, node, Maybe, nothing, just, Named, no_named, named, Nodes, no_nodes, more}
+use Rattle.kube_schema.specs.Tree.{Node, node, Maybe, nothing, just, Named, no_named, named, Nodes, no_nodes, more}
 
 unfoldable mutual
   -- those of a node and of all nodes within it; a node past the greatest depth has one error in place of its rules, which counts as one

@@ -6,9 +6,9 @@ use Rattle.serde_json.specs.Data.{Data, Items}
 use Rattle.kube_cel.specs.Answers.{IsReportOf}
 use Rattle.kube_cel.specs.Raw.{raw_form}
 use Rattle.kube_cel.specs.Starts.{defaulted_start}
-use Rattle.kube_schema_compiled.specs.Shown.{whole}
-use Rattle.kube_schema_compiled.specs.Tree.{Node}
-use Rattle.kube_schema_compiled.specs.View.{view_of}
+use Rattle.kube_schema.specs.Shown.{whole}
+use Rattle.kube_schema.specs.Tree.{Node}
+use Rattle.kube_schema.specs.View.{view_of}
 use Rattle.kube_manifests.specs.declared.fault.CrdError.{CrdError}
 use Rattle.kube_manifests.specs.declared.judgement.Judgement.{Judgement}
 use Rattle.kube_manifests.specs.declared.judgement.Judgement.TheVariants.{Judged, NotJudged}

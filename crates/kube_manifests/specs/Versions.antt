@@ -6,7 +6,7 @@ use Rattle.std.specs.List.{find, list_any, starts_with}
 use Rattle.std.specs.Str.{bytes_eq}
 use Rattle.serde_json.specs.Data.{Data}
 use Rattle.serde_json.specs.Find.{get, as_str, as_object}
-use Rattle.kube_cel_places.specs.Visit.{Root}
+use Rattle.kube_schema_rules.specs.Visit.{Root}
 use Rattle.kube_schema_rules.specs.Rules.{◌>>=◌}
 use Rattle.kube_manifests.specs.declared.judgement.NotJudged.{NotJudged}
 use Rattle.kube_manifests.specs.declared.judgement.NotJudged.TheVariants as reason

@@ -3,7 +3,7 @@ ghost use Rattle.kube_manifests.specs.Documents.{add_crd, add_document, add_item
 ghost use Rattle.kube_manifests.specs.Parts.{crd_view, entry_view, location_view};
 ghost use Rattle.kube_manifests.specs.Sets.{added_view, version_view};
 ghost use Rattle.kube_manifests.specs.Versions.{api_version, is_of_version};
-ghost use Rattle.kube_schema_compiled.specs.View.{view_of};
+ghost use Rattle.kube_schema.specs.View.{view_of};
 ghost use Rattle.serde_json.specs.View.{items_view, view};
 ghost use Rattle.std.specs.List.{list_any};
 ghost use Rattle.std.specs.Prelude.{◌≡◌, IfErr, IfOk, map};

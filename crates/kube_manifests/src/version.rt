@@ -1,7 +1,7 @@
 //! A version of a definition, with its compiled schema.
 ghost use Rattle.kube_manifests.specs.Rules.{saturated_count, rules_in};
 ghost use Rattle.kube_manifests.specs.Versions.{group_prefix};
-ghost use Rattle.kube_schema_compiled.specs.Shown.{whole};
+ghost use Rattle.kube_schema.specs.Shown.{whole};
 ghost use Rattle.std.proofs.Props.{props};
 ghost use Rattle.std.specs.List.{starts_with};
 ghost use Rattle.std.specs.Prelude.{◌≡◌, ◌++◌, nat_eq, string_bytes};

@@ -1,6 +1,6 @@
 -- The schemas within one.
 use Rattle.std.proofs.Common.{◌≡◌, ℕ, zero, suc, List, [], ◌∷◌, ◌++◌, codes, sym, ap, ◌∙◌, append_assoc, append-nil}
-use Rattle.kube_schema_defaults.specs.DefaultsAccessors.{declared_properties, members_or_none, additional}
+use Rattle.kube_schema_values.specs.DefaultsAccessors.{declared_properties, members_or_none, additional}
 use Rattle.kube_manifests_review.specs.Locations.{SchemaLocation, branch_locations, maybe_locations, named_locations, locations_of, locations_within}
 use Rattle.kube_manifests_review.specs.Pointers.{keyword_pointer}
 use Rattle.serde_json.specs.Data.{Data}

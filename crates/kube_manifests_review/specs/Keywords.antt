@@ -8,7 +8,7 @@ use Rattle.std.specs.Str.{bytes_eq, chars}
 use Rattle.kube_manifests_review.specs.Doubts.{Doubt, always}
 use Rattle.kube_manifests_review.specs.Pointers.{key_pointer}
 use Rattle.kube_manifests_review.specs.declared.finding.ReviewKind.TheVariants.{Keyword}
-use Rattle.kube_schema_defaults.specs.DefaultsAccessors.{keys_in}
+use Rattle.kube_schema_values.specs.DefaultsAccessors.{keys_in}
 use Rattle.serde_json.specs.Data.{Members}
 
 -- no character is left

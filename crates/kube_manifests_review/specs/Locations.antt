@@ -5,8 +5,8 @@ use Rattle.std.specs.Prelude.{◌≡◌, ℕ, zero, suc, List, [], ◌∷◌, �
 use Rattle.serde_json.specs.Data.{Data, Items, no_items, item, Members, no_members, member}
 use Rattle.serde_json.specs.Find.{get}
 use Rattle.serde_json.specs.View.{view}
-use Rattle.kube_schema_defaults.specs.DefaultsAccessors.{declared_properties, members_or_none, additional}
-use Rattle.kube_schema_compiled.specs.View.{branches, items_or_none}
+use Rattle.kube_schema_values.specs.DefaultsAccessors.{declared_properties, members_or_none, additional}
+use Rattle.kube_schema.specs.View.{branches, items_or_none}
 use Rattle.kube_manifests_review.specs.Pointers.{keyword_pointer, key_pointer, index_pointer}
 use Rattle.kube_manifests_review.specs.declared.locations.SchemaLocation as code
 

@@ -11,7 +11,7 @@ use Rattle.kube_cel_analysis.specs.Findings.{Naming}
 use Rattle.kube_cel_analysis.specs.Findings as linter
 use Rattle.kube_cel_analysis.specs.Lint.{findings}
 use Rattle.kube_schema_rules.specs.Rules.{rule_items}
-use Rattle.kube_schema_compiled.specs.View.{items_or_none, view_of}
+use Rattle.kube_schema.specs.View.{items_or_none, view_of}
 use Rattle.kube_manifests_review.specs.Doubts.{Doubt, Finding, always, due, plainly}
 use Rattle.kube_manifests_review.specs.Locations.{SchemaLocation, locations_of}
 use Rattle.kube_manifests_review.specs.Pointers.{index_pointer}

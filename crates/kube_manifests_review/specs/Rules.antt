@@ -6,7 +6,7 @@ use Rattle.std.specs.Option.{option_and_then}
 use Rattle.cel_syntax_ast.specs.Term.{Term}
 use Rattle.serde_json.specs.Data.{Data, Items, no_items, item, Members}
 use Rattle.serde_json.specs.Find.{get, as_array, as_object, as_str}
-use Rattle.kube_schema_defaults.specs.DefaultsAccessors.{members_or_none}
+use Rattle.kube_schema_values.specs.DefaultsAccessors.{members_or_none}
 use Rattle.kube_schema_rules.specs.Compilation.{Compiled, Malformed, compiled_rule}
 use Rattle.kube_manifests_review.specs.Calls.{Text, node_doubts, doubt_about}
 use Rattle.kube_manifests_review.specs.Doubts.{Doubt, always, plainly}

@@ -2,8 +2,8 @@
 ghost use Rattle.std.specs.Prelude.{◌≡◌, OnOk, codes, option_map};
 ghost use Rattle.kube_manifests_review.specs.Locations.{AddsLocations, branch_locations, item_locations, locations_of, maybe_locations, named_locations};
 ghost use Rattle.kube_manifests_review.specs.Pointers.{keyword_pointer};
-ghost use Rattle.kube_schema_defaults.specs.DefaultsAccessors.{additional, declared_properties, members_or_none};
-ghost use Rattle.kube_schema_compiled.specs.View.{branches};
+ghost use Rattle.kube_schema_values.specs.DefaultsAccessors.{additional, declared_properties, members_or_none};
+ghost use Rattle.kube_schema.specs.View.{branches};
 ghost use Rattle.serde_json.specs.View.{items_view, members_view, view};
 
 use crate::pointer::{index_pointer, key_pointer, keyword_pointer};
@@ -18,7 +18,7 @@ pub(crate) struct SchemaLocation<'a> {
 }
 
 /// The declared properties of a schema.
-#[tactic(auto, unfolding(kube_schema_defaults::specs::DefaultsAccessors::declared_properties))]
+#[tactic(auto, unfolding(kube_schema_values::specs::DefaultsAccessors::declared_properties))]
 fn declared(schema: &Value) -> Option<&Map<String, Value>>
     ensures { option_map (λ m. members_view m.now.entries) result ≡ declared_properties (view schema.now) }
 {
@@ -26,7 +26,7 @@ fn declared(schema: &Value) -> Option<&Map<String, Value>>
 }
 
 /// The schema of names that aren't declared, where it is an object.
-#[tactic(auto, unfolding(kube_schema_defaults::specs::DefaultsAccessors::additional))]
+#[tactic(auto, unfolding(kube_schema_values::specs::DefaultsAccessors::additional))]
 fn additional(schema: &Value) -> Option<&Value>
     ensures { option_map (λ n. view n.now) result ≡ additional (view schema.now) }
 {
@@ -35,7 +35,7 @@ fn additional(schema: &Value) -> Option<&Value>
 }
 
 /// The branches of a keyword.
-#[tactic(auto, unfolding(kube_schema_compiled::specs::View::branches))]
+#[tactic(auto, unfolding(kube_schema::specs::View::branches))]
 fn branches<'s>(schema: &'s Value, keyword: &str) -> Option<&'s Vec<Value>>
     ensures { option_map (λ v. items_view v.now.items) result ≡ branches keyword.now (view schema.now) }
 {

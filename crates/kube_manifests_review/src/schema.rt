@@ -18,7 +18,7 @@ use crate::pointer::keyword_pointer;
 use crate::rule::{add_keys_of, add_validations};
 use crate::text::add_plainly;
 use kube_cel_analysis::{LintFinding, lint_schema};
-use kube_schema_compiled::compile_schema;
+use kube_schema::compile_schema;
 use kube_schema_rules::rule_values;
 use kube_types_refused::Refused;
 use serde_json::Value;

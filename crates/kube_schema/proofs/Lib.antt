@@ -1,1 +1,7 @@
-pub mod Same
+pub mod Trees
+pub mod Build
+pub mod SameDefaults
+pub mod Names
+pub mod Search
+pub mod Without
+pub mod SameBinding

@@ -1,1 +1,6 @@
-pub mod Compiled
+pub mod Tree
+pub mod View
+pub mod Raw
+pub mod Shown
+pub mod CompiledDefaults
+pub mod CompiledConversion

@@ -3,13 +3,13 @@
 ghost use Rattle.std.specs.Prelude.{◌≡◌, IfErr, IfOk, option_map};
 ghost use Rattle.serde_json.specs.View.{view as json_view};
 ghost use Rattle.cel_value.specs.View.{view};
-ghost use Rattle.kube_schema_conversion.specs.Conversion.{to_cel, levels, member_node};
-ghost use Rattle.kube_schema_compiled.specs.Shown.{node_tree};
-ghost use Rattle.kube_schema.specs.Compiled.{tree_accessors};
+ghost use Rattle.kube_schema_values.specs.Conversion.{to_cel, levels, member_node};
+ghost use Rattle.kube_schema.specs.Shown.{node_tree};
+ghost use Rattle.kube_schema.specs.CompiledConversion.{tree_accessors};
 
+use crate::node::SchemaNode;
 use cel_value::{Refused, Value};
-use kube_schema_compiled::SchemaNode;
-use kube_schema_conversion::{Node, SchemaFormat, bind_at};
+use kube_schema_values::{Node, SchemaFormat, bind_at};
 use serde_json::Value as Json;
 use std::alloc::Global;
 
@@ -20,9 +20,9 @@ struct CompiledNode<'a> {
 }
 
 impl Node for CompiledNode<'_> {
-    ghost use Rattle.kube_schema_compiled.specs.Shown.{node_tree};
-    ghost use Rattle.kube_schema_compiled.specs.Tree.{Node as Tree};
-    ghost use Rattle.kube_schema.specs.Compiled.{tree_accessors};
+    ghost use Rattle.kube_schema.specs.Shown.{node_tree};
+    ghost use Rattle.kube_schema.specs.Tree.{Node as Tree};
+    ghost use Rattle.kube_schema.specs.CompiledConversion.{tree_accessors};
 
     ghost Seen = { Tree };
 
@@ -35,23 +35,23 @@ impl Node for CompiledNode<'_> {
         Some(CompiledNode { node })
     }
 
-    #[tactic(auto, unfolding(crate::specs::Compiled::tree_accessors))]
+    #[tactic(auto, unfolding(crate::specs::CompiledConversion::tree_accessors))]
     fn items(&self) -> Option<Self> {
         let node = self.node.items()?;
         Some(CompiledNode { node })
     }
 
-    #[tactic(auto, unfolding(crate::specs::Compiled::tree_accessors))]
+    #[tactic(auto, unfolding(crate::specs::CompiledConversion::tree_accessors))]
     fn is_map(&self) -> bool {
         self.node.is_map()
     }
 
-    #[tactic(auto, unfolding(crate::specs::Compiled::tree_accessors))]
+    #[tactic(auto, unfolding(crate::specs::CompiledConversion::tree_accessors))]
     fn is_embedded(&self) -> bool {
         self.node.embedded_resource()
     }
 
-    #[tactic(auto, unfolding(crate::specs::Compiled::tree_accessors))]
+    #[tactic(auto, unfolding(crate::specs::CompiledConversion::tree_accessors))]
     fn format(&self) -> SchemaFormat {
         *self.node.format()
     }
@@ -78,7 +78,7 @@ pub fn bind_node(
 }
 
 // The node of a member: its property, else the node of members that aren't declared.
-#[tactic(auto, unfolding(crate::specs::Compiled::tree_accessors))]
+#[tactic(auto, unfolding(crate::specs::CompiledConversion::tree_accessors))]
 fn node_of_member<'a>(node: &SchemaNode<'a>, name: &str) -> Option<SchemaNode<'a>>
     ensures { option_map node_tree result ≡ member_node tree_accessors (node_tree node.now) name.now }
 {

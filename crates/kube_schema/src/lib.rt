@@ -22,17 +22,26 @@
 #![tactic(auto)]
 
 pub mod binding;
+mod compile;
+mod defaults;
+mod keywords;
 pub mod laws;
+mod node;
+mod nodes;
+mod sharing;
+mod table;
+pub mod table_laws;
 
 pub use binding::bind_node;
-pub use kube_schema_compiled::{
-    CompiledSchema, SchemaNode, compile_schema, fill_node, filled_by_node, laws as table_laws,
-};
-pub use kube_schema_conversion::{SchemaFormat, bind, laws as bound_laws};
-pub use kube_schema_defaults::{apply_defaults, filled_value, laws as filled_laws};
+pub use compile::compile_schema;
+pub use defaults::fill_node;
 pub use kube_schema_rules::{
     CompilationError, CompilationResult, Rule, RuleFault, compile_rule, rule_values, rules_of,
 };
 pub use kube_schema_values::{
-    Refused, bind_plain, bind_text, escape_field_name, laws as name_laws, unescape_field_name,
+    SchemaFormat, apply_defaults, bind, bind_plain, bind_text, bound_laws, escape_field_name,
+    filled_laws, filled_value, name_laws, unescape_field_name,
 };
+pub use kube_types_refused::Refused;
+pub use node::{CompiledSchema, SchemaNode};
+pub use sharing::filled_by_node;

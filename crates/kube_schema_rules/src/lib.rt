@@ -1,10 +1,13 @@
-//! The rules of a schema's node, read from JSON and compiled.
+//! The rules of a schema's node, read from JSON and compiled; and the places that a schema and a value share: definitions and lemmas for
+//! every walk over them.
 #![tactic(auto)]
 
+pub mod branches;
 pub mod compilation;
 pub mod laws;
 pub mod rule;
 
+pub use branches::BranchKind;
 pub use compilation::{CompilationError, CompilationResult, compile_rule, rules_of};
 pub use kube_types_refused::Refused;
 pub use rule::{Rule, RuleFault, rule_values};

@@ -1,3 +1,15 @@
+pub mod InOrder
+pub mod Fills
+pub mod Members
+pub mod Twice
+pub mod Keeping
+pub mod Whole
+pub mod Without
+pub mod Bounds
+pub mod Fields
+pub mod FoundMembers
+pub mod Read
+pub mod Resources
 pub mod Escapes
 pub mod Inverse
 pub mod Plains

@@ -1,3 +1,11 @@
+pub mod DefaultsAccessors
+pub mod Defaults
+pub mod Preserved
+pub mod Without
+pub mod Conversion
+pub mod Fields
+pub mod Formats
+pub mod Node
 pub mod Escape
 pub mod Plain
 pub mod Unescape

@@ -10,7 +10,7 @@ ghost use Rattle.cel_value.specs.View.{view, entries_view};
 
 use super::{Entries, Map, Value, level_around};
 use crate::key::Key;
-use kube_types::Refused;
+use kube_types_refused::Refused;
 use std::alloc::Global;
 use std::collections::BTreeMap;
 use std::collections::btree_map::Iter;

@@ -1,7 +1,7 @@
 use Rattle.std.proofs.Common.{sym, ap, ◌∙◌, true≢false}
 use Rattle.cel_semantics.specs.Bindings.{bindings_of, functions_of}
 use Rattle.cel_vm.specs.Machine.{may_lead_to}
-use Rattle.cel_vm.specs.Op.{op}
+use Rattle.cel_vm_code.specs.Op.{op}
 use Rattle.cel_vm.specs.State.{values_of, pending_of, loops_of}
 use Rattle.cel_vm.proofs.Walks.{apply_reaches}
 use Rattle.cel_vm.proofs.turns.turn.Goals as goal

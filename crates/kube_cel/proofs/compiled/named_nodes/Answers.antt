@@ -2,8 +2,8 @@ use Rattle.kube_cel.proofs.compiled.named_nodes.Goals as goal
 use Rattle.kube_cel.proofs.CompiledNodes.{next_named, all_named}
 use Rattle.kube_cel.specs.Named.{named_node, named_property}
 use Rattle.kube_cel_walk.specs.Verdicts.{list_of_option}
-use Rattle.kube_schema_compiled.specs.Shown.{node_tree}
-use Rattle.kube_schema_compiled.specs.Tree.{named_of, names}
+use Rattle.kube_schema.specs.Shown.{node_tree}
+use Rattle.kube_schema.specs.Tree.{named_of, names}
 use Rattle.std.proofs.Common.{rules, ◌≡◌, ◌≤◌, ◌++◌, length, option_map, sym, ap, ◌∙◌, arith}
 
 pub loop-index-preserved : goal.loop-index-preserved

@@ -1,8 +1,8 @@
 use Rattle.kube_cel.proofs.compiled.named_nodes.Given as goal
 use Rattle.kube_cel.proofs.CompiledNodes.{sought}
 use Rattle.kube_cel.specs.Named.{named_node}
-use Rattle.kube_schema_compiled.specs.Shown.{node_tree}
-use Rattle.kube_schema_compiled.specs.Tree.{named_of, names}
+use Rattle.kube_schema.specs.Shown.{node_tree}
+use Rattle.kube_schema.specs.Tree.{named_of, names}
 use Rattle.std.proofs.Common.{◌≡◌, map, take}
 
 abbrev pub invariant-loop-index : goal.invariant-loop-index

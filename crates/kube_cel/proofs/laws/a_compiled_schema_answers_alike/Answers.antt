@@ -1,6 +1,6 @@
 use Rattle.std.proofs.Common.{refl, sym}
 use Rattle.kube_cel.proofs.Alike.{answered_alike, judged_alike}
-use Rattle.kube_schema_compiled.specs.View.{view_of}
+use Rattle.kube_schema.specs.View.{view_of}
 use Rattle.kube_cel.proofs.laws.a_compiled_schema_answers_alike.Goals as goal
 
 pub returns-clause-filled : goal.returns-clause-filled

@@ -1,7 +1,7 @@
 use Rattle.kube_cel.proofs.raw.named_nodes.Goals as goal
 use Rattle.kube_cel.proofs.RawNodes.{entry_shown, key_sought, members_named}
 use Rattle.kube_cel.specs.declared.raw.JsonNode.{JsonNode}
-use Rattle.kube_cel_places.specs.Inside.{in_order, keys_in}
+use Rattle.kube_schema_rules.specs.Inside.{in_order, keys_in}
 use Rattle.serde_json.proofs.Views.{Entry}
 use Rattle.serde_json.specs.Data.{Data}
 use Rattle.serde_json.specs.View.{view, members_view}

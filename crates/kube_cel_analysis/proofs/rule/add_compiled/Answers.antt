@@ -1,13 +1,13 @@
 use Rattle.std.proofs.Common.{map, string_bytes, ◌∙◌, ◌++◌, ap}
 use Rattle.cel.specs.Program.{program_term}
-use Rattle.cel_syntax_references.specs.References.{function_names}
-use Rattle.cel_syntax_references.specs.Names.{names_of}
+use Rattle.cel_syntax.specs.References.{function_names}
+use Rattle.cel_syntax.specs.Names.{names_of}
 use Rattle.cel_syntax_ast.specs.Term.{term}
 use Rattle.kube_cel_analysis.proofs.Rules.{rule_reported}
 use Rattle.kube_cel_analysis.proofs.rule.add_compiled.Goals as goal
 use Rattle.kube_cel_analysis.specs.Findings.{finding_view, warning_finding}
 use Rattle.kube_cel_analysis.specs.Warnings.{warning_view}
-use Rattle.kube_schema_compiled.specs.Shown.{node_tree}
+use Rattle.kube_schema.specs.Shown.{node_tree}
 
 pub returns-clause-found : goal.returns-clause-found
 returns-clause-found c = λ names.

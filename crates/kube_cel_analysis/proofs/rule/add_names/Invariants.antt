@@ -1,5 +1,5 @@
 use Rattle.std.proofs.Common.{◌≡◌, ◌++◌, map, drop}
-use Rattle.cel_syntax_references.specs.Names.{names_of}
+use Rattle.cel_syntax.specs.Names.{names_of}
 use Rattle.kube_cel_analysis.proofs.rule.add_names.Given as goal
 use Rattle.kube_cel_analysis.specs.Findings.{finding_view, names_findings}
 

@@ -6,7 +6,7 @@ use Rattle.kube_cel_analysis.specs.Findings.{Finding, finding_view, rule_finding
 use Rattle.kube_schema_rules.specs.Compilation.{compiled_seen}
 use Rattle.kube_schema_rules.specs.declared.compilation.CompilationError.{CompilationError}
 use Rattle.kube_schema_rules.specs.declared.compilation.CompilationResult.{CompilationResult}
-use Rattle.kube_schema_compiled.specs.Shown.{node_tree}
+use Rattle.kube_schema.specs.Shown.{node_tree}
 
 pub loop-rule-preserved : goal.loop-rule-preserved
 loop-rule-preserved c = λ names.

@@ -1,5 +1,5 @@
 use Rattle.std.proofs.Common.{◌≡◌, ◌++◌, map, drop}
-use Rattle.cel_syntax_references.specs.Names.{names_of}
+use Rattle.cel_syntax.specs.Names.{names_of}
 use Rattle.kube_cel_analysis.specs.Scopes.{names_warnings}
 use Rattle.kube_cel_analysis.specs.Warnings.{warning_view}
 use Rattle.kube_cel_analysis.proofs.scope.add_names.Given as goal

@@ -1,8 +1,8 @@
 use Rattle.std.proofs.Common.{◌∙◌, ◌≤◌, length, sym, arith, true, false}
 use Rattle.kube_cel_analysis.proofs.Rest.{unbounded_at, bounded_at, bounded_past}
 use Rattle.kube_cel_analysis.proofs.sizes.has_unbounded.Goals as goal
-use Rattle.kube_schema_compiled.specs.Shown.{node_tree}
-use Rattle.kube_schema_compiled.specs.Tree.{named_of, names}
+use Rattle.kube_schema.specs.Shown.{node_tree}
+use Rattle.kube_schema.specs.Tree.{named_of, names}
 
 pub returns-in_default : goal.returns-in_default
 returns-in_default c = bounded_at c.loop-index.index (named_of (node_tree c.args.node.now)) c.in_default.ensures.pair ∙ c.loop-index.invariant

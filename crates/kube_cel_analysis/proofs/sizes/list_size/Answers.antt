@@ -2,8 +2,8 @@ use Rattle.std.proofs.Common.{◌∙◌, ◌≤◌, length, arith}
 use Rattle.kube_cel_analysis.proofs.Rest.{bound_here, bound_later, no_bound_at, no_bound_past}
 use Rattle.kube_cel_analysis.proofs.sizes.list_size.Goals as goal
 use Rattle.kube_cel_analysis.specs.Bounds.{list_bound}
-use Rattle.kube_schema_compiled.specs.Shown.{node_tree}
-use Rattle.kube_schema_compiled.specs.Tree.{named_of, names}
+use Rattle.kube_schema.specs.Shown.{node_tree}
+use Rattle.kube_schema.specs.Tree.{named_of, names}
 
 pub returns-in_default : goal.returns-in_default
 returns-in_default c = no_bound_at list_bound c.loop-index.index (named_of (node_tree c.args.node.now)) c.in_default.ensures.pair ∙ c.loop-index.invariant

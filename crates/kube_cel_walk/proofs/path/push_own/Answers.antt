@@ -1,5 +1,5 @@
 use Rattle.kube_cel_walk.proofs.path.push_own.Goals as goal
-use Rattle.kube_cel_places.specs.Visit.{member_path}
+use Rattle.kube_schema_rules.specs.Visit.{member_path}
 use Rattle.std.proofs.Common.{◌≡◌, ◌==◌, ◌++◌, true, false, if◌then◌else◌, lit<, slice_index, string_bytes, sym, ap, ◌∙◌}
 
 pub returns-then-starts_with : goal.returns-then-starts_with

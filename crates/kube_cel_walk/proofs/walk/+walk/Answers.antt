@@ -1,8 +1,8 @@
 use Rattle.kube_cel_walk.specs.Errors.{error_view}
-use Rattle.kube_cel_places.specs.declared.branches.BranchKind.TheVariants.{AllOf, OneOf, AnyOf}
-use Rattle.kube_cel_places.specs.Inside.{in_order, up_to}
-use Rattle.kube_cel_places.specs.Visit.{visit, further, unless_there, member_path, item_path, goes, property_steps, item_steps, additional_steps, branch_steps}
-use Rattle.kube_cel_places.specs.Step.{property, item, additional_property, branch}
+use Rattle.kube_schema_rules.specs.declared.branches.BranchKind.TheVariants.{AllOf, OneOf, AnyOf}
+use Rattle.kube_schema_rules.specs.Inside.{in_order, up_to}
+use Rattle.kube_schema_rules.specs.Visit.{visit, further, unless_there, member_path, item_path, goes, property_steps, item_steps, additional_steps, branch_steps}
+use Rattle.kube_schema_rules.specs.Step.{property, item, additional_property, branch}
 use Rattle.kube_cel_walk.specs.Roots.{root_view}
 use Rattle.kube_cel_walk.proofs.Cut.{member_path_cut, member_path_splits, item_path_cut, item_path_splits}
 use Rattle.kube_cel_walk.proofs.Entries.{names_of, names_more, names_taken, shown, sought, declared_at, declared_names}

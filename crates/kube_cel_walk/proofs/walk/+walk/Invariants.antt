@@ -1,8 +1,8 @@
 use Rattle.cel_patterns.specs.Book.{Extends, Book}
 use Rattle.cel_patterns.specs.Entries.{entries_of}
 use Rattle.kube_cel_walk.specs.Errors.{error_view}
-use Rattle.kube_cel_places.specs.Inside.{up_to}
-use Rattle.kube_cel_places.specs.Step.{property, item, additional_property, branch}
+use Rattle.kube_schema_rules.specs.Inside.{up_to}
+use Rattle.kube_schema_rules.specs.Step.{property, item, additional_property, branch}
 use Rattle.kube_cel_walk.proofs.Entries.{names_of}
 use Rattle.kube_cel_walk.proofs.walk.+walk.Given as goal
 use Rattle.kube_cel_walk.specs.Answers.{found_through}

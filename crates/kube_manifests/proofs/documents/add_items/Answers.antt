@@ -3,7 +3,7 @@ use Rattle.kube_manifests.proofs.Each.{each_ends, each_on, each_stops}
 use Rattle.kube_manifests.proofs.documents.add_items.Goals as goal
 use Rattle.kube_manifests.specs.Documents.{add_item}
 use Rattle.kube_manifests.specs.Sets.{added_view, error_view, version_view}
-use Rattle.kube_schema_compiled.specs.View.{view_of}
+use Rattle.kube_schema.specs.View.{view_of}
 use Rattle.serde_json.specs.View.{view}
 
 pub returns-in-Err-clause-added : goal.returns-in-Err-clause-added

@@ -2,7 +2,7 @@ use Rattle.std.proofs.Common.{◌≡◌, drop, map}
 use Rattle.kube_manifests.proofs.documents.add_items.Given as goal
 use Rattle.kube_manifests.specs.Documents.{add_item, each}
 use Rattle.kube_manifests.specs.Sets.{version_view}
-use Rattle.kube_schema_compiled.specs.View.{view_of}
+use Rattle.kube_schema.specs.View.{view_of}
 use Rattle.serde_json.specs.View.{items_view}
 
 abbrev pub invariant-loop-index : goal.invariant-loop-index

@@ -4,7 +4,7 @@ use Rattle.kube_manifests.proofs.documents.add_versions.Goals as goal
 use Rattle.kube_manifests.specs.Documents.{add_version}
 use Rattle.kube_manifests.specs.Parts.{crd_view, location_view}
 use Rattle.kube_manifests.specs.Sets.{added_view, error_view, version_view}
-use Rattle.kube_schema_compiled.specs.View.{view_of}
+use Rattle.kube_schema.specs.View.{view_of}
 use Rattle.serde_json.specs.View.{view}
 
 pub returns-in-Err-clause-added : goal.returns-in-Err-clause-added

@@ -3,7 +3,7 @@ use Rattle.kube_manifests.proofs.documents.add_versions.Given as goal
 use Rattle.kube_manifests.specs.Documents.{add_version, each}
 use Rattle.kube_manifests.specs.Parts.{crd_view, location_view}
 use Rattle.kube_manifests.specs.Sets.{version_view}
-use Rattle.kube_schema_compiled.specs.View.{view_of}
+use Rattle.kube_schema.specs.View.{view_of}
 use Rattle.serde_json.specs.View.{items_view}
 
 abbrev pub invariant-loop-index : goal.invariant-loop-index

@@ -6,8 +6,8 @@ use Rattle.kube_manifests.proofs.Counted.{all_counted, branches_more, branches_n
 use Rattle.kube_manifests.proofs.rules.+count.Goals as goal
 use Rattle.kube_manifests.specs.Rules.{saturated_count, rules_in, rules_in_named, rules_in_nodes}
 use Rattle.kube_schema_rules.specs.Compilation.{compiled_seen}
-use Rattle.kube_schema_compiled.specs.Shown.{node_tree}
-use Rattle.kube_schema_compiled.specs.Tree.{count, named_of, names, nodes_length, own}
+use Rattle.kube_schema.specs.Shown.{node_tree}
+use Rattle.kube_schema.specs.Tree.{count, named_of, names, nodes_length, own}
 
 pub with_branches-returns-in_default-branch : goal.with_branches-returns-in_default-branch
 with_branches-returns-in_default-branch t c =

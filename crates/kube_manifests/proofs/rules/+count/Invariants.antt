@@ -4,8 +4,8 @@ use Rattle.kube_cel_analysis.specs.Lint.{branches_of}
 use Rattle.kube_manifests.proofs.Counted.{rest_nodes}
 use Rattle.kube_manifests.proofs.rules.+count.Given as goal
 use Rattle.kube_manifests.specs.Rules.{saturated_count, rules_in_named, rules_in_nodes}
-use Rattle.kube_schema_compiled.specs.Shown.{node_tree}
-use Rattle.kube_schema_compiled.specs.Tree.{count, named_of}
+use Rattle.kube_schema.specs.Shown.{node_tree}
+use Rattle.kube_schema.specs.Tree.{count, named_of}
 
 abbrev pub decreases-with_node : goal.decreases-with_node
 decreases-with_node l = 2 * count (node_tree l.node.now) + 1

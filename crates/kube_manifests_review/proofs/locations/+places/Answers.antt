@@ -6,8 +6,8 @@ use Rattle.kube_manifests_review.proofs.Steps.{no_more, one_more}
 use Rattle.kube_manifests_review.proofs.locations.+places.Goals as goal
 use Rattle.kube_manifests_review.specs.Locations.{SchemaLocation, item_locations, maybe_locations, named_locations, location_view, locations_of}
 use Rattle.kube_manifests_review.specs.Pointers.{index_pointer, key_pointer, keyword_pointer}
-use Rattle.kube_schema_defaults.specs.DefaultsAccessors.{members_or_none}
-use Rattle.kube_schema_compiled.specs.View.{items_or_none}
+use Rattle.kube_schema_values.specs.DefaultsAccessors.{members_or_none}
+use Rattle.kube_schema.specs.View.{items_or_none}
 use Rattle.serde_json.specs.View.{items_view, members_view, view}
 
 pub add_locations-returns-then-levels-eq0 : goal.add_locations-returns-then-levels-eq0

@@ -1,8 +1,8 @@
 use Rattle.cel.specs.Program.{program_term}
 use Rattle.cel.proofs.program.Program.code.Goals as goal
-use Rattle.cel_vm.proofs.Sizes.{code_is_short}
-use Rattle.cel_vm.specs.Code.{code_of}
-use Rattle.cel_vm.specs.Op.{op}
+use Rattle.cel_vm_code.proofs.Sizes.{code_is_short}
+use Rattle.cel_vm_code.specs.Code.{code_of}
+use Rattle.cel_vm_code.specs.Op.{op}
 use Rattle.std.proofs.Common.{◌≡◌, ◌≤◌, length, sym, ap, ◌∙◌, arith}
 use Rattle.std.proofs.Math.ListN.{length-map}
 

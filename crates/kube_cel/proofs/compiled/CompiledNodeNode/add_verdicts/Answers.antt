@@ -2,7 +2,7 @@ use Rattle.cel_semantics.specs.Bindings.{bindings_of}
 use Rattle.kube_cel.proofs.compiled.CompiledNodeNode.add_verdicts.Goals as goal
 use Rattle.kube_cel.specs.Compiled.{compiled_form}
 use Rattle.kube_cel_walk.specs.Errors.{error_view}
-use Rattle.kube_cel_places.proofs.Found.{flat_map-map}
+use Rattle.kube_schema_rules.proofs.Found.{flat_map-map}
 use Rattle.kube_cel_walk.specs.Verdicts.{list_of_option, verdict}
 use Rattle.kube_schema_rules.specs.Compilation.{Compiled, Malformed, compiled_seen}
 use Rattle.serde_json.specs.View.{view}

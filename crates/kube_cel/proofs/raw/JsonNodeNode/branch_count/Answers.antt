@@ -1,8 +1,8 @@
 use Rattle.kube_cel.proofs.raw.JsonNodeNode.branch_count.Goals as goal
 use Rattle.kube_cel.proofs.RawNodes.{counted_items, counted_none}
 use Rattle.kube_cel.specs.Raw.{raw_form}
-use Rattle.kube_cel_places.specs.Raw.{raw_shape}
-use Rattle.kube_cel_places.specs.Step.{keyword}
+use Rattle.kube_schema_rules.specs.Raw.{raw_shape}
+use Rattle.kube_schema_rules.specs.Step.{keyword}
 use Rattle.serde_json.specs.Find.{get}
 use Rattle.serde_json.specs.View.{view}
 use Rattle.std.proofs.Common.{◌∙◌}

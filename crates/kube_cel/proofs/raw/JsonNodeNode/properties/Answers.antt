@@ -1,7 +1,7 @@
 use Rattle.kube_cel.proofs.raw.JsonNodeNode.properties.Goals as goal
 use Rattle.kube_cel.proofs.RawNodes.{declared_named, none_declared}
 use Rattle.kube_cel.specs.Raw.{raw_form}
-use Rattle.kube_cel_places.specs.Raw.{raw_shape}
+use Rattle.kube_schema_rules.specs.Raw.{raw_shape}
 use Rattle.serde_json.specs.View.{view, members_view}
 use Rattle.std.proofs.Common.{◌≡◌, map, ap, ◌∙◌}
 

@@ -7,9 +7,9 @@ use Rattle.kube_cel.specs.Compiled.{compiled_form}
 use Rattle.kube_cel.specs.Raw.{raw_form}
 use Rattle.kube_cel_walk.specs.Roots.{root_view}
 use Rattle.kube_cel_walk.specs.Answers.{answer}
-use Rattle.kube_schema_defaults.specs.Defaults.{defaulted_value}
-use Rattle.kube_schema_compiled.specs.Compiled.{tree_accessors}
-use Rattle.kube_schema_compiled.specs.Shown.{whole}
+use Rattle.kube_schema_values.specs.Defaults.{defaulted_value}
+use Rattle.kube_schema.specs.CompiledDefaults.{tree_accessors}
+use Rattle.kube_schema.specs.Shown.{whole}
 use Rattle.serde_json.specs.View.{view}
 use Rattle.std.proofs.Common.{Some, option_map, sym, ap, ◌∙◌}
 

@@ -4,7 +4,7 @@ use Rattle.kube_manifests.proofs.Judged.{all_read}
 use Rattle.kube_manifests.proofs.set.CrdSet.from_documents.Goals as goal
 use Rattle.kube_manifests.specs.Documents.{add_document}
 use Rattle.kube_manifests.specs.Sets.{added_view, error_view, version_view}
-use Rattle.kube_schema_compiled.specs.View.{view_of}
+use Rattle.kube_schema.specs.View.{view_of}
 use Rattle.serde_json.specs.View.{items_view, view}
 
 pub returns-in-Err-clause-versions : goal.returns-in-Err-clause-versions

@@ -1,0 +1,9 @@
+use Rattle.std.proofs.Common.{◌≡◌, ◌-◌, map}
+use Rattle.cel_syntax_ast.specs.Term.{term}
+use Rattle.cel_syntax.specs.Parser as spec
+use Rattle.cel_syntax.specs.Ahead.{tokens_left}
+use Rattle.cel_syntax.proofs.grammar.Grammar.items.Given as goal
+
+abbrev pub invariant-loop-turn : goal.invariant-loop-turn
+invariant-loop-turn g l = spec.items l.self.limit (spec.below l.self.limit) (tokens_left l.fn.tokens)
+    ≡ spec.items_from (spec.below l.self.limit) (l._turn-end - l._turn) (map term l.found.items) l.high (tokens_left l.tokens)

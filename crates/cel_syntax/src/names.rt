@@ -1,0 +1,34 @@
+//! Sets of names.
+ghost use Rattle.std.specs.Prelude.{◌≡◌, ◌||◌, ℕ, List, OnOk, IfOk, IfErr};
+ghost use Rattle.std.specs.BTreeSet.{contains_text};
+ghost use Rattle.std.specs.Str.{bytes_eq};
+ghost use Rattle.kube_types_refused.specs.declared.Refused.TheVariants.{Memory};
+ghost use Rattle.cel_syntax.specs.Names.{names_of, AreNames};
+
+use kube_types_refused::Refused;
+use std::alloc::Global;
+use std::collections::BTreeSet;
+
+/// Adds a name, unless it is there.
+pub(crate) fn add(alloc: Global, name: &str, names: &mut BTreeSet<String>) -> Result<(), Refused>
+    ensures added { OnOk result ((x : List ℕ) → contains_text names.new x ≡ (contains_text names.old x || bytes_eq x name.now)) }
+    ensures memory { IfErr result (λ e. e ≡ Memory) }
+{
+    if names.contains(name) {
+        return Ok(());
+    }
+    let _is_new = names.insert(String::from_str(alloc, name)?)?;
+    Ok(())
+}
+
+/// The names of a set, in their order.
+pub(crate) fn in_order(alloc: Global, names: BTreeSet<String>) -> Result<Vec<String>, Refused>
+    ensures names { IfOk result (λ v. AreNames (names_of v.items) (λ x. contains_text names x)) }
+    ensures memory { IfErr result (λ e. e ≡ Memory) }
+{
+    let mut list = Vec::with_capacity(alloc, names.len())?;
+    for name in names {
+        list.push(name)?;
+    }
+    Ok(list)
+}

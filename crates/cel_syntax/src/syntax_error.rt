@@ -1,0 +1,31 @@
+//! Why tokens give no tree.
+
+ghost use Rattle.std.specs.Prelude.{◌≡◌};
+ghost use Rattle.cel_syntax.specs.declared.syntax_error.SyntaxError.TheVariants.{Memory};
+
+use kube_types_refused::Refused;
+use std::alloc::AllocFailed;
+
+#[derive(Clone, Copy, Debug, PartialEq, Eq)]
+pub enum SyntaxError {
+    /// Memory was refused.
+    Memory,
+    /// The tokens derive none.
+    Invalid,
+}
+
+impl<T: Drop> From<AllocFailed<T>> for SyntaxError {
+    ghost from_gives = { λ _ e. e ≡ Memory };
+
+    fn from(_error: AllocFailed<T>) -> SyntaxError {
+        SyntaxError::Memory
+    }
+}
+
+impl From<Refused> for SyntaxError {
+    ghost from_gives = { λ _ e. e ≡ Memory };
+
+    fn from(_error: Refused) -> SyntaxError {
+        SyntaxError::Memory
+    }
+}

@@ -1,2 +1,0 @@
-pub mod Operator
-pub mod Ahead

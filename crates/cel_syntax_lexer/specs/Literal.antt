@@ -1,0 +1,33 @@
+-- Trusted by the headline.
+-- The values of literals. Source: the sections "Syntax" (LITERAL) and "Values" of the CEL language definition.
+use Rattle.std.specs.Prelude.{ℕ, Bool, true, false, if◌then◌else◌, List, Option, Some, None, codes}
+use Rattle.std.specs.Str.{bytes_eq}
+use Rattle.cel_value.specs.Data.{Data, null, bool}
+use Rattle.cel_syntax_lexer.specs.Token.{Token, word, number, quoted, punctuator}
+use Rattle.cel_syntax_lexer.specs.Number.{goes_with_minus, number_value}
+use Rattle.cel_syntax_lexer.specs.StringValues.{quoted_value}
+
+unfoldable pub word_value : List ℕ → Option Data
+word_value w =
+    if bytes_eq w (codes "true") then Some (bool true)
+    else (if bytes_eq w (codes "false") then Some (bool false)
+    else (if bytes_eq w (codes "null") then Some null else None))
+
+-- No minus belongs to a literal that is no number.
+abbrev pub unless_negative : Bool → Option Data → Option Data
+unless_negative true o = None
+unless_negative false o = o
+
+-- whether a minus before the token belongs to it: an int's or a double's spelling, and no uint's
+abbrev pub takes_minus : Token → Bool
+takes_minus (word w) = false
+takes_minus (number s) = goes_with_minus s
+takes_minus (quoted s) = false
+takes_minus (punctuator m) = false
+
+-- the value of a literal, with whether a minus belongs to it, where the token is one that is read
+abbrev pub literal_value : Bool → Token → Option Data
+literal_value negative (word w) = unless_negative negative (word_value w)
+literal_value negative (number s) = number_value negative s
+literal_value negative (quoted s) = unless_negative negative (quoted_value s)
+literal_value negative (punctuator m) = None

@@ -1,5 +1,0 @@
-use Rattle.cel_syntax_literals.proofs.Minus.{no_literal}
-use Rattle.cel_syntax_literals.proofs.laws.minus_has_its_literals.Goals as goal
-
-pub returns : goal.returns
-returns c = no_literal

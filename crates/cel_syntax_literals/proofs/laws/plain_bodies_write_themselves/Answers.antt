@@ -1,5 +1,0 @@
-use Rattle.cel_syntax_literals.proofs.Plain.{string_plain, bytes_plain, raw_plain}
-use Rattle.cel_syntax_literals.proofs.laws.plain_bodies_write_themselves.Goals as goal
-
-pub returns : goal.returns
-returns c = record { string = string_plain; bytes = bytes_plain; raw = raw_plain }

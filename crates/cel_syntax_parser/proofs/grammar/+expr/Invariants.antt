@@ -1,4 +1,0 @@
-use Rattle.cel_syntax_parser.proofs.grammar.+expr.Given as goal
-
-abbrev pub decreases-expr : goal.decreases-expr
-decreases-expr l = l.limit

@@ -1,5 +1,0 @@
-use Rattle.cel_syntax_parser.proofs.Complete.{one_tree}
-use Rattle.cel_syntax_parser.proofs.laws.one_tree.Goals as goal
-
-pub returns : goal.returns
-returns c = one_tree

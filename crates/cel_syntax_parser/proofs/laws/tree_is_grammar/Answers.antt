@@ -1,6 +1,0 @@
-use Rattle.cel_syntax_parser.proofs.Complete.{complete_parse}
-use Rattle.cel_syntax_parser.proofs.Sound.{sound_parse}
-use Rattle.cel_syntax_parser.proofs.laws.tree_is_grammar.Goals as goal
-
-pub returns : goal.returns
-returns c = record { complete = complete_parse; sound = sound_parse }

@@ -1,5 +1,0 @@
-use Rattle.cel_syntax_parser.proofs.Last.{answer_of}
-use Rattle.cel_syntax_parser.proofs.parse.parse_tokens.Goals as goal
-
-pub returns-clause-grammar : goal.returns-clause-grammar
-returns-clause-grammar c = answer_of _ _ c.read.ensures

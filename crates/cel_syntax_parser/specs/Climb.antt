@@ -1,9 +1,0 @@
--- Scaffolding: only proofs and private clauses cite it.
--- The operators that follow an operand, level by level: what `chain` reads after its first operand.
-use Rattle.std.specs.Prelude.{ℕ, zero, suc, Some}
-use Rattle.cel_syntax_parser.specs.Parser.{Parser, Found, ◌>>=◌, pure, chain, turns}
-
-module _ (limit : ℕ) (sub : Parser Found) where
-  unfoldable pub climb : ℕ → Found → Parser Found
-  climb zero x = pure x
-  climb (suc k) x = climb k x >>= λ y. turns limit sub (chain limit sub k) (suc k) limit y.0 y.1

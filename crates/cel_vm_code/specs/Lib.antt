@@ -1,0 +1,4 @@
+pub mod Op
+pub mod Code
+pub mod Size
+pub mod CodeViews

@@ -1,6 +1,0 @@
-pub mod Inside
-pub mod Raw
-pub mod StepAccessors
-pub mod Visit
-pub mod Step
-pub mod Walk

@@ -1,0 +1,41 @@
+use Rattle.std.proofs.Common.{◌≡◌, ◌+◌, ◌*◌, List, ◌++◌, take, drop, map}
+use Rattle.serde_json.specs.View.{view, members_view}
+use Rattle.serde_json.proofs.Views.{Entry}
+use Rattle.kube_schema.specs.CompiledDefaults.{tree_accessors}
+use Rattle.kube_schema.specs.Shown.{node_tree}
+use Rattle.kube_schema.specs.Tree.{named_of, names}
+use Rattle.kube_schema_values.specs.Defaults.{defaulted_value, member_by, map_members, default_by, with_defaults}
+use Rattle.kube_schema.proofs.defaults.+fill.Given as goal
+
+abbrev pub decreases-fill : goal.decreases-fill
+decreases-fill l = 5 * l.levels
+
+abbrev pub decreases-fill_items : goal.decreases-fill_items
+decreases-fill_items l = 5 * l.levels + 1
+
+abbrev pub decreases-fill_members : goal.decreases-fill_members
+decreases-fill_members l = 5 * l.levels + 3
+
+abbrev pub decreases-fill_member : goal.decreases-fill_member
+decreases-fill_member l = 5 * l.levels + 1
+
+abbrev pub decreases-add_defaults : goal.decreases-add_defaults
+decreases-add_defaults l = 5 * l.levels + 2
+
+abbrev pub decreases-add_default : goal.decreases-add_default
+decreases-add_default l = 5 * l.levels + 1
+
+abbrev pub invariant-fill_items-loop-item : goal.invariant-fill_items-loop-item
+invariant-fill_items-loop-item l = map view l.filled.items ≡ map (λ v. defaulted_value tree_accessors l.levels (node_tree l.node) (view v)) (take l.item-index l.item-items)
+
+abbrev pub invariant-fill_members-loop-key : goal.invariant-fill_members-loop-key
+invariant-fill_members-loop-key l = record {
+  done : List Entry;
+  all : l.members.entries ≡ done ++ l.key-iterator;
+  same : members_view l.filled.entries ≡ map_members (member_by tree_accessors (defaulted_value tree_accessors l.levels) (node_tree l.node)) (members_view done);
+}
+
+abbrev pub invariant-add_defaults-loop-index : goal.invariant-add_defaults-loop-index
+invariant-add_defaults-loop-index l =
+    with_defaults (default_by tree_accessors (defaulted_value tree_accessors l.levels) (node_tree l.node)) (drop l.index (names (named_of (node_tree l.node)))) (members_view l.target.entries)
+    ≡ with_defaults (default_by tree_accessors (defaulted_value tree_accessors l.levels) (node_tree l.node)) (names (named_of (node_tree l.node))) (members_view l.fn.target.entries)

@@ -1,0 +1,13 @@
+use Rattle.std.proofs.Common.{sym, ap, ◌∙◌}
+use Rattle.kube_schema.specs.Tree.{nth_node, all_of}
+use Rattle.kube_schema.specs.Raw.{tree}
+use Rattle.kube_schema.proofs.Trees.{all_of_at}
+use Rattle.kube_schema.proofs.node.SchemaNode.all_of.Goals as goal
+
+pub nth-requires : goal.nth-requires
+nth-requires c = c.raw-raw.ensures.within.3
+
+pub returns : goal.returns
+returns c =
+    let f = tree c.args.self.now.schema.now.table.nodes.items in
+    c.nth.ensures ∙ sym (ap (λ n. nth_node c.args.i (all_of n)) c.raw-raw.ensures.is ∙ ap (nth_node c.args.i) (all_of_at f c.raw-raw.result.now))

@@ -1,0 +1,14 @@
+-- Trusted by the clauses of other library calls.
+-- What the tree of a schema answers where defaults ask: as the schema itself does.
+use Rattle.std.specs.Prelude.{if◌then◌else◌, None}
+use Rattle.kube_schema_values.specs.DefaultsAccessors.{DefaultsAccessors}
+use Rattle.kube_schema.specs.Tree.{Node, own, named_of, names, items_of, additional_of, property_of, default_of}
+
+unfoldable pub tree_accessors : DefaultsAccessors Node
+tree_accessors = record {
+  keys = λ n. names (named_of n);
+  property = property_of;
+  items = items_of;
+  additional = λ n. if (own n).preserves then None else additional_of n;
+  default = default_of;
+}

@@ -1,0 +1,451 @@
+//! A compiled schema and its nodes, as they are seen from outside.
+ghost use Rattle.std.specs.Prelude.{◌≡◌, ◌<◌, ℕ, length, option_map, slice_get, IfSome, Some};
+ghost use Rattle.kube_schema.specs.Raw.{tree, any_default, named_at, LinksOrdered};
+ghost use Rattle.kube_schema.specs.Tree.{Node, count, find};
+
+use crate::nodes::{NodeId, PropertyLink, TableNode};
+use crate::table::Table;
+use kube_schema_rules::{CompilationError, CompilationResult};
+use kube_schema_values::SchemaFormat;
+use kube_types_refused::Refused;
+use serde_json::Value;
+use std::alloc::Global;
+
+/// A schema that was compiled.
+#[derive(Debug, Drop)]
+pub struct CompiledSchema {
+    pub(crate) table: Table,
+    // Whether a node has a default.
+    pub(crate) defaults: bool,
+    ghost known: { defaults ≡ any_default table.nodes.items },
+    ghost rooted: { 0 < length table.nodes.items },
+    ghost counted: { length table.nodes.items ≡ count (tree table.nodes.items 0) },
+}
+
+/// A node of a compiled schema.
+#[derive(Clone, Copy, Debug)]
+pub struct SchemaNode<'a> {
+    schema: &'a CompiledSchema,
+    number: NodeId,
+    ghost stands: { number.0 < length schema.now.table.nodes.items },
+}
+
+impl CompiledSchema {
+    ghost use Rattle.std.specs.Prelude.{◌≡◌, length, map, option_map, is_err, IfErr, IfOk, IfSome, Some};
+    ghost use Rattle.std.specs.List.{list_any};
+    ghost use Rattle.serde_json.specs.View.{view};
+    ghost use Rattle.kube_schema_rules.specs.Compilation.{compiled_seen, error_view};
+    ghost use Rattle.kube_schema.specs.Shown.{node_tree, whole};
+    ghost use Rattle.kube_schema.specs.Tree.{items_of, additional_of, property_of, default_of, nth_named, nth_node, named_of, names, all_of, one_of, any_of, own, malformed_in};
+
+    /// The number of nodes, markers included.
+    pub fn node_count(&self) -> usize
+        ensures { result ≡ count (whole self.now) }
+    {
+        self.table.nodes.len()
+    }
+
+    /// The node of the schema itself.
+    pub fn root(&self) -> SchemaNode<'_>
+        ensures { node_tree result ≡ whole self.now }
+    {
+        SchemaNode {
+            schema: self,
+            number: NodeId(0),
+        }
+    }
+
+    /// The node of list items, where `items` is there.
+    pub fn items(&self) -> Option<SchemaNode<'_>>
+        ensures { option_map node_tree result ≡ items_of (whole self.now) }
+    {
+        self.root().items()
+    }
+
+    /// The node of the keys that are not declared, where `additionalProperties` is an object.
+    pub fn additional_properties(&self) -> Option<SchemaNode<'_>>
+        ensures { option_map node_tree result ≡ additional_of (whole self.now) }
+    {
+        self.root().additional_properties()
+    }
+
+    /// A branch of `allOf`.
+    pub fn all_of(&self, i: usize) -> Option<SchemaNode<'_>>
+        ensures { option_map node_tree result ≡ nth_node i (all_of (whole self.now)) }
+    {
+        self.root().all_of(i)
+    }
+
+    /// A branch of `oneOf`.
+    pub fn one_of(&self, i: usize) -> Option<SchemaNode<'_>>
+        ensures { option_map node_tree result ≡ nth_node i (one_of (whole self.now)) }
+    {
+        self.root().one_of(i)
+    }
+
+    /// A branch of `anyOf`.
+    pub fn any_of(&self, i: usize) -> Option<SchemaNode<'_>>
+        ensures { option_map node_tree result ≡ nth_node i (any_of (whole self.now)) }
+    {
+        self.root().any_of(i)
+    }
+
+    /// The number of properties.
+    pub fn property_count(&self) -> usize
+        ensures { result ≡ length (names (named_of (whole self.now))) }
+    {
+        self.root().property_count()
+    }
+
+    /// The node that is declared for a name.
+    pub fn property_named(&self, name: &str) -> Option<SchemaNode<'_>>
+        ensures { option_map node_tree result ≡ property_of name.now (whole self.now) }
+    {
+        self.root().property_named(name)
+    }
+
+    /// The rules of the schema itself in their order, each with its programs, or why it has none.
+    pub fn validations(&self) -> &[Result<CompilationResult, CompilationError>]
+        ensures { map compiled_seen result.now ≡ (own (whole self.now)).validations }
+    {
+        self.root().validations()
+    }
+
+    /// Whether a rule of the schema itself was not compiled.
+    pub fn has_errors(&self) -> bool
+        ensures { result ≡ list_any is_err (own (whole self.now)).validations }
+    {
+        self.root().has_errors()
+    }
+
+    /// Why rules of the schema itself were not compiled, in the order of the rules.
+    ///
+    /// # Errors
+    ///
+    /// [`Refused`] where memory is refused.
+    pub fn compilation_errors(&self, alloc: Global) -> Result<Vec<&CompilationError>, Refused>
+        ensures errors { IfOk result (λ v. map (λ e. error_view e.now) v.items ≡ malformed_in (own (whole self.now)).validations) }
+        ensures memory { IfErr result (λ e. e ≡ Refused.Memory) }
+    {
+        self.root().compilation_errors(alloc)
+    }
+
+    /// What the texts of the schema itself become.
+    pub fn format(&self) -> &SchemaFormat
+        ensures { result.now ≡ (own (whole self.now)).format }
+    {
+        self.root().format()
+    }
+
+    /// Whether `additionalProperties` is neither absent nor `false`.
+    pub fn is_map(&self) -> bool
+        ensures { result ≡ (own (whole self.now)).is_map }
+    {
+        self.root().is_map()
+    }
+
+    /// Whether `x-kubernetes-preserve-unknown-fields` is `true`.
+    pub fn preserve_unknown_fields(&self) -> bool
+        ensures { result ≡ (own (whole self.now)).preserves }
+    {
+        self.root().preserve_unknown_fields()
+    }
+
+    /// Whether `x-kubernetes-embedded-resource` is `true`.
+    pub fn embedded_resource(&self) -> bool
+        ensures { result ≡ (own (whole self.now)).embedded }
+    {
+        self.root().embedded_resource()
+    }
+
+    /// `maxLength`, where it is a whole number that fits.
+    pub fn max_length(&self) -> Option<u64>
+        ensures { result ≡ (own (whole self.now)).max_length }
+    {
+        self.root().max_length()
+    }
+
+    /// `maxItems`, where it is a whole number that fits.
+    pub fn max_items(&self) -> Option<u64>
+        ensures { result ≡ (own (whole self.now)).max_items }
+    {
+        self.root().max_items()
+    }
+
+    /// `maxProperties`, where it is a whole number that fits.
+    pub fn max_properties(&self) -> Option<u64>
+        ensures { result ≡ (own (whole self.now)).max_properties }
+    {
+        self.root().max_properties()
+    }
+
+    /// `default`, as it stands in the schema.
+    pub fn default(&self) -> Option<&Value>
+        ensures { option_map (λ v. view v.now) result ≡ default_of (whole self.now) }
+    {
+        self.root().default()
+    }
+
+    /// A property with its name, in name order.
+    pub fn property(&self, i: usize) -> Option<(&str, SchemaNode<'_>)>
+        ensures pair { option_map (λ p. (p.0.now, node_tree p.1)) result ≡ nth_named i (named_of (whole self.now)) }
+        ensures named { IfSome result (λ p. property_of p.0.now (whole self.now) ≡ Some (node_tree p.1)) }
+    {
+        self.root().property(i)
+    }
+}
+
+impl<'a> SchemaNode<'a> {
+    ghost use Rattle.std.specs.Cmp.Lexicographic.{slice_cmp};
+    ghost use Rattle.std.specs.List.Sorted.{IsStrictlySortedBy};
+    ghost use Rattle.std.specs.Ordering.{nat_cmp};
+    ghost use Rattle.std.specs.Prelude.{◌≡◌, ◌<◌, ℕ, suc, length, map, false, option_map, is_err, IfErr, IfOk, IfSome, Some};
+    ghost use Rattle.std.specs.List.{list_any};
+    ghost use Rattle.serde_json.specs.View.{view};
+    ghost use Rattle.kube_schema_rules.specs.Compilation.{compiled_seen, error_view};
+    ghost use Rattle.kube_schema_values.specs.Without.{HasNoDefaults};
+    ghost use Rattle.kube_schema.specs.CompiledDefaults.{tree_accessors};
+    ghost use Rattle.kube_schema.specs.Shown.{node_tree};
+    ghost use Rattle.kube_schema.specs.Raw.{tree, assemble, nodes_at, IsWithin, LinksOrdered, NumbersWithin};
+    ghost use Rattle.kube_schema.specs.Tree.{items_of, additional_of, property_of, default_of, nth_named, nth_node, named_of, names, all_of, one_of, any_of, own, malformed_in, nodes_length};
+
+    // The node as it lies in the table.
+    fn raw(&self) -> &'a TableNode
+        ensures is { node_tree self.now ≡ assemble (tree self.now.schema.now.table.nodes.items) result.now }
+        ensures within { IsWithin (suc self.now.number.0) (length self.now.schema.now.table.nodes.items) result.now.children }
+        ensures ordered { LinksOrdered result.now.children.properties.items }
+    {
+        &self.schema.table.nodes[self.number.0]
+    }
+
+    fn at(&self, number: NodeId) -> SchemaNode<'a>
+        requires { number.0 < length self.now.schema.now.table.nodes.items }
+        ensures { node_tree result ≡ tree self.now.schema.now.table.nodes.items number.0 }
+    {
+        SchemaNode {
+            schema: self.schema,
+            number,
+        }
+    }
+
+    // The node at a place of a list of numbers.
+    fn nth(&self, numbers: &'a Vec<NodeId>, i: usize) -> Option<SchemaNode<'a>>
+        requires { NumbersWithin (suc self.now.number.0) (length self.now.schema.now.table.nodes.items) numbers.now.items }
+        ensures { option_map node_tree result ≡ nth_node i (nodes_at (tree self.now.schema.now.table.nodes.items) numbers.now.items) }
+    {
+        if i >= numbers.len() {
+            return None;
+        }
+        Some(self.at(numbers[i]))
+    }
+
+    /// The node of list items, where `items` is there.
+    pub fn items(&self) -> Option<SchemaNode<'a>>
+        ensures { option_map node_tree result ≡ items_of (node_tree self.now) }
+    {
+        let Some(number) = self.raw().children.items else {
+            return None;
+        };
+        Some(self.at(number))
+    }
+
+    /// The node of the keys that are not declared, where `additionalProperties` is an object.
+    pub fn additional_properties(&self) -> Option<SchemaNode<'a>>
+        ensures { option_map node_tree result ≡ additional_of (node_tree self.now) }
+    {
+        let Some(number) = self.raw().children.additional else {
+            return None;
+        };
+        Some(self.at(number))
+    }
+
+    /// A branch of `allOf`.
+    pub fn all_of(&self, i: usize) -> Option<SchemaNode<'a>>
+        ensures { option_map node_tree result ≡ nth_node i (all_of (node_tree self.now)) }
+    {
+        let raw = self.raw();
+        self.nth(&raw.children.all_of, i)
+    }
+
+    /// A branch of `oneOf`.
+    pub fn one_of(&self, i: usize) -> Option<SchemaNode<'a>>
+        ensures { option_map node_tree result ≡ nth_node i (one_of (node_tree self.now)) }
+    {
+        let raw = self.raw();
+        self.nth(&raw.children.one_of, i)
+    }
+
+    /// A branch of `anyOf`.
+    pub fn any_of(&self, i: usize) -> Option<SchemaNode<'a>>
+        ensures { option_map node_tree result ≡ nth_node i (any_of (node_tree self.now)) }
+    {
+        let raw = self.raw();
+        self.nth(&raw.children.any_of, i)
+    }
+
+    /// The number of branches of `allOf`.
+    pub fn all_of_count(&self) -> usize
+        ensures { result ≡ nodes_length (all_of (node_tree self.now)) }
+    {
+        self.raw().children.all_of.len()
+    }
+
+    /// The number of branches of `oneOf`.
+    pub fn one_of_count(&self) -> usize
+        ensures { result ≡ nodes_length (one_of (node_tree self.now)) }
+    {
+        self.raw().children.one_of.len()
+    }
+
+    /// The number of branches of `anyOf`.
+    pub fn any_of_count(&self) -> usize
+        ensures { result ≡ nodes_length (any_of (node_tree self.now)) }
+    {
+        self.raw().children.any_of.len()
+    }
+
+    /// The number of properties. Their names are in order.
+    pub fn property_count(&self) -> usize
+        ensures count { result ≡ length (names (named_of (node_tree self.now))) }
+        ensures ordered { IsStrictlySortedBy (slice_cmp nat_cmp) (names (named_of (node_tree self.now))) }
+    {
+        self.raw().children.properties.len()
+    }
+
+    /// A property with its name, in name order.
+    pub fn property(&self, i: usize) -> Option<(&'a str, SchemaNode<'a>)>
+        ensures pair { option_map (λ p. (p.0.now, node_tree p.1)) result ≡ nth_named i (named_of (node_tree self.now)) }
+        ensures named { IfSome result (λ p. property_of p.0.now (node_tree self.now) ≡ Some (node_tree p.1)) }
+    {
+        let raw = self.raw();
+        if i >= raw.children.properties.len() {
+            return None;
+        }
+        let link = &raw.children.properties[i];
+        Some((link.name.as_str(), self.at(link.node)))
+    }
+
+    /// The node that is declared for a name.
+    pub fn property_named(&self, name: &str) -> Option<SchemaNode<'a>>
+        ensures { option_map node_tree result ≡ property_of name.now (node_tree self.now) }
+    {
+        let raw = self.raw();
+        match link_of(&raw.children.properties, name) {
+            Some(link) => Some(self.at(link.node)),
+            None => None,
+        }
+    }
+
+    /// The rules of the node in their order, each with its programs, or why it has none. A schema that goes on past the greatest
+    /// depth has one error in their place.
+    pub fn validations(&self) -> &'a [Result<CompilationResult, CompilationError>]
+        ensures { map compiled_seen result.now ≡ (own (node_tree self.now)).validations }
+    {
+        self.raw().keywords.validations.as_slice()
+    }
+
+    /// Whether a rule of the node was not compiled.
+    pub fn has_errors(&self) -> bool
+        ensures { result ≡ list_any is_err (own (node_tree self.now)).validations }
+    {
+        for validation in self.validations() {
+            if validation.is_err() {
+                return true;
+            }
+        }
+        false
+    }
+
+    /// Why rules of the node were not compiled, in the order of the rules.
+    ///
+    /// # Errors
+    ///
+    /// [`Refused`] where memory is refused.
+    pub fn compilation_errors(&self, alloc: Global) -> Result<Vec<&'a CompilationError>, Refused>
+        ensures errors { IfOk result (λ v. map (λ e. error_view e.now) v.items ≡ malformed_in (own (node_tree self.now)).validations) }
+        ensures memory { IfErr result (λ e. e ≡ Refused.Memory) }
+    {
+        let mut errors = Vec::new(alloc);
+        for validation in self.validations() {
+            if let Err(error) = validation {
+                errors.push(error)?;
+            }
+        }
+        Ok(errors)
+    }
+
+    /// What the texts at the node become.
+    pub fn format(&self) -> &'a SchemaFormat
+        ensures { result.now ≡ (own (node_tree self.now)).format }
+    {
+        &self.raw().keywords.format
+    }
+
+    /// Whether `additionalProperties` is neither absent nor `false`.
+    pub fn is_map(&self) -> bool
+        ensures { result ≡ (own (node_tree self.now)).is_map }
+    {
+        self.raw().keywords.is_map
+    }
+
+    /// Whether `x-kubernetes-preserve-unknown-fields` is `true`.
+    pub fn preserve_unknown_fields(&self) -> bool
+        ensures { result ≡ (own (node_tree self.now)).preserves }
+    {
+        self.raw().keywords.preserve_unknown_fields
+    }
+
+    /// Whether `x-kubernetes-embedded-resource` is `true`.
+    pub fn embedded_resource(&self) -> bool
+        ensures { result ≡ (own (node_tree self.now)).embedded }
+    {
+        self.raw().keywords.embedded_resource
+    }
+
+    /// `maxLength`, where it is a whole number that fits.
+    pub fn max_length(&self) -> Option<u64>
+        ensures { result ≡ (own (node_tree self.now)).max_length }
+    {
+        self.raw().keywords.max_length
+    }
+
+    /// `maxItems`, where it is a whole number that fits.
+    pub fn max_items(&self) -> Option<u64>
+        ensures { result ≡ (own (node_tree self.now)).max_items }
+    {
+        self.raw().keywords.max_items
+    }
+
+    /// `maxProperties`, where it is a whole number that fits.
+    pub fn max_properties(&self) -> Option<u64>
+        ensures { result ≡ (own (node_tree self.now)).max_properties }
+    {
+        self.raw().keywords.max_properties
+    }
+
+    /// `default`, as it stands in the schema.
+    pub fn default(&self) -> Option<&'a Value>
+        ensures { option_map (λ v. view v.now) result ≡ default_of (node_tree self.now) }
+    {
+        self.raw().keywords.default.as_ref()
+    }
+
+    // Whether a default lies in the schema that the node is part of.
+    pub(crate) fn may_have_defaults(&self) -> bool
+        ensures { result ≡ false → (levels : ℕ) → HasNoDefaults tree_accessors levels (node_tree self.now) }
+    {
+        self.schema.defaults
+    }
+}
+
+// The link of a name, among links in name order.
+fn link_of<'a>(links: &'a [PropertyLink], name: &str) -> Option<&'a PropertyLink>
+    requires { LinksOrdered links.now }
+    ensures leads { (f : ℕ → Node) → option_map (λ l. f l.now.node.0) result ≡ find name.now (named_at f links.now) }
+    ensures stands { IfSome result (λ l. (i : ℕ) × (slice_get links.now i ≡ Some l.now)) }
+{
+    match links.binary_search_by(|link| link.name.as_str().cmp(name)) {
+        Ok(index) => Some(&links[index]),
+        Err(_) => None,
+    }
+}

@@ -1,0 +1,46 @@
+//! Nodes as they lie in the table of a compiled schema.
+use kube_schema_rules::{CompilationError, CompilationResult};
+use kube_schema_values::SchemaFormat;
+use serde_json::Value;
+
+// A node's place in its table.
+#[derive(Clone, Copy, Debug, PartialEq, Eq)]
+pub struct NodeId(pub usize);
+
+// The name of a property, and its node.
+#[derive(Debug, Drop)]
+pub struct PropertyLink {
+    pub name: String,
+    pub node: NodeId,
+}
+
+// What a node says of itself.
+#[derive(Debug, Drop)]
+pub struct Keywords {
+    pub validations: Vec<Result<CompilationResult, CompilationError>>,
+    pub format: SchemaFormat,
+    pub is_map: bool,
+    pub preserve_unknown_fields: bool,
+    pub embedded_resource: bool,
+    pub max_length: Option<u64>,
+    pub max_items: Option<u64>,
+    pub max_properties: Option<u64>,
+    pub default: Option<Value>,
+}
+
+// The nodes within a node. Properties are in name order.
+#[derive(Debug, Drop)]
+pub struct Children {
+    pub properties: Vec<PropertyLink>,
+    pub items: Option<NodeId>,
+    pub additional: Option<NodeId>,
+    pub all_of: Vec<NodeId>,
+    pub one_of: Vec<NodeId>,
+    pub any_of: Vec<NodeId>,
+}
+
+#[derive(Debug, Drop)]
+pub struct TableNode {
+    pub keywords: Keywords,
+    pub children: Children,
+}

@@ -1,0 +1,135 @@
+//! The defaults of a node of a compiled schema without a copy, where a value has them all.
+ghost use Rattle.std.specs.Bool.{IsTrue};
+ghost use Rattle.std.specs.Cow.{cow_value};
+ghost use Rattle.std.specs.Prelude.{◌≡◌, IfErr, IfOk, option_map};
+ghost use Rattle.serde_json.specs.Data.{Data};
+ghost use Rattle.serde_json.specs.View.{view, items_view, members_view};
+ghost use Rattle.kube_schema_values.specs.Defaults.{defaulted_value, map_items, map_members, member_by, default_by, with_defaults, put_new};
+ghost use Rattle.kube_schema.specs.CompiledDefaults.{tree_accessors};
+ghost use Rattle.kube_schema.specs.Shown.{node_tree};
+ghost use Rattle.kube_schema.specs.Tree.{Node, named_of, names, default_of};
+
+use crate::defaults::{LEVELS, fill, node_of_member};
+use crate::node::SchemaNode;
+use kube_types_refused::Refused;
+use serde_json::{Map, Value};
+use std::alloc::Global;
+use std::borrow::Cow;
+
+/// The value that `fill_node` makes. Where no default is missing, the value itself is lent, and takes no memory. A schema without a
+/// default costs one comparison.
+///
+/// # Errors
+///
+/// [`Refused`] where memory is refused.
+pub fn filled_by_node<'v>(
+    alloc: Global,
+    node: &SchemaNode<'_>,
+    value: &'v Value,
+) -> Result<Cow<'v, Value>, Refused>
+    ensures filled { IfOk result (λ v. view (cow_value v) ≡ defaulted_value tree_accessors 65 (node_tree node.now) (view value.now)) }
+    ensures memory { IfErr result (λ e. e ≡ Refused.Memory) }
+{
+    if is_filled(node, value) {
+        return Ok(Cow::Borrowed(value));
+    }
+    let made = fill(alloc, node, value, LEVELS)?;
+    Ok(Cow::Owned(made))
+}
+
+// Whether a value has all defaults.
+fn is_filled(node: &SchemaNode<'_>, value: &Value) -> bool
+    ensures { IsTrue result → defaulted_value tree_accessors 65 (node_tree node.now) (view value.now)
+        ≡ view value.now }
+{
+    if !node.may_have_defaults() {
+        return true;
+    }
+    has_defaults(node, value, LEVELS)
+}
+
+// Whether a value has the defaults of this number of levels.
+#[cycle(has)]
+fn has_defaults(node: &SchemaNode<'_>, value: &Value, levels: usize) -> bool
+    ensures { IsTrue result → defaulted_value tree_accessors levels (node_tree node.now) (view value.now)
+        ≡ view value.now }
+{
+    if levels == 0 {
+        return true;
+    }
+    if let Some(members) = value.as_object() {
+        return lacks_no_key(node, members) && members_have_defaults(node, members, levels - 1);
+    }
+    let Some(items) = value.as_array() else {
+        return true;
+    };
+    let Some(inner) = node.items() else {
+        return true;
+    };
+    items_have_defaults(&inner, items, levels - 1)
+}
+
+#[cycle(has)]
+fn items_have_defaults(node: &SchemaNode<'_>, items: &Vec<Value>, levels: usize) -> bool
+    ensures { IsTrue result
+        → map_items (defaulted_value tree_accessors levels (node_tree node.now)) (items_view items.now.items) ≡ items_view items.now.items }
+{
+    for item in items {
+        if !has_defaults(node, item, levels) {
+            return false;
+        }
+    }
+    true
+}
+
+#[cycle(has)]
+fn members_have_defaults(node: &SchemaNode<'_>, members: &Map<String, Value>, levels: usize) -> bool
+    ensures { IsTrue result
+        → map_members (member_by tree_accessors (defaulted_value tree_accessors levels) (node_tree node.now)) (members_view members.now.entries) ≡ members_view members.now.entries }
+{
+    for (key, member) in members.iter() {
+        if !member_has_defaults(node, key.as_str(), member, levels) {
+            return false;
+        }
+    }
+    true
+}
+
+#[cycle(has)]
+fn member_has_defaults(node: &SchemaNode<'_>, key: &str, member: &Value, levels: usize) -> bool
+    ensures { IsTrue result
+        → member_by tree_accessors (defaulted_value tree_accessors levels) (node_tree node.now) key.now (view member.now) ≡ view member.now }
+{
+    match node_of_member(node, key) {
+        Some(inner) => has_defaults(&inner, member, levels),
+        None => true,
+    }
+}
+
+// Whether each key that has a default is there.
+fn lacks_no_key(node: &SchemaNode<'_>, members: &Map<String, Value>) -> bool
+    ensures { IsTrue result → (f : Node → Data → Data)
+        → with_defaults (default_by tree_accessors f (node_tree node.now)) (names (named_of (node_tree node.now))) (members_view members.now.entries)
+        ≡ members_view members.now.entries }
+{
+    for index in 0..node.property_count() {
+        let Some((key, property)) = node.property(index) else {
+            return true;
+        };
+        if !lacks_no_default(key, &property, members) {
+            return false;
+        }
+    }
+    true
+}
+
+// Whether a key is there, or has no default.
+fn lacks_no_default(key: &str, property: &SchemaNode<'_>, members: &Map<String, Value>) -> bool
+    ensures { IsTrue result → (f : Data → Data)
+        → members_view members.now.entries ≡ put_new key.now (option_map f (default_of (node_tree property.now))) (members_view members.now.entries) }
+{
+    match property.default() {
+        Some(_) => members.contains_key(key),
+        None => true,
+    }
+}

@@ -1,0 +1,67 @@
+//! A table of nodes: each number in a node stands for a later node of the table.
+ghost use Rattle.std.specs.Prelude.{◌≡◌, ◌<◌, [], suc, length, IfOk};
+ghost use Rattle.std.proofs.Math.ListN.{set};
+ghost use Rattle.std.proofs.Props.{props};
+ghost use Rattle.kube_schema.specs.Raw.{any_default, Closed, closed_prop, AllOrdered, IsWithin, LinksOrdered, Appends};
+
+use crate::nodes::{Children, Keywords, NodeId, TableNode};
+use std::alloc::{AllocError, Global};
+
+#[derive(Debug, Drop)]
+pub struct Table {
+    pub(crate) nodes: Vec<TableNode>,
+    ghost closed: { Closed nodes.items } by { closed_prop nodes.items },
+    ghost ordered: { AllOrdered nodes.items } by { Prim.hlevel props },
+}
+
+pub(crate) fn new_table(alloc: Global) -> Table
+    ensures { result.nodes.items ≡ [] }
+{
+    Table {
+        nodes: Vec::new(alloc),
+    }
+}
+
+// Puts a node without children at the end.
+pub(crate) fn push_leaf(
+    table: &mut Table,
+    alloc: Global,
+    keywords: Keywords,
+) -> Result<NodeId, AllocError>
+    ensures { IfOk result (λ n. Appends table.old.nodes.items table.new.nodes.items n keywords) }
+{
+    let number = NodeId(table.nodes.len());
+    let children = Children {
+        properties: Vec::new(alloc),
+        items: None,
+        additional: None,
+        all_of: Vec::new(alloc),
+        one_of: Vec::new(alloc),
+        any_of: Vec::new(alloc),
+    };
+    let leaf = TableNode { keywords, children };
+    table.nodes.push(leaf)?;
+    Ok(number)
+}
+
+// Puts a node in place of the one at a number.
+pub(crate) fn replace_node(table: &mut Table, number: NodeId, node: TableNode)
+    requires stands { number.0 < length table.old.nodes.items }
+    requires within { IsWithin (suc number.0) (length table.old.nodes.items) node.children }
+    requires ordered { LinksOrdered node.children.properties.items }
+    ensures { table.new.nodes.items ≡ set table.old.nodes.items number.0 node }
+{
+    table.nodes[number.0] = node;
+}
+
+// Whether a node has a default.
+pub(crate) fn has_defaults(table: &Table) -> bool
+    ensures { result ≡ any_default table.now.nodes.items }
+{
+    for node in table.nodes.as_slice() {
+        if node.keywords.default.is_some() {
+            return true;
+        }
+    }
+    false
+}

@@ -1,6 +1,0 @@
-pub mod Trees
-pub mod Build
-pub mod Same
-pub mod Names
-pub mod Search
-pub mod Without

@@ -1,6 +1,0 @@
-use Rattle.std.proofs.Common.{ap, ◌∙◌}
-use Rattle.kube_schema_compiled.specs.Tree.{additional_of}
-use Rattle.kube_schema_compiled.proofs.node.CompiledSchema.additional_properties.Goals as goal
-
-pub returns : goal.returns
-returns c = c.additional_properties.ensures ∙ ap (additional_of) c.root.ensures

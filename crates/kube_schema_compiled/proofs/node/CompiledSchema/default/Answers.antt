@@ -1,6 +1,0 @@
-use Rattle.std.proofs.Common.{ap, ◌∙◌}
-use Rattle.kube_schema_compiled.specs.Tree.{default_of}
-use Rattle.kube_schema_compiled.proofs.node.CompiledSchema.default.Goals as goal
-
-pub returns : goal.returns
-returns c = c.default.ensures ∙ ap (default_of) c.root.ensures

@@ -1,6 +1,0 @@
-use Rattle.std.proofs.Common.{ap, ◌∙◌}
-use Rattle.kube_schema_compiled.specs.Tree.{own}
-use Rattle.kube_schema_compiled.proofs.node.CompiledSchema.is_map.Goals as goal
-
-pub returns : goal.returns
-returns c = c.is_map.ensures ∙ ap (λ n. (own n).is_map) c.root.ensures

@@ -1,6 +1,0 @@
-use Rattle.std.proofs.Common.{ap, ◌∙◌}
-use Rattle.kube_schema_compiled.specs.Tree.{own}
-use Rattle.kube_schema_compiled.proofs.node.CompiledSchema.max_properties.Goals as goal
-
-pub returns : goal.returns
-returns c = c.max_properties.ensures ∙ ap (λ n. (own n).max_properties) c.root.ensures

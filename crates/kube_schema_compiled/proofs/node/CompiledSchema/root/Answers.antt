@@ -1,7 +1,0 @@
-use Rattle.std.proofs.Common.{refl}
-use Rattle.kube_schema_compiled.specs.Shown.{node_tree, whole}
-use Rattle.kube_schema_compiled.proofs.node.CompiledSchema.root.Goals as goal
-
-pub returns : goal.returns
-unfolding node_tree whole
-returns c = refl

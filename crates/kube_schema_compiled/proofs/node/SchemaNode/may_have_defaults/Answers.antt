@@ -1,8 +1,0 @@
-use Rattle.std.proofs.Common.{sym, ◌∙◌}
-use Rattle.kube_schema_compiled.specs.Shown.{node_tree}
-use Rattle.kube_schema_compiled.proofs.Without.{tree_without}
-use Rattle.kube_schema_compiled.proofs.node.SchemaNode.may_have_defaults.Goals as goal
-
-pub returns : goal.returns
-unfolding node_tree
-returns c = λ no levels. tree_without c.args.self.now.schema.now.table.nodes.items (sym c.args.self.now.schema.now.known ∙ no) levels c.args.self.now.number.0

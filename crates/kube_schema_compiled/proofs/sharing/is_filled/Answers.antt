@@ -1,9 +1,0 @@
-use Rattle.std.proofs.Common.{refl}
-use Rattle.serde_json.specs.View.{view}
-use Rattle.kube_schema_defaults.proofs.Without.{all_stays}
-use Rattle.kube_schema_compiled.specs.Compiled.{tree_accessors}
-use Rattle.kube_schema_compiled.specs.Shown.{node_tree}
-use Rattle.kube_schema_compiled.proofs.sharing.is_filled.Goals as goal
-
-pub returns-then-not-may_have_defaults : goal.returns-then-not-may_have_defaults
-returns-then-not-may_have_defaults c = λ yes. all_stays tree_accessors 65 (node_tree c.args.node.now) (view c.args.value.now) (c.if-not-may_have_defaults.ensures refl 65)

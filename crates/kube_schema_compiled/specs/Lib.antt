@@ -1,5 +1,0 @@
-pub mod Tree
-pub mod View
-pub mod Raw
-pub mod Shown
-pub mod Compiled

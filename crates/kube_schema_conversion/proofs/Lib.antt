@@ -1,5 +1,0 @@
-pub mod Bounds
-pub mod Fields
-pub mod Found
-pub mod Read
-pub mod Resources

@@ -1,7 +1,0 @@
-use denote.Enum.Bare.{same_true, true_same}
-use Rattle.kube_schema_conversion.proofs.laws.equal_formats.Goals as goal
-use Rattle.kube_schema_conversion.specs.contracts.format.SchemaFormat.{the_type}
-use Rattle.std.proofs.Common.{rules, sym, ◌∙◌}
-
-pub returns : goal.returns
-returns c = (λ h. same_true the_type (search rules) c.args.a c.args.b (sym c.eq.ensures ∙ h), λ h. c.eq.ensures ∙ true_same the_type c.args.a c.args.b h)

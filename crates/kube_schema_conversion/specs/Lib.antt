@@ -1,4 +1,0 @@
-pub mod Conversion
-pub mod Fields
-pub mod Formats
-pub mod Node

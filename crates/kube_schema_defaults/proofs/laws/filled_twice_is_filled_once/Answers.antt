@@ -1,6 +1,0 @@
-use Rattle.kube_schema_defaults.specs.DefaultsAccessors.{raw}
-use Rattle.kube_schema_defaults.proofs.Twice.{filled_twice}
-use Rattle.kube_schema_defaults.proofs.laws.filled_twice_is_filled_once.Goals as goal
-
-pub returns : goal.returns
-returns c = filled_twice raw

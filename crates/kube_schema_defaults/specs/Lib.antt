@@ -1,4 +1,0 @@
-pub mod DefaultsAccessors
-pub mod Defaults
-pub mod Preserved
-pub mod Without

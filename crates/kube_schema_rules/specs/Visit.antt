@@ -1,0 +1,83 @@
+-- Trusted by the headline.
+-- What lies at a place of a schema and a JSON value (Kubernetes documentation, "Validation rules": a rule is scoped to the part
+-- of the object where its `x-kubernetes-validations` stands), and where steps lead from there.
+use Rattle.kube_schema_rules.specs.declared.branches.BranchKind.{BranchKind}
+use Rattle.kube_schema_rules.specs.declared.branches.BranchKind.TheVariants.{AllOf, OneOf, AnyOf}
+use Rattle.kube_schema_rules.specs.Inside.{keys_at, count_at, in_order, up_to}
+use Rattle.kube_schema_rules.specs.StepAccessors.{StepAccessors}
+use Rattle.kube_schema_rules.specs.Step.{Step, property, item, additional_property, branch}
+use Rattle.serde_json.specs.Data.{Data}
+use Rattle.serde_json.specs.Find.{get, at}
+use Rattle.std.specs.Prelude.{ℕ, ◌+◌, List, [], ◌∷◌, ◌++◌, map, Option, Some, None, option_map, option_and_then, decimal}
+
+-- what is known of the whole object: its API version, its API group and its kind
+pub record Root : Type 0 where
+  pub api_version : List ℕ
+  pub api_group : List ℕ
+  pub kind : List ℕ
+
+-- the nodes of the schema may have any form
+pub record Visit (S : Type 0) : Type 0 where
+  -- the schema's node
+  pub node : S
+  -- the object's part
+  pub value : Data
+  -- its old counterpart: what the same steps find in the old object, or none
+  pub old : Option Data
+  -- what is known of the whole object, at the root and where only branches lead from there
+  pub root : Option Root
+  -- the text of the place
+  pub path : List ℕ
+  -- the number of steps from the root
+  pub depth : ℕ
+
+abbrev pub visit : {S : Type 0} → S → Data → Option Data → Option Root → List ℕ → ℕ → Visit S
+visit node value old root path depth = record { node = node; value = value; old = old; root = root; path = path; depth = depth }
+
+-- where every walk begins
+abbrev pub root_visit : {S : Type 0} → S → Data → Option Data → Option Root → Visit S
+root_visit node value old root = visit node value old root [] 0
+
+-- a path and then a key: `k` after the empty path, else `.k`
+unfoldable pub member_path : List ℕ → List ℕ → List ℕ
+member_path [] key = key
+member_path (b ∷ bs) key = (b ∷ bs) ++ 46 ∷ key
+
+-- a path and then an index: `[i]`
+unfoldable pub item_path : List ℕ → ℕ → List ℕ
+item_path path index = path ++ 91 ∷ (decimal index ++ 93 ∷ [])
+
+-- one step further, where node and value are both there
+abbrev pub further : {S : Type 0} → Option Root → ℕ → List ℕ → Option S → Option Data → Option Data → Option (Visit S)
+further root depth path node value old = option_and_then (λ n. option_map (λ v. visit n v old root path (depth + 1)) value) node
+
+-- the second, where the first isn't there
+abbrev pub unless_there : {S : Type 0} → Option S → Option S → Option S
+unless_there None o = o
+unless_there (Some s) o = None
+
+module _ {S : Type 0} (shape : StepAccessors S) where
+  -- where a step leads, if it is allowed: to a declared member, to an item, to a member that isn't declared, to a branch
+  unfoldable pub goes : Step → Visit S → Option (Visit S)
+  goes (property k) s = further None s.depth (member_path s.path k) (shape.property k s.node) (get k s.value) (option_and_then (get k) s.old)
+  goes (item i) s = further None s.depth (item_path s.path i) (shape.items s.node) (at i s.value) (option_and_then (at i) s.old)
+  goes (additional_property k) s =
+      further None s.depth (member_path s.path k) (unless_there (shape.property k s.node) (shape.additional_property s.node)) (get k s.value) (option_and_then (get k) s.old)
+  goes (branch kind j) s = further s.root s.depth s.path (shape.branch kind j s.node) (Some s.value) s.old
+
+  -- all steps that may be allowed, kind by kind
+  unfoldable pub property_steps : Visit S → List Step
+  property_steps s = map property (in_order (shape.keys s.node))
+
+  unfoldable pub item_steps : Visit S → List Step
+  item_steps s = map item (up_to (count_at (Some s.value)))
+
+  unfoldable pub additional_steps : Visit S → List Step
+  additional_steps s = map additional_property (in_order (keys_at (Some s.value)))
+
+  unfoldable pub branch_steps : BranchKind → Visit S → List Step
+  branch_steps kind s = map (branch kind) (up_to (shape.branch_count kind s.node))
+
+  -- and in order
+  unfoldable pub candidates : Visit S → List Step
+  candidates s = property_steps s ++ (item_steps s ++ (additional_steps s ++ (branch_steps AllOf s ++ (branch_steps OneOf s ++ branch_steps AnyOf s))))

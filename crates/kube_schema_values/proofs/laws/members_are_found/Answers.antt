@@ -1,5 +1,0 @@
-use Rattle.kube_schema_values.proofs.Found.{found_member}
-use Rattle.kube_schema_values.proofs.laws.members_are_found.Goals as goal
-
-pub returns : goal.returns
-returns c = found_member

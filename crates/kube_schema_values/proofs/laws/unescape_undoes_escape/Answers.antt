@@ -1,5 +1,0 @@
-use Rattle.kube_schema_values.proofs.Inverse.{unescape-escape}
-use Rattle.kube_schema_values.proofs.laws.unescape_undoes_escape.Goals as goal
-
-pub returns : goal.returns
-returns c = unescape-escape

@@ -1,0 +1,215 @@
+//! JSON values as CEL values, by a schema (Kubernetes documentation, "Use CEL validation rules", the CEL types of schema types
+//! and the escaping of property names).
+ghost use Rattle.std.specs.Prelude.{◌≡◌, ◌≤◌, ◌-◌, IfErr, IfOk, string_bytes};
+ghost use Rattle.serde_json.specs.View.{view as json_view, items_view as json_items_view, members_view};
+ghost use Rattle.cel_value.specs.View.{view, items_view, entries_view};
+ghost use Rattle.kube_schema_values.specs.Conversion.{to_cel, to_cel_by, entries_by, items_by, key_in, levels, member_by, member_key, object_by, raw};
+
+use crate::format::bind_formatted;
+use crate::names::MemberKeys;
+use crate::node::{JsonNode, Node};
+use crate::resource::put_resource_fields;
+use crate::values::{bind_number, bind_plain_with, put_shared};
+use cel_value::{Entries, Refused, Value};
+use serde_json::{Map as Members, Value as Json};
+use std::alloc::Global;
+use std::rc::Rc;
+
+/// The greatest depth at which a schema is looked at.
+const MAX_DEPTH: usize = 64;
+
+/// The CEL value of a JSON value at a node of a schema that stands `depth` steps below the root.
+///
+/// Texts become what the node's format says, members and items are converted by their own nodes, and keys are escaped unless the node is
+/// a map. At a depth of 65 and more no schema is looked at.
+///
+/// # Errors
+///
+/// [`Refused`] where memory is refused.
+pub fn bind(alloc: Global, schema: &Json, value: &Json, depth: usize) -> Result<Value, Refused>
+    ensures value { IfOk result (λ v. view v ≡ to_cel raw (levels depth) (json_view schema.now) (json_view value.now)) }
+    ensures memory { IfErr result (λ e. e ≡ Refused.Memory) }
+{
+    bind_at(alloc, JsonNode { schema }, value, depth)
+}
+
+/// The same at a node of a schema in whatever form the schema is held.
+///
+/// # Errors
+///
+/// [`Refused`] where memory is refused.
+pub fn bind_at<N: Node>(
+    alloc: Global,
+    node: N,
+    value: &Json,
+    depth: usize,
+) -> Result<Value, Refused>
+    ensures value { IfOk result (λ v. view v ≡ to_cel N.accessors (levels depth) (N.seen node) (json_view value.now)) }
+    ensures memory { IfErr result (λ e. e ≡ Refused.Memory) }
+{
+    let mut keys = MemberKeys::new(alloc);
+    let bound = bind_with(alloc, node, value, depth, &mut keys)?;
+    Ok(bound)
+}
+
+// The same, sharing the keys that were made before.
+#[cycle(bind)]
+fn bind_with<N: Node>(
+    alloc: Global,
+    node: N,
+    value: &Json,
+    depth: usize,
+    keys: &mut MemberKeys,
+) -> Result<Value, Refused>
+    ensures value { IfOk result (λ v. view v ≡ to_cel N.accessors (levels depth) (N.seen node) (json_view value.now)) }
+    ensures memory { IfErr result (λ e. e ≡ Refused.Memory) }
+{
+    if depth > MAX_DEPTH {
+        let plain = bind_plain_with(alloc, value, keys)?;
+        return Ok(plain);
+    }
+    let bound = bind_by(alloc, node, value, depth, keys)?;
+    Ok(bound)
+}
+
+// The value at a node that is looked at.
+#[cycle(bind)]
+#[tactic(auto, unfolding(crate::specs::Conversion::to_cel_by))]
+fn bind_by<N: Node>(
+    alloc: Global,
+    node: N,
+    value: &Json,
+    depth: usize,
+    keys: &mut MemberKeys,
+) -> Result<Value, Refused>
+    requires { depth ≤ 64 }
+    ensures value { IfOk result (λ v. view v
+        ≡ to_cel_by N.accessors (to_cel N.accessors (64 - depth)) (N.seen node) (json_view value.now)) }
+    ensures memory { IfErr result (λ e. e ≡ Refused.Memory) }
+{
+    match value {
+        Json::Null => Ok(Value::Null),
+        Json::Bool(truth) => Ok(Value::Bool(*truth)),
+        Json::Number(number) => Ok(bind_number(number)),
+        Json::String(chars) => bind_formatted(alloc, node.format(), chars.as_str()),
+        Json::Array(items) => match node.items() {
+            Some(inner) => Value::from_items(
+                alloc,
+                bind_items(alloc, inner, items, depth + 1, keys)?,
+            ),
+            None => bind_plain_with(alloc, value, keys),
+        },
+        Json::Object(members) => {
+            Value::from_entries(alloc, bind_object(alloc, node, members, depth, keys)?)
+        }
+    }
+}
+
+// The items of a list, at one node.
+#[cycle(bind)]
+fn bind_items<N: Node>(
+    alloc: Global,
+    node: N,
+    items: &Vec<Json>,
+    depth: usize,
+    keys: &mut MemberKeys,
+) -> Result<Vec<Value>, Refused>
+    requires { depth ≤ 65 }
+    ensures items { IfOk result (λ v. items_view v.items
+        ≡ items_by (to_cel N.accessors (65 - depth) (N.seen node)) (json_items_view items.now.items)) }
+    ensures memory { IfErr result (λ e. e ≡ Refused.Memory) }
+{
+    if items.len() > 1 {
+        keys.keep_names();
+    }
+    let mut bound = Vec::with_capacity(alloc, items.len())?;
+    for item in items {
+        bound.push(bind_with(alloc, node, item, depth, keys)?)?;
+    }
+    Ok(bound)
+}
+
+// The entries of an object, with the fields of a resource where the node is one.
+#[cycle(bind)]
+#[tactic(auto, unfolding(crate::specs::Conversion::object_by))]
+fn bind_object<N: Node>(
+    alloc: Global,
+    node: N,
+    members: &Members<String, Json>,
+    depth: usize,
+    keys: &mut MemberKeys,
+) -> Result<Entries, Refused>
+    requires { depth ≤ 64 }
+    ensures entries { IfOk result (λ m. entries_view m.entries
+        ≡ object_by N.accessors (to_cel N.accessors (64 - depth)) (N.seen node)
+        (members_view members.now.entries)) }
+    ensures memory { IfErr result (λ e. e ≡ Refused.Memory) }
+{
+    let mut entries = bind_members(alloc, node, members, depth, keys)?;
+    if !node.is_embedded() {
+        return Ok(entries);
+    }
+    put_resource_fields(alloc, members, &mut entries)?;
+    Ok(entries)
+}
+
+#[cycle(bind)]
+fn bind_members<N: Node>(
+    alloc: Global,
+    node: N,
+    members: &Members<String, Json>,
+    depth: usize,
+    keys: &mut MemberKeys,
+) -> Result<Entries, Refused>
+    requires { depth ≤ 64 }
+    ensures entries { IfOk result (λ m. entries_view m.entries
+        ≡ entries_by (member_key N.accessors (N.seen node)) (member_by N.accessors (to_cel N.accessors (64 - depth)) (N.seen node)) (members_view members.now.entries)) }
+    ensures memory { IfErr result (λ e. e ≡ Refused.Memory) }
+{
+    let keeps_keys = node.is_map();
+    let mut bound = Entries::new(alloc);
+    for (key, member) in members.iter().rev() {
+        let name = bind_key(keeps_keys, key.as_str(), keys)?;
+        let value = bind_member(alloc, node, key.as_str(), member, depth, keys)?;
+        put_shared(&mut bound, name, value)?;
+    }
+    Ok(bound)
+}
+
+// The key of a member: its name where the object is a map, else its name escaped.
+fn bind_key(keeps_keys: bool, name: &str, keys: &mut MemberKeys) -> Result<Rc<String>, Refused>
+    ensures key { IfOk result (λ s. string_bytes s.value ≡ key_in keeps_keys name.now) }
+    ensures memory { IfErr result (λ e. e ≡ Refused.Memory) }
+{
+    if keeps_keys {
+        let key = keys.unescaped(name)?;
+        return Ok(key);
+    }
+    let key = keys.escaped(name)?;
+    Ok(key)
+}
+
+// A member at its node, or plainly.
+#[cycle(bind)]
+#[tactic(auto, unfolding(crate::specs::Conversion::member_by))]
+fn bind_member<N: Node>(
+    alloc: Global,
+    node: N,
+    name: &str,
+    member: &Json,
+    depth: usize,
+    keys: &mut MemberKeys,
+) -> Result<Value, Refused>
+    requires { depth ≤ 64 }
+    ensures value { IfOk result (λ v. view v
+        ≡ member_by N.accessors (to_cel N.accessors (64 - depth)) (N.seen node) name.now
+        (json_view member.now)) }
+    ensures memory { IfErr result (λ e. e ≡ Refused.Memory) }
+{
+    let Some(inner) = node.member(name) else {
+        let plain = bind_plain_with(alloc, member, keys)?;
+        return Ok(plain);
+    };
+    let bound = bind_with(alloc, inner, member, depth + 1, keys)?;
+    Ok(bound)
+}
