@@ -32,10 +32,10 @@ void *realloc(void *old, size_t size)
     return refuses() ? NULL : __libc_realloc(old, size);
 }
 
-__attribute__((destructor)) static void tell(void)
+__attribute__((destructor)) static void report(void)
 {
-    long told = growths;
+    long reported = growths;
     const char *to = getenv("GROWTHS");
     if (to)
-        dprintf(atoi(to), "%ld\n", told);
+        dprintf(atoi(to), "%ld\n", reported);
 }

@@ -5,7 +5,7 @@
 #   name      the program's name, which is that of its crate
 #   waiting   words with which the program first reads the file ROOM/pipe, where ROOM is put in place of the word ROOM
 #   quiet     1 hides the line that says that a run is not proved
-#   works     a function that is told the path of a program, and succeeds where that program runs
+#   works     a function that takes the path of a program, and succeeds where that program runs
 #
 # 'find_program' leaves the path of the program in 'program': the first of these that is there and no older than its sources.
 #
@@ -117,7 +117,7 @@ run_once() { # WORD..
     (cd "$crate" && rt try "${data[@]}" -- "${words[@]}") </dev/null 2>"$log/err"
     status=$(sed -n 's/^run=ended status=\([0-9]*\) .*/\1/p' "$log/err" | tail -n 1)
     if [ -z "$status" ]; then
-        say "the program can't be built and run from these sources: 'cd $crate && rt try' tells why"
+        say "the program can't be built and run from these sources: 'cd $crate && rt try' says why"
         exit 2
     fi
     grep -E "^($name|usage): " "$log/err" >&2

@@ -61,10 +61,10 @@ fn answer_of_two(
     }
 }
 
-fn nth(args: &[Value], place: usize) -> Option<&Value>
-    ensures { option_map (λ v. view v.now) result ≡ nth_item place (items_view args.now) }
+fn nth(args: &[Value], index: usize) -> Option<&Value>
+    ensures { option_map (λ v. view v.now) result ≡ nth_item index (items_view args.now) }
 {
-    args.get(place)
+    args.get(index)
 }
 
 fn first_operand<'a>(receiver: Option<&'a Value>, args: &'a [Value]) -> Option<&'a Value>
@@ -97,7 +97,8 @@ fn answer_of_both(
 ) -> Result<Answer, Refused>
     ensures keeps { Extends (entries_of book.new) (entries_of book.old) }
     ensures value { IfOk result (λ r. HoldsForExtensions (entries_of book.new) (outcome_view r)
-        (λ b. spec.answer_of_both function name.now (option_map (λ v. view v.now) value.entry) (option_map (λ v. view v.now) other.entry) b)) }
+        (λ b. spec.answer_of_both function name.now (option_map (λ v. view v.now) value.entry)
+        (option_map (λ v. view v.now) other.entry) b)) }
     ensures memory { IfErr result (λ e. e ≡ Refused.Memory) }
 {
     match value {
@@ -116,7 +117,8 @@ fn answer_of_first(
     value: Option<&Value>,
 ) -> Result<Answer, Refused>
     ensures value { IfOk result (λ r. outcome_view r
-        ≡ option_map_or (spec.answer_of_one function) (option_map (λ v. view v.now) value.entry) (Err (no_overload name.now))) }
+        ≡ option_map_or (spec.answer_of_one function)
+        (option_map (λ v. view v.now) value.entry) (Err (no_overload name.now))) }
     ensures memory { IfErr result (λ e. e ≡ Refused.Memory) }
 {
     match value {
@@ -135,7 +137,8 @@ fn answer_of(
 ) -> Result<Answer, Refused>
     ensures keeps { Extends (entries_of book.new) (entries_of book.old) }
     ensures value { IfOk result (λ r. HoldsForExtensions (entries_of book.new) (outcome_view r)
-        (λ b. spec.answer_of function name.now (option_map (λ v. view v.now) receiver.entry) (map view args.now) b)) }
+        (λ b. spec.answer_of function name.now
+        (option_map (λ v. view v.now) receiver.entry) (map view args.now) b)) }
     ensures memory { IfErr result (λ e. e ≡ Refused.Memory) }
 {
     let first = first_operand(receiver, args);
@@ -164,7 +167,8 @@ pub fn answer_of_function(
     requires { function_named name.now ≡ Some function }
     ensures keeps { Extends (entries_of book.new) (entries_of book.old) }
     ensures value { IfOk result (λ r. HoldsForExtensions (entries_of book.new) (outcome_view r)
-        (λ b. spec.standard_answer name.now (option_map (λ v. view v.now) receiver.entry) (map view args.now) b)) }
+        (λ b. spec.standard_answer name.now
+        (option_map (λ v. view v.now) receiver.entry) (map view args.now) b)) }
     ensures memory { IfErr result (λ e. e ≡ Refused.Memory) }
 {
     answer_of(alloc, function, name, receiver, args, book)

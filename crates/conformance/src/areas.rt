@@ -13,7 +13,7 @@ fn find_of_whole(
     found: &mut Found,
 ) -> Result<bool, Stop> {
     match field.key.as_str() {
-        "errors" | "error parts" | "printed" | "copied" | "told apart" => {
+        "errors" | "error parts" | "printed" | "copied" | "distinguished" => {
             verdicts::find(alloc, &case::given(alloc, given)?, field, found)?;
         }
         "status" | "output" | "error output" => commands::find(alloc, given, field, found)?,
