@@ -1,4 +1,5 @@
 //! `int`, `uint`, `string` and `bytes`: values of one kind as values of another.
+ghost use Rattle.std.specs.Fmt.{decimal, signed_decimal};
 ghost use Rattle.std.specs.Prelude.{◌≡◌, Ok, pos, IfOk, IfErr, string_bytes};
 ghost use Rattle.cel_value.specs.Data as plain;
 ghost use Rattle.cel_value.specs.View.{view};
@@ -9,7 +10,8 @@ ghost use Rattle.cel_stdlib.specs.Conversions as spec;
 use crate::faults::function_error;
 use cel_semantics::operators::{Answer, no_such_overload};
 use cel_value::{ExecutionError, Refused, Value};
-use std::alloc::Global;
+use itoa::Buffer;
+use std::alloc::{AllocError, Global};
 use std::rc::Rc;
 
 fn read_int(text: &str) -> Option<i64>
@@ -95,6 +97,24 @@ fn text_answer(alloc: Global, text: String) -> Result<Answer, Refused>
     Ok(Ok(Value::from_text(alloc, text)?))
 }
 
+/// The decimal digits of an int, with a minus sign where it is negative.
+fn int_text(alloc: Global, number: i64) -> Result<String, AllocError>
+    ensures { IfOk result (λ t. string_bytes t ≡ signed_decimal number) }
+{
+    let mut digits = Buffer::new();
+    let text = digits.format(number);
+    String::from_str(alloc, text)
+}
+
+/// The decimal digits of a uint.
+fn uint_text(alloc: Global, number: u64) -> Result<String, AllocError>
+    ensures { IfOk result (λ t. string_bytes t ≡ decimal number) }
+{
+    let mut digits = Buffer::new();
+    let text = digits.format(number);
+    String::from_str(alloc, text)
+}
+
 /// The string of a string, an int, a uint, bytes, a timestamp or a duration.
 pub(crate) fn string(alloc: Global, value: &Value) -> Result<Answer, Refused>
     ensures value { IfOk result (λ r. outcome_view r ≡ spec.string_of (view value.now)) }
@@ -102,8 +122,8 @@ pub(crate) fn string(alloc: Global, value: &Value) -> Result<Answer, Refused>
 {
     match value {
         Value::String(text) => Ok(Ok(Value::String(text.clone()?))),
-        Value::Int(n) => text_answer(alloc, n.to_string(alloc)?),
-        Value::UInt(n) => text_answer(alloc, n.to_string(alloc)?),
+        Value::Int(n) => text_answer(alloc, int_text(alloc, *n)?),
+        Value::UInt(n) => text_answer(alloc, uint_text(alloc, *n)?),
         Value::Bytes(bytes) => text_answer(
             alloc,
             String::from_utf8_lossy(alloc, bytes.as_slice())?,

@@ -61,12 +61,15 @@ fn answer_of_two(
     }
 }
 
+// The layers of a call, this and those below, are inlined, since each of them would hand the answer on by a copy.
+#[inline(always)]
 fn nth(args: &[Value], place: usize) -> Option<&Value>
     ensures { option_map (λ v. view v.now) result ≡ nth_item place (items_view args.now) }
 {
     args.get(place)
 }
 
+#[inline(always)]
 fn first_operand<'a>(receiver: Option<&'a Value>, args: &'a [Value]) -> Option<&'a Value>
     ensures { option_map (λ v. view v.now) result
         ≡ spec.first_operand (option_map (λ v. view v.now) receiver.entry) (map view args.now) }
@@ -77,6 +80,7 @@ fn first_operand<'a>(receiver: Option<&'a Value>, args: &'a [Value]) -> Option<&
     }
 }
 
+#[inline(always)]
 fn second_operand<'a>(receiver: Option<&'a Value>, args: &'a [Value]) -> Option<&'a Value>
     ensures { option_map (λ v. view v.now) result
         ≡ spec.second_operand (option_map (λ v. view v.now) receiver.entry) (map view args.now) }
@@ -87,6 +91,7 @@ fn second_operand<'a>(receiver: Option<&'a Value>, args: &'a [Value]) -> Option<
     }
 }
 
+#[inline(always)]
 fn answer_of_both(
     alloc: Global,
     function: OfTwo,
@@ -109,6 +114,7 @@ fn answer_of_both(
     }
 }
 
+#[inline(always)]
 fn answer_of_first(
     alloc: Global,
     function: OfOne,
@@ -125,6 +131,7 @@ fn answer_of_first(
     }
 }
 
+#[inline(always)]
 fn answer_of(
     alloc: Global,
     function: Function,
@@ -153,6 +160,7 @@ fn answer_of(
 ///
 /// # Errors
 /// `Memory` alone.
+#[inline(always)]
 pub fn answer_of_function(
     alloc: Global,
     function: Function,

@@ -122,6 +122,7 @@ pub(crate) fn function_named(name: &str) -> Option<Function>
 }
 
 // As `v.f(..)`, with this number of arguments.
+#[inline(always)]
 fn is_method(wanted: usize, receiver: bool, count: usize) -> bool
     ensures { result ≡ spec.method wanted receiver count }
 {
@@ -129,12 +130,14 @@ fn is_method(wanted: usize, receiver: bool, count: usize) -> bool
 }
 
 // As `f(..)`.
+#[inline(always)]
 fn is_global(wanted: usize, receiver: bool, count: usize) -> bool
     ensures { result ≡ spec.global wanted receiver count }
 {
     !receiver && count == wanted
 }
 
+#[inline(always)]
 fn one_takes(function: OfOne, receiver: bool, count: usize) -> bool
     ensures { result ≡ spec.takes_one function receiver count }
 {
@@ -149,6 +152,7 @@ fn one_takes(function: OfOne, receiver: bool, count: usize) -> bool
     }
 }
 
+#[inline(always)]
 fn two_takes(function: OfTwo, receiver: bool, count: usize) -> bool
     ensures { result ≡ spec.takes_two function receiver count }
 {
@@ -158,6 +162,7 @@ fn two_takes(function: OfTwo, receiver: bool, count: usize) -> bool
     }
 }
 
+#[inline(always)]
 fn many_takes(receiver: bool, count: usize) -> bool
     ensures { result ≡ spec.takes_many receiver count }
 {
@@ -165,6 +170,7 @@ fn many_takes(receiver: bool, count: usize) -> bool
 }
 
 /// Whether the function is called so, with a receiver or without, with this number of arguments.
+#[inline(always)]
 pub(crate) fn takes(function: Function, receiver: bool, count: usize) -> bool
     ensures { result ≡ spec.takes function receiver count }
 {

@@ -10,10 +10,21 @@ use cel_semantics::operators::{Answer, no_such_overload};
 use cel_value::{ExecutionError, List, Map, Refused, Value};
 use std::alloc::Global;
 
-fn character_count(text: &str) -> usize
+fn counted_characters(text: &str) -> usize
     ensures { result ≡ length (chars text.now) }
 {
     text.chars().count()
+}
+
+/// How many characters a text has. In one of ASCII alone each byte is one, so that no character is read.
+fn character_count(text: &str) -> usize
+    ensures { result ≡ length (chars text.now) }
+{
+    if text.is_ascii() {
+        text.len()
+    } else {
+        counted_characters(text)
+    }
 }
 
 fn item_count(items: &List) -> usize

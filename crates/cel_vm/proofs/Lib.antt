@@ -6,3 +6,4 @@ pub mod Tops
 pub mod Rounds
 pub mod Sets
 pub mod Parts
+pub mod Missing

@@ -1,5 +1,5 @@
 //! The items of lists, and lists of items.
-ghost use Rattle.std.specs.Prelude.{◌≡◌, IfOk, IfErr, Ok, map, option_map};
+ghost use Rattle.std.specs.Prelude.{◌≡◌, ◌∷◌, ◌++◌, [], IfOk, IfErr, OnOk, Ok, map, option_map};
 ghost use Rattle.cel_value.specs.View.{view};
 ghost use Rattle.cel_semantics.specs.Arithmetic.{int_in};
 ghost use Rattle.cel_semantics.specs.Outcome.{outcome_view};
@@ -7,7 +7,7 @@ ghost use Rattle.kube_functions_lists.specs.Lists.{items_if_list, as_list, ints_
 
 use cel_semantics::operators::Answer;
 use cel_value::{Refused, Value};
-use std::alloc::Global;
+use std::alloc::{AllocError, Global};
 
 /// The items of a list.
 pub(crate) fn items_of(value: &Value) -> Option<&[Value]>
@@ -17,6 +17,19 @@ pub(crate) fn items_of(value: &Value) -> Option<&[Value]>
         Some(items) => Some(items.as_slice()),
         None => None,
     }
+}
+
+/// One more item at the end.
+// Where there is room, this is no more than some stores, so it is inlined.
+#[inline(always)]
+pub(crate) fn push_item(items: &mut Vec<Value>, item: Value) -> Result<(), AllocError>
+    ensures { OnOk result (items.new.items ≡ items.old.items ++ item ∷ []) }
+{
+    if items.capacity() <= items.len() {
+        items.reserve(1)?;
+    }
+    items.push_reserved(item);
+    Ok(())
 }
 
 /// The same items. What is large is shared.

@@ -5,7 +5,7 @@ ghost use Rattle.cel_value.specs.View.{view};
 ghost use Rattle.cel_semantics.specs.Outcome.{outcome_view};
 ghost use Rattle.kube_functions_lists.specs.Lists as spec;
 
-use crate::items::{as_int, list_of};
+use crate::items::{as_int, list_of, push_item};
 use cel_semantics::operators::{Answer, no_such_overload};
 use cel_stdlib::faults::function_error;
 use cel_value::{Refused, Value};
@@ -26,7 +26,7 @@ fn first_ints(alloc: Global, count: u64) -> Result<Vec<Value>, Refused>
 {
     let mut ints = Vec::with_capacity(alloc, count as usize)?;
     for number in 0..count {
-        ints.push(int_value(number))?;
+        push_item(&mut ints, int_value(number))?;
     }
     Ok(ints)
 }
