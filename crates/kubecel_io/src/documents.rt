@@ -3,7 +3,8 @@ ghost use Rattle.kubecel_io.specs.Documents.{all_read, documents, is_space, with
 ghost use Rattle.kubecel_io.specs.declared.cut.Mode.TheVariants.{Outside};
 ghost use Rattle.serde_json.specs.View.{view};
 ghost use Rattle.std.specs.List.{list_all};
-ghost use Rattle.std.specs.Prelude.{◌≡◌, ◌∷◌, [], ℕ, List, Some, IfOk, OnOk, map};
+ghost use Rattle.std.specs.Prelude.{◌≡◌, ◌∷◌, ◌++◌, [], ℕ, List, Some, None, IfOk, OnErr, OnOk, map};
+ghost use Rattle.std.specs.Str.{IsUtf8};
 
 use crate::cut::{Mode, is_space};
 use crate::place::{Fault, fault_at};
@@ -36,8 +37,12 @@ impl Reading {
     /// # Errors
     /// Why the document that ended here is no JSON.
     fn take(&mut self, alloc: Global, byte: u8) -> Result<Result<(), Error>, Refused>
-        ensures { IfOk result (λ r. OnOk r ((xs : List ℕ) → documents_left self.old (byte ∷ xs)
+        ensures read { IfOk result (λ r. OnOk r ((xs : List ℕ) → documents_left self.old (byte ∷ xs)
             ≡ documents_left self.new xs)) }
+        ensures whole { IfOk result (λ r. OnOk r ((xs : List ℕ) → IsUtf8 (self.old.piece.items ++ byte ∷ xs)
+            → IsUtf8 (self.new.piece.items ++ xs))) }
+        ensures refused { IfOk result (λ r. OnErr r ((xs : List ℕ) → IsUtf8 (self.old.piece.items ++ byte ∷ xs)
+            → documents_left self.old (byte ∷ xs) ≡ None)) }
     {
         let depth = self
             .mode
@@ -63,6 +68,8 @@ impl Reading {
             ≡ with_documents (map view self.new.found.items) (all_read rest))) }
         ensures begun { IfOk result (λ r. OnOk r ((self.new.mode ≡ Outside) × (self.new.depth ≡ 0)
             × (self.new.piece.items ≡ []))) }
+        ensures refused { IfOk result (λ r. OnErr r (IsUtf8 self.old.piece.items → (rest : List (List ℕ))
+            → all_read (with_piece self.old.piece.items rest) ≡ None)) }
     {
         if !is_blank(self.piece.as_slice()) {
             match Value::from_slice(alloc, self.piece.as_slice()) {
@@ -83,7 +90,8 @@ impl Reading {
 /// # Errors
 /// The place where a document is no JSON.
 pub fn documents_of(alloc: Global, text: &str) -> Result<Result<Vec<Value>, Fault>, Refused>
-    ensures { IfOk result (λ r. IfOk r (λ v. documents text.now ≡ Some (map view v.items))) }
+    ensures read { IfOk result (λ r. IfOk r (λ v. documents text.now ≡ Some (map view v.items))) }
+    ensures refused { IfOk result (λ r. OnErr r (documents text.now ≡ None)) }
 {
     let bytes = text.as_bytes();
     let mut reading = Reading {
