@@ -1,5 +1,5 @@
 //! Making values of parts, and finding the entries of maps.
-ghost use Rattle.std.specs.Prelude.{◌≡◌, IfOk, IfErr, MatchResult, IsSome, None, option_map, string_bytes};
+ghost use Rattle.std.specs.Prelude.{◌≡◌, IfOk, IfErr, OnErr, MatchResult, IsSome, None, option_map, string_bytes};
 ghost use Rattle.cel_value.specs.Data.{list, map_of, text};
 ghost use Rattle.cel_value.specs.Faults.{fault_view, duplicate_key};
 ghost use Rattle.cel_value.specs.Find.{find};
@@ -45,7 +45,7 @@ impl Value {
     }
 }
 
-/// Puts a new entry into a map, unless the key is there; then the map stays.
+/// Puts a new entry into a map, unless the key is there. The map stays where the key is there, and where the call is refused.
 ///
 /// # Errors
 /// `Memory`, also where the map would have more levels than [`MAX_VALUE_LEVELS`](crate::value::MAX_VALUE_LEVELS).
@@ -58,6 +58,7 @@ pub fn add_entry(
         (λ _. (find (key_view key) entries.old ≡ None) × (entries.new ≡ put (key_view key) (view value) entries.old))
         (λ e. (fault_view e ≡ duplicate_key) × IsSome (find (key_view key) entries.old))) }
     ensures kept { IfOk result (λ r. IfErr r (λ _. entries.new ≡ entries.old)) }
+    ensures refused { OnErr result (entries.new ≡ entries.old) }
     ensures memory { IfErr result (λ e. e ≡ Refused.Memory) }
 {
     if entries.get(&key).is_some() {

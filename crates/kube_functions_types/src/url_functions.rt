@@ -93,7 +93,7 @@ pub fn scheme(alloc: Global, value: &Value) -> Result<Answer, Refused>
     ensures memory { IfErr result (λ e. e ≡ Refused.Memory) }
 {
     match value {
-        Value::Url(url) => lent_answer(alloc, url.as_ref().scheme()),
+        Value::Url(url) => lent_answer(alloc, url.as_ref().scheme_str()),
         _ => wrong_kind(alloc, "getScheme"),
     }
 }
@@ -121,7 +121,7 @@ pub fn hostname(alloc: Global, value: &Value) -> Result<Answer, Refused>
     ensures memory { IfErr result (λ e. e ≡ Refused.Memory) }
 {
     match value {
-        Value::Url(url) => lent_answer(alloc, url.as_ref().hostname()),
+        Value::Url(url) => lent_answer(alloc, url.as_ref().hostname_str()),
         _ => wrong_kind(alloc, "getHostname"),
     }
 }
@@ -149,7 +149,7 @@ pub fn escaped_path(alloc: Global, value: &Value) -> Result<Answer, Refused>
     ensures memory { IfErr result (λ e. e ≡ Refused.Memory) }
 {
     match value {
-        Value::Url(url) => lent_answer(alloc, url.as_ref().escaped_path()),
+        Value::Url(url) => lent_answer(alloc, url.as_ref().escaped_path_str()),
         _ => wrong_kind(alloc, "getEscapedPath"),
     }
 }

@@ -111,6 +111,10 @@ contained outer inner out net all =
 pub containment : (outer inner : Network) → IsNetwork outer → IsNetwork inner → (encloses outer inner ≡ true) ↔ ((a : Address) → IsAddress a → holds inner a ≡ true → holds outer a ≡ true)
 containment outer inner out net = ((λ h a _ k. inside outer inner net h a k), contained outer inner out net)
 
+-- the same of the answer of a test
+pub containment_of : (outer inner : Network) (answer : Bool) → IsNetwork outer → IsNetwork inner → answer ≡ encloses outer inner → (answer ≡ true) ↔ ((a : Address) → IsAddress a → holds inner a ≡ true → holds outer a ≡ true)
+containment_of outer inner answer out net is = ((λ h a _ k. inside outer inner net (sym is ∙ h) a k), (λ all. is ∙ contained outer inner out net all))
+
 -- the first address of a set
 first_below : (c : Network) → IsNetwork c → first_bits c.prefix c.ip * 2 ^ (width c.ip - c.prefix) < 2 ^ width c.ip
 first_below c net = omega (arith, set_below c net, pow_pos (width c.ip - c.prefix))

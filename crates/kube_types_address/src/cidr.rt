@@ -2,14 +2,15 @@
 ghost use Rattle.std.specs.Char.{is_ascii_digit};
 ghost use Rattle.std.specs.List.{list_all, position};
 ghost use Rattle.std.specs.Option.{SomeIff};
-ghost use Rattle.std.specs.Prelude.{◌≡◌, ◌^◌, ◌<◌, ◌≤◌, true, length, Some, IfSome, option_map};
+ghost use Rattle.std.specs.Prelude.{◌≡◌, ◌↔◌, ◌^◌, ◌<◌, ◌≤◌, true, length, Some, IfSome, option_map};
 ghost use Rattle.std.specs.Str.Parse.{digits_value};
-ghost use Rattle.kube_types_address.specs.Addresses.{family, width};
+ghost use Rattle.kube_types_address.specs.Addresses.{Address, IsAddress, family, width};
 ghost use Rattle.kube_types_address.specs.CidrTexts.{around_slash, is_slash, is_plain, length_of, written_cidr, unmapped_cidr, cidr_of, cidr_text, IsCidrAnswer};
 ghost use Rattle.kube_types_address.specs.Prefixes.{holds, encloses, masked_network};
 ghost use Rattle.kube_types_address.specs.Shown.{address, part_texts};
 
 use crate::ip::KubeIP;
+use crate::laws::a_cidr_is_a_network;
 use std::{fmt, str};
 
 /// The addresses of one family whose first `prefix` bits are those of `written`.
@@ -112,8 +113,12 @@ impl KubeCIDR {
 
     /// Whether every address of `inner` is in the set.
     pub fn contains_cidr(&self, inner: KubeCIDR) -> bool
-        ensures { result ≡ encloses (network self.now) (network inner) }
+        ensures value { result ≡ encloses (network self.now) (network inner) }
+        ensures sets { (result ≡ true) ↔ ((a : Address) → IsAddress a → holds (network inner) a ≡ true
+            → holds (network self.now) a ≡ true) }
     {
+        a_cidr_is_a_network(self);
+        a_cidr_is_a_network(&inner);
         self.contains_ip(inner.ip()) && self.prefix_length() <= inner.prefix_length()
     }
 }

@@ -1,9 +1,36 @@
-//! Laws of addresses and CIDRs, over the definitions alone: each function here does nothing, and its contract is the law.
+//! Laws of addresses and CIDRs: each function here does nothing, and its contract is the law. All but the first two are over the
+//! definitions alone.
 ghost use Rattle.std.specs.Prelude.{◌≡◌, ◌≤◌, ◌↔◌, ℕ, List, true, false, Result, Ok};
 ghost use Rattle.kube_types_address.specs.Addresses.{Address, IsAddress, number, is_mapped};
 ghost use Rattle.kube_types_address.specs.CidrTexts.{IsCidrAnswer, cidr_of, cidr_text};
+ghost use Rattle.kube_types_address.specs.Networks.{network};
 ghost use Rattle.kube_types_address.specs.Prefixes.{Network, IsNetwork, holds, encloses, masked_network};
+ghost use Rattle.kube_types_address.specs.Shown.{address};
 ghost use Rattle.kube_types_address.specs.Texts.{IsIpAnswer, address_text, canonical_of, ip_of};
+
+use crate::{KubeCIDR, KubeIP};
+use std::net::IpAddr;
+
+/// A value holds an address: its parts are four numbers below 256, or eight below 65536.
+pub fn a_value_is_an_address(ip: &KubeIP)
+    ensures { IsAddress (address ip.now) }
+{
+    match ip.address {
+        IpAddr::V4(ip) => {
+            let _octets = ip.octets();
+        }
+        IpAddr::V6(ip) => {
+            let _groups = ip.segments();
+        }
+    }
+}
+
+/// A CIDR holds a network: the laws below hold of it.
+pub fn a_cidr_is_a_network(cidr: &KubeCIDR)
+    ensures { IsNetwork (network cidr.now) }
+{
+    a_value_is_an_address(&cidr.ip());
+}
 
 /// A text has one answer: that of `ip_of` alone is right by the grammar.
 pub fn a_text_has_one_answer()

@@ -8,3 +8,4 @@ pub mod Reading
 pub mod Scales
 pub mod Shown
 pub mod Sums
+pub mod Texts

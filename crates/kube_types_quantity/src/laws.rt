@@ -1,11 +1,13 @@
 //! Laws of quantities, over the definitions alone: each function here does nothing, and its contract is the law.
 ghost use Rattle.std.specs.Cmp.{IsTotalOrder};
 ghost use Rattle.std.specs.Int.{is_negative};
-ghost use Rattle.std.specs.Prelude.{◌≡◌, ◌↔◌, false, ℤ, pos};
+ghost use Rattle.std.specs.Prelude.{◌≡◌, ◌↔◌, false, ℕ, ℤ, pos, List, Some};
 ghost use Rattle.std.specs.declared.cmp.Ordering.TheVariants.{Equal};
 ghost use Rattle.kube_types_quantity.specs.Decimal.{Decimal, SameNumber, decimal_cmp, natural, times_ten_to};
 ghost use Rattle.kube_types_quantity.specs.Normal.{IsNormal, normal_form};
+ghost use Rattle.kube_types_quantity.specs.Reading.{quantity_of};
 ghost use Rattle.kube_types_quantity.specs.Sums.{decimal_at};
+ghost use Rattle.kube_types_quantity.specs.Texts.{IsQuantityText};
 
 /// The order of numbers is a total one, at every scale.
 pub fn order_is_total()
@@ -31,4 +33,9 @@ pub fn normal_form_keeps_the_number()
 pub fn integers_have_no_places()
     ensures { (x : Decimal) (z : ℤ) → IsNormal x → SameNumber x (decimal_at z (pos 0))
         ↔ ((is_negative x.scale ≡ false) × (z ≡ times_ten_to x.mantissa (natural x.scale))) }
+{}
+
+/// A text means a quantity exactly where it spells a number and a suffix, and then the number times the factor of the suffix.
+pub fn texts_mean_their_number()
+    ensures { (text : List ℕ) (x : Decimal) → (quantity_of text ≡ Some x) ↔ IsQuantityText text x }
 {}

@@ -16,7 +16,7 @@ use Rattle.std.specs.Prelude.{not, option_and_then}
 use Rattle.std.specs.Result.{result_ok}
 use Rattle.kube_types_semver.specs.Reading.{strictly, without_v, core_of, tail_of, is_number, number_text, full_text, normal_text, version_of}
 
-abbrev AreDigits : List ℕ → Type 0
+abbrev pub AreDigits : List ℕ → Type 0
 AreDigits xs = list_all is_ascii_digit xs ≡ true
 
 first_true : (a b : Bool) → (a && b) ≡ true → a ≡ true
@@ -28,7 +28,7 @@ second_true true b e = e
 second_true false b e = cc e
 
 -- a decimal number is digits
-decimal-digits : (n : ℕ) → n < 2 ^ 64 → AreDigits (decimal n)
+pub decimal-digits : (n : ℕ) → n < 2 ^ 64 → AreDigits (decimal n)
 decimal-digits n small = decimal_by_steps (λ _ ds. AreDigits ds)
     (λ k low. let d : is_ascii_digit (48 + k) ≡ true = grind arith in rw d refl)
     (λ k ds big ih.
@@ -65,36 +65,36 @@ digit-not : (b c : ℕ) → is_ascii_digit b ≡ true → is_ascii_digit c ≡ f
 digit-not b c d e = ne_eqb b c (λ same. cc (d, e, ap is_ascii_digit same))
 
 -- digits before a text go to its core
-core-digits : (ds text : List ℕ) → AreDigits ds → core_of (ds ++ text) ≡ ds ++ core_of text
+pub core-digits : (ds text : List ℕ) → AreDigits ds → core_of (ds ++ text) ≡ ds ++ core_of text
 unfolding core_of
 core-digits [] text h = refl
 core-digits (b ∷ ds) text h =
     let e = digit-not b 45 (first_true (is_ascii_digit b) (list_all is_ascii_digit ds) h) refl in
     rw e (ap (λ l. b ∷ l) (core-digits ds text (second_true (is_ascii_digit b) (list_all is_ascii_digit ds) h)))
 
-tail-digits : (ds text : List ℕ) → AreDigits ds → tail_of (ds ++ text) ≡ tail_of text
+pub tail-digits : (ds text : List ℕ) → AreDigits ds → tail_of (ds ++ text) ≡ tail_of text
 unfolding tail_of
 tail-digits [] text h = refl
 tail-digits (b ∷ ds) text h =
     let e = digit-not b 45 (first_true (is_ascii_digit b) (list_all is_ascii_digit ds) h) refl in
     rw e (tail-digits ds text (second_true (is_ascii_digit b) (list_all is_ascii_digit ds) h))
 
-core-dot : (text : List ℕ) → core_of (46 ∷ text) ≡ 46 ∷ core_of text
+pub core-dot : (text : List ℕ) → core_of (46 ∷ text) ≡ 46 ∷ core_of text
 unfolding core_of
 core-dot text = refl
 
-tail-dot : (text : List ℕ) → tail_of (46 ∷ text) ≡ tail_of text
+pub tail-dot : (text : List ℕ) → tail_of (46 ∷ text) ≡ tail_of text
 unfolding tail_of
 tail-dot text = refl
 
 -- digits are the first part
-parts-dot : (ds text : List ℕ) → AreDigits ds → parts (ds ++ 46 ∷ text) ≡ ds ∷ parts text
+pub parts-dot : (ds text : List ℕ) → AreDigits ds → parts (ds ++ 46 ∷ text) ≡ ds ∷ parts text
 parts-dot [] text h = refl
 parts-dot (b ∷ ds) text h =
     let e = digit-not b 46 (first_true (is_ascii_digit b) (list_all is_ascii_digit ds) h) refl in
     rw (e, parts-dot ds text (second_true (is_ascii_digit b) (list_all is_ascii_digit ds) h)) refl
 
-parts-one : (ds : List ℕ) → AreDigits ds → parts ds ≡ ds ∷ []
+pub parts-one : (ds : List ℕ) → AreDigits ds → parts ds ≡ ds ∷ []
 parts-one [] h = refl
 parts-one (b ∷ ds) h =
     let e = digit-not b 46 (first_true (is_ascii_digit b) (list_all is_ascii_digit ds) h) refl in
@@ -123,16 +123,16 @@ plus_no_numbers ds text h =
     rw (shape.2, not_number (ds ++ 43 ∷ shape.0) (not_digits ds shape.0)) refl
 
 -- the three numbers of a version, with dots after the first two
-abbrev dotted : List ℕ → List ℕ → List ℕ → List ℕ → List ℕ
+abbrev pub dotted : List ℕ → List ℕ → List ℕ → List ℕ → List ℕ
 dotted a b c rest = a ++ (46 ∷ (b ++ (46 ∷ (c ++ rest))))
 
-dotted-core : (a b c rest : List ℕ) → AreDigits a → AreDigits b → AreDigits c → core_of (dotted a b c rest) ≡ dotted a b c (core_of rest)
+pub dotted-core : (a b c rest : List ℕ) → AreDigits a → AreDigits b → AreDigits c → core_of (dotted a b c rest) ≡ dotted a b c (core_of rest)
 dotted-core a b c rest x y z = rw (core-digits a (46 ∷ (b ++ (46 ∷ (c ++ rest)))) x, core-dot (b ++ (46 ∷ (c ++ rest))), core-digits b (46 ∷ (c ++ rest)) y, core-dot (c ++ rest), core-digits c rest z) refl
 
-dotted-tail : (a b c rest : List ℕ) → AreDigits a → AreDigits b → AreDigits c → tail_of (dotted a b c rest) ≡ tail_of rest
+pub dotted-tail : (a b c rest : List ℕ) → AreDigits a → AreDigits b → AreDigits c → tail_of (dotted a b c rest) ≡ tail_of rest
 dotted-tail a b c rest x y z = rw (tail-digits a (46 ∷ (b ++ (46 ∷ (c ++ rest)))) x, tail-dot (b ++ (46 ∷ (c ++ rest))), tail-digits b (46 ∷ (c ++ rest)) y, tail-dot (c ++ rest), tail-digits c rest z) refl
 
-dotted-parts : (a b c rest : List ℕ) → AreDigits a → AreDigits b → parts (dotted a b c rest) ≡ a ∷ b ∷ parts (c ++ rest)
+pub dotted-parts : (a b c rest : List ℕ) → AreDigits a → AreDigits b → parts (dotted a b c rest) ≡ a ∷ b ∷ parts (c ++ rest)
 dotted-parts a b c rest x y = rw (parts-dot a (b ++ (46 ∷ (c ++ rest))) x, parts-dot b (c ++ rest) y) refl
 
 -- three numbers with a hyphen after them, or with nothing
@@ -165,24 +165,24 @@ plus_stays k m n rest x y z =
     let pieces = dotted-parts (decimal k) (decimal m) (decimal n) (43 ∷ core_of rest) a b in
     rw (cut, pieces, decimal-is_number k x, decimal-is_number m y, plus_no_numbers (decimal n) (core_of rest) c) refl
 
-hyphen-core : (rest : List ℕ) → core_of (45 ∷ rest) ≡ []
+pub hyphen-core : (rest : List ℕ) → core_of (45 ∷ rest) ≡ []
 unfolding core_of
 hyphen-core rest = refl
 
-hyphen-tail : (rest : List ℕ) → tail_of (45 ∷ rest) ≡ 45 ∷ rest
+pub hyphen-tail : (rest : List ℕ) → tail_of (45 ∷ rest) ≡ 45 ∷ rest
 unfolding tail_of
 hyphen-tail rest = refl
 
-empty-core : core_of [] ≡ []
+pub empty-core : core_of [] ≡ []
 unfolding core_of
 empty-core = refl
 
-empty-tail : tail_of [] ≡ []
+pub empty-tail : tail_of [] ≡ []
 unfolding tail_of
 empty-tail = refl
 
 -- the text of a version stays
-version_stays : (k m n : ℕ) (pre build : List ℕ) → k < 2 ^ 64 → m < 2 ^ 64 → n < 2 ^ 64
+pub version_stays : (k m n : ℕ) (pre build : List ℕ) → k < 2 ^ 64 → m < 2 ^ 64 → n < 2 ^ 64
     → normal_text (parts_text (k, m, n, pre, build)) ≡ Some (parts_text (k, m, n, pre, build))
 version_stays k m n [] [] x y z = numbers_stay k m n [] x y z empty-core empty-tail
 version_stays k m n [] (b ∷ build) x y z = plus_stays k m n (b ∷ build) x y z
@@ -196,7 +196,7 @@ digits_keep_v (b ∷ ds) rest h some =
     let d = first_true (is_ascii_digit b) (list_all is_ascii_digit ds) h in
     rw (digit-not b 118 d refl, digit-not b 86 d refl) refl
 
-strict_reads : (r : Result Parts Error) (p : Parts) → result_ok r ≡ Some p → r ≡ Ok p
+pub strict_reads : (r : Result Parts Error) (p : Parts) → result_ok r ≡ Some p → r ≡ Ok p
 strict_reads (Ok q) p e = ap Ok (let some : Some q ≡ Some p = e in cc some)
 strict_reads (Err q) p e = cc e
 

@@ -1,2 +1,3 @@
 pub mod Lenient
 pub mod Texts
+pub mod TextsOf

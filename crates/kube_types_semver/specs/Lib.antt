@@ -1,3 +1,4 @@
+pub mod LenientTexts
 pub mod Order
 pub mod OrderLaws
 pub mod Reading

@@ -3,6 +3,7 @@ ghost use Rattle.semver.specs.Parse.{Parts};
 ghost use Rattle.std.specs.Cmp.{IsTotalOrder};
 ghost use Rattle.std.specs.Prelude.{◌≡◌, ◌↔◌, ℕ, List, ◌∷◌, true, false, Some};
 ghost use Rattle.std.specs.declared.cmp.Ordering.TheVariants.{Equal};
+ghost use Rattle.kube_types_semver.specs.LenientTexts.{IsVersionText, IsLenientText};
 ghost use Rattle.kube_types_semver.specs.Order.{parts_cmp, same_parts};
 ghost use Rattle.kube_types_semver.specs.Reading.{version_of, without_v};
 
@@ -30,4 +31,11 @@ pub fn lenient_keeps_versions()
 pub fn lenient_drops_one_v()
     ensures small { (text : List ℕ) → without_v text ≡ text → version_of true (118 ∷ text) ≡ version_of true text }
     ensures capital { (text : List ℕ) → without_v text ≡ text → version_of true (86 ∷ text) ≡ version_of true text }
+{}
+
+/// A text is read strictly as a version exactly where it is that version by SemVer 2.0, and leniently exactly where it is that but for
+/// one `v` before it, for zeros before its numbers, and for numbers that are missing.
+pub fn texts_mean_their_version()
+    ensures strict { (text : List ℕ) (p : Parts) → (version_of false text ≡ Some p) ↔ IsVersionText text p }
+    ensures lenient { (text : List ℕ) (p : Parts) → (version_of true text ≡ Some p) ↔ IsLenientText text p }
 {}

@@ -43,7 +43,17 @@ impl KubeUrl {
     }
 
     /// The scheme, and an empty text for a path.
-    pub fn scheme(&self) -> &str
+    ///
+    /// Answers `Refused::Memory` where memory is refused.
+    pub fn scheme(&self, alloc: Global) -> Result<String, Refused>
+        ensures answer { IfOk result (λ scheme. string_bytes scheme ≡ scheme_of (url_view self.now)) }
+        ensures memory { IfErr result (λ e. e ≡ Memory) }
+    {
+        Ok(String::from_str(alloc, self.scheme_str())?)
+    }
+
+    /// The scheme, lent.
+    pub fn scheme_str(&self) -> &str
         ensures { result.now ≡ scheme_of (url_view self.now) }
     {
         if self.is_path { "" } else { self.url.scheme() }
@@ -67,7 +77,17 @@ impl KubeUrl {
     }
 
     /// The host without a port, and without the brackets of an IPv6 address: `localhost` for a path, and an empty text for no host.
-    pub fn hostname(&self) -> &str
+    ///
+    /// Answers `Refused::Memory` where memory is refused.
+    pub fn hostname(&self, alloc: Global) -> Result<String, Refused>
+        ensures answer { IfOk result (λ name. string_bytes name ≡ hostname_of (url_view self.now)) }
+        ensures memory { IfErr result (λ e. e ≡ Memory) }
+    {
+        Ok(String::from_str(alloc, self.hostname_str())?)
+    }
+
+    /// The host without a port and brackets, lent.
+    pub fn hostname_str(&self) -> &str
         ensures { result.now ≡ hostname_of (url_view self.now) }
     {
         if self.is_path {
@@ -94,7 +114,17 @@ impl KubeUrl {
     }
 
     /// The path, percent-encoded.
-    pub fn escaped_path(&self) -> &str
+    ///
+    /// Answers `Refused::Memory` where memory is refused.
+    pub fn escaped_path(&self, alloc: Global) -> Result<String, Refused>
+        ensures answer { IfOk result (λ path. string_bytes path ≡ self.now.url.path) }
+        ensures memory { IfErr result (λ e. e ≡ Memory) }
+    {
+        Ok(String::from_str(alloc, self.escaped_path_str())?)
+    }
+
+    /// The path, percent-encoded and lent.
+    pub fn escaped_path_str(&self) -> &str
         ensures { result.now ≡ self.now.url.path }
     {
         self.url.path()

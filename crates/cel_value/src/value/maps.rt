@@ -77,6 +77,7 @@ impl Map {
     pub(crate) fn insert_new(&mut self, key: Key, value: Value) -> Result<(), Refused>
         requires { find (key_view key) self.now ≡ None }
         ensures added { OnOk result (self.new ≡ put (key_view key) (view value) self.old) }
+        ensures unchanged { OnErr result (self.new ≡ self.old) }
         ensures memory { IfErr result (λ e. e ≡ Refused.Memory) }
     {
         let doubles = value.holds_double();
