@@ -1,4 +1,4 @@
 pub mod Books
 pub mod Entries
 mod Answered
-mod Places
+mod SpanLemmas

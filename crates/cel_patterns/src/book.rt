@@ -25,7 +25,7 @@ const MOST_BYTES: usize = 64 << 20;
 #[derive(Drop)]
 pub struct PatternBook {
     alloc: Global,
-    /// Where the pattern of a text was put, or none where the text was refused.
+    /// The slot of each text's pattern, or `None` where the text was refused.
     answers: BTreeMap<String, Option<usize>>,
     patterns: Vec<Pattern>,
     /// About how many bytes the patterns take.
@@ -61,7 +61,7 @@ impl PatternBook {
         }
     }
 
-    /// Keeps a pattern, and gives its place. Where there are too many it forgets the others.
+    /// Keeps a pattern, and gives its slot. Where there are too many it forgets the others.
     fn keep(&mut self, pattern: Pattern) -> Result<usize, Refused>
         ensures slot { IfOk result (λ slot.
             IsStoredAt self.new.patterns.items slot (string_bytes pattern.text)) }
@@ -79,10 +79,10 @@ impl PatternBook {
         Ok(slot)
     }
 
-    /// Builds a text, and gives the place of its pattern, or none where it is refused.
+    /// Builds a text, and gives the slot of its pattern, or `None` where the text is refused.
     ///
     /// `again` says that it was built before. It isn't refused now then, and if it were, for want of memory.
-    fn place_of(&mut self, pattern: &str, again: bool) -> Result<Option<usize>, Refused>
+    fn slot_of(&mut self, pattern: &str, again: bool) -> Result<Option<usize>, Refused>
         ensures slot { IfOk result (λ found.
             IfSome found (λ slot. IsStoredAt self.new.patterns.items slot pattern.now)) }
         ensures reads { IfOk result (λ found. IsSome found → IsSome (pattern_of_text pattern.now)) }
@@ -108,22 +108,24 @@ impl PatternBook {
     fn build(&mut self, pattern: &str, again: bool) -> Result<Option<usize>, Refused>
         requires { entries_of self.old pattern.now ≡ (if again then Some true else None) }
         ensures kept { Extends (entries_of self.new) (entries_of self.old) }
-        ensures others { (text : List ℕ) → text ≢ pattern.now → entries_of self.new text ≡ entries_of self.old text }
+        ensures others { (text : List ℕ) → text ≢ pattern.now
+            → entries_of self.new text ≡ entries_of self.old text }
         ensures answer { IfOk result (λ found. entries_of self.new pattern.now ≡ Some (is_some found)) }
         ensures slot { IfOk result (λ found.
             IfSome found (λ slot. IsStoredAt self.new.patterns.items slot pattern.now)) }
         ensures memory { IfErr result (λ e. e ≡ Refused.Memory) }
     {
-        let slot = self.place_of(pattern, again)?;
+        let slot = self.slot_of(pattern, again)?;
         let key = String::from_str(self.alloc, pattern)?;
         self.answers.insert(key, slot)?;
         Ok(slot)
     }
 
-    /// Where the pattern of a text is kept, or none where the text is refused.
+    /// The slot of the pattern of a text, or `None` where the text is refused.
     fn ask(&mut self, pattern: &str) -> Result<Option<usize>, Refused>
         ensures kept { Extends (entries_of self.new) (entries_of self.old) }
-        ensures others { (text : List ℕ) → text ≢ pattern.now → entries_of self.new text ≡ entries_of self.old text }
+        ensures others { (text : List ℕ) → text ≢ pattern.now
+            → entries_of self.new text ≡ entries_of self.old text }
         ensures answer { IfOk result (λ found. entries_of self.new pattern.now ≡ Some (is_some found)) }
         ensures slot { IfOk result (λ found.
             IfSome found (λ slot. IsStoredAt self.new.patterns.items slot pattern.now)) }
@@ -171,17 +173,20 @@ impl PatternBook {
         self.patterns[slot].find_all(self.alloc, text, limit)
     }
 
-    /// Whether the pattern matches somewhere in the text, or none where the pattern is refused.
+    /// Whether the pattern matches somewhere in the text, or `None` where the pattern is refused.
     ///
     /// # Errors
     /// `Memory` alone. The book keeps its entries then, too.
     pub fn matches(&mut self, pattern: &str, text: &str) -> Result<Option<bool>, Refused>
         ensures kept { Extends (entries_of self.new) (entries_of self.old) }
-        ensures others { (other : List ℕ) → other ≢ pattern.now → entries_of self.new other ≡ entries_of self.old other }
+        ensures others { (other : List ℕ) → other ≢ pattern.now
+            → entries_of self.new other ≡ entries_of self.old other }
         ensures held { IfOk result (λ _. IsSome (entries_of self.new pattern.now)) }
         ensures book { IsBook (entries_of self.new) }
-        ensures answer { IfOk result (λ found. HoldsForExtensions (entries_of self.new) found (λ book. matched_by book pattern.now text.now)) }
-        ensures refused { IfOk result (λ found. (found ≡ None) ↔ IsRefused (entries_of self.new) pattern.now) }
+        ensures answer { IfOk result (λ found. HoldsForExtensions (entries_of self.new) found
+            (λ book. matched_by book pattern.now text.now)) }
+        ensures refused { IfOk result
+            (λ found. (found ≡ None) ↔ IsRefused (entries_of self.new) pattern.now) }
         ensures memory { IfErr result (λ e. e ≡ Refused.Memory) }
     {
         match self.ask(pattern)? {
@@ -190,7 +195,7 @@ impl PatternBook {
         }
     }
 
-    /// The byte spans where the pattern matches, the first `limit` or all, or none where the pattern is refused.
+    /// The byte spans where the pattern matches, the first `limit` or all, or `None` where the pattern is refused.
     ///
     /// The matches go from the left and do not overlap.
     ///
@@ -203,11 +208,14 @@ impl PatternBook {
         limit: Option<usize>,
     ) -> Result<Option<Vec<(usize, usize)>>, Refused>
         ensures kept { Extends (entries_of self.new) (entries_of self.old) }
-        ensures others { (other : List ℕ) → other ≢ pattern.now → entries_of self.new other ≡ entries_of self.old other }
+        ensures others { (other : List ℕ) → other ≢ pattern.now
+            → entries_of self.new other ≡ entries_of self.old other }
         ensures held { IfOk result (λ _. IsSome (entries_of self.new pattern.now)) }
         ensures book { IsBook (entries_of self.new) }
-        ensures answer { IfOk result (λ found. HoldsForExtensions (entries_of self.new) (option_map (λ v. v.items) found) (λ book. found_by book pattern.now text.now limit)) }
-        ensures refused { IfOk result (λ found. (found ≡ None) ↔ IsRefused (entries_of self.new) pattern.now) }
+        ensures answer { IfOk result (λ found. HoldsForExtensions (entries_of self.new)
+            (option_map (λ v. v.items) found) (λ book. found_by book pattern.now text.now limit)) }
+        ensures refused { IfOk result
+            (λ found. (found ≡ None) ↔ IsRefused (entries_of self.new) pattern.now) }
         ensures within { IfOk result (λ found. IfSome found (λ v. All (IsSpanIn text.now) v.items)) }
         ensures memory { IfErr result (λ e. e ≡ Refused.Memory) }
     {

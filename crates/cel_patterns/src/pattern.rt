@@ -22,7 +22,7 @@ const MOST_BYTES: usize = 10 << 20;
 /// How many bytes a pattern's searches may keep.
 const STORED_BYTES: usize = 1 << 18;
 
-/// The states that find what the tree means, or none where they would be too large.
+/// The states that find what the tree means, or `None` where they would be too large.
 fn states_of(alloc: Global, tree: &Hir, groups: usize) -> Result<Option<Dfa>, Refused>
     ensures states { IfOk result (λ found. IfSome found (λ dfa. Implements dfa.nfa (meaning tree.now))) }
     ensures memory { IfErr result (λ e. e ≡ Refused.Memory) }
@@ -42,7 +42,7 @@ fn states_of(alloc: Global, tree: &Hir, groups: usize) -> Result<Option<Dfa>, Re
     }
 }
 
-/// The states of a text, or none where it is refused for another cause than memory.
+/// The states of a text, or `None` where it is refused for another cause than memory.
 fn dfa_of(alloc: Global, text: &str) -> Result<Option<Dfa>, Refused>
     ensures built { IfOk result (λ found. IfSome found (IsDfaOf text.now)) }
     ensures memory { IfErr result (λ e. e ≡ Refused.Memory) }
@@ -82,7 +82,7 @@ pub(crate) struct Pattern {
 }
 
 impl Pattern {
-    /// The pattern of a text, or none where it is refused for another cause than memory.
+    /// The pattern of a text, or `None` where it is refused for another cause than memory.
     pub(crate) fn new(alloc: Global, text: &str) -> Result<Option<Pattern>, Refused>
         ensures text { IfOk result (λ found. IfSome found (λ p. string_bytes p.text ≡ text.now)) }
         ensures memory { IfErr result (λ e. e ≡ Refused.Memory) }
@@ -105,7 +105,7 @@ impl Pattern {
         STORED_BYTES.saturating_add(parts.saturating_mul(64))
     }
 
-    /// Whether it matches somewhere in an ASCII text, by its states alone. None where they give up, and for others.
+    /// Whether it matches somewhere in an ASCII text, by its states alone. `None` where they give up, and for any other text.
     fn tabled(&mut self, text: &str) -> Option<bool>
         ensures found { IfSome result (IsMatchAnswer (string_bytes self.old.text) text.now) }
         ensures text { self.new.text ≡ self.old.text }

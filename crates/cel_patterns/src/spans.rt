@@ -43,7 +43,8 @@ pub(crate) fn spans_in(
     text: &str,
     limit: Option<usize>,
 ) -> Result<Vec<(usize, usize)>, AllocError>
-    ensures value { IfOk result (λ v. v.items ≡ first_of limit (map span (find_all_str (matcher_pattern matcher.old) text.now))) }
+    ensures value { IfOk result
+        (λ v. v.items ≡ first_of limit (map span (find_all_str (matcher_pattern matcher.old) text.now))) }
     ensures within { IfOk result (λ v. All (IsSpanIn text.now) v.items) }
 {
     spans_of(alloc, matcher.find_iter(text), limit)

@@ -27,7 +27,7 @@ named_bindings es = map (λ e. (string_bytes e.0, view e.1)) es
 abbrev pub names_of : Names → Bindings
 names_of n = named_bindings n.first.items ++ named_bindings n.others.entries
 
--- the first of these entries with this name stands at the place
+-- the first of these entries with this name stands at the index
 abbrev pub IsFirst : List ℕ → List (String Global × Value) → ℕ → Type 0
 IsFirst x [] i = ⊥
 IsFirst x (e ∷ es) zero = bytes_eq x (string_bytes e.0) ≡ true

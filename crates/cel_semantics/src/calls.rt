@@ -51,7 +51,8 @@ pub fn call<F: Functions>(
     requires { (F.library functions.now).form_of name.now (is_some receiver) (length args.now) ≡ Form.Known }
     ensures keeps { Extends (entries_of book.new) (entries_of book.old) }
     ensures value { IfOk result (λ r. HoldsForExtensions (entries_of book.new) (outcome_view r)
-        (λ b. call_outcome (F.library functions.now) b name.now (option_map (λ v. view v.now) receiver.entry) (map view args.now))) }
+        (λ b. call_outcome (F.library functions.now) b name.now
+        (option_map (λ v. view v.now) receiver.entry) (map view args.now))) }
     ensures memory { IfErr result (λ e. e ≡ Refused.Memory) }
 {
     if receiver_holds_double(receiver) || any_holds_double(args) {

@@ -54,6 +54,7 @@ pub trait Functions: Copy {
             ≡ Form.Known }
         ensures keeps { Extends (entries_of book.new) (entries_of book.old) }
         ensures value { IfOk result (λ r. HoldsForExtensions (entries_of book.new) (outcome_view r)
-            ((library self.now).answer_of name.now (option_map (λ v. view v.now) receiver.entry) (map view args.now))) }
+            ((library self.now).answer_of name.now
+            (option_map (λ v. view v.now) receiver.entry) (map view args.now))) }
         ensures memory { IfErr result (λ e. e ≡ Refused.Memory) };
 }

@@ -31,7 +31,8 @@ fn keep(
     item: &Value,
     answer: Answer,
 ) -> Result<Result<Option<Value>, ExecutionError>, Refused>
-    ensures value { IfOk result (λ g. iteration_result_view g ≡ and_then (truth name.now (outcome_view answer)) (λ b. Ok (item_if (view item.now) b))) }
+    ensures value { IfOk result (λ g. iteration_result_view g
+        ≡ and_then (truth name.now (outcome_view answer)) (λ b. Ok (item_if (view item.now) b))) }
     ensures memory { IfErr result (λ e. e ≡ Refused.Memory) }
 {
     match answer {

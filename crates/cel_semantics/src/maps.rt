@@ -15,7 +15,8 @@ use std::alloc::Global;
 use std::rc::Rc;
 
 fn insert_copy(copy: &mut Entries, key: &Key, value: &Value) -> Result<(), Refused>
-    ensures written { OnOk result (entries_view copy.new.entries ≡ with_entry (key_view key.now) (view value.now) (entries_view copy.old.entries)) }
+    ensures written { OnOk result (entries_view copy.new.entries
+        ≡ with_entry (key_view key.now) (view value.now) (entries_view copy.old.entries)) }
     ensures memory { IfErr result (λ e. e ≡ Refused.Memory) }
 {
     let same_key = key.try_clone()?;
@@ -48,7 +49,8 @@ fn owned(alloc: Global, shared: Rc<Map>) -> Result<Map, Refused>
 
 #[tactic(auto, using(crate::proofs::MapCopies::entry_is_new, crate::proofs::MapCopies::entry_is_old))]
 fn add(alloc: Global, shared: Rc<Map>, key: Key, value: &Value) -> Result<Answer, Refused>
-    ensures value { IfOk result (λ r. outcome_view r ≡ new_entry shared.value (view value.now) (find (key_view key) shared.value) (key_view key)) }
+    ensures value { IfOk result (λ r. outcome_view r
+        ≡ new_entry shared.value (view value.now) (find (key_view key) shared.value) (key_view key)) }
     ensures memory { IfErr result (λ e. e ≡ Refused.Memory) }
 {
     let mut entries = owned(alloc, shared)?;
@@ -60,7 +62,8 @@ fn add(alloc: Global, shared: Rc<Map>, key: Key, value: &Value) -> Result<Answer
 
 #[tactic(auto, using(crate::proofs::MapCopies::put_at_none))]
 fn add_at(alloc: Global, shared: Rc<Map>, key: &Value, value: &Value) -> Result<Answer, Refused>
-    ensures value { IfOk result (λ r. outcome_view r ≡ put_in (map_of shared.value) (view key.now) (view value.now)) }
+    ensures value { IfOk result
+        (λ r. outcome_view r ≡ put_in (map_of shared.value) (view key.now) (view value.now)) }
     ensures memory { IfErr result (λ e. e ≡ Refused.Memory) }
 {
     match key_from(key)? {

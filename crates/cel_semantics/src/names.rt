@@ -97,7 +97,8 @@ fn mapped<'n>(names: &'n BTreeMap<String, Value>, name: &str) -> Option<&'n Valu
 
 /// Where the name stands first in a list.
 fn index_of(names: &Vec<(String, Value)>, name: &str) -> Option<usize>
-    ensures slot { MatchOption result (binding name.now (named_bindings names.now.items) ≡ None) (λ i. IsFirst name.now names.now.items i) }
+    ensures slot { MatchOption result (binding name.now (named_bindings names.now.items) ≡ None)
+        (λ i. IsFirst name.now names.now.items i) }
     ensures within { IfSome result (λ i. i < length names.now.items) }
 {
     for i in 0..names.len() {

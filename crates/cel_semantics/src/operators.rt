@@ -47,7 +47,7 @@ pub(crate) fn double_fault(alloc: Global) -> Result<ExecutionError, Refused>
 pub enum Progress {
     /// One of them decides.
     Decided,
-    /// None does. The first fault among them, if there is one.
+    /// None of them decides. The first fault among them, if there is one.
     Open(Option<ExecutionError>),
 }
 
@@ -62,7 +62,8 @@ pub fn absorb(
     fault: Option<ExecutionError>,
     answer: Answer,
 ) -> Result<Progress, Refused>
-    ensures value { IfOk result (λ p. Absorbs stop name.now (option_map fault_view fault) (outcome_view answer) p) }
+    ensures value { IfOk result
+        (λ p. Absorbs stop name.now (option_map fault_view fault) (outcome_view answer) p) }
     ensures memory { IfErr result (λ e. e ≡ Refused.Memory) }
 {
     match answer {
@@ -81,7 +82,8 @@ fn absorb_value(
     fault: Option<ExecutionError>,
     value: &Value,
 ) -> Result<Progress, Refused>
-    ensures value { IfOk result (λ p. Absorbs stop name.now (option_map fault_view fault) (Ok (view value.now)) p) }
+    ensures value { IfOk result
+        (λ p. Absorbs stop name.now (option_map fault_view fault) (Ok (view value.now)) p) }
     ensures memory { IfErr result (λ e. e ≡ Refused.Memory) }
 {
     match value {

@@ -11,7 +11,8 @@ use std::rc::Rc;
 
 /// Copies of the items, at the end.
 pub(crate) fn push_copies(values: &mut Vec<Value>, items: &[Value]) -> Result<(), Refused>
-    ensures pushed { OnOk result (map view values.new.items ≡ map view values.old.items ++ map view items.now) }
+    ensures pushed { OnOk result (map view values.new.items
+        ≡ map view values.old.items ++ map view items.now) }
     ensures memory { IfErr result (λ e. e ≡ Refused.Memory) }
 {
     for item in items {

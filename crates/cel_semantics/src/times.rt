@@ -30,14 +30,16 @@ fn checked_duration(length: Option<Duration>) -> Answer
 
 #[tactic(auto, using(crate::proofs::Instants::timestamp_checked))]
 fn later(start: Timestamp, length: Duration) -> Answer
-    ensures { outcome_view result ≡ timestamp_or_overflow (instant start +ℤ length.nanoseconds) start.offset_minutes }
+    ensures { outcome_view result
+        ≡ timestamp_or_overflow (instant start +ℤ length.nanoseconds) start.offset_minutes }
 {
     checked_timestamp(start.checked_add(length))
 }
 
 #[tactic(auto, using(crate::proofs::Instants::timestamp_checked))]
 fn earlier(end: Timestamp, length: Duration) -> Answer
-    ensures { outcome_view result ≡ timestamp_or_overflow (instant end -ℤ length.nanoseconds) end.offset_minutes }
+    ensures { outcome_view result
+        ≡ timestamp_or_overflow (instant end -ℤ length.nanoseconds) end.offset_minutes }
 {
     checked_timestamp(end.checked_sub(length))
 }
@@ -69,7 +71,8 @@ pub(crate) fn add_to_timestamp(
     start: Timestamp,
     right: &Value,
 ) -> Result<Answer, Refused>
-    ensures value { IfOk result (λ r. outcome_view r ≡ sum_of (timestamp (instant start) start.offset_minutes) (view right.now)) }
+    ensures value { IfOk result
+        (λ r. outcome_view r ≡ sum_of (timestamp (instant start) start.offset_minutes) (view right.now)) }
     ensures memory { IfErr result (λ e. e ≡ Refused.Memory) }
 {
     match right {
@@ -84,7 +87,8 @@ pub(crate) fn add_to_duration(
     length: Duration,
     right: &Value,
 ) -> Result<Answer, Refused>
-    ensures value { IfOk result (λ r. outcome_view r ≡ sum_of (duration length.nanoseconds) (view right.now)) }
+    ensures value { IfOk result
+        (λ r. outcome_view r ≡ sum_of (duration length.nanoseconds) (view right.now)) }
     ensures memory { IfErr result (λ e. e ≡ Refused.Memory) }
 {
     match right {
@@ -100,7 +104,8 @@ pub(crate) fn subtract_from_timestamp(
     end: Timestamp,
     right: &Value,
 ) -> Result<Answer, Refused>
-    ensures value { IfOk result (λ r. outcome_view r ≡ difference_of (timestamp (instant end) end.offset_minutes) (view right.now)) }
+    ensures value { IfOk result
+        (λ r. outcome_view r ≡ difference_of (timestamp (instant end) end.offset_minutes) (view right.now)) }
     ensures memory { IfErr result (λ e. e ≡ Refused.Memory) }
 {
     match right {
@@ -116,7 +121,8 @@ pub(crate) fn subtract_from_duration(
     length: Duration,
     right: &Value,
 ) -> Result<Answer, Refused>
-    ensures value { IfOk result (λ r. outcome_view r ≡ difference_of (duration length.nanoseconds) (view right.now)) }
+    ensures value { IfOk result
+        (λ r. outcome_view r ≡ difference_of (duration length.nanoseconds) (view right.now)) }
     ensures memory { IfErr result (λ e. e ≡ Refused.Memory) }
 {
     match right {

@@ -63,10 +63,10 @@ fn answer_of_two(
 
 // The layers of a call, this and those below, are inlined, since each of them would hand the answer on by a copy.
 #[inline(always)]
-fn nth(args: &[Value], place: usize) -> Option<&Value>
-    ensures { option_map (λ v. view v.now) result ≡ nth_item place (items_view args.now) }
+fn nth(args: &[Value], index: usize) -> Option<&Value>
+    ensures { option_map (λ v. view v.now) result ≡ nth_item index (items_view args.now) }
 {
-    args.get(place)
+    args.get(index)
 }
 
 #[inline(always)]
@@ -102,7 +102,8 @@ fn answer_of_both(
 ) -> Result<Answer, Refused>
     ensures keeps { Extends (entries_of book.new) (entries_of book.old) }
     ensures value { IfOk result (λ r. HoldsForExtensions (entries_of book.new) (outcome_view r)
-        (λ b. spec.answer_of_both function name.now (option_map (λ v. view v.now) value.entry) (option_map (λ v. view v.now) other.entry) b)) }
+        (λ b. spec.answer_of_both function name.now (option_map (λ v. view v.now) value.entry)
+        (option_map (λ v. view v.now) other.entry) b)) }
     ensures memory { IfErr result (λ e. e ≡ Refused.Memory) }
 {
     match value {
@@ -122,7 +123,8 @@ fn answer_of_first(
     value: Option<&Value>,
 ) -> Result<Answer, Refused>
     ensures value { IfOk result (λ r. outcome_view r
-        ≡ option_map_or (spec.answer_of_one function) (option_map (λ v. view v.now) value.entry) (Err (no_overload name.now))) }
+        ≡ option_map_or (spec.answer_of_one function)
+        (option_map (λ v. view v.now) value.entry) (Err (no_overload name.now))) }
     ensures memory { IfErr result (λ e. e ≡ Refused.Memory) }
 {
     match value {
@@ -142,7 +144,8 @@ fn answer_of(
 ) -> Result<Answer, Refused>
     ensures keeps { Extends (entries_of book.new) (entries_of book.old) }
     ensures value { IfOk result (λ r. HoldsForExtensions (entries_of book.new) (outcome_view r)
-        (λ b. spec.answer_of function name.now (option_map (λ v. view v.now) receiver.entry) (map view args.now) b)) }
+        (λ b. spec.answer_of function name.now
+        (option_map (λ v. view v.now) receiver.entry) (map view args.now) b)) }
     ensures memory { IfErr result (λ e. e ≡ Refused.Memory) }
 {
     let first = first_operand(receiver, args);
@@ -172,7 +175,8 @@ pub fn answer_of_function(
     requires { function_named name.now ≡ Some function }
     ensures keeps { Extends (entries_of book.new) (entries_of book.old) }
     ensures value { IfOk result (λ r. HoldsForExtensions (entries_of book.new) (outcome_view r)
-        (λ b. spec.standard_answer name.now (option_map (λ v. view v.now) receiver.entry) (map view args.now) b)) }
+        (λ b. spec.standard_answer name.now
+        (option_map (λ v. view v.now) receiver.entry) (map view args.now) b)) }
     ensures memory { IfErr result (λ e. e ≡ Refused.Memory) }
 {
     answer_of(alloc, function, name, receiver, args, book)

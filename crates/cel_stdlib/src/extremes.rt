@@ -48,7 +48,7 @@ fn no_items(alloc: Global, end: Extreme) -> Result<ExecutionError, Refused>
     }
 }
 
-// The value if it goes before the best one so far, else that one. None where they have no order.
+// The value if it goes before the best one so far, else that one. `None` where they have no order.
 fn better<'a>(end: Extreme, best: &'a Value, value: &'a Value) -> Option<&'a Value>
     ensures { option_map (λ v. view v.now) result ≡ spec.better end (view best.now) (view value.now) }
 {
@@ -64,7 +64,7 @@ fn better<'a>(end: Extreme, best: &'a Value, value: &'a Value) -> Option<&'a Val
     }
 }
 
-// None where two of the values have no order.
+// `None` where two of the values have no order.
 fn choose<'a>(end: Extreme, first: &'a Value, rest: &'a [Value]) -> Option<&'a Value>
     ensures { option_map (λ v. view v.now) result
         ≡ spec.least_or_greatest end (view first.now) (map view rest.now) }
@@ -85,7 +85,8 @@ fn least_or_greatest(
     first: &Value,
     rest: &[Value],
 ) -> Result<Answer, Refused>
-    ensures value { IfOk result (λ r. outcome_view r ≡ spec.extreme_of end (view first.now ∷ map view rest.now)) }
+    ensures value { IfOk result
+        (λ r. outcome_view r ≡ spec.extreme_of end (view first.now ∷ map view rest.now)) }
     ensures memory { IfErr result (λ e. e ≡ Refused.Memory) }
 {
     match choose(end, first, rest) {
@@ -142,7 +143,8 @@ fn extreme_from(
 /// # Errors
 /// `Memory` alone.
 pub fn extreme_among(alloc: Global, end: Extreme, args: &[Value]) -> Result<Answer, Refused>
-    ensures value { IfOk result (λ r. outcome_view r ≡ spec.extreme_of end (spec.values_among (map view args.now))) }
+    ensures value { IfOk result
+        (λ r. outcome_view r ≡ spec.extreme_of end (spec.values_among (map view args.now))) }
     ensures memory { IfErr result (λ e. e ≡ Refused.Memory) }
 {
     match args {

@@ -46,11 +46,11 @@ pub enum OfTwo {
 /// A standard function.
 #[derive(Clone, Copy, Debug, PartialEq, Eq)]
 pub enum Function {
-    /// Of one value.
+    /// A function of one value.
     One(OfOne),
-    /// Of two values.
+    /// A function of two values.
     Two(OfTwo),
-    /// Of one value or more.
+    /// A function of one value or more.
     Many(Extreme),
 }
 

@@ -338,7 +338,7 @@ module _ (limit : ℕ) (sub : Parser Found)
   complete_primary (literal e) h ends = rw e
   complete_primary (negative takes is) h ends = rw (takes, is)
 
-  -- Up to a place in the middle, the parser gets to the links that are left there.
+  -- Up to a link in the middle, the parser gets to the links that are left there.
   abbrev Reaches : List Token → List Token → Term → ℕ → Type 0
   Reaches ts rest t l = (n : ℕ) × (limit + 1 ≤ n + l) × (p.member limit sub ts ≡ p.links limit sub n t l rest)
 

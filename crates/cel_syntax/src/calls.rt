@@ -18,7 +18,8 @@ pub(crate) fn add_calls(
     expr: &Expr,
     names: &mut BTreeSet<String>,
 ) -> Result<(), Refused>
-    ensures added { OnOk result ((x : List ℕ) → contains_text names.new x ≡ (contains_text names.old x || is_called x (term expr.now))) }
+    ensures added { OnOk result ((x : List ℕ)
+        → contains_text names.new x ≡ (contains_text names.old x || is_called x (term expr.now))) }
     ensures memory { IfErr result (λ e. e ≡ Memory) }
 {
     match expr {
@@ -76,7 +77,8 @@ fn add_from_all(
     items: &Vec<Expr>,
     names: &mut BTreeSet<String>,
 ) -> Result<(), Refused>
-    ensures added { OnOk result ((x : List ℕ) → contains_text names.new x ≡ (contains_text names.old x || is_called_in_any x (terms_of (map term items.now.items)))) }
+    ensures added { OnOk result ((x : List ℕ) → contains_text names.new x
+        ≡ (contains_text names.old x || is_called_in_any x (terms_of (map term items.now.items)))) }
     ensures memory { IfErr result (λ e. e ≡ Memory) }
 {
     for item in items {
@@ -93,7 +95,8 @@ fn add_from_pairs(
     names: &mut BTreeSet<String>,
 ) -> Result<(), Refused>
     ensures added { OnOk result ((x : List ℕ) → contains_text names.new x
-        ≡ (contains_text names.old x || is_called_in_pairs x (pairs_of (map (λ p. (term p.0, term p.1)) pairs.now.items)))) }
+        ≡ (contains_text names.old x
+        || is_called_in_pairs x (pairs_of (map (λ p. (term p.0, term p.1)) pairs.now.items)))) }
     ensures memory { IfErr result (λ e. e ≡ Memory) }
 {
     for pair in pairs {

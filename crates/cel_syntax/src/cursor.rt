@@ -41,7 +41,8 @@ fn is_end(punctuator: Punctuator) -> bool
 impl<'a> Cursor<'a> {
     /// Takes the next token, if any is left.
     pub fn next(&mut self) -> Option<Token<'a>>
-        ensures token { MatchOption result ((tokens_left self.old ≡ []) × (tokens_left self.new ≡ [])) (λ t. tokens_left self.old ≡ token_of t ∷ tokens_left self.new) }
+        ensures token { MatchOption result ((tokens_left self.old ≡ []) × (tokens_left self.new ≡ []))
+            (λ t. tokens_left self.old ≡ token_of t ∷ tokens_left self.new) }
         ensures rest { tokens_left self.new ≡ drop 1 (tokens_left self.old) }
     {
         let tokens = self.rest;

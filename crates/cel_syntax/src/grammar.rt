@@ -36,7 +36,8 @@ fn slack(tree: &Expr) -> usize
 }
 
 fn wrap(alloc: Global, sign: UnaryOperator, count: usize, inside: Expr) -> Result<Expr, SyntaxError>
-    ensures { MatchResult result (λ e. term e ≡ spec.wrap sign count (term inside)) (λ error. error ≡ Memory) }
+    ensures { MatchResult result (λ e. term e ≡ spec.wrap sign count (term inside))
+        (λ error. error ≡ Memory) }
 {
     let mut tree = inside;
     for _turn in 0..count {
@@ -82,7 +83,8 @@ impl<F: Fn(Global, &mut Cursor<'_>, u8) -> Result<(Expr, usize), SyntaxError>> G
     /// The items of a list or a call, which may be none.
     fn items(&self, tokens: &mut Cursor<'_>) -> Result<(Vec<Expr>, usize), SyntaxError>
         requires { Nests self.now.limit (F.pre self.now.expr) (F.post self.now.expr) }
-        ensures { ReadsItems (spec.items self.now.limit (spec.below self.now.limit) (tokens_left tokens.old)) result (tokens_left tokens.new) }
+        ensures { ReadsItems (spec.items self.now.limit (spec.below self.now.limit) (tokens_left tokens.old))
+            result (tokens_left tokens.new) }
     {
         let mut found = Vec::new(self.alloc);
         let mut high: usize = 0;
@@ -105,7 +107,8 @@ impl<F: Fn(Global, &mut Cursor<'_>, u8) -> Result<(Expr, usize), SyntaxError>> G
     #[tactic(auto, unfolding(crate::specs::Parser::pair))]
     fn pair(&self, tokens: &mut Cursor<'_>) -> Result<((Expr, Expr), usize), SyntaxError>
         requires { Nests self.now.limit (F.pre self.now.expr) (F.post self.now.expr) }
-        ensures { ReadsPair (spec.pair self.now.limit (spec.below self.now.limit) (tokens_left tokens.old)) result (tokens_left tokens.new) }
+        ensures { ReadsPair (spec.pair self.now.limit (spec.below self.now.limit) (tokens_left tokens.old))
+            result (tokens_left tokens.new) }
     {
         let key = self.sub(tokens)?;
         if !tokens.eat(Punctuator::Colon) {
@@ -118,7 +121,8 @@ impl<F: Fn(Global, &mut Cursor<'_>, u8) -> Result<(Expr, usize), SyntaxError>> G
     /// The entries of a map, which may be none.
     fn entries(&self, tokens: &mut Cursor<'_>) -> Result<(Vec<(Expr, Expr)>, usize), SyntaxError>
         requires { Nests self.now.limit (F.pre self.now.expr) (F.post self.now.expr) }
-        ensures { ReadsEntries (spec.entries self.now.limit (spec.below self.now.limit) (tokens_left tokens.old)) result (tokens_left tokens.new) }
+        ensures { ReadsEntries (spec.entries self.now.limit (spec.below self.now.limit)
+            (tokens_left tokens.old)) result (tokens_left tokens.new) }
     {
         let mut found = Vec::new(self.alloc);
         let mut high: usize = 0;
@@ -141,7 +145,8 @@ impl<F: Fn(Global, &mut Cursor<'_>, u8) -> Result<(Expr, usize), SyntaxError>> G
     #[tactic(auto, unfolding(crate::specs::Parser::arguments))]
     fn arguments(&self, tokens: &mut Cursor<'_>) -> Result<(Vec<Expr>, usize), SyntaxError>
         requires { Nests self.now.limit (F.pre self.now.expr) (F.post self.now.expr) }
-        ensures { ReadsItems (spec.arguments self.now.limit (spec.below self.now.limit) (tokens_left tokens.old)) result (tokens_left tokens.new) }
+        ensures { ReadsItems (spec.arguments self.now.limit (spec.below self.now.limit)
+            (tokens_left tokens.old)) result (tokens_left tokens.new) }
     {
         let found = self.items(tokens)?;
         if tokens.eat(Punctuator::CloseRound) {
@@ -154,7 +159,8 @@ impl<F: Fn(Global, &mut Cursor<'_>, u8) -> Result<(Expr, usize), SyntaxError>> G
     #[tactic(auto, unfolding(crate::specs::Parser::round))]
     fn round(&self, tokens: &mut Cursor<'_>) -> Result<(Expr, usize), SyntaxError>
         requires { Nests self.now.limit (F.pre self.now.expr) (F.post self.now.expr) }
-        ensures { Reads (spec.round self.now.limit (spec.below self.now.limit) (tokens_left tokens.old)) result (tokens_left tokens.new) }
+        ensures { Reads (spec.round self.now.limit (spec.below self.now.limit) (tokens_left tokens.old))
+            result (tokens_left tokens.new) }
     {
         let inside = self.sub(tokens)?;
         self.up_to_mark(tokens, Punctuator::CloseRound, inside)
@@ -168,7 +174,8 @@ impl<F: Fn(Global, &mut Cursor<'_>, u8) -> Result<(Expr, usize), SyntaxError>> G
         punctuator: Punctuator,
         inside: (Expr, usize),
     ) -> Result<(Expr, usize), SyntaxError>
-        ensures { Reads (spec.up_to_mark self.now.limit punctuator (term inside.0) inside.1 (tokens_left tokens.old)) result (tokens_left tokens.new) }
+        ensures { Reads (spec.up_to_mark self.now.limit punctuator (term inside.0)
+            inside.1 (tokens_left tokens.old)) result (tokens_left tokens.new) }
     {
         if tokens.eat(punctuator) {
             self.above(inside.1, inside.0)
@@ -185,7 +192,8 @@ impl<F: Fn(Global, &mut Cursor<'_>, u8) -> Result<(Expr, usize), SyntaxError>> G
         punctuator: Punctuator,
         inside: (Expr, usize),
     ) -> Result<(Expr, usize), SyntaxError>
-        ensures { Reads (spec.up_to_comma_and_mark self.now.limit punctuator (term inside.0) inside.1 (tokens_left tokens.old)) result (tokens_left tokens.new) }
+        ensures { Reads (spec.up_to_comma_and_mark self.now.limit punctuator (term inside.0)
+            inside.1 (tokens_left tokens.old)) result (tokens_left tokens.new) }
     {
         let _comma = tokens.eat(Punctuator::Comma);
         self.up_to_mark(tokens, punctuator, inside)
@@ -194,7 +202,8 @@ impl<F: Fn(Global, &mut Cursor<'_>, u8) -> Result<(Expr, usize), SyntaxError>> G
     #[tactic(auto, unfolding(crate::specs::Parser::list))]
     fn list(&self, tokens: &mut Cursor<'_>) -> Result<(Expr, usize), SyntaxError>
         requires { Nests self.now.limit (F.pre self.now.expr) (F.post self.now.expr) }
-        ensures { Reads (spec.list self.now.limit (spec.below self.now.limit) (tokens_left tokens.old)) result (tokens_left tokens.new) }
+        ensures { Reads (spec.list self.now.limit (spec.below self.now.limit) (tokens_left tokens.old))
+            result (tokens_left tokens.new) }
     {
         let found = self.items(tokens)?;
         self.up_to_comma_and_mark(
@@ -207,7 +216,8 @@ impl<F: Fn(Global, &mut Cursor<'_>, u8) -> Result<(Expr, usize), SyntaxError>> G
     #[tactic(auto, unfolding(crate::specs::Parser::map))]
     fn map(&self, tokens: &mut Cursor<'_>) -> Result<(Expr, usize), SyntaxError>
         requires { Nests self.now.limit (F.pre self.now.expr) (F.post self.now.expr) }
-        ensures { Reads (spec.map self.now.limit (spec.below self.now.limit) (tokens_left tokens.old)) result (tokens_left tokens.new) }
+        ensures { Reads (spec.map self.now.limit (spec.below self.now.limit) (tokens_left tokens.old))
+            result (tokens_left tokens.new) }
     {
         let found = self.entries(tokens)?;
         self.up_to_comma_and_mark(
@@ -223,7 +233,8 @@ impl<F: Fn(Global, &mut Cursor<'_>, u8) -> Result<(Expr, usize), SyntaxError>> G
         name: &str,
         arguments: (Vec<Expr>, usize),
     ) -> Result<(Expr, usize), SyntaxError>
-        ensures { (ts : List SpecToken) → Reads (spec.above_call self.now.limit arguments.1 (calls.call_of name.now (map term arguments.0.items)) ts) result ts }
+        ensures { (ts : List SpecToken) → Reads (spec.above_call self.now.limit arguments.1
+            (calls.call_of name.now (map term arguments.0.items)) ts) result ts }
     {
         match call(self.alloc, name, arguments.0)? {
             Some(tree) => self.above(parts_level(&tree, arguments.1), tree),
@@ -238,7 +249,8 @@ impl<F: Fn(Global, &mut Cursor<'_>, u8) -> Result<(Expr, usize), SyntaxError>> G
         name: &str,
     ) -> Result<(Expr, usize), SyntaxError>
         requires { Nests self.now.limit (F.pre self.now.expr) (F.post self.now.expr) }
-        ensures { Reads (spec.call_arguments self.now.limit (spec.below self.now.limit) name.now (tokens_left tokens.old)) result (tokens_left tokens.new) }
+        ensures { Reads (spec.call_arguments self.now.limit (spec.below self.now.limit)
+            name.now (tokens_left tokens.old)) result (tokens_left tokens.new) }
     {
         let arguments = self.arguments(tokens)?;
         self.global(name, arguments)
@@ -251,7 +263,8 @@ impl<F: Fn(Global, &mut Cursor<'_>, u8) -> Result<(Expr, usize), SyntaxError>> G
         word: &[u8],
     ) -> Result<(Expr, usize), SyntaxError>
         requires { Nests self.now.limit (F.pre self.now.expr) (F.post self.now.expr) }
-        ensures { Reads (spec.name_or_call self.now.limit (spec.below self.now.limit) word.now (tokens_left tokens.old)) result (tokens_left tokens.new) }
+        ensures { Reads (spec.name_or_call self.now.limit (spec.below self.now.limit)
+            word.now (tokens_left tokens.old)) result (tokens_left tokens.new) }
     {
         let Some(name) = identifier(word) else {
             return Err(SyntaxError::Invalid);
@@ -266,7 +279,8 @@ impl<F: Fn(Global, &mut Cursor<'_>, u8) -> Result<(Expr, usize), SyntaxError>> G
     /// A number with the minus before it, which was taken.
     #[tactic(auto, unfolding(crate::specs::Parser::negative))]
     fn negative(&self, tokens: &mut Cursor<'_>) -> Result<(Expr, usize), SyntaxError>
-        ensures { Reads (spec.negative self.now.limit (spec.below self.now.limit) (tokens_left tokens.old)) result (tokens_left tokens.new) }
+        ensures { Reads (spec.negative self.now.limit (spec.below self.now.limit) (tokens_left tokens.old))
+            result (tokens_left tokens.new) }
     {
         let Some(token) = tokens.next() else {
             return Err(SyntaxError::Invalid);
@@ -283,7 +297,8 @@ impl<F: Fn(Global, &mut Cursor<'_>, u8) -> Result<(Expr, usize), SyntaxError>> G
     #[tactic(auto, unfolding(crate::specs::Parser::primary))]
     fn primary(&self, tokens: &mut Cursor<'_>) -> Result<(Expr, usize), SyntaxError>
         requires { Nests self.now.limit (F.pre self.now.expr) (F.post self.now.expr) }
-        ensures { Reads (spec.primary self.now.limit (spec.below self.now.limit) (tokens_left tokens.old)) result (tokens_left tokens.new) }
+        ensures { Reads (spec.primary self.now.limit (spec.below self.now.limit) (tokens_left tokens.old))
+            result (tokens_left tokens.new) }
     {
         let Some(token) = tokens.next() else {
             return Err(SyntaxError::Invalid);
@@ -308,7 +323,8 @@ impl<F: Fn(Global, &mut Cursor<'_>, u8) -> Result<(Expr, usize), SyntaxError>> G
         name: &str,
         arguments: (Vec<Expr>, usize),
     ) -> Result<(Expr, usize), SyntaxError>
-        ensures { (ts : List SpecToken) → Reads (spec.above_if self.now.limit (max target.1 arguments.1) (calls.method_of (term target.0) name.now (map term arguments.0.items)) ts) result ts }
+        ensures { (ts : List SpecToken) → Reads (spec.above_if self.now.limit (max target.1 arguments.1)
+            (calls.method_of (term target.0) name.now (map term arguments.0.items)) ts) result ts }
     {
         let level = target.1.max(arguments.1);
         match method(self.alloc, target.0, name, arguments.0)? {
@@ -326,7 +342,8 @@ impl<F: Fn(Global, &mut Cursor<'_>, u8) -> Result<(Expr, usize), SyntaxError>> G
         name: &str,
     ) -> Result<(Expr, usize), SyntaxError>
         requires { Nests self.now.limit (F.pre self.now.expr) (F.post self.now.expr) }
-        ensures { Reads (spec.method self.now.limit (spec.below self.now.limit) (term target.0) target.1 name.now (tokens_left tokens.old)) result (tokens_left tokens.new) }
+        ensures { Reads (spec.method self.now.limit (spec.below self.now.limit) (term target.0)
+            target.1 name.now (tokens_left tokens.old)) result (tokens_left tokens.new) }
     {
         let arguments = self.arguments(tokens)?;
         self.method_with(target, name, arguments)
@@ -334,7 +351,8 @@ impl<F: Fn(Global, &mut Cursor<'_>, u8) -> Result<(Expr, usize), SyntaxError>> G
 
     /// The field of that name.
     fn select(&self, target: (Expr, usize), name: &str) -> Result<(Expr, usize), SyntaxError>
-        ensures { (ts : List SpecToken) → Reads (spec.above self.now.limit target.1 (tree.select (term target.0) name.now) ts) result ts }
+        ensures { (ts : List SpecToken)
+            → Reads (spec.above self.now.limit target.1 (tree.select (term target.0) name.now) ts) result ts }
     {
         let tree = select(self.alloc, target.0, name)?;
         self.above(target.1, tree)
@@ -349,7 +367,8 @@ impl<F: Fn(Global, &mut Cursor<'_>, u8) -> Result<(Expr, usize), SyntaxError>> G
         word: &[u8],
     ) -> Result<(Expr, usize), SyntaxError>
         requires { Nests self.now.limit (F.pre self.now.expr) (F.post self.now.expr) }
-        ensures { Reads (spec.selection_or_method self.now.limit (spec.below self.now.limit) (term target.0) target.1 word.now (tokens_left tokens.old)) result (tokens_left tokens.new) }
+        ensures { Reads (spec.selection_or_method self.now.limit (spec.below self.now.limit)
+            (term target.0) target.1 word.now (tokens_left tokens.old)) result (tokens_left tokens.new) }
     {
         match selector(word) {
             Some(name) => {
@@ -371,7 +390,8 @@ impl<F: Fn(Global, &mut Cursor<'_>, u8) -> Result<(Expr, usize), SyntaxError>> G
         target: (Expr, usize),
     ) -> Result<(Expr, usize), SyntaxError>
         requires { Nests self.now.limit (F.pre self.now.expr) (F.post self.now.expr) }
-        ensures { Reads (spec.field self.now.limit (spec.below self.now.limit) (term target.0) target.1 (tokens_left tokens.old)) result (tokens_left tokens.new) }
+        ensures { Reads (spec.field self.now.limit (spec.below self.now.limit) (term target.0)
+            target.1 (tokens_left tokens.old)) result (tokens_left tokens.new) }
     {
         match tokens.next() {
             Some(Token::Word(word)) => self.selection_or_method(tokens, target, word),
@@ -387,7 +407,8 @@ impl<F: Fn(Global, &mut Cursor<'_>, u8) -> Result<(Expr, usize), SyntaxError>> G
         target: (Expr, usize),
         at: (Expr, usize),
     ) -> Result<(Expr, usize), SyntaxError>
-        ensures { Reads (spec.up_to_mark self.now.limit close_square (tree.index (term target.0) (term at.0)) (max target.1 at.1) (tokens_left tokens.old)) result (tokens_left tokens.new) }
+        ensures { Reads (spec.up_to_mark self.now.limit close_square (tree.index (term target.0) (term at.0))
+            (max target.1 at.1) (tokens_left tokens.old)) result (tokens_left tokens.new) }
     {
         let level = target.1.max(at.1);
         let tree = index(self.alloc, target.0, at.0)?;
@@ -402,7 +423,8 @@ impl<F: Fn(Global, &mut Cursor<'_>, u8) -> Result<(Expr, usize), SyntaxError>> G
         target: (Expr, usize),
     ) -> Result<(Expr, usize), SyntaxError>
         requires { Nests self.now.limit (F.pre self.now.expr) (F.post self.now.expr) }
-        ensures { Reads (spec.index self.now.limit (spec.below self.now.limit) (term target.0) target.1 (tokens_left tokens.old)) result (tokens_left tokens.new) }
+        ensures { Reads (spec.index self.now.limit (spec.below self.now.limit) (term target.0)
+            target.1 (tokens_left tokens.old)) result (tokens_left tokens.new) }
     {
         let at = self.sub(tokens)?;
         self.at_index(tokens, target, at)
@@ -415,7 +437,8 @@ impl<F: Fn(Global, &mut Cursor<'_>, u8) -> Result<(Expr, usize), SyntaxError>> G
         mut found: (Expr, usize),
     ) -> Result<(Expr, usize), SyntaxError>
         requires { Nests self.now.limit (F.pre self.now.expr) (F.post self.now.expr) }
-        ensures { Reads (spec.links self.now.limit (spec.below self.now.limit) (self.now.limit + 1) (term found.0) found.1 (tokens_left tokens.old)) result (tokens_left tokens.new) }
+        ensures { Reads (spec.links self.now.limit (spec.below self.now.limit) (self.now.limit + 1)
+            (term found.0) found.1 (tokens_left tokens.old)) result (tokens_left tokens.new) }
     {
         for _turn in 0..usize::from(self.limit) + 1 {
             if tokens.eat(Punctuator::Dot) {
@@ -435,7 +458,8 @@ impl<F: Fn(Global, &mut Cursor<'_>, u8) -> Result<(Expr, usize), SyntaxError>> G
     #[tactic(auto, unfolding(crate::specs::Parser::member))]
     fn member(&self, tokens: &mut Cursor<'_>) -> Result<(Expr, usize), SyntaxError>
         requires { Nests self.now.limit (F.pre self.now.expr) (F.post self.now.expr) }
-        ensures { Reads (spec.member self.now.limit (spec.below self.now.limit) (tokens_left tokens.old)) result (tokens_left tokens.new) }
+        ensures { Reads (spec.member self.now.limit (spec.below self.now.limit) (tokens_left tokens.old))
+            result (tokens_left tokens.new) }
     {
         let found = self.primary(tokens)?;
         self.links(tokens, found)
@@ -449,7 +473,8 @@ impl<F: Fn(Global, &mut Cursor<'_>, u8) -> Result<(Expr, usize), SyntaxError>> G
         count: usize,
         operand: (Expr, usize),
     ) -> Result<(Expr, usize), SyntaxError>
-        ensures { (ts : List SpecToken) → Reads (spec.with_signs self.now.limit sign count (term operand.0, operand.1) ts) result ts }
+        ensures { (ts : List SpecToken)
+            → Reads (spec.with_signs self.now.limit sign count (term operand.0, operand.1) ts) result ts }
     {
         if count == 0 {
             return Ok(operand);
@@ -469,7 +494,8 @@ impl<F: Fn(Global, &mut Cursor<'_>, u8) -> Result<(Expr, usize), SyntaxError>> G
         sign: UnaryOperator,
     ) -> Result<(Expr, usize), SyntaxError>
         requires { Nests self.now.limit (F.pre self.now.expr) (F.post self.now.expr) }
-        ensures { Reads (spec.signed_member self.now.limit (spec.below self.now.limit) sign (tokens_left tokens.old)) result (tokens_left tokens.new) }
+        ensures { Reads (spec.signed_member self.now.limit (spec.below self.now.limit)
+            sign (tokens_left tokens.old)) result (tokens_left tokens.new) }
     {
         let count = tokens.signs(sign);
         let operand = self.member(tokens)?;
@@ -479,7 +505,8 @@ impl<F: Fn(Global, &mut Cursor<'_>, u8) -> Result<(Expr, usize), SyntaxError>> G
     #[tactic(auto, unfolding(crate::specs::Parser::unary_expression))]
     fn unary_expression(&self, tokens: &mut Cursor<'_>) -> Result<(Expr, usize), SyntaxError>
         requires { Nests self.now.limit (F.pre self.now.expr) (F.post self.now.expr) }
-        ensures { Reads (spec.unary_expression self.now.limit (spec.below self.now.limit) (tokens_left tokens.old)) result (tokens_left tokens.new) }
+        ensures { Reads (spec.unary_expression self.now.limit (spec.below self.now.limit)
+            (tokens_left tokens.old)) result (tokens_left tokens.new) }
     {
         if tokens.sees(Punctuator::Not) {
             self.signed_member(tokens, UnaryOperator::Not)
@@ -495,7 +522,8 @@ impl<F: Fn(Global, &mut Cursor<'_>, u8) -> Result<(Expr, usize), SyntaxError>> G
         left: (Expr, usize),
         right: (Expr, usize),
     ) -> Result<(Expr, usize), SyntaxError>
-        ensures { (ts : List SpecToken) → Reads (spec.above self.now.limit (max left.1 right.1) (tree.binary operator (term left.0) (term right.0)) ts) result ts }
+        ensures { (ts : List SpecToken) → Reads (spec.above self.now.limit (max left.1 right.1)
+            (tree.binary operator (term left.0) (term right.0)) ts) result ts }
     {
         let level = left.1.max(right.1);
         let tree = binary(self.alloc, operator, left.0, right.0)?;
@@ -512,7 +540,9 @@ impl<F: Fn(Global, &mut Cursor<'_>, u8) -> Result<(Expr, usize), SyntaxError>> G
         left: (Expr, usize),
     ) -> Result<(Expr, usize), SyntaxError>
         requires { Nests self.now.limit (F.pre self.now.expr) (F.post self.now.expr) }
-        ensures { Reads (spec.with_operand self.now.limit (spec.chain self.now.limit (spec.below self.now.limit) below) operator (term left.0) left.1 (drop 1 (spec_left tokens.old))) result (spec_left tokens.new) }
+        ensures { Reads
+            (spec.with_operand self.now.limit (spec.chain self.now.limit (spec.below self.now.limit) below)
+            operator (term left.0) left.1 (drop 1 (spec_left tokens.old))) result (spec_left tokens.new) }
     {
         let _operator = tokens.next();
         let right = self.chain(tokens, below)?;
@@ -529,7 +559,9 @@ impl<F: Fn(Global, &mut Cursor<'_>, u8) -> Result<(Expr, usize), SyntaxError>> G
     ) -> Result<(Expr, usize), SyntaxError>
         requires nests { Nests self.now.limit (F.pre self.now.expr) (F.post self.now.expr) }
         requires level { below < 255 }
-        ensures { Reads (spec.turns self.now.limit (spec.below self.now.limit) (spec.chain self.now.limit (spec.below self.now.limit) below) (below + 1) self.now.limit (term found.0) found.1 (tokens_left tokens.old)) result (tokens_left tokens.new) }
+        ensures { Reads (spec.turns self.now.limit (spec.below self.now.limit)
+            (spec.chain self.now.limit (spec.below self.now.limit) below) (below + 1) self.now.limit
+            (term found.0) found.1 (tokens_left tokens.old)) result (tokens_left tokens.new) }
     {
         for _turn in 0..self.limit {
             let Some(operator) = tokens.operator(below + 1) else {
@@ -552,7 +584,8 @@ impl<F: Fn(Global, &mut Cursor<'_>, u8) -> Result<(Expr, usize), SyntaxError>> G
         found: (Expr, usize),
     ) -> Result<(Expr, usize), SyntaxError>
         requires { Nests self.now.limit (F.pre self.now.expr) (F.post self.now.expr) }
-        ensures { Reads (climb self.now.limit (spec.below self.now.limit) level (term found.0, found.1) (tokens_left tokens.old)) result (tokens_left tokens.new) }
+        ensures { Reads (climb self.now.limit (spec.below self.now.limit) level
+            (term found.0, found.1) (tokens_left tokens.old)) result (tokens_left tokens.new) }
     {
         if level == 0 {
             return Ok(found);
@@ -565,7 +598,8 @@ impl<F: Fn(Global, &mut Cursor<'_>, u8) -> Result<(Expr, usize), SyntaxError>> G
     #[cycle(operators)]
     fn chain(&self, tokens: &mut Cursor<'_>, level: u8) -> Result<(Expr, usize), SyntaxError>
         requires { Nests self.now.limit (F.pre self.now.expr) (F.post self.now.expr) }
-        ensures { Reads (spec.chain self.now.limit (spec.below self.now.limit) level (tokens_left tokens.old)) result (tokens_left tokens.new) }
+        ensures { Reads (spec.chain self.now.limit (spec.below self.now.limit) level (tokens_left tokens.old))
+            result (tokens_left tokens.new) }
     {
         let found = self.unary_expression(tokens)?;
         if !tokens.sees_operator() {
@@ -581,7 +615,8 @@ impl<F: Fn(Global, &mut Cursor<'_>, u8) -> Result<(Expr, usize), SyntaxError>> G
         yes: (Expr, usize),
         no: (Expr, usize),
     ) -> Result<(Expr, usize), SyntaxError>
-        ensures { (ts : List SpecToken) → Reads (spec.above self.now.limit (max test.1 (max yes.1 no.1)) (tree.conditional (term test.0) (term yes.0) (term no.0)) ts) result ts }
+        ensures { (ts : List SpecToken) → Reads (spec.above self.now.limit (max test.1 (max yes.1 no.1))
+            (tree.conditional (term test.0) (term yes.0) (term no.0)) ts) result ts }
     {
         let level = test.1.max(yes.1.max(no.1));
         let tree = conditional(self.alloc, test.0, yes.0, no.0)?;
@@ -596,7 +631,8 @@ impl<F: Fn(Global, &mut Cursor<'_>, u8) -> Result<(Expr, usize), SyntaxError>> G
         test: (Expr, usize),
     ) -> Result<(Expr, usize), SyntaxError>
         requires { Nests self.now.limit (F.pre self.now.expr) (F.post self.now.expr) }
-        ensures { Reads (spec.branches self.now.limit (spec.below self.now.limit) (term test.0) test.1 (tokens_left tokens.old)) result (tokens_left tokens.new) }
+        ensures { Reads (spec.branches self.now.limit (spec.below self.now.limit)
+            (term test.0) test.1 (tokens_left tokens.old)) result (tokens_left tokens.new) }
     {
         let yes = self.chain(tokens, 5)?;
         if !tokens.eat(Punctuator::Colon) {
@@ -609,7 +645,8 @@ impl<F: Fn(Global, &mut Cursor<'_>, u8) -> Result<(Expr, usize), SyntaxError>> G
     #[tactic(auto, unfolding(crate::specs::Parser::expression))]
     fn expression(&self, tokens: &mut Cursor<'_>) -> Result<(Expr, usize), SyntaxError>
         requires { Nests self.now.limit (F.pre self.now.expr) (F.post self.now.expr) }
-        ensures { Reads (spec.expression self.now.limit (spec.below self.now.limit) (tokens_left tokens.old)) result (tokens_left tokens.new) }
+        ensures { Reads (spec.expression self.now.limit (spec.below self.now.limit) (tokens_left tokens.old))
+            result (tokens_left tokens.new) }
     {
         let test = self.chain(tokens, 5)?;
         if tokens.eat(Punctuator::Question) {

@@ -11,7 +11,8 @@ use std::collections::BTreeSet;
 
 /// Adds a name, unless it is there.
 pub(crate) fn add(alloc: Global, name: &str, names: &mut BTreeSet<String>) -> Result<(), Refused>
-    ensures added { OnOk result ((x : List ℕ) → contains_text names.new x ≡ (contains_text names.old x || bytes_eq x name.now)) }
+    ensures added { OnOk result ((x : List ℕ)
+        → contains_text names.new x ≡ (contains_text names.old x || bytes_eq x name.now)) }
     ensures memory { IfErr result (λ e. e ≡ Memory) }
 {
     if names.contains(name) {

@@ -20,7 +20,8 @@ const MAX_LEVEL: u8 = 250;
 
 #[tactic(auto, using(crate::proofs::Last::if_none_left, crate::proofs::Last::if_some_left), unfolding(crate::specs::Parser::tree_of_tokens))]
 fn read(alloc: Global, tokens: &[Token<'_>]) -> Result<Option<Expr>, Refused>
-    ensures { MatchResult result (λ answer. option_map term answer ≡ tree_of_tokens (map token_of tokens.now)) (λ refused. refused ≡ Memory) }
+    ensures { MatchResult result (λ answer. option_map term answer ≡ tree_of_tokens (map token_of tokens.now))
+        (λ refused. refused ≡ Memory) }
 {
     let mut cursor = Cursor { rest: tokens };
     match expr(alloc, &mut cursor, MAX_LEVEL) {
@@ -40,9 +41,11 @@ fn read(alloc: Global, tokens: &[Token<'_>]) -> Result<Option<Expr>, Refused>
 /// CEL language definition.
 pub fn parse_tokens(alloc: Global, tokens: &[Token<'_>]) -> Result<Option<Expr>, Refused>
     ensures grammar { MatchResult result
-        (λ answer. MatchOption answer ((t : Term) → Derives (map token_of tokens.now) t → ⊥) (λ e. Derives (map token_of tokens.now) (term e)))
+        (λ answer. MatchOption answer ((t : Term) → Derives (map token_of tokens.now) t → ⊥)
+        (λ e. Derives (map token_of tokens.now) (term e)))
         (λ refused. refused ≡ Memory) }
-    ensures reads { IfOk result (λ answer. option_map term answer ≡ tree_of_tokens (map token_of tokens.now)) }
+    ensures reads { IfOk result
+        (λ answer. option_map term answer ≡ tree_of_tokens (map token_of tokens.now)) }
 {
     read(alloc, tokens)
 }

@@ -15,7 +15,8 @@ use std::alloc::Global;
 /// The tree of a text, or `None` where it derives none.
 #[tactic(auto, using(crate::proofs::Trees::of_no_tokens))]
 fn read(alloc: Global, text: &[u8]) -> Result<Option<Expr>, Refused>
-    ensures { MatchResult result (λ answer. option_map term answer ≡ tree_of text.now) (λ refused. refused ≡ Memory) }
+    ensures { MatchResult result (λ answer. option_map term answer ≡ tree_of text.now)
+        (λ refused. refused ≡ Memory) }
 {
     match tokens(alloc, text)? {
         Some(found) => parse_tokens(alloc, &found),
@@ -33,7 +34,8 @@ fn read(alloc: Global, text: &[u8]) -> Result<Option<Expr>, Refused>
 #[tactic(auto, using(crate::proofs::Trees::some_derives, crate::proofs::Trees::none_derives))]
 pub fn parse(alloc: Global, text: &str) -> Result<Result<Expr, ParseErrors>, Refused>
     ensures grammar { MatchResult result
-        (λ answer. MatchResult answer (λ e. TextDerives text.now (term e)) (λ _. (t : Term) → TextDerives text.now t → ⊥))
+        (λ answer. MatchResult answer (λ e. TextDerives text.now (term e))
+        (λ _. (t : Term) → TextDerives text.now t → ⊥))
         (λ refused. refused ≡ Memory) }
     ensures reads { IfOk result (λ answer. tree_seen answer ≡ tree_of text.now) }
 {

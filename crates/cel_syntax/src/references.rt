@@ -32,7 +32,8 @@ impl References {
     /// `Memory` alone.
     pub fn of(alloc: Global, expr: &Expr) -> Result<References, Refused>
         ensures variables { IfOk result (λ r. AreNames (variable_names r) (λ x. is_free x (term expr.now))) }
-        ensures functions { IfOk result (λ r. AreNames (function_names r) (λ x. is_called x (term expr.now))) }
+        ensures functions { IfOk result
+            (λ r. AreNames (function_names r) (λ x. is_called x (term expr.now))) }
         ensures memory { IfErr result (λ e. e ≡ Memory) }
     {
         let mut variables = BTreeSet::new(alloc);

@@ -20,7 +20,8 @@ fn add_unbound(
     bound: &Bound<'_>,
     names: &mut BTreeSet<String>,
 ) -> Result<(), Refused>
-    ensures added { OnOk result ((x : List ℕ) → contains_text names.new x ≡ (contains_text names.old x || is_read x (bound_names bound.now) (ident name.now))) }
+    ensures added { OnOk result ((x : List ℕ) → contains_text names.new x
+        ≡ (contains_text names.old x || is_read x (bound_names bound.now) (ident name.now))) }
     ensures memory { IfErr result (λ e. e ≡ Memory) }
 {
     if bound.has(name) {
@@ -37,7 +38,8 @@ pub(crate) fn add_variables(
     bound: &Bound<'_>,
     names: &mut BTreeSet<String>,
 ) -> Result<(), Refused>
-    ensures added { OnOk result ((x : List ℕ) → contains_text names.new x ≡ (contains_text names.old x || is_read x (bound_names bound.now) (term expr.now))) }
+    ensures added { OnOk result ((x : List ℕ) → contains_text names.new x
+        ≡ (contains_text names.old x || is_read x (bound_names bound.now) (term expr.now))) }
     ensures memory { IfErr result (λ e. e ≡ Memory) }
 {
     match expr {
@@ -98,7 +100,8 @@ fn add_from_all(
     names: &mut BTreeSet<String>,
 ) -> Result<(), Refused>
     ensures added { OnOk result ((x : List ℕ) → contains_text names.new x
-        ≡ (contains_text names.old x || is_read_in_any x (bound_names bound.now) (terms_of (map term items.now.items)))) }
+        ≡ (contains_text names.old x
+        || is_read_in_any x (bound_names bound.now) (terms_of (map term items.now.items)))) }
     ensures memory { IfErr result (λ e. e ≡ Memory) }
 {
     for item in items {
@@ -116,7 +119,8 @@ fn add_from_pairs(
     names: &mut BTreeSet<String>,
 ) -> Result<(), Refused>
     ensures added { OnOk result ((x : List ℕ) → contains_text names.new x
-        ≡ (contains_text names.old x || is_read_in_pairs x (bound_names bound.now) (pairs_of (map (λ p. (term p.0, term p.1)) pairs.now.items)))) }
+        ≡ (contains_text names.old x || is_read_in_pairs x (bound_names bound.now)
+        (pairs_of (map (λ p. (term p.0, term p.1)) pairs.now.items)))) }
     ensures memory { IfErr result (λ e. e ≡ Memory) }
 {
     for pair in pairs {

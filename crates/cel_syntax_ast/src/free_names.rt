@@ -71,7 +71,8 @@ fn any_has_free_name(items: &Vec<Expr>, name: &str) -> bool
 /// Whether the name is free in one of the keys and values.
 #[cycle(free)]
 fn pairs_have_free_name(pairs: &Vec<(Expr, Expr)>, name: &str) -> bool
-    ensures { result ≡ is_free_in_pairs name.now (pairs_of (map (λ p. (term p.0, term p.1)) pairs.now.items)) }
+    ensures { result
+        ≡ is_free_in_pairs name.now (pairs_of (map (λ p. (term p.0, term p.1)) pairs.now.items)) }
 {
     for pair in pairs {
         if pair.0.has_free_name(name) || pair.1.has_free_name(name) {

@@ -43,7 +43,7 @@ breaks q b = not q.tripled && is_line_break b
 abbrev pub hides : Quotes → Bool → ℕ → Bool
 hides q hidden b = not hidden && not q.raw && nat_eq b 92
 
--- how many bytes of the text and the closing quotes the string has, where it closes: the first place that closes ends it
+-- how many bytes of the text and the closing quotes the string has, where it closes: it ends at the first offset at which they stand
 unfoldable pub end_of : Quotes → Bool → List ℕ → Option ℕ
 end_of q hidden [] = None
 end_of q hidden (b ∷ z) =

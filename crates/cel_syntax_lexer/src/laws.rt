@@ -19,8 +19,10 @@ pub fn minus_has_its_literals()
 /// The decimal digits of a number have that number as their value.
 pub fn decimal_digits_write_their_number()
     ensures int { (n : ℕ) → n < 2 ^ 63 → literal_value false (number (decimal n)) ≡ Some (int (pos n)) }
-    ensures negative { (n : ℕ) → n ≤ 2 ^ 63 → literal_value true (number (decimal n)) ≡ Some (int (neg_ℤ (pos n))) }
-    ensures uint { (n : ℕ) → n < 2 ^ 64 → literal_value false (number (decimal n ++ 117 ∷ [])) ≡ Some (uint n) }
+    ensures negative { (n : ℕ) → n ≤ 2 ^ 63
+        → literal_value true (number (decimal n)) ≡ Some (int (neg_ℤ (pos n))) }
+    ensures uint { (n : ℕ) → n < 2 ^ 64
+        → literal_value false (number (decimal n ++ 117 ∷ [])) ≡ Some (uint n) }
 {}
 
 /// What stands between quotes and has neither the quote nor a backslash is the value, and a raw backslash stands for itself.
@@ -42,8 +44,10 @@ pub fn strings_of_the_language_definition()
     ensures backslash { literal_value false (quoted (codes "\"\\\\\"")) ≡ Some (text (codes "\\")) }
     ensures raw { literal_value false (quoted (codes "r\"\\\\\"")) ≡ Some (text (codes "\\\\")) }
     ensures letters { literal_value false (quoted (codes "b\"abc\"")) ≡ Some (bytes (codes "abc")) }
-    ensures in_utf8 { literal_value false (quoted (98 ∷ 34 ∷ 195 ∷ 191 ∷ 34 ∷ [])) ≡ Some (bytes (195 ∷ 191 ∷ [])) }
-    ensures octal_pair { literal_value false (quoted (codes "b\"\\303\\277\"")) ≡ Some (bytes (195 ∷ 191 ∷ [])) }
+    ensures in_utf8 { literal_value false (quoted (98 ∷ 34 ∷ 195 ∷ 191 ∷ 34 ∷ []))
+        ≡ Some (bytes (195 ∷ 191 ∷ [])) }
+    ensures octal_pair { literal_value false (quoted (codes "b\"\\303\\277\""))
+        ≡ Some (bytes (195 ∷ 191 ∷ [])) }
     ensures octal { literal_value false (quoted (codes "b\"\\377\"")) ≡ Some (bytes (255 ∷ [])) }
     ensures octal_text { literal_value false (quoted (codes "\"\\377\"")) ≡ Some (text (195 ∷ 191 ∷ [])) }
 {}
@@ -78,7 +82,7 @@ pub fn one_cut()
     ensures { (z : List ℕ) (ts us : List Token) → Cuts z ts → Cuts z us → ts ≡ us }
 {}
 
-/// The function `cut` answers the tokens that a text cuts into, or none where it cuts into none.
+/// The function `cut` answers the tokens that a text cuts into, or `None` where it cuts into none.
 pub fn cut_is_what_a_text_cuts_into()
     ensures { (z : List ℕ) → MatchOption (tokens_of_text z) (CutsIntoNone z) (λ ts. CutsInto z ts) }
 {}

@@ -76,7 +76,8 @@ fn begins_comment(text: &[u8]) -> bool
 
 /// The longest token at the front, and its length in bytes.
 fn first_token(text: &[u8]) -> Option<(Token<'_>, usize)>
-    ensures { MatchOption result ((n : ℕ) (t : SpecToken) → Longest text.now n t → ⊥) (λ found. Longest text.now found.1 (token_of found.0)) }
+    ensures { MatchOption result ((n : ℕ) (t : SpecToken) → Longest text.now n t → ⊥)
+        (λ found. Longest text.now found.1 (token_of found.0)) }
 {
     if text.is_empty() {
         return None;
@@ -118,7 +119,8 @@ fn first_token(text: &[u8]) -> Option<(Token<'_>, usize)>
 /// "Syntax" of the CEL language definition.
 pub fn tokens(alloc: Global, text: &[u8]) -> Result<Option<Vec<Token<'_>>>, Refused>
     ensures { MatchResult result
-        (λ answer. MatchOption answer (CutsIntoNone text.now) (λ found. CutsInto text.now (map token_of found.items)))
+        (λ answer. MatchOption answer (CutsIntoNone text.now)
+        (λ found. CutsInto text.now (map token_of found.items)))
         (λ refused. refused ≡ Memory) }
 {
     let mut found = Vec::new(alloc);

@@ -16,7 +16,8 @@ use std::alloc::Global;
 use std::rc::Rc;
 
 fn call_on(target: Box<Expr>, name: Rc<String>, args: Vec<Expr>) -> Expr
-    ensures { term result ≡ tree.call (tree.term_and (term target.value) tree.no_terms) (string_bytes name.value) (terms_of (map term args.items)) }
+    ensures { term result ≡ tree.call (tree.term_and (term target.value) tree.no_terms)
+        (string_bytes name.value) (terms_of (map term args.items)) }
 {
     Expr::Call {
         target: Some(target),
@@ -26,7 +27,8 @@ fn call_on(target: Box<Expr>, name: Rc<String>, args: Vec<Expr>) -> Expr
 }
 
 fn method_call(alloc: Global, target: Expr, name: &str, args: Vec<Expr>) -> Result<Expr, Refused>
-    ensures { MatchResult result (λ e. term e ≡ tree.call (tree.term_and (term target) tree.no_terms) name.now (terms_of (map term args.items))) (λ refused. refused ≡ Memory) }
+    ensures { MatchResult result (λ e. term e ≡ tree.call (tree.term_and (term target) tree.no_terms)
+        name.now (terms_of (map term args.items))) (λ refused. refused ≡ Memory) }
 {
     let name = shared(alloc, name)?;
     let target = Box::new(alloc, target)?;
@@ -35,7 +37,8 @@ fn method_call(alloc: Global, target: Expr, name: &str, args: Vec<Expr>) -> Resu
 
 #[tactic(auto, unfolding(crate::specs::Calls::plain_method))]
 fn plain_method(alloc: Global, target: Expr, name: &str, args: Vec<Expr>) -> Result<Expr, Refused>
-    ensures { MatchResult result (λ e. term e ≡ spec.plain_method (term target) name.now (map term args.items)) (λ refused. refused ≡ Memory) }
+    ensures { MatchResult result (λ e. term e
+        ≡ spec.plain_method (term target) name.now (map term args.items)) (λ refused. refused ≡ Memory) }
 {
     match qualified_name(alloc, &target, name)? {
         Some(name) => Ok(Expr::Qualified { name, args }),
@@ -51,7 +54,8 @@ pub fn method(
     name: &str,
     args: Vec<Expr>,
 ) -> Result<Option<Expr>, Refused>
-    ensures { MatchResult result (λ answer. option_map term answer ≡ spec.method_of (term target) name.now (map term args.items)) (λ refused. refused ≡ Memory) }
+    ensures { MatchResult result (λ answer. option_map term answer
+        ≡ spec.method_of (term target) name.now (map term args.items)) (λ refused. refused ≡ Memory) }
 {
     match kind_of(name.as_bytes(), args.len()) {
         Some(kind) => macro_of(alloc, kind, target, args),
@@ -62,7 +66,8 @@ pub fn method(
 /// The call of a global function, or `None` where it is a macro that isn't well formed.
 #[tactic(auto, using(crate::proofs::Arguments::length_terms), unfolding(crate::specs::Calls::call_of))]
 pub fn call(alloc: Global, name: &str, args: Vec<Expr>) -> Result<Option<Expr>, Refused>
-    ensures { MatchResult result (λ answer. option_map term answer ≡ spec.call_of name.now (map term args.items)) (λ refused. refused ≡ Memory) }
+    ensures { MatchResult result (λ answer. option_map term answer
+        ≡ spec.call_of name.now (map term args.items)) (λ refused. refused ≡ Memory) }
 {
     if is_word(name.as_bytes(), b"has") && args.len() == 1 {
         return Ok(has(one(args)));

@@ -79,7 +79,8 @@ fn three(mut args: Vec<Expr>) -> (Expr, Expr, Expr)
 
 /// The name of a macro's variable, where the tree is a plain identifier.
 fn variable_of(tree: Expr) -> Option<Rc<String>>
-    ensures { MatchOption result (spec.identifier_of (term tree) ≡ None) (λ name. spec.identifier_of (term tree) ≡ Some (string_bytes name.value)) }
+    ensures { MatchOption result (spec.identifier_of (term tree) ≡ None)
+        (λ name. spec.identifier_of (term tree) ≡ Some (string_bytes name.value)) }
 {
     match tree {
         Expr::Ident(name) => Some(name),
@@ -89,14 +90,16 @@ fn variable_of(tree: Expr) -> Option<Rc<String>>
 
 /// Both trees, each in memory of its own.
 fn boxed(alloc: Global, first: Expr, second: Expr) -> Result<(Box<Expr>, Box<Expr>), Refused>
-    ensures { MatchResult result (λ both. (term both.0.value ≡ term first) × (term both.1.value ≡ term second)) (λ refused. refused ≡ Memory) }
+    ensures { MatchResult result (λ both. (term both.0.value ≡ term first)
+        × (term both.1.value ≡ term second)) (λ refused. refused ≡ Memory) }
 {
     let first = Box::new(alloc, first)?;
     Ok((first, Box::new(alloc, second)?))
 }
 
 fn unfiltered(kind: MacroKind, range: Box<Expr>, variable: Rc<String>, body: Box<Expr>) -> Expr
-    ensures { term result ≡ tree.macro kind (term range.value) (string_bytes variable.value) tree.no_terms (term body.value) }
+    ensures { term result
+        ≡ tree.macro kind (term range.value) (string_bytes variable.value) tree.no_terms (term body.value) }
 {
     Expr::Macro {
         kind,
@@ -114,7 +117,8 @@ fn filtered(
     filter: Box<Expr>,
     body: Box<Expr>,
 ) -> Expr
-    ensures { term result ≡ tree.macro kind (term range.value) (string_bytes variable.value) (tree.term_and (term filter.value) tree.no_terms) (term body.value) }
+    ensures { term result ≡ tree.macro kind (term range.value) (string_bytes variable.value)
+        (tree.term_and (term filter.value) tree.no_terms) (term body.value) }
 {
     Expr::Macro {
         kind,
@@ -132,7 +136,8 @@ fn macro_of_two(
     variable: Rc<String>,
     body: Expr,
 ) -> Result<Expr, Refused>
-    ensures { MatchResult result (λ e. term e ≡ tree.macro kind (term range) (string_bytes variable.value) tree.no_terms (term body)) (λ refused. refused ≡ Memory) }
+    ensures { MatchResult result (λ e. term e ≡ tree.macro kind (term range)
+        (string_bytes variable.value) tree.no_terms (term body)) (λ refused. refused ≡ Memory) }
 {
     let (range, body) = boxed(alloc, range, body)?;
     Ok(unfiltered(kind, range, variable, body))
@@ -147,7 +152,8 @@ fn macro_of_three(
     body: Expr,
 ) -> Result<Expr, Refused>
     ensures { MatchResult result
-        (λ e. term e ≡ tree.macro kind (term range) (string_bytes variable.value) (tree.term_and (term filter) tree.no_terms) (term body))
+        (λ e. term e ≡ tree.macro kind (term range) (string_bytes variable.value)
+        (tree.term_and (term filter) tree.no_terms) (term body))
         (λ refused. refused ≡ Memory) }
 {
     let filter = Box::new(alloc, filter)?;
@@ -162,7 +168,8 @@ fn with_body(
     args: (Expr, Expr),
 ) -> Result<Option<Expr>, Refused>
     ensures { MatchResult result
-        (λ answer. option_map term answer ≡ spec.macro_with kind (term range) (spec.identifier_of (term args.0)) tree.no_terms (term args.1))
+        (λ answer. option_map term answer
+        ≡ spec.macro_with kind (term range) (spec.identifier_of (term args.0)) tree.no_terms (term args.1))
         (λ refused. refused ≡ Memory) }
 {
     let (name, body) = args;
@@ -180,7 +187,8 @@ fn with_filter(
 ) -> Result<Option<Expr>, Refused>
     ensures { MatchResult result
         (λ answer. option_map term answer
-        ≡ spec.macro_with kind (term range) (spec.identifier_of (term args.0)) (tree.term_and (term args.1) tree.no_terms) (term args.2))
+        ≡ spec.macro_with kind (term range) (spec.identifier_of (term args.0))
+        (tree.term_and (term args.1) tree.no_terms) (term args.2))
         (λ refused. refused ≡ Memory) }
 {
     let (name, filter, body) = args;
@@ -197,7 +205,8 @@ pub(crate) fn macro_of(
     range: Expr,
     args: Vec<Expr>,
 ) -> Result<Option<Expr>, Refused>
-    ensures { MatchResult result (λ answer. option_map term answer ≡ spec.macro_of kind (term range) (map term args.items)) (λ refused. refused ≡ Memory) }
+    ensures { MatchResult result (λ answer. option_map term answer
+        ≡ spec.macro_of kind (term range) (map term args.items)) (λ refused. refused ≡ Memory) }
 {
     match args.len() {
         2 => with_body(alloc, kind, range, two(args)),

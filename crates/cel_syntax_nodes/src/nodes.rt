@@ -26,7 +26,8 @@ pub fn ident(alloc: Global, name: &str) -> Result<Expr, Refused>
 
 /// A field of an operand.
 pub fn select(alloc: Global, operand: Expr, name: &str) -> Result<Expr, Refused>
-    ensures { MatchResult result (λ e. term e ≡ tree.select (term operand) name.now) (λ refused. refused ≡ Memory) }
+    ensures { MatchResult result (λ e. term e ≡ tree.select (term operand) name.now)
+        (λ refused. refused ≡ Memory) }
 {
     let operand = Box::new(alloc, operand)?;
     Ok(Expr::Select(operand, shared(alloc, name)?))
@@ -34,7 +35,8 @@ pub fn select(alloc: Global, operand: Expr, name: &str) -> Result<Expr, Refused>
 
 /// An item of a target, by its index.
 pub fn index(alloc: Global, target: Expr, index: Expr) -> Result<Expr, Refused>
-    ensures { MatchResult result (λ e. term e ≡ tree.index (term target) (term index)) (λ refused. refused ≡ Memory) }
+    ensures { MatchResult result (λ e. term e ≡ tree.index (term target) (term index))
+        (λ refused. refused ≡ Memory) }
 {
     let target = Box::new(alloc, target)?;
     Ok(Expr::Index(target, Box::new(alloc, index)?))
@@ -42,7 +44,8 @@ pub fn index(alloc: Global, target: Expr, index: Expr) -> Result<Expr, Refused>
 
 /// An operator with its operand.
 pub fn unary(alloc: Global, operator: UnaryOperator, operand: Expr) -> Result<Expr, Refused>
-    ensures { MatchResult result (λ e. term e ≡ tree.unary operator (term operand)) (λ refused. refused ≡ Memory) }
+    ensures { MatchResult result (λ e. term e ≡ tree.unary operator (term operand))
+        (λ refused. refused ≡ Memory) }
 {
     Ok(Expr::Unary(operator, Box::new(alloc, operand)?))
 }
@@ -54,7 +57,8 @@ pub fn binary(
     left: Expr,
     right: Expr,
 ) -> Result<Expr, Refused>
-    ensures { MatchResult result (λ e. term e ≡ tree.binary operator (term left) (term right)) (λ refused. refused ≡ Memory) }
+    ensures { MatchResult result (λ e. term e ≡ tree.binary operator (term left) (term right))
+        (λ refused. refused ≡ Memory) }
 {
     let left = Box::new(alloc, left)?;
     Ok(Expr::Binary(operator, left, Box::new(alloc, right)?))
@@ -62,7 +66,8 @@ pub fn binary(
 
 /// A condition with its two branches.
 pub fn conditional(alloc: Global, test: Expr, yes: Expr, no: Expr) -> Result<Expr, Refused>
-    ensures { MatchResult result (λ e. term e ≡ tree.conditional (term test) (term yes) (term no)) (λ refused. refused ≡ Memory) }
+    ensures { MatchResult result (λ e. term e ≡ tree.conditional (term test) (term yes) (term no))
+        (λ refused. refused ≡ Memory) }
 {
     let test = Box::new(alloc, test)?;
     let yes = Box::new(alloc, yes)?;

@@ -98,7 +98,8 @@ fn dotted(alloc: Global, library: &str, function: &str) -> Result<Rc<String>, Al
 
 /// The name, where the tree is a plain identifier.
 fn identifier_of(tree: &Expr) -> Option<&Rc<String>>
-    ensures { MatchOption result (spec.identifier_of (term tree.now) ≡ None) (λ name. spec.identifier_of (term tree.now) ≡ Some (string_bytes name.now.value)) }
+    ensures { MatchOption result (spec.identifier_of (term tree.now) ≡ None)
+        (λ name. spec.identifier_of (term tree.now) ≡ Some (string_bytes name.now.value)) }
 {
     match tree {
         Expr::Ident(name) => Some(name),
@@ -114,7 +115,8 @@ pub(crate) fn qualified_name(
 ) -> Result<Option<Rc<String>>, Refused>
     ensures { MatchResult result
         (λ answer. MatchOption answer (spec.dotted_by (spec.identifier_of (term target.now)) name.now ≡ None)
-        (λ whole. spec.dotted_by (spec.identifier_of (term target.now)) name.now ≡ Some (string_bytes whole.value)))
+        (λ whole. spec.dotted_by (spec.identifier_of (term target.now)) name.now
+        ≡ Some (string_bytes whole.value)))
         (λ refused. refused ≡ Memory) }
 {
     match identifier_of(target) {

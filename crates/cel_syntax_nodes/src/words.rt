@@ -65,7 +65,8 @@ fn is_reserved(word: &[u8]) -> bool
 /// The word, where it may be the name of a selected field.
 #[tactic(auto, using(crate::proofs::Names::selects, crate::proofs::Names::selects_none), unfolding(crate::specs::Words::is_selector))]
 pub fn selector(word: &[u8]) -> Option<&str>
-    ensures { MatchOption result (spec.is_selector word.now ≡ false) (λ name. (name.now ≡ word.now) × (spec.is_selector word.now ≡ true)) }
+    ensures { MatchOption result (spec.is_selector word.now ≡ false)
+        (λ name. (name.now ≡ word.now) × (spec.is_selector word.now ≡ true)) }
 {
     if is_literal(word) {
         return None;
@@ -79,7 +80,8 @@ pub fn selector(word: &[u8]) -> Option<&str>
 /// The word, where it may be an identifier.
 #[tactic(auto, unfolding(crate::specs::Words::is_identifier))]
 pub fn identifier(word: &[u8]) -> Option<&str>
-    ensures { MatchOption result (spec.is_identifier word.now ≡ false) (λ name. (name.now ≡ word.now) × (spec.is_identifier word.now ≡ true)) }
+    ensures { MatchOption result (spec.is_identifier word.now ≡ false)
+        (λ name. (name.now ≡ word.now) × (spec.is_identifier word.now ≡ true)) }
 {
     if is_reserved(word) {
         return None;

@@ -55,7 +55,8 @@ pub fn add_entry(
     value: Value,
 ) -> Result<Result<(), ExecutionError>, Refused>
     ensures value { IfOk result (λ r. MatchResult r
-        (λ _. (find (key_view key) entries.old ≡ None) × (entries.new ≡ put (key_view key) (view value) entries.old))
+        (λ _. (find (key_view key) entries.old ≡ None)
+        × (entries.new ≡ put (key_view key) (view value) entries.old))
         (λ e. (fault_view e ≡ duplicate_key) × IsSome (find (key_view key) entries.old))) }
     ensures kept { IfOk result (λ r. IfErr r (λ _. entries.new ≡ entries.old)) }
     ensures refused { OnErr result (entries.new ≡ entries.old) }

@@ -7,7 +7,7 @@ use crate::value::Value;
 use std::cmp::Ordering;
 
 impl Value {
-    /// How two values compare, or none where they have no order: bools (false first), numbers (an int with a uint),
+    /// How two values compare, or `None` where they have no order: bools (false first), numbers (an int with a uint),
     /// strings by code points, bytes, timestamps by their instants, durations, each class within itself (CEL language
     /// definition, "Ordering").
     pub fn compare(&self, other: &Value) -> Option<Ordering>

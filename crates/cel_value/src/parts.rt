@@ -1,4 +1,4 @@
-//! What is inside a value of one kind.
+//! What is inside a value of one kind. Each call answers `None` for a value of another kind.
 ghost use Rattle.std.specs.Prelude.{◌≡◌, option_map, string_bytes};
 ghost use Rattle.cel_value.specs.View.{view};
 ghost use Rattle.cel_value.specs.Parts.{number_in, bool_in, text_in, bytes_in, items_in, entries_in, held_in, timestamp_in, duration_in, ip_in, cidr_in, quantity_in, semver_in, url_in, format_in};
@@ -19,7 +19,7 @@ use kube_types_semver::KubeSemver;
 use kube_types_url::KubeUrl;
 
 impl Value {
-    /// The bool that it is.
+    /// The value as a bool.
     pub fn as_bool(&self) -> Option<bool>
         ensures { result ≡ bool_in (view self.now) }
     {
@@ -50,7 +50,7 @@ impl Value {
         }
     }
 
-    /// The bytes of bytes.
+    /// The bytes of a value of bytes.
     pub fn as_bytes(&self) -> Option<&[u8]>
         ensures { option_map (λ s. s.now) result ≡ bytes_in (view self.now) }
     {
@@ -80,7 +80,7 @@ impl Value {
         }
     }
 
-    /// The optional that it is.
+    /// The value as an optional.
     pub fn as_optional(&self) -> Option<&OptionalValue>
         ensures { option_map (λ o. o.now) result ≡ held_in (view self.now) }
     {
@@ -90,7 +90,7 @@ impl Value {
         }
     }
 
-    /// The timestamp that it is.
+    /// The value as a timestamp.
     pub fn as_timestamp(&self) -> Option<Timestamp>
         ensures { option_map (λ t. (instant t, t.offset_minutes)) result ≡ timestamp_in (view self.now) }
     {
@@ -100,7 +100,7 @@ impl Value {
         }
     }
 
-    /// The duration that it is.
+    /// The value as a duration.
     pub fn as_duration(&self) -> Option<Duration>
         ensures { option_map (λ d. d.nanoseconds) result ≡ duration_in (view self.now) }
     {
@@ -110,7 +110,7 @@ impl Value {
         }
     }
 
-    /// The address that it is.
+    /// The value as an IP address.
     pub fn as_ip(&self) -> Option<&KubeIP>
         ensures { option_map (λ x. address x.now) result ≡ ip_in (view self.now) }
     {
@@ -120,7 +120,7 @@ impl Value {
         }
     }
 
-    /// The CIDR that it is.
+    /// The value as a network.
     pub fn as_cidr(&self) -> Option<&KubeCIDR>
         ensures { option_map (λ x. network x.now) result ≡ cidr_in (view self.now) }
     {
@@ -130,7 +130,7 @@ impl Value {
         }
     }
 
-    /// The quantity that it is.
+    /// The value as a quantity.
     pub fn as_quantity(&self) -> Option<&KubeQuantity>
         ensures { option_map (λ x. number x.now) result ≡ quantity_in (view self.now) }
     {
@@ -140,7 +140,7 @@ impl Value {
         }
     }
 
-    /// The version that it is.
+    /// The value as a version.
     pub fn as_semver(&self) -> Option<&KubeSemver>
         ensures { option_map (λ x. parts x.now) result ≡ semver_in (view self.now) }
     {
@@ -150,7 +150,7 @@ impl Value {
         }
     }
 
-    /// The URL that it is.
+    /// The value as a URL.
     pub fn as_url(&self) -> Option<&KubeUrl>
         ensures { option_map (λ x. url_view x.now) result ≡ url_in (view self.now) }
     {
@@ -160,7 +160,7 @@ impl Value {
         }
     }
 
-    /// The format that it is.
+    /// The value as a named format.
     pub fn as_format(&self) -> Option<KubeFormat>
         ensures { option_map kind_of result ≡ format_in (view self.now) }
     {

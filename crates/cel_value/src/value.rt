@@ -57,7 +57,7 @@ struct Held {
     levels: u16,
 }
 
-/// A value, or none.
+/// An optional value.
 #[derive(Debug, Drop)]
 #[cycle(values)]
 pub struct OptionalValue {
@@ -90,11 +90,11 @@ pub enum Value {
     Timestamp(Timestamp),
     /// A length of time.
     Duration(Duration),
-    /// A value, or none.
+    /// An optional value.
     Optional(OptionalValue),
     /// An IP address.
     Ip(Rc<KubeIP>),
-    /// The IP addresses that begin alike.
+    /// A network: an IP address with the length of its prefix.
     Cidr(Rc<KubeCIDR>),
     /// An exact decimal number.
     Quantity(Rc<KubeQuantity>),

@@ -91,7 +91,7 @@ digit_in [] i h lt = absurd (omega arith)
 digit_in (c ∷ cs) zero h lt = digit_below c (first_digit c cs h).0
 digit_in (c ∷ cs) (suc i) h lt = digit_in cs i (first_digit c cs h).1 (omega arith)
 
--- one more digit, at a place in the list
+-- one more digit, at an index of the list
 pub number_at : (digits : List ℕ) (i n : ℕ) → i < length digits → n * 10 ^ length (drop i digits) + number (drop i digits) ≡ number digits → (n * 10 + (get_or digits i 0 - 48)) * 10 ^ length (drop (i + 1) digits) + number (drop (i + 1) digits) ≡ number digits
 number_at digits i n lt e =
     rw add-one (sym (number_step n (get_or digits i 0) (drop (suc i) digits))
@@ -109,7 +109,7 @@ digits_left digits i lt h =
     let range = digit_below (get_or digits i 0) here.0 in
     (range.0, range.1, rw add-one here.1)
 
--- the place before those that are done
+-- the index before those that are done
 pub cut_part_at : (parts : ℕ) (digits : List ℕ) (i : ℕ) → i < length digits → cut_part parts (drop i digits) ≡ (parts * (get_or digits i 0 - 48) + cut_part parts (drop (i + 1) digits)) / 10
 cut_part_at parts digits i lt =
     rw add-one (ap (cut_part parts) (drop-cons digits i 0 lt) ∙ cut_part_step parts (get_or digits i 0) (drop (suc i) digits))

@@ -24,7 +24,7 @@ const AREAS: [(&str, Area); 24] = [
     ("error parts", Area::Verdict),
     ("printed", Area::Verdict),
     ("copied", Area::Verdict),
-    ("told apart", Area::Verdict),
+    ("distinguished", Area::Verdict),
     ("status", Area::Command),
     ("output", Area::Command),
     ("error output", Area::Command),

@@ -11,12 +11,12 @@ use Rattle.kube_functions_format.specs.Formatted as formatted
 use Rattle.kube_functions_lists.specs.Lists as lists
 use Rattle.kube_functions_lists.specs.Orders as orders
 use Rattle.kube_functions_lists.specs.Sums as sums
-use Rattle.kube_functions_strings.specs.Regex as found
+use Rattle.kube_functions_strings.specs.Regex as regex
 use Rattle.kube_functions_strings.specs.Joins as joins
 use Rattle.kube_functions_strings.specs.Letters as letters
 use Rattle.kube_functions_strings.specs.Operands.{answer_with}
 use Rattle.kube_functions_strings.specs.Pieces as pieces
-use Rattle.kube_functions_strings.specs.Offsets as places
+use Rattle.kube_functions_strings.specs.Offsets as offsets
 use Rattle.kube_functions_types.specs.Ip as addresses
 use Rattle.kube_functions_types.specs.Cidr as cidrs
 use Rattle.kube_functions_types.specs.NamedFormat as formats
@@ -105,7 +105,7 @@ answer_of_one_or_two one_or_two.Join v w = joins.join v w
 answer_of_one_or_two one_or_two.Flatten v w = lists.flatten v w
 
 abbrev pub answer_of_two : OfTwo → Data → Data → Outcome
-answer_of_two two.CharAt v w = places.char_at v w
+answer_of_two two.CharAt v w = offsets.char_at v w
 answer_of_two two.ContainsIp v w = cidrs.contains_ip v w
 answer_of_two two.ContainsCidr v w = cidrs.contains_cidr v w
 answer_of_two two.IsGreaterThan v w = order.is_greater_than v w
@@ -120,13 +120,13 @@ abbrev pub answer_of_two_or_three : OfTwoOrThree → Data → Data → Option Da
 answer_of_two_or_three two_or_three.IndexOf v w x = overloads.index_of v w x
 answer_of_two_or_three two_or_three.LastIndexOf v w x = overloads.last_index_of v w x
 answer_of_two_or_three two_or_three.Split v w x = pieces.split_outcome v w x
-answer_of_two_or_three two_or_three.Substring v w x = places.substring v w x
+answer_of_two_or_three two_or_three.Substring v w x = offsets.substring v w x
 
 -- ---- all of them
 
--- the argument at a place, if there is one
+-- the argument at an index, if there is one
 abbrev pub nth : ℕ → List Data → Option Data
-nth place args = nth_item place (items_of args)
+nth index args = nth_item index (items_of args)
 
 abbrev pub answer_of_slice : Data → List Data → Outcome
 answer_of_slice v args = answer_with (codes "slice") (λ p. lists.slice v p.0 p.1) (option_zip (nth 0 args) (nth 1 args))
@@ -139,7 +139,7 @@ answer_of (method.One f) name v args book = answer_of_one f v
 answer_of (method.OneOrTwo f) name v args book = answer_of_one_or_two f v (nth 0 args)
 answer_of (method.Two f) name v args book = answer_with name (answer_of_two f v) (nth 0 args)
 answer_of (method.TwoOrThree f) name v args book = answer_with name (λ w. answer_of_two_or_three f v w (nth 1 args)) (nth 0 args)
-answer_of method.Find name v args book = answer_with name (λ w. found.find_outcome v w book) (nth 0 args)
-answer_of method.FindAll name v args book = answer_with name (λ w. found.find_all_outcome v w (nth 1 args) book) (nth 0 args)
+answer_of method.Find name v args book = answer_with name (λ w. regex.find_outcome v w book) (nth 0 args)
+answer_of method.FindAll name v args book = answer_with name (λ w. regex.find_all_outcome v w (nth 1 args) book) (nth 0 args)
 answer_of method.Slice name v args book = answer_of_slice v args
 answer_of method.Replace name v args book = answer_of_replace v args

@@ -10,9 +10,9 @@ use Rattle.cel_value.specs.Parts.{items_in}
 use Rattle.cel_semantics.specs.Outcome.{Outcome}
 use Rattle.cel_stdlib.specs.Standard.{first_operand}
 use Rattle.kube_functions_lists.specs.Lists as lists
-use Rattle.kube_functions_lists.specs.Indices as list_places
+use Rattle.kube_functions_lists.specs.Indices as indices
 use Rattle.kube_functions_strings.specs.Letters as letters
-use Rattle.kube_functions_strings.specs.Offsets as text_places
+use Rattle.kube_functions_strings.specs.Offsets as offsets
 
 abbrev pub is_list : Data → Bool
 is_list v = is_some (items_in v)
@@ -20,18 +20,18 @@ is_list v = is_some (items_in v)
 abbrev pub reverse_overload : Data → Outcome
 reverse_overload v = if is_list v then lists.reverse v else letters.reverse_outcome v
 
--- on a list, with no place to start from
+-- on a list, with no index to start from
 abbrev pub unless_started : List ℕ → Outcome → Option Data → Outcome
 unless_started name answer None = answer
 unless_started name answer (Some start) = Err (no_overload name)
 
 abbrev pub index_of : Data → Data → Option Data → Outcome
 index_of v w start =
-    if is_list v then unless_started (codes "indexOf") (list_places.index_of v w) start else text_places.index_of v w start
+    if is_list v then unless_started (codes "indexOf") (indices.index_of v w) start else offsets.index_of v w start
 
 abbrev pub last_index_of : Data → Data → Option Data → Outcome
 last_index_of v w start =
-    if is_list v then unless_started (codes "lastIndexOf") (list_places.last_index_of v w) start else text_places.last_index_of v w start
+    if is_list v then unless_started (codes "lastIndexOf") (indices.last_index_of v w) start else offsets.last_index_of v w start
 
 -- ---- strings of addresses
 

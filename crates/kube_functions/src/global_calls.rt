@@ -12,7 +12,7 @@ use cel_semantics::operators::{Answer, no_such_overload};
 use cel_stdlib::extremes::Extreme;
 use cel_value::{Refused, Value};
 use kube_functions_lists::{bits, math, ranges, sets};
-use kube_functions_strings as texts;
+use kube_functions_strings as strings;
 use kube_functions_types::{cidr, ip, named_format, quantity, semver_functions, url_functions};
 use std::alloc::Global;
 
@@ -21,10 +21,10 @@ fn answer_of_spelling(alloc: Global, function: OfSpelling, value: &Value) -> Res
     ensures memory { IfErr result (λ e. e ≡ Refused.Memory) }
 {
     match function {
-        OfSpelling::Quote => texts::quote(alloc, value),
-        OfSpelling::Encode => texts::base64_encode(alloc, value),
-        OfSpelling::Decode => texts::base64_decode(alloc, value),
-        OfSpelling::EscapeKey => texts::escape_key(alloc, value),
+        OfSpelling::Quote => strings::quote(alloc, value),
+        OfSpelling::Encode => strings::base64_encode(alloc, value),
+        OfSpelling::Decode => strings::base64_decode(alloc, value),
+        OfSpelling::EscapeKey => strings::escape_key(alloc, value),
     }
 }
 
@@ -45,7 +45,8 @@ fn answer_of_address_text(
     function: OfAddressText,
     value: &Value,
 ) -> Result<Answer, Refused>
-    ensures value { IfOk result (λ r. outcome_view r ≡ spec.answer_of_address_text function (view value.now)) }
+    ensures value { IfOk result
+        (λ r. outcome_view r ≡ spec.answer_of_address_text function (view value.now)) }
     ensures memory { IfErr result (λ e. e ≡ Refused.Memory) }
 {
     match function {
@@ -131,7 +132,8 @@ fn answer_of_both(
     name: &str,
     args: &[Value],
 ) -> Result<Answer, Refused>
-    ensures value { IfOk result (λ r. outcome_view r ≡ spec.answer_of_both function name.now (map view args.now)) }
+    ensures value { IfOk result
+        (λ r. outcome_view r ≡ spec.answer_of_both function name.now (map view args.now)) }
     ensures memory { IfErr result (λ e. e ≡ Refused.Memory) }
 {
     match nth(args, 0) {

@@ -21,17 +21,21 @@ pub fn the_first_set_is_the_standard_one()
 /// Each call that is known to the standard is known to the whole set, and has the same answer there, unless it is `string` of an IP
 /// address or a CIDR.
 pub fn standard_calls_are_kept()
-    ensures known { (name : List ℕ) (receiver : Bool) (count : ℕ) → standard_library.form_of name receiver count ≡ Known
+    ensures known { (name : List ℕ) (receiver : Bool) (count : ℕ)
+        → standard_library.form_of name receiver count ≡ Known
         → all_library.form_of name receiver count ≡ Known }
     ensures answers { (name : List ℕ) (receiver : Option Data) (args : List Data) (book : Book)
-        → standard_library.form_of name (is_some receiver) (length args) ≡ Known → address_operand name receiver args ≡ None
+        → standard_library.form_of name (is_some receiver) (length args) ≡ Known
+        → address_operand name receiver args ≡ None
         → all_library.answer_of name receiver args book ≡ standard_library.answer_of name receiver args book }
 {}
 
 /// `string` of an IP address or a CIDR is its text, in both forms of the call.
 pub fn addresses_have_strings()
-    ensures method { (v : Data) (book : Book) → is_address v ≡ true → all_library.answer_of (codes "string") (Some v) [] book ≡ string_of v }
-    ensures global { (v : Data) (book : Book) → is_address v ≡ true → all_library.answer_of (codes "string") None (v ∷ []) book ≡ string_of v }
+    ensures method { (v : Data) (book : Book) → is_address v ≡ true
+        → all_library.answer_of (codes "string") (Some v) [] book ≡ string_of v }
+    ensures global { (v : Data) (book : Book) → is_address v ≡ true
+        → all_library.answer_of (codes "string") None (v ∷ []) book ≡ string_of v }
 {}
 
 /// Whether a name is unknown depends on the name alone: unknown in one form, with a receiver or without and with any number of arguments, it is
@@ -46,7 +50,8 @@ pub fn names_alone_are_unknown()
 pub fn books_that_refuse_alike_find_the_same()
     ensures matches { (a b : Book) (pattern text : List ℕ) → (IsRefused a pattern ↔ IsRefused b pattern)
         → matched_by a pattern text ≡ matched_by b pattern text }
-    ensures spans { (a b : Book) (pattern text : List ℕ) (limit : Option ℕ) → (IsRefused a pattern ↔ IsRefused b pattern)
+    ensures spans { (a b : Book) (pattern text : List ℕ) (limit : Option ℕ)
+        → (IsRefused a pattern ↔ IsRefused b pattern)
         → found_by a pattern text limit ≡ found_by b pattern text limit }
 {}
 
@@ -61,8 +66,11 @@ pub fn plain_books_refuse_what_is_no_pattern()
 /// What a tree means rests on a book only by which texts the book refuses. So all plain books mean the same: they refuse what reads as no
 /// pattern, and nothing else.
 pub fn books_that_refuse_alike_mean_the_same()
-    ensures alike { (functions : KubeFunctions) (a b : Book) → ((text : List ℕ) → IsRefused a text ↔ IsRefused b text)
-        → (t : Term) (e : Bindings) → meaning (kube_library functions) a t e ≡ meaning (kube_library functions) b t e }
+    ensures alike { (functions : KubeFunctions) (a b : Book)
+        → ((text : List ℕ) → IsRefused a text ↔ IsRefused b text)
+        → (t : Term) (e : Bindings)
+        → meaning (kube_library functions) a t e ≡ meaning (kube_library functions) b t e }
     ensures plain { (functions : KubeFunctions) (a b : Book) → IsBook a → IsBook b → IsPlain a → IsPlain b
-        → (t : Term) (e : Bindings) → meaning (kube_library functions) a t e ≡ meaning (kube_library functions) b t e }
+        → (t : Term) (e : Bindings)
+        → meaning (kube_library functions) a t e ≡ meaning (kube_library functions) b t e }
 {}

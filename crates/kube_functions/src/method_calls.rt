@@ -16,7 +16,7 @@ use cel_patterns::PatternBook;
 use cel_semantics::operators::{Answer, no_such_overload};
 use cel_value::{Refused, Value};
 use kube_functions_lists::{levels, lists, orders, sums};
-use kube_functions_strings as texts;
+use kube_functions_strings as strings;
 use kube_functions_types::{
     cidr, ip, named_format, order, quantity, semver_functions, url_functions,
 };
@@ -27,9 +27,9 @@ fn answer_of_text(alloc: Global, function: OfText, value: &Value) -> Result<Answ
     ensures memory { IfErr result (λ e. e ≡ Refused.Memory) }
 {
     match function {
-        OfText::LowerAscii => texts::lower_ascii(alloc, value),
-        OfText::UpperAscii => texts::upper_ascii(alloc, value),
-        OfText::Trim => texts::trim(alloc, value),
+        OfText::LowerAscii => strings::lower_ascii(alloc, value),
+        OfText::UpperAscii => strings::upper_ascii(alloc, value),
+        OfText::Trim => strings::trim(alloc, value),
         OfText::Reverse => overloads::reverse(alloc, value),
     }
 }
@@ -119,7 +119,7 @@ fn answer_of_one_or_two(
     ensures memory { IfErr result (λ e. e ≡ Refused.Memory) }
 {
     match function {
-        OfOneOrTwo::Join => texts::join(alloc, value, other),
+        OfOneOrTwo::Join => strings::join(alloc, value, other),
         OfOneOrTwo::Flatten => levels::flatten(alloc, value, other),
     }
 }
@@ -135,7 +135,7 @@ fn answer_of_two(
     ensures memory { IfErr result (λ e. e ≡ Refused.Memory) }
 {
     match function {
-        OfTwo::CharAt => texts::char_at(alloc, value, other),
+        OfTwo::CharAt => strings::char_at(alloc, value, other),
         OfTwo::ContainsIp => cidr::contains_ip(alloc, value, other),
         OfTwo::ContainsCidr => cidr::contains_cidr(alloc, value, other),
         OfTwo::IsGreaterThan => order::is_greater_than(alloc, value, other),
@@ -156,19 +156,21 @@ fn answer_of_two_or_three(
     last: Option<&Value>,
 ) -> Result<Answer, Refused>
     ensures value { IfOk result (λ r. outcome_view r
-        ≡ spec.answer_of_two_or_three function (view value.now) (view other.now) (option_map (λ v. view v.now) last.entry)) }
+        ≡ spec.answer_of_two_or_three function (view value.now) (view other.now)
+        (option_map (λ v. view v.now) last.entry)) }
     ensures memory { IfErr result (λ e. e ≡ Refused.Memory) }
 {
     match function {
         OfTwoOrThree::IndexOf => overloads::index_of(alloc, value, other, last),
         OfTwoOrThree::LastIndexOf => overloads::last_index_of(alloc, value, other, last),
-        OfTwoOrThree::Split => texts::split(alloc, value, other, last),
-        OfTwoOrThree::Substring => texts::substring(alloc, value, other, last),
+        OfTwoOrThree::Split => strings::split(alloc, value, other, last),
+        OfTwoOrThree::Substring => strings::substring(alloc, value, other, last),
     }
 }
 
 fn slice(alloc: Global, value: &Value, args: &[Value]) -> Result<Answer, Refused>
-    ensures value { IfOk result (λ r. outcome_view r ≡ spec.answer_of_slice (view value.now) (map view args.now)) }
+    ensures value { IfOk result
+        (λ r. outcome_view r ≡ spec.answer_of_slice (view value.now) (map view args.now)) }
     ensures memory { IfErr result (λ e. e ≡ Refused.Memory) }
 {
     match nth(args, 0) {
@@ -181,12 +183,13 @@ fn slice(alloc: Global, value: &Value, args: &[Value]) -> Result<Answer, Refused
 }
 
 fn replace(alloc: Global, value: &Value, args: &[Value]) -> Result<Answer, Refused>
-    ensures value { IfOk result (λ r. outcome_view r ≡ spec.answer_of_replace (view value.now) (map view args.now)) }
+    ensures value { IfOk result
+        (λ r. outcome_view r ≡ spec.answer_of_replace (view value.now) (map view args.now)) }
     ensures memory { IfErr result (λ e. e ≡ Refused.Memory) }
 {
     match nth(args, 0) {
         Some(part) => match nth(args, 1) {
-            Some(new) => texts::replace(alloc, value, part, new, nth(args, 2)),
+            Some(new) => strings::replace(alloc, value, part, new, nth(args, 2)),
             None => Ok(Err(no_such_overload(alloc, "replace")?)),
         },
         None => Ok(Err(no_such_overload(alloc, "replace")?)),
@@ -223,11 +226,11 @@ pub(crate) fn answer_of_method(
             None => Ok(Err(no_such_overload(alloc, name)?)),
         },
         Method::Find => match first {
-            Some(pattern) => texts::find(alloc, value, pattern, book),
+            Some(pattern) => strings::find(alloc, value, pattern, book),
             None => Ok(Err(no_such_overload(alloc, name)?)),
         },
         Method::FindAll => match first {
-            Some(pattern) => texts::find_all(alloc, value, pattern, nth(args, 1), book),
+            Some(pattern) => strings::find_all(alloc, value, pattern, nth(args, 1), book),
             None => Ok(Err(no_such_overload(alloc, name)?)),
         },
         Method::Slice => slice(alloc, value, args),

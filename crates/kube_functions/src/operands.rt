@@ -6,11 +6,11 @@ ghost use Rattle.cel_stdlib.specs.Standard as standard;
 
 use cel_value::Value;
 
-/// The argument at a place, if there is one.
-pub(crate) fn nth(args: &[Value], place: usize) -> Option<&Value>
-    ensures { option_map (λ v. view v.now) result ≡ nth_item place (items_view args.now) }
+/// The argument at an index, if there is one.
+pub(crate) fn nth(args: &[Value], index: usize) -> Option<&Value>
+    ensures { option_map (λ v. view v.now) result ≡ nth_item index (items_view args.now) }
 {
-    args.get(place)
+    args.get(index)
 }
 
 /// The receiver, or else the first argument.

@@ -8,7 +8,7 @@ use crate::operands::first_operand;
 use cel_semantics::operators::{Answer, no_such_overload};
 use cel_value::{Refused, Value};
 use kube_functions_lists::{indices, lists};
-use kube_functions_strings as texts;
+use kube_functions_strings as strings;
 use std::alloc::Global;
 
 fn is_list(value: &Value) -> bool
@@ -25,11 +25,11 @@ pub(crate) fn reverse(alloc: Global, value: &Value) -> Result<Answer, Refused>
     if is_list(value) {
         lists::reverse(alloc, value)
     } else {
-        texts::reverse(alloc, value)
+        strings::reverse(alloc, value)
     }
 }
 
-/// `indexOf`: the first place of an item in a list, or of a part in a string.
+/// `indexOf`: the first index of an item in a list, or the first offset of a part in a string.
 pub(crate) fn index_of(
     alloc: Global,
     value: &Value,
@@ -41,7 +41,7 @@ pub(crate) fn index_of(
     ensures memory { IfErr result (λ e. e ≡ Refused.Memory) }
 {
     if !is_list(value) {
-        return texts::index_of(alloc, value, item, start);
+        return strings::index_of(alloc, value, item, start);
     }
     match start {
         Some(_) => Ok(Err(no_such_overload(alloc, "indexOf")?)),
@@ -49,7 +49,7 @@ pub(crate) fn index_of(
     }
 }
 
-/// `lastIndexOf`: the last place of an item in a list, or of a part in a string.
+/// `lastIndexOf`: the last index of an item in a list, or the last offset of a part in a string.
 pub(crate) fn last_index_of(
     alloc: Global,
     value: &Value,
@@ -61,7 +61,7 @@ pub(crate) fn last_index_of(
     ensures memory { IfErr result (λ e. e ≡ Refused.Memory) }
 {
     if !is_list(value) {
-        return texts::last_index_of(alloc, value, item, start);
+        return strings::last_index_of(alloc, value, item, start);
     }
     match start {
         Some(_) => Ok(Err(no_such_overload(alloc, "lastIndexOf")?)),

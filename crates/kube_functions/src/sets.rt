@@ -28,9 +28,9 @@ pub struct AllFunctions;
 /// The functions that a context knows: it begins with those of the standard.
 #[derive(Clone, Copy, Debug, PartialEq, Eq)]
 pub enum KubeFunctions {
-    /// Those of the CEL standard.
+    /// The functions of the CEL standard.
     Standard,
-    /// Those and all of Kubernetes.
+    /// The functions of the CEL standard and all those of Kubernetes.
     All,
 }
 
@@ -91,7 +91,8 @@ fn added_answer(
 ) -> Result<Answer, Refused>
     ensures keeps { Extends (entries_of book.new) (entries_of book.old) }
     ensures value { IfOk result (λ r. HoldsForExtensions (entries_of book.new) (outcome_view r)
-        (λ b. spec.added_answer name.now (option_map (λ v. view v.now) receiver.entry) (map view args.now) b)) }
+        (λ b. spec.added_answer name.now
+        (option_map (λ v. view v.now) receiver.entry) (map view args.now) b)) }
     ensures memory { IfErr result (λ e. e ≡ Refused.Memory) }
 {
     match receiver {
@@ -118,7 +119,8 @@ fn kept_answer(
     requires { function_named name.now ≡ Some function }
     ensures keeps { Extends (entries_of book.new) (entries_of book.old) }
     ensures value { IfOk result (λ r. HoldsForExtensions (entries_of book.new) (outcome_view r)
-        (λ b. spec.kept_answer name.now (option_map (λ v. view v.now) receiver.entry) (map view args.now) b)) }
+        (λ b. spec.kept_answer name.now
+        (option_map (λ v. view v.now) receiver.entry) (map view args.now) b)) }
     ensures memory { IfErr result (λ e. e ≡ Refused.Memory) }
 {
     match address_operand(name, receiver, args) {

@@ -67,8 +67,10 @@ fn write_verb(
     letter: char,
 ) -> Result<Option<ExecutionError>, Refused>
     requires { writing.old.taken ≤ length items.now }
-    ensures value { IfOk result (λ r. (cs : List ℕ) → spec.before (string_bytes writing.old.out) (spec.text_of_pieces (map view items.now) writing.old.taken (verb letter ∷ pieces cs))
-        ≡ unless_fault (option_map fault_view r) (written_on (map view items.now) (string_bytes writing.new.out) writing.new.taken writing.new.mark cs)) }
+    ensures value { IfOk result (λ r. (cs : List ℕ) → spec.before (string_bytes writing.old.out)
+        (spec.text_of_pieces (map view items.now) writing.old.taken (verb letter ∷ pieces cs))
+        ≡ unless_fault (option_map fault_view r) (written_on (map view items.now)
+        (string_bytes writing.new.out) writing.new.taken writing.new.mark cs)) }
     ensures taken { IfOk result (λ _. writing.new.taken ≤ length items.now) }
     ensures memory { IfErr result (λ e. e ≡ Refused.Memory) }
 {
@@ -91,8 +93,10 @@ fn advance(
     character: char,
 ) -> Result<Option<ExecutionError>, Refused>
     requires { writing.old.taken ≤ length items.now }
-    ensures value { IfOk result (λ r. (cs : List ℕ) → written_on (map view items.now) (string_bytes writing.old.out) writing.old.taken writing.old.mark (character ∷ cs)
-        ≡ unless_fault (option_map fault_view r) (written_on (map view items.now) (string_bytes writing.new.out) writing.new.taken writing.new.mark cs)) }
+    ensures value { IfOk result (λ r. (cs : List ℕ) → written_on (map view items.now)
+        (string_bytes writing.old.out) writing.old.taken writing.old.mark (character ∷ cs)
+        ≡ unless_fault (option_map fault_view r) (written_on (map view items.now)
+        (string_bytes writing.new.out) writing.new.taken writing.new.mark cs)) }
     ensures taken { IfOk result (λ _. writing.new.taken ≤ length items.now) }
     ensures memory { IfErr result (λ e. e ≡ Refused.Memory) }
 {
@@ -113,7 +117,8 @@ fn advance(
 
 // The text, where nothing more is to be read.
 fn finished(alloc: Global, writing: Writing) -> Result<Result<String, ExecutionError>, Refused>
-    ensures value { IfOk result (λ r. (items : List Data) → shown_view r ≡ written_on items (string_bytes writing.out) writing.taken writing.mark []) }
+    ensures value { IfOk result (λ r. (items : List Data)
+        → shown_view r ≡ written_on items (string_bytes writing.out) writing.taken writing.mark []) }
     ensures memory { IfErr result (λ e. e ≡ Refused.Memory) }
 {
     let Writing {

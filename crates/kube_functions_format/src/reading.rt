@@ -23,7 +23,7 @@ pub(crate) enum Step {
     Verb(char),
     /// A part of a verb that goes on.
     More(Mark),
-    /// It shows that the precision before it is none.
+    /// A character by which what stands before it is no precision.
     Invalid,
 }
 

@@ -34,7 +34,7 @@ slice_message a b n = codes "slice(" ++ (signed_decimal a ++ (codes ", " ++ (sig
 abbrev pub slice_fault : ℤ → ℤ → ℕ → Fault
 slice_fault a b n = function_error (codes "slice") (slice_message a b n)
 
--- the items from a on and before b, where these are places of the list
+-- the items from the index a on and before the index b; the length of the list counts as an index too
 abbrev pub part_between : List Data → ℤ → ℤ → Option (List Data)
 part_between ds (pos a) (pos b) = if nat_le a b && nat_le b (length ds) then Some (drop a (take b ds)) else None
 part_between ds a b = None

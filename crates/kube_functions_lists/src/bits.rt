@@ -74,7 +74,7 @@ fn shift_fault(alloc: Global, name: &str) -> Result<ExecutionError, Refused>
     function_error(alloc, name, "shift amount must be between 0 and 63")
 }
 
-// None unless it is from 0 to 63.
+// `None` unless it is from 0 to 63.
 fn places(amount: i64) -> Option<u32>
     ensures { result ≡ spec.places_in amount }
 {
@@ -90,7 +90,8 @@ fn places(amount: i64) -> Option<u32>
 /// # Errors
 /// `Memory` alone.
 pub fn bit_shift_left(alloc: Global, value: &Value, amount: &Value) -> Result<Answer, Refused>
-    ensures value { IfOk result (λ r. outcome_view r ≡ spec.bit_shift_left (view value.now) (view amount.now)) }
+    ensures value { IfOk result
+        (λ r. outcome_view r ≡ spec.bit_shift_left (view value.now) (view amount.now)) }
     ensures memory { IfErr result (λ e. e ≡ Refused.Memory) }
 {
     match as_ints(value, amount) {
@@ -107,7 +108,8 @@ pub fn bit_shift_left(alloc: Global, value: &Value, amount: &Value) -> Result<An
 /// # Errors
 /// `Memory` alone.
 pub fn bit_shift_right(alloc: Global, value: &Value, amount: &Value) -> Result<Answer, Refused>
-    ensures value { IfOk result (λ r. outcome_view r ≡ spec.bit_shift_right (view value.now) (view amount.now)) }
+    ensures value { IfOk result
+        (λ r. outcome_view r ≡ spec.bit_shift_right (view value.now) (view amount.now)) }
     ensures memory { IfErr result (λ e. e ≡ Refused.Memory) }
 {
     match as_ints(value, amount) {

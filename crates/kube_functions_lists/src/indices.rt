@@ -14,12 +14,12 @@ use std::alloc::Global;
 fn first_index_of(items: &[Value], value: &Value) -> Option<usize>
     ensures { result ≡ position_from (λ d. same d (view value.now)) 0 (map view items.now) }
 {
-    let mut place = 0;
+    let mut index = 0;
     for item in items {
         if *item == *value {
-            return Some(place);
+            return Some(index);
         }
-        place += 1;
+        index += 1;
     }
     None
 }
@@ -28,21 +28,21 @@ fn last_index_of_value(items: &[Value], value: &Value) -> Option<usize>
     ensures { result ≡ spec.last_position_from (λ d. same d (view value.now)) 0 (map view items.now) }
 {
     let mut last = None;
-    let mut place = 0;
+    let mut index = 0;
     for item in items {
         if *item == *value {
-            last = Some(place);
+            last = Some(index);
         }
-        place += 1;
+        index += 1;
     }
     last
 }
 
-fn index_or_none(place: Option<usize>) -> Answer
-    ensures { outcome_view result ≡ spec.index_or_none place }
+fn index_or_none(index: Option<usize>) -> Answer
+    ensures { outcome_view result ≡ spec.index_or_none index }
 {
-    match place {
-        Some(place) => match i64::try_from(place) {
+    match index {
+        Some(index) => match i64::try_from(index) {
             Ok(n) => Ok(Value::Int(n)),
             Err(_) => Err(ExecutionError::Overflow),
         },
@@ -50,7 +50,7 @@ fn index_or_none(place: Option<usize>) -> Answer
     }
 }
 
-/// The first place of a value in a list, or -1.
+/// The first index of an item that is equal to a value, or -1.
 ///
 /// # Errors
 /// `Memory` alone.
@@ -64,7 +64,7 @@ pub fn index_of(alloc: Global, value: &Value, item: &Value) -> Result<Answer, Re
     }
 }
 
-/// The last place of a value in a list, or -1.
+/// The last index of an item that is equal to a value, or -1.
 ///
 /// # Errors
 /// `Memory` alone.

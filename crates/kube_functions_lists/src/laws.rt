@@ -13,20 +13,23 @@ pub fn distinct_keeps_first_occurrences()
     ensures first { (v : Data) (ds : List Data) → find (same v) (distinct_items ds) ≡ find (same v) ds }
     ensures once { (ds : List Data) → IsDistinct same (distinct_items ds) }
     ensures next { (ds : List Data) (d : Data)
-        → distinct_items (ds ++ d ∷ []) ≡ (if is_in ds d then distinct_items ds else distinct_items ds ++ d ∷ []) }
+        → distinct_items (ds ++ d ∷ [])
+        ≡ (if is_in ds d then distinct_items ds else distinct_items ds ++ d ∷ []) }
 {}
 
 /// Items any two of which have an order have one ascending order in which equal ones stay as they stood, and `sort` gives it.
 pub fn sort_gives_the_one_stable_order()
     ensures ascends { (ds : List Data) → have_order ds ≡ true → IsSortedBy goes_before (ascending ds) }
     ensures stable { (ds : List Data) → have_order ds ≡ true → IsStableBy goes_before ds (ascending ds) }
-    ensures one { (ds es : List Data) → have_order ds ≡ true → IsSortedBy goes_before es → IsStableBy goes_before ds es → es ≡ ascending ds }
+    ensures one { (ds es : List Data) → have_order ds ≡ true
+        → IsSortedBy goes_before es → IsStableBy goes_before ds es → es ≡ ascending ds }
 {}
 
 /// What `sort` gives is in order as `isSorted` says, by comparing neighbours, and of values that are equal each stays where it stood among them.
 pub fn sorted_lists_are_in_order()
     ensures in_order { (ds : List Data) → have_order ds ≡ true → order_of (ascending ds) ≡ Ok (bool true) }
-    ensures equals_stay { (ds : List Data) (v : Data) → have_order ds ≡ true → filter (same v) (ascending ds) ≡ filter (same v) ds }
+    ensures equals_stay { (ds : List Data) (v : Data) → have_order ds ≡ true
+        → filter (same v) (ascending ds) ≡ filter (same v) ds }
 {}
 
 /// `sets.equivalent` holds exactly where the same values are in both lists.

@@ -13,7 +13,8 @@ use std::alloc::Global;
 #[cycle(push)]
 #[tactic(auto, using(crate::proofs::Lent::flat_deeper))]
 fn push_item(item: &Value, depth: u64, out: &mut Vec<Value>) -> Result<(), Refused>
-    ensures pushed { OnOk result (map view out.new.items ≡ map view out.old.items ++ spec.flat_item (view item.now) depth) }
+    ensures pushed { OnOk result (map view out.new.items
+        ≡ map view out.old.items ++ spec.flat_item (view item.now) depth) }
     ensures memory { IfErr result (λ e. e ≡ Refused.Memory) }
 {
     match item {
@@ -30,7 +31,8 @@ fn push_item(item: &Value, depth: u64, out: &mut Vec<Value>) -> Result<(), Refus
 
 #[cycle(push)]
 fn push_items(items: &List, depth: u64, out: &mut Vec<Value>) -> Result<(), Refused>
-    ensures pushed { OnOk result (map view out.new.items ≡ map view out.old.items ++ spec.flat_items items.now depth) }
+    ensures pushed { OnOk result (map view out.new.items
+        ≡ map view out.old.items ++ spec.flat_items items.now depth) }
     ensures memory { IfErr result (λ e. e ≡ Refused.Memory) }
 {
     for item in items.as_slice() {

@@ -45,7 +45,7 @@ fn part_within(items: &[Value], start: usize, end: usize) -> Option<&[Value]>
     Some(part)
 }
 
-// None where the bounds are no places of the items, in order.
+// `None` where the bounds are not two indices of the list in ascending order; its length counts as one.
 fn part(items: &[Value], start: i64, end: i64) -> Option<&[Value]>
     ensures { option_map (λ s. map view s.now) result ≡ spec.part_between (map view items.now) start end }
 {
@@ -66,12 +66,13 @@ fn slice_outcome(alloc: Global, items: &[Value], start: i64, end: i64) -> Result
     }
 }
 
-/// The items of a list from one place on and before another one.
+/// The items of a list from one index on and before another one.
 ///
 /// # Errors
 /// `Memory` alone.
 pub fn slice(alloc: Global, value: &Value, start: &Value, end: &Value) -> Result<Answer, Refused>
-    ensures value { IfOk result (λ r. outcome_view r ≡ spec.slice (view value.now) (view start.now) (view end.now)) }
+    ensures value { IfOk result
+        (λ r. outcome_view r ≡ spec.slice (view value.now) (view start.now) (view end.now)) }
     ensures memory { IfErr result (λ e. e ≡ Refused.Memory) }
 {
     match items_of(value) {
@@ -84,7 +85,8 @@ pub fn slice(alloc: Global, value: &Value, start: &Value, end: &Value) -> Result
 }
 
 fn optional_of(alloc: Global, item: Option<&Value>) -> Result<Answer, Refused>
-    ensures value { IfOk result (λ r. outcome_view r ≡ Ok (spec.as_optional (option_map (λ v. view v.now) item.entry))) }
+    ensures value { IfOk result
+        (λ r. outcome_view r ≡ Ok (spec.as_optional (option_map (λ v. view v.now) item.entry))) }
     ensures memory { IfErr result (λ e. e ≡ Refused.Memory) }
 {
     match item {
@@ -161,7 +163,8 @@ pub fn reverse(alloc: Global, value: &Value) -> Result<Answer, Refused>
 
 fn push_new(kept: &mut Vec<Value>, keys: &mut BTreeSet<Key>, item: &Value) -> Result<(), Refused>
     requires { HasKeysOf keys.old (map view kept.old.items) }
-    ensures pushed { OnOk result (map view kept.new.items ≡ spec.with_new (map view kept.old.items) (view item.now)) }
+    ensures pushed { OnOk result (map view kept.new.items
+        ≡ spec.with_new (map view kept.old.items) (view item.now)) }
     ensures keys { OnOk result (HasKeysOf keys.new (map view kept.new.items)) }
     ensures memory { IfErr result (λ e. e ≡ Refused.Memory) }
 {

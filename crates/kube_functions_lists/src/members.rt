@@ -23,7 +23,7 @@ pub(crate) struct Members<'a> {
 }
 
 impl<'a> Members<'a> {
-    /// These items, for a number of look-ups.
+    /// The items, prepared for this number of look-ups.
     ///
     /// # Errors
     /// `Memory` alone.

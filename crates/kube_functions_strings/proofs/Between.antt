@@ -1,4 +1,4 @@
--- What stands around a place in a text, and the first and last place of a part of it.
+-- What stands around an offset in a text, and the first and last offset of a part of it.
 use Rattle.std.proofs.Common.{◌≡◌, ℕ, zero, suc, ◌+◌, ◌<◌, ◌≤◌, min, arith, List, [], ◌∷◌, length, take, drop, Bool, true, false, cond, Option, Some, None, ℤ, pos, refl, sym, ap, ◌∙◌, subst, leb-true, leb-false, eqb-true}
 use Rattle.std.specs.Prelude.{nat_le, ◌==◌}
 use Rattle.std.specs.Option.{unwrap_or}
@@ -48,25 +48,25 @@ pub some_bytes : (b : Bool) (n : ℕ) → b ≡ (n == 0) → b ≡ false → 0 <
 some_bytes b zero e h = absurd (cc)
 some_bytes b (suc n) e h = omega arith
 
--- ---- the first place of a part and the last one
+-- ---- the first offset of a part and the last one
 
-pub place_found : (cs part rs xs before behind : List ℕ) (k count : ℕ) → Some (xs, rs) ≡ around_offset cs k → StandsFirst 0 rs part before behind → count ≡ length before → (Some (k + count) ≡ offset_from cs part k) × (k + count ≤ length cs)
-place_found cs part rs xs before behind k count is h e =
+pub offset_found : (cs part rs xs before behind : List ℕ) (k count : ℕ) → Some (xs, rs) ≡ around_offset cs k → StandsFirst 0 rs part before behind → count ≡ length before → (Some (k + count) ≡ offset_from cs part k) × (k + count ≤ length cs)
+offset_found cs part rs xs before behind k count is h e =
     let around = is_around cs xs rs k is in
     let found = found_behind cs part before behind k around.0 (subst (λ l. StandsFirst 0 l part before behind) around.2 h) in
     (ap (λ n. Some (k + n)) e ∙ found.0, omega (arith, found.1))
 
-pub place_missing : (cs part rs xs : List ℕ) (k : ℕ) → Some (xs, rs) ≡ around_offset cs k → StandsNowhere 0 rs part → None ≡ offset_from cs part k
-place_missing cs part rs xs k is h = nowhere_behind cs part k (subst (λ l. StandsNowhere 0 l part) (is_around cs xs rs k is).2 h)
+pub offset_missing : (cs part rs xs : List ℕ) (k : ℕ) → Some (xs, rs) ≡ around_offset cs k → StandsNowhere 0 rs part → None ≡ offset_from cs part k
+offset_missing cs part rs xs k is h = nowhere_behind cs part k (subst (λ l. StandsNowhere 0 l part) (is_around cs xs rs k is).2 h)
 
-pub last_place_found : (cs part ts before behind : List ℕ) (most n count : ℕ) → ts ≡ take (most + n) cs → n ≡ length part → 0 < length part → StandsLast ts part before behind → count ≡ length before
+pub last_offset_found : (cs part ts before behind : List ℕ) (most n count : ℕ) → ts ≡ take (most + n) cs → n ≡ length part → 0 < length part → StandsLast ts part before behind → count ≡ length before
     → (Some count ≡ greatest_below (stands_at cs part) (suc (min most (length cs)))) × (count ≤ length cs)
-last_place_found cs part ts before behind most n count front e some h same =
+last_offset_found cs part ts before behind most n count front e some h same =
     let found = last_found cs part before behind most some (subst (λ l. StandsLast l part before behind) (front ∙ ap (λ j. take (most + j) cs) e) h) in
     (ap Some same ∙ found.0, omega (arith, found.1))
 
-pub last_place_missing : (cs part ts : List ℕ) (most n : ℕ) → ts ≡ take (most + n) cs → n ≡ length part → StandsNowhere 0 ts part → None ≡ greatest_below (stands_at cs part) (suc (min most (length cs)))
-last_place_missing cs part ts most n front e h = last_nowhere cs part most (subst (λ l. StandsNowhere 0 l part) (front ∙ ap (λ j. take (most + j) cs) e) h)
+pub last_offset_missing : (cs part ts : List ℕ) (most n : ℕ) → ts ≡ take (most + n) cs → n ≡ length part → StandsNowhere 0 ts part → None ≡ greatest_below (stands_at cs part) (suc (min most (length cs)))
+last_offset_missing cs part ts most n front e h = last_nowhere cs part most (subst (λ l. StandsNowhere 0 l part) (front ∙ ap (λ j. take (most + j) cs) e) h)
 
 -- ---- an empty part, and one that is not
 

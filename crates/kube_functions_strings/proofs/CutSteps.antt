@@ -14,7 +14,7 @@ use Rattle.kube_functions_strings.specs.Offsets.{stands_at}
 use Rattle.kube_functions_strings.proofs.Occurring.{stands_between}
 use Rattle.kube_functions_strings.proofs.Standing.{stands_behind}
 
--- ---- spans and pieces behind a place
+-- ---- spans and pieces behind an offset
 
 abbrev shifted : ℕ → List (ℕ × ℕ) → List (ℕ × ℕ)
 shifted n ps = map (λ p. (n + p.0, n + p.1)) ps
@@ -42,7 +42,7 @@ next_shifted cs part n a b i k e f =
     let rest : i - n ≡ k = omega arith in
     ap (λ t. t && stands_at cs part i) order ∙ ap (λ t. nat_le a k && t) (stands_behind cs part n i (omega arith) ∙ ap (stands_at (drop n cs) part) rest)
 
--- one more place, where the spans from the next one on are shifted
+-- one more offset, where the spans from the next one on are shifted
 spans_step : (cs part : List ℕ) (j n a b i k : ℕ) → b ≡ n + a → i ≡ n + k
     → spans_among cs part (i + length part) (range_with_len (i + 1) j) ≡ shifted n (spans_among (drop n cs) part (k + length part) (range_with_len (k + 1) j))
     → spans_among cs part b (range_with_len (i + 1) j) ≡ shifted n (spans_among (drop n cs) part a (range_with_len (k + 1) j))
@@ -73,7 +73,7 @@ left_shifted : (limit : Option ℕ) (m n : ℕ) (ps : List (ℕ × ℕ)) → lef
 left_shifted None m n ps = refl
 left_shifted (Some l) m n ps = take-map (λ p. (n + p.0, n + p.1)) (l - m) ps
 
--- places at which no separator is next
+-- offsets at which no separator is next
 spans_skip : (cs part : List ℕ) (j r end k m : ℕ) → m ≡ k + j → ((i : ℕ) → k ≤ i → i < m → is_next cs part end i ≡ false) → spans_among cs part end (range_with_len k (j + r)) ≡ spans_among cs part end (range_with_len m r)
 spans_skip cs part zero r end k m e none =
     let same : k ≡ m = omega arith in

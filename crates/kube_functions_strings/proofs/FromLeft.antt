@@ -11,7 +11,7 @@ second_false : (a b : Bool) → a ≡ true → (a && b) ≡ false → b ≡ fals
 second_false true b h e = e
 second_false false b h e = cc
 
--- a part with characters begins at no place behind the last character
+-- a part with characters begins at no offset behind the last character
 stands_past : (cs : List ℕ) (c : ℕ) (part : List ℕ) (k : ℕ) → length cs ≤ k → stands_at cs (c ∷ part) k ≡ false
 stands_past [] c part zero l = refl
 stands_past [] c part (suc k) l = refl
@@ -58,15 +58,15 @@ not_before cs part from a b reached here none = by (nat_lt a b) refl
     by false e = refl
     by true e = let never = none a reached (grind (arith, nat_tests)) in cc
 
-same_place : (a b : ℕ) → nat_lt a b ≡ false → nat_lt b a ≡ false → a ≡ b
-same_place a b h g = grind (arith, nat_tests)
+same_offset : (a b : ℕ) → nat_lt a b ≡ false → nat_lt b a ≡ false → a ≡ b
+same_offset a b h g = grind (arith, nat_tests)
 
 pub one_from_left : (cs part : List ℕ) (from : ℕ) (ps qs : List (ℕ × ℕ)) → AreFromLeft cs part from ps → AreFromLeft cs part from qs → ps ≡ qs
 one_from_left cs part from [] [] h g = refl
 one_from_left cs part from [] (q ∷ qs) h g = let never = h q.0 g.0 in let here = g.2 in cc
 one_from_left cs part from (p ∷ ps) [] h g = let never = g p.0 h.0 in let here = h.2 in cc
 one_from_left cs part from (p ∷ ps) (q ∷ qs) h g =
-    let starts : p.0 ≡ q.0 = same_place p.0 q.0 (not_before cs part from p.0 q.0 h.0 h.2 g.1) (not_before cs part from q.0 p.0 g.0 g.2 h.1) in
+    let starts : p.0 ≡ q.0 = same_offset p.0 q.0 (not_before cs part from p.0 q.0 h.0 h.2 g.1) (not_before cs part from q.0 p.0 g.0 g.2 h.1) in
     let ends : p.1 ≡ q.1 = h.3 ∙ ap (λ k. k + length part) starts ∙ sym g.3 in
     let rest = one_from_left cs part p.1 ps qs h.4 (subst (λ n. AreFromLeft cs part n qs) (sym ends) g.4) in
     (λ i. (starts i, ends i) ∷ rest i)

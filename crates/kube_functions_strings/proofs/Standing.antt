@@ -1,4 +1,4 @@
--- The places at which one text stands in another: the first of them and the last.
+-- The offsets at which one text stands in another: the first of them and the last.
 use Rattle.std.proofs.Common.{◌≡◌, ℕ, zero, suc, ◌+◌, ◌-◌, ◌<◌, ◌≤◌, min, ◌⊎◌, ⊎_elim, eq-or-lt_of_le, arith, List, ◌∷◌, ◌++◌, length, take, drop, Bool, true, false, cond, Some, None, refl, sym, ap, ◌∙◌, drop-drop, length-append, length-drop, length-take, take-take}
 use Rattle.std.specs.List.{find, range_with_len, starts_with}
 use Rattle.std.specs.Prelude.{nat_eq}
@@ -11,18 +11,18 @@ use Rattle.kube_functions_strings.proofs.Occurring.{stands_between}
 pub range_more : (k n : ℕ) → k < n → range_with_len k (n - k) ≡ k ∷ range_with_len (k + 1) (n - (k + 1))
 range_more k n h = let e : n - k ≡ suc (n - (k + 1)) = omega arith in ap (range_with_len k) e
 
-place_next : (cs part : List ℕ) (k : ℕ) → k < suc (length cs) → offset_from cs part k ≡ cond (stands_at cs part k) (Some k) (offset_from cs part (k + 1))
-place_next cs part k h = ap (find (stands_at cs part)) (range_more k (suc (length cs)) h)
+offset_next : (cs part : List ℕ) (k : ℕ) → k < suc (length cs) → offset_from cs part k ≡ cond (stands_at cs part k) (Some k) (offset_from cs part (k + 1))
+offset_next cs part k h = ap (find (stands_at cs part)) (range_more k (suc (length cs)) h)
 
 stands_here : (cs part : List ℕ) (k : ℕ) → k < suc (length cs) → stands_at cs part k ≡ true → offset_from cs part k ≡ Some k
-stands_here cs part k h e = place_next cs part k h ∙ ap (λ b. cond b (Some k) (offset_from cs part (k + 1))) e
+stands_here cs part k h e = offset_next cs part k h ∙ ap (λ b. cond b (Some k) (offset_from cs part (k + 1))) e
 
 stands_later : (cs part : List ℕ) (k : ℕ) → k < suc (length cs) → stands_at cs part k ≡ false → offset_from cs part k ≡ offset_from cs part (k + 1)
-stands_later cs part k h e = place_next cs part k h ∙ ap (λ b. cond b (Some k) (offset_from cs part (k + 1))) e
+stands_later cs part k h e = offset_next cs part k h ∙ ap (λ b. cond b (Some k) (offset_from cs part (k + 1))) e
 
--- ---- the first place
+-- ---- the first offset
 
--- j places are passed over, and the part stands at the next
+-- j offsets are passed over, and the part stands at the next
 first_is : (cs part : List ℕ) (j k m : ℕ) → m ≡ k + j → m ≤ length cs → ((i : ℕ) → k ≤ i → i < m → stands_at cs part i ≡ false) → stands_at cs part m ≡ true → offset_from cs part k ≡ Some m
 first_is cs part zero k m e le none here =
     let same : m ≡ k = omega arith in
@@ -36,7 +36,7 @@ first_none cs part zero k e none = ap (λ n. find (stands_at cs part) (range_wit
 first_none cs part (suc j) k e none =
     stands_later cs part k (omega arith) (none k (omega arith) (omega arith)) ∙ first_none cs part j (k + 1) (omega arith) (λ i from le. none i (omega arith) le)
 
--- a place in what follows k is a place in the text
+-- an offset in what follows k is an offset in the text
 pub stands_behind : (cs part : List ℕ) (k i : ℕ) → k ≤ i → stands_at cs part i ≡ stands_at (drop k cs) part (i - k)
 stands_behind cs part k i le =
     let e : i ≡ k + (i - k) = omega arith in
@@ -57,7 +57,7 @@ nowhere_behind cs part k none =
 pub past_the_end : (cs part : List ℕ) (k : ℕ) → length cs < k → None ≡ offset_from cs part k
 past_the_end cs part k lt = sym (first_none cs part 0 k (omega arith) (λ i from le. absurd (omega arith)))
 
--- ---- the last place
+-- ---- the last offset
 
 greatest_is : (test : ℕ → Bool) (n q : ℕ) → q < n → test q ≡ true → ((k : ℕ) → q < k → k < n → test k ≡ false) → greatest_below test n ≡ Some q
 greatest_is test zero q lt here none = absurd (omega arith)

@@ -1,12 +1,12 @@
 -- Scaffolding: only proofs and private clauses cite it.
--- How a text is cut at its places, and around the parts that stand in it.
+-- How a text is cut at its offsets, and around the parts that stand in it.
 use Rattle.std.specs.Prelude.{◌≡◌, ℕ, zero, suc, ◌-◌, ◌<◌, ◌≤◌, nat_lt, nat_le, ℤ, pos, negsuc, Bool, true, false, List, [], ◌∷◌, ◌++◌, length, map, take, drop, Option, Some, None, option_map, if◌then◌else◌}
 use Rattle.std.specs.List.{range_with_len}
 use Rattle.std.specs.Str.{chars, encode_utf8_all, IsUtf8}
 use Rattle.kube_functions_strings.specs.Pieces.{spans_among, around}
 use Rattle.kube_functions_strings.specs.Offsets.{offset_within, stands_at}
 
--- ---- places
+-- ---- offsets
 
 -- rest follows the first k characters of a text
 pub record IsPast (text : List ℕ) (k : ℕ) (rest : List ℕ) : Type 0 where
@@ -15,31 +15,31 @@ pub record IsPast (text : List ℕ) (k : ℕ) (rest : List ℕ) : Type 0 where
   pub later : chars rest ≡ drop k (chars text)
   pub utf8 : IsUtf8 rest
 
--- the characters before a place and those from it on, where there are as many
+-- the characters before an offset and those from it on, where there are as many
 abbrev pub around_offset : List ℕ → ℕ → Option (List ℕ × List ℕ)
 around_offset cs k = if nat_le k (length cs) then Some (take k cs, drop k cs) else None
 
--- the place that an int is
-abbrev pub place_of : ℤ → Option ℕ
-place_of (pos k) = Some k
-place_of (negsuc k) = None
+-- the offset that an int is
+abbrev pub offset_of : ℤ → Option ℕ
+offset_of (pos k) = Some k
+offset_of (negsuc k) = None
 
--- the place in a text that an int is, with the characters from there on
+-- the offset in a text that an int is, with the characters from there on
 abbrev pub from_index : List ℕ → ℤ → Option (ℕ × List ℕ)
 from_index cs i = option_map (λ k. (k, drop k cs)) (offset_within 0 (length cs) i)
 
 -- ---- parts
 
--- a part stands at no place from n on
+-- a part stands at no offset from n on
 abbrev pub StandsNowhere : ℕ → List ℕ → List ℕ → Type 0
 StandsNowhere n cs part = (k : ℕ) → n ≤ k → k ≤ length cs → stands_at cs part k ≡ false
 
--- the first place from n on at which a part stands is the one between the characters before it and those behind it
+-- the first offset from n on at which a part stands is the one between the characters before it and those behind it
 abbrev pub StandsFirst : ℕ → List ℕ → List ℕ → List ℕ → List ℕ → Type 0
 StandsFirst n cs part before behind =
     (cs ≡ before ++ (part ++ behind)) × (n ≤ length before) × ((k : ℕ) → n ≤ k → k < length before → stands_at cs part k ≡ false)
 
--- the last place at which a part stands is that one
+-- the last offset at which a part stands is that one
 abbrev pub StandsLast : List ℕ → List ℕ → List ℕ → List ℕ → Type 0
 StandsLast cs part before behind = (cs ≡ before ++ (part ++ behind)) × ((k : ℕ) → length before < k → k ≤ length cs → stands_at cs part k ≡ false)
 
@@ -55,7 +55,7 @@ abbrev pub left_of : {A : Type 0} → Option ℕ → ℕ → List A → List A
 left_of None m ps = ps
 left_of (Some n) m ps = take (n - m) ps
 
--- how many characters stand at least between a number of separators and the next one: an empty one stands once at a place
+-- how many characters stand at least between a number of separators and the next one: an empty one stands once at an offset
 abbrev pub characters_passed : List ℕ → ℕ → ℕ
 characters_passed [] zero = 0
 characters_passed [] (suc m) = 1

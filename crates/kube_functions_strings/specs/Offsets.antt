@@ -1,6 +1,6 @@
 -- Trusted by the headline.
--- Characters of a string by their places, and the places of one string in another (Kubernetes documentation, "CEL in Kubernetes", extended
--- string library; documentation of CEL-Go, "Strings": `charAt`, `indexOf`, `lastIndexOf`, `substring`). Places count code points from 0 on.
+-- Characters of a string by their offsets, and the offsets of one string in another (Kubernetes documentation, "CEL in Kubernetes", extended
+-- string library; documentation of CEL-Go, "Strings": `charAt`, `indexOf`, `lastIndexOf`, `substring`). Offsets count code points from 0 on.
 use Rattle.std.specs.Prelude.{ℕ, zero, suc, ◌-◌, min, ℤ, pos, negsuc, nat_le, nat_eq, ◌&&◌, List, [], ◌∷◌, ◌++◌, length, drop, codes, Bool, Option, Some, None, Ok, Err, encode_utf8, slice_get, slice_range, decimal, if◌then◌else◌}
 use Rattle.std.specs.Fmt.{signed_decimal}
 use Rattle.std.specs.List.{starts_with, find, range_with_len}
@@ -11,7 +11,7 @@ use Rattle.cel_value.specs.Faults.{Fault, function_error}
 use Rattle.cel_semantics.specs.Outcome.{Outcome}
 use Rattle.kube_functions_strings.specs.Operands.{texts_in, text_and_int_in, optional_int_in, answer_with}
 
--- the place from low to high that an int is
+-- the offset from low to high that an int is
 abbrev pub offset_within : ℕ → ℕ → ℤ → Option ℕ
 offset_within low high (pos k) = if nat_le low k && nat_le k high then Some k else None
 offset_within low high (negsuc k) = None
@@ -29,7 +29,7 @@ character_text o = option_map_or encode_utf8 o []
 abbrev pub no_character : ℤ → ℕ → Fault
 no_character i n = function_error (codes "charAt") (past_length (codes "index") i n)
 
--- the character at a place, or none at the end
+-- the character at an offset, or none at the end
 abbrev pub character_at : List ℕ → ℤ → Outcome
 character_at cs i =
     option_map_or (λ k. Ok (text (character_text (slice_get cs k)))) (offset_within 0 (length cs) i) (Err (no_character i (length cs)))
@@ -45,7 +45,7 @@ no_start i n = function_error (codes "substring") (past_length (codes "start ind
 abbrev pub no_end : ℤ → Fault
 no_end i = function_error (codes "substring") (codes "end index " ++ signed_decimal i ++ codes " out of range")
 
--- the characters from a place up to another one
+-- the characters from an offset up to another one
 abbrev pub characters_up_to : List ℕ → ℕ → ℤ → Outcome
 characters_up_to cs k b =
     option_map_or (λ m. Ok (text (encode_utf8_all (slice_range cs k m)))) (offset_within k (length cs) b) (Err (no_end b))
@@ -66,11 +66,11 @@ abbrev pub at_least_zero : ℤ → ℕ
 at_least_zero (pos n) = n
 at_least_zero (negsuc n) = 0
 
--- whether a part stands at a place
+-- whether a part stands at an offset
 abbrev pub stands_at : List ℕ → List ℕ → ℕ → Bool
 stands_at cs part k = starts_with nat_eq (drop k cs) part
 
--- the least place from k on at which the part stands
+-- the least offset from k on at which the part stands
 abbrev pub offset_from : List ℕ → List ℕ → ℕ → Option ℕ
 offset_from cs part k = find (stands_at cs part) (range_with_len k (suc (length cs) - k))
 
@@ -79,21 +79,21 @@ abbrev pub greatest_below : (ℕ → Bool) → ℕ → Option ℕ
 greatest_below test zero = None
 greatest_below test (suc n) = if test n then Some n else greatest_below test n
 
--- how many places there are up to an int
+-- how many offsets there are up to an int
 abbrev pub offsets_up_to : ℕ → ℤ → ℕ
 offsets_up_to n (pos k) = suc (min k n)
 offsets_up_to n (negsuc k) = 0
 
--- -1 stands for no place
+-- -1 stands for no offset
 abbrev pub or_no_offset : Option ℕ → ℤ
 or_no_offset o = option_map_or pos o (negsuc 0)
 
--- the least place from i on, where i is raised to 0. An empty part stands at i itself.
+-- the least offset from i on, where i is raised to 0. An empty part stands at i itself.
 abbrev pub first_index : List ℕ → List ℕ → ℤ → ℤ
 first_index cs [] i = pos (at_least_zero i)
 first_index cs (c ∷ part) i = or_no_offset (offset_from cs (c ∷ part) (at_least_zero i))
 
--- the greatest place up to i. An empty part stands at i itself, or at the end of the text nearest to it.
+-- the greatest offset up to i. An empty part stands at i itself, or at the end of the text nearest to it.
 abbrev pub last_index : List ℕ → List ℕ → ℤ → ℤ
 last_index cs [] i = pos (min (at_least_zero i) (length cs))
 last_index cs (c ∷ part) i = or_no_offset (greatest_below (stands_at cs (c ∷ part)) (offsets_up_to (length cs) i))

@@ -14,11 +14,11 @@ use Rattle.cel_semantics.specs.Outcome.{Outcome}
 use Rattle.kube_functions_strings.specs.Operands.{texts_in, optional_int_in, answer_with}
 use Rattle.kube_functions_strings.specs.Offsets.{stands_at, at_least_zero}
 
--- the next separator is at this place, where none begins before `end`
+-- the next separator is at this offset, where none begins before `end`
 abbrev pub is_next : List ℕ → List ℕ → ℕ → ℕ → Bool
 is_next cs part end k = nat_le end k && stands_at cs part k
 
--- the spans of the separators that begin at one of some ascending places, and not before `end`
+-- the spans of the separators that begin at one of some ascending offsets, and not before `end`
 abbrev pub spans_among : List ℕ → List ℕ → ℕ → List ℕ → List (ℕ × ℕ)
 spans_among cs part end [] = []
 spans_among cs part end (k ∷ ks) =
@@ -28,7 +28,7 @@ spans_among cs part end (k ∷ ks) =
 abbrev pub separators : List ℕ → List ℕ → List (ℕ × ℕ)
 separators cs part = spans_among cs part 0 (range_with_len 0 (suc (length cs)))
 
--- what stands from a place on, around spans
+-- what stands from an offset on, around spans
 abbrev pub around : List ℕ → ℕ → List (ℕ × ℕ) → List (List ℕ)
 around cs start [] = drop start cs ∷ []
 around cs start (p ∷ ps) = slice_range cs start p.0 ∷ around cs p.1 ps

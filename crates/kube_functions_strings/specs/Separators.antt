@@ -4,8 +4,8 @@
 use Rattle.std.specs.Prelude.{◌≡◌, ◌+◌, ◌<◌, ◌≤◌, ℕ, List, [], ◌∷◌, length, true, false}
 use Rattle.kube_functions_strings.specs.Offsets.{stands_at}
 
--- these spans are the separators from a place on: the part begins nowhere between that place and the first, there it does, and from its end on
--- the others are those; where there is none, the part begins nowhere from that place on
+-- these spans are the separators from an offset on: the part begins nowhere between that offset and the first, there it does, and from its end on
+-- the others are those; where there is none, the part begins nowhere from that offset on
 abbrev pub AreFromLeft : List ℕ → List ℕ → ℕ → List (ℕ × ℕ) → Type 0
 AreFromLeft cs part from [] = (k : ℕ) → from ≤ k → stands_at cs part k ≡ false
 AreFromLeft cs part from (p ∷ ps) =

@@ -30,7 +30,8 @@ pub(crate) fn function_fault(
     function: &str,
     message: String,
 ) -> Result<Answer, Refused>
-    ensures value { IfOk result (λ r. outcome_view r ≡ Err (fault.function_error function.now (string_bytes message))) }
+    ensures value { IfOk result
+        (λ r. outcome_view r ≡ Err (fault.function_error function.now (string_bytes message))) }
     ensures memory { IfErr result (λ e. e ≡ Refused.Memory) }
 {
     Ok(Err(ExecutionError::FunctionError {

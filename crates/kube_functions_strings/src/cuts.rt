@@ -1,4 +1,4 @@
-//! Texts cut at a place or around a part, with no copy. A place counts characters.
+//! Texts cut at an offset or around a part, with no copy. An offset counts characters.
 ghost use Rattle.std.specs.Prelude.{◌≡◌, ◌≤◌, ◌<◌, length, option_map, IfOk, IfSome, MatchOption, string_bytes};
 ghost use Rattle.std.specs.Str.{chars, encode_utf8_all, IsUtf8};
 ghost use Rattle.kube_functions_strings.specs.Cuts as spec;
@@ -19,7 +19,8 @@ pub(crate) fn character_count(text: &str) -> usize
 
 // What follows the first `count` characters, where there are as many: one character after the other.
 fn past_characters(text: &str, count: usize) -> Option<&str>
-    ensures { MatchOption result (length (chars text.now) < count) (λ rest. spec.IsPast text.now count rest.now) }
+    ensures { MatchOption result (length (chars text.now) < count)
+        (λ rest. spec.IsPast text.now count rest.now) }
 {
     let mut characters = text.chars();
     for offset in 0..count {
@@ -33,7 +34,8 @@ fn past_characters(text: &str, count: usize) -> Option<&str>
 // What follows the first `count` characters, where there are as many. Counts bytes where each character takes one, but for a single
 // character, which costs less than that test of the whole text.
 fn past(text: &str, count: usize) -> Option<&str>
-    ensures { MatchOption result (length (chars text.now) < count) (λ rest. spec.IsPast text.now count rest.now) }
+    ensures { MatchOption result (length (chars text.now) < count)
+        (λ rest. spec.IsPast text.now count rest.now) }
 {
     if 1 < count && text.is_ascii() {
         if count <= text.len() {
@@ -46,9 +48,10 @@ fn past(text: &str, count: usize) -> Option<&str>
     }
 }
 
-/// The characters of a text before a place, and those from it on. None where the text ends before it.
+/// The characters of a text before an offset, and those from it on. `None` where the text ends before it.
 pub(crate) fn around_offset(text: &str, offset: usize) -> Option<(&str, &str)>
-    ensures value { option_map (λ p. (chars p.0.now, chars p.1.now)) result ≡ spec.around_offset (chars text.now) offset }
+    ensures value { option_map (λ p. (chars p.0.now, chars p.1.now)) result
+        ≡ spec.around_offset (chars text.now) offset }
     ensures utf8 { IfSome result (λ p. IsUtf8 p.0.now) }
 {
     match past(text, offset) {

@@ -65,7 +65,8 @@ pub fn base64_encode(alloc: Global, value: &Value) -> Result<Answer, Refused>
 }
 
 fn bytes_answer(alloc: Global, bytes: Option<Vec<u8>>) -> Result<Answer, Refused>
-    ensures value { IfOk result (λ r. outcome_view r ≡ spec.bytes_or_fault (option_map (λ v. v.items) bytes)) }
+    ensures value { IfOk result
+        (λ r. outcome_view r ≡ spec.bytes_or_fault (option_map (λ v. v.items) bytes)) }
     ensures memory { IfErr result (λ e. e ≡ Refused.Memory) }
 {
     match bytes {

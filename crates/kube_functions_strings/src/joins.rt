@@ -34,7 +34,8 @@ pub(crate) fn joined(alloc: Global, texts: &[&str], between: &str) -> Result<Str
 }
 
 fn joined_items(alloc: Global, items: &[Value], between: &str) -> Result<Answer, Refused>
-    ensures value { IfOk result (λ r. outcome_view r ≡ spec.joined_or_fault between.now (spec.texts_of (map view items.now))) }
+    ensures value { IfOk result
+        (λ r. outcome_view r ≡ spec.joined_or_fault between.now (spec.texts_of (map view items.now))) }
     ensures memory { IfErr result (λ e. e ≡ Refused.Memory) }
 {
     match texts_of(alloc, items)? {
@@ -56,7 +57,8 @@ fn items_of(value: &Value) -> Option<&[Value]>
 }
 
 fn separator_of(separator: Option<&Value>) -> Option<&str>
-    ensures { option_map (λ s. s.now) result ≡ spec.separator_in (option_map (λ v. view v.now) separator.entry) }
+    ensures { option_map (λ s. s.now) result
+        ≡ spec.separator_in (option_map (λ v. view v.now) separator.entry) }
 {
     match separator {
         Some(value) => value.as_str(),

@@ -17,10 +17,13 @@ pub fn decoding_undoes_encoding()
 {}
 
 /// `split` and `replace` cut at the separators from the left, each the first that begins at or after the end of the one before it, and at no
-/// others. An empty one stands once at each place between characters, before the first and behind the last.
+/// others. An empty one stands once at each offset: between characters, before the first and behind the last.
 pub fn separators_stand_from_the_left()
-    ensures from_left { (text part : List ℕ) (c : ℕ) → AreFromLeft text (c ∷ part) 0 (separators text (c ∷ part)) }
-    ensures no_others { (text part : List ℕ) (c : ℕ) (spans : List (ℕ × ℕ)) → AreFromLeft text (c ∷ part) 0 spans
+    ensures from_left { (text part : List ℕ) (c : ℕ)
+        → AreFromLeft text (c ∷ part) 0 (separators text (c ∷ part)) }
+    ensures no_others { (text part : List ℕ) (c : ℕ) (spans : List (ℕ × ℕ))
+        → AreFromLeft text (c ∷ part) 0 spans
         → spans ≡ separators text (c ∷ part) }
-    ensures empty { (text : List ℕ) → separators text [] ≡ map (λ k. (k, k)) (range_with_len 0 (suc (length text))) }
+    ensures empty { (text : List ℕ)
+        → separators text [] ≡ map (λ k. (k, k)) (range_with_len 0 (suc (length text))) }
 {}

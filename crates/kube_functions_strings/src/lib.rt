@@ -1,4 +1,4 @@
-//! The functions of Kubernetes on strings: places, letters, pieces, patterns, encodings and escapes.
+//! The functions of Kubernetes on strings: offsets, letters, pieces, patterns, encodings and escapes.
 #![tactic(auto)]
 
 mod answers;

@@ -1,4 +1,4 @@
-//! `charAt`, `substring`, `indexOf` and `lastIndexOf`: characters by their places, and places of parts.
+//! `charAt`, `substring`, `indexOf` and `lastIndexOf`: characters by their offsets, and offsets of parts.
 ghost use Rattle.std.specs.Prelude.{◌≡◌, ◌≤◌, ◌<◌, ◌^◌, ℕ, suc, min, pos, List, length, take, drop, slice_get, slice_range, IfOk, IfErr, IfSome, option_map, string_bytes};
 ghost use Rattle.std.specs.Option.{unwrap_or};
 ghost use Rattle.std.specs.Str.{chars};
@@ -14,9 +14,9 @@ use cel_semantics::operators::{Answer, no_such_overload};
 use cel_value::{Refused, Value};
 use std::alloc::{AllocError, Global};
 
-// The place that an int is.
+// The offset that an int is.
 fn as_offset(index: i64) -> Option<usize>
-    ensures value { result ≡ cuts.place_of index }
+    ensures value { result ≡ cuts.offset_of index }
     ensures small { IfSome result (λ k. k < 2 ^ 63) }
 {
     match usize::try_from(index) {
@@ -25,7 +25,7 @@ fn as_offset(index: i64) -> Option<usize>
     }
 }
 
-// The place in a text that an int is, with what stands from there on.
+// The offset in a text that an int is, with what stands from there on.
 fn from_index(text: &str, index: i64) -> Option<(usize, &str)>
     ensures { option_map (λ p. (p.0, chars p.1.now)) result ≡ cuts.from_index (chars text.now) index }
 {
@@ -71,7 +71,7 @@ fn character_at(alloc: Global, text: &str, index: i64) -> Result<Answer, Refused
     }
 }
 
-/// The character of a string at a place, as a string; an empty one at the end.
+/// The character of a string at an offset, as a string; an empty one at the end.
 ///
 /// # Errors
 /// `Memory` alone.
@@ -85,7 +85,7 @@ pub fn char_at(alloc: Global, value: &Value, index: &Value) -> Result<Answer, Re
     }
 }
 
-// What stands at the front of the rest of a text, which begins at a place, up to the place that an int is.
+// What stands at the front of the rest of a text, which begins at an offset, up to the offset that an int is.
 fn up_to(rest: &str, offset: usize, end: i64) -> Option<&str>
     ensures { (cs : List ℕ) → offset ≤ length cs → chars rest.now ≡ drop offset cs
         → option_map (λ t. chars t.now) result
@@ -135,7 +135,7 @@ fn characters_between(
     }
 }
 
-/// The characters of a string from a place up to another one, or up to the end.
+/// The characters of a string from an offset up to another one, or up to the end.
 ///
 /// # Errors
 /// `Memory` alone.
@@ -158,7 +158,7 @@ pub fn substring(
     }
 }
 
-// The least place from `start` on at which the part stands.
+// The least offset from `start` on at which the part stands.
 fn offset_from(text: &str, part: &str, start: usize) -> Option<usize>
     ensures value { result ≡ spec.offset_from (chars text.now) (chars part.now) start }
     ensures within { IfSome result (λ k. k ≤ length text.now) }
@@ -182,7 +182,7 @@ fn first_characters(text: &str, count: usize) -> &str
     }
 }
 
-// The greatest place up to `most` at which the part stands, which is not empty.
+// The greatest offset up to `most` at which the part stands, which is not empty.
 fn offset_up_to(text: &str, part: &str, most: usize) -> Option<usize>
     requires some { 0 < length part.now }
     requires small { most < 2 ^ 63 }
@@ -227,7 +227,7 @@ fn first_index(text: &str, part: &str, start: i64) -> i64
     }
 }
 
-// The greatest place up to `start` at which the part stands, which is not empty.
+// The greatest offset up to `start` at which the part stands, which is not empty.
 fn last_offset(text: &str, part: &str, start: i64) -> Option<usize>
     requires { 0 < length part.now }
     ensures value { result ≡ spec.greatest_below (spec.stands_at (chars text.now) (chars part.now))
@@ -250,7 +250,7 @@ fn last_index(text: &str, part: &str, start: i64) -> i64
     }
 }
 
-/// The least place from an int on at which a string has another one, or -1. An int that is absent or negative counts as 0.
+/// The least offset from an int on at which a string has another one, or -1. An int that is absent or negative counts as 0.
 ///
 /// # Errors
 /// `Memory` alone.
@@ -286,7 +286,7 @@ fn or_end(start: Option<i64>, text: &str) -> i64
     }
 }
 
-/// The greatest place up to an int at which a string has another one, or -1. The length stands for an int that is absent.
+/// The greatest offset up to an int at which a string has another one, or -1. The length stands for an int that is absent.
 ///
 /// # Errors
 /// `Memory` alone.

@@ -31,7 +31,8 @@ pub(crate) fn both_texts<'a>(value: &'a Value, other: &'a Value) -> Option<(&'a 
 
 /// The text of a string and an int.
 pub(crate) fn text_and_int<'a>(value: &'a Value, number: &Value) -> Option<(&'a str, i64)>
-    ensures { option_map (λ p. (p.0.now, p.1)) result ≡ spec.text_and_int_in (view value.now) (view number.now) }
+    ensures { option_map (λ p. (p.0.now, p.1)) result
+        ≡ spec.text_and_int_in (view value.now) (view number.now) }
 {
     match value.as_str() {
         Some(text) => match as_int(number) {
@@ -42,7 +43,7 @@ pub(crate) fn text_and_int<'a>(value: &'a Value, number: &Value) -> Option<(&'a 
     }
 }
 
-/// The int of an argument that may be absent. None where it is there and no int.
+/// The int of an argument that may be absent. `None` where it is there and no int.
 pub(crate) fn optional_int(value: Option<&Value>) -> Option<Option<i64>>
     ensures { result ≡ spec.optional_int_in (option_map (λ v. view v.now) value.entry) }
 {

@@ -12,9 +12,9 @@ use std::alloc::{AllocError, Global};
 /// Which characters are escaped, and how.
 #[derive(Clone, Copy, Debug, PartialEq, Eq)]
 pub enum Escaping {
-    /// Those of a JSON Pointer's key.
+    /// `~` and `/` in a key of a JSON Pointer.
     Pointer,
-    /// Those of a text in quotation marks.
+    /// Quotation marks, backslashes and seven control characters, in a text between quotation marks.
     Quoted,
 }
 
@@ -45,7 +45,8 @@ impl Escaping {
 }
 
 fn push_escaped(out: &mut String, form: Escaping, character: char) -> Result<(), AllocError>
-    ensures { OnOk result (string_bytes out.new ≡ string_bytes out.old ++ spec.escaped_character form character) }
+    ensures { OnOk result (string_bytes out.new
+        ≡ string_bytes out.old ++ spec.escaped_character form character) }
 {
     match form.escape(character) {
         Some(escape) => out.push_str(escape),

@@ -53,7 +53,7 @@ fn match_texts(alloc: Global, text: &str, spans: &[(usize, usize)]) -> Result<Va
     Value::from_items(alloc, texts)
 }
 
-// The limit that an argument sets: none where it is absent or negative.
+// The limit that an argument sets: `None` where it is absent or negative.
 fn limit_of(count: Option<i64>) -> Option<usize>
     ensures { result ≡ spec.limit_of count }
 {
@@ -132,7 +132,8 @@ pub fn find_all(
 ) -> Result<Answer, Refused>
     ensures keeps { Extends (entries_of book.new) (entries_of book.old) }
     ensures value { IfOk result (λ r. HoldsForExtensions (entries_of book.new) (outcome_view r)
-        (λ b. spec.find_all_outcome (view value.now) (view pattern.now) (option_map (λ v. view v.now) count.entry) b)) }
+        (λ b. spec.find_all_outcome (view value.now) (view pattern.now)
+        (option_map (λ v. view v.now) count.entry) b)) }
     ensures memory { IfErr result (λ e. e ≡ Refused.Memory) }
 {
     match both_texts(value, pattern) {

@@ -28,13 +28,13 @@ fn has_room(limit: Option<usize>, count: usize) -> bool
     }
 }
 
-// What stands before the next separator, and behind it. An empty one stands once at a place.
+// What stands before the next separator, and behind it. An empty one stands once at each offset.
 fn around_next<'a>(text: &'a str, separator: &str, count: usize) -> Option<(&'a str, &'a str)>
     ensures value { MatchOption result
         (cuts.StandsNowhere (cuts.characters_passed (chars separator.now) count) (chars text.now)
         (chars separator.now))
-        (λ p. cuts.StandsFirst (cuts.characters_passed (chars separator.now) count) (chars text.now) (chars separator.now)
-        (chars p.0.now) (chars p.1.now)) }
+        (λ p. cuts.StandsFirst (cuts.characters_passed (chars separator.now) count) (chars text.now)
+        (chars separator.now) (chars p.0.now) (chars p.1.now)) }
     ensures utf8 { IfSome result (λ p. IsUtf8 p.0.now) }
 {
     if 0 < count && separator.is_empty() {
@@ -67,7 +67,8 @@ fn next_piece<'a>(
 
 // The pieces, with what stands behind the last separator.
 fn finished<'a>(mut pieces: Vec<&'a str>, rest: &'a str) -> Result<Vec<&'a str>, AllocError>
-    ensures { IfOk result (λ v. map (λ s. s.now) v.items ≡ map (λ s. s.now) pieces.entry.items ++ rest.now ∷ []) }
+    ensures { IfOk result
+        (λ v. map (λ s. s.now) v.items ≡ map (λ s. s.now) pieces.entry.items ++ rest.now ∷ []) }
 {
     pieces.push(rest)?;
     Ok(pieces)
@@ -80,7 +81,8 @@ fn pieces<'a>(
     separator: &str,
     limit: Option<usize>,
 ) -> Result<Vec<&'a str>, AllocError>
-    ensures { IfOk result (λ v. map (λ s. s.now) v.items ≡ spec.pieces (chars text.now) (chars separator.now) limit) }
+    ensures { IfOk result
+        (λ v. map (λ s. s.now) v.items ≡ spec.pieces (chars text.now) (chars separator.now) limit) }
 {
     let mut pieces = Vec::new(alloc);
     let mut rest = text;
@@ -98,7 +100,8 @@ fn split_pieces<'a>(
     separator: &str,
     count: Option<i64>,
 ) -> Result<Vec<&'a str>, AllocError>
-    ensures { IfOk result (λ v. map (λ s. s.now) v.items ≡ spec.split_pieces (chars text.now) (chars separator.now) count) }
+    ensures { IfOk result
+        (λ v. map (λ s. s.now) v.items ≡ spec.split_pieces (chars text.now) (chars separator.now) count) }
 {
     match count {
         Some(count) => match usize::try_from(count) {
@@ -140,7 +143,8 @@ fn split_text(
     separator: &str,
     count: Option<i64>,
 ) -> Result<Value, Refused>
-    ensures value { IfOk result (λ v. view v ≡ spec.text_list (spec.split_pieces (chars text.now) (chars separator.now) count)) }
+    ensures value { IfOk result
+        (λ v. view v ≡ spec.text_list (spec.split_pieces (chars text.now) (chars separator.now) count)) }
     ensures memory { IfErr result (λ e. e ≡ Refused.Memory) }
 {
     let texts = split_pieces(alloc, text, separator, count)?;
@@ -196,7 +200,7 @@ fn replaced_text(
     joined(alloc, texts.as_slice(), new)
 }
 
-// What stands in the place of the separators, and how many of them, of the operands after the first two.
+// The new text and the count of separators that it replaces, of the operands after the first two.
 fn new_and_count<'a>(new: &'a Value, count: Option<&Value>) -> Option<(&'a str, Option<i64>)>
     ensures { option_map (λ p. (p.0.now, p.1)) result
         ≡ option_zip (text_in (view new.now)) (optional_int_in (option_map (λ v. view v.now) count.entry)) }
@@ -210,7 +214,7 @@ fn new_and_count<'a>(new: &'a Value, count: Option<&Value>) -> Option<(&'a str, 
     }
 }
 
-/// A string with another one in the place of a part, at the part's first `count` matches, or at all where the count is absent.
+/// A string in which another one replaces a part: at the part's first `count` matches, or at all where the count is absent.
 ///
 /// # Errors
 /// `Memory` alone.
@@ -222,7 +226,8 @@ pub fn replace(
     count: Option<&Value>,
 ) -> Result<Answer, Refused>
     ensures value { IfOk result (λ r. outcome_view r
-        ≡ spec.replace_outcome (view value.now) (view part.now) (view new.now) (option_map (λ v. view v.now) count.entry)) }
+        ≡ spec.replace_outcome (view value.now) (view part.now)
+        (view new.now) (option_map (λ v. view v.now) count.entry)) }
     ensures memory { IfErr result (λ e. e ≡ Refused.Memory) }
 {
     match both_texts(value, part) {

@@ -84,7 +84,8 @@ pub fn is_cidr_v6(alloc: Global, value: &Value) -> Result<Answer, Refused>
 }
 
 fn contains_address(alloc: Global, cidr: &KubeCIDR, other: &Value) -> Result<Answer, Refused>
-    ensures value { IfOk result (λ r. outcome_view r ≡ spec.contains_ip (plain.cidr (network cidr.now)) (view other.now)) }
+    ensures value { IfOk result
+        (λ r. outcome_view r ≡ spec.contains_ip (plain.cidr (network cidr.now)) (view other.now)) }
     ensures memory { IfErr result (λ e. e ≡ Refused.Memory) }
 {
     match other {
@@ -112,7 +113,8 @@ pub fn contains_ip(alloc: Global, value: &Value, other: &Value) -> Result<Answer
 }
 
 fn contains_set(alloc: Global, cidr: &KubeCIDR, other: &Value) -> Result<Answer, Refused>
-    ensures value { IfOk result (λ r. outcome_view r ≡ spec.contains_cidr (plain.cidr (network cidr.now)) (view other.now)) }
+    ensures value { IfOk result
+        (λ r. outcome_view r ≡ spec.contains_cidr (plain.cidr (network cidr.now)) (view other.now)) }
     ensures memory { IfErr result (λ e. e ≡ Refused.Memory) }
 {
     match other {

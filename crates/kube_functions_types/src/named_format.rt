@@ -54,7 +54,8 @@ fn held_faults(alloc: Global, faults: Vec<String>) -> Result<OptionalValue, Refu
 }
 
 fn validated(alloc: Global, format: KubeFormat, value: &Value) -> Result<Answer, Refused>
-    ensures value { IfOk result (λ r. outcome_view r ≡ spec.validate (plain.format (kind_of format)) (view value.now)) }
+    ensures value { IfOk result
+        (λ r. outcome_view r ≡ spec.validate (plain.format (kind_of format)) (view value.now)) }
     ensures memory { IfErr result (λ e. e ≡ Refused.Memory) }
 {
     match value {

@@ -50,7 +50,8 @@ fn order(value: &Value, other: &Value) -> Option<Ordering>
 /// # Errors
 /// `Memory` alone.
 pub fn is_greater_than(alloc: Global, value: &Value, other: &Value) -> Result<Answer, Refused>
-    ensures value { IfOk result (λ r. outcome_view r ≡ spec.is_greater_than (view value.now) (view other.now)) }
+    ensures value { IfOk result
+        (λ r. outcome_view r ≡ spec.is_greater_than (view value.now) (view other.now)) }
     ensures memory { IfErr result (λ e. e ≡ Refused.Memory) }
 {
     match order(value, other) {

@@ -143,7 +143,8 @@ fn amount(value: &Value) -> Option<KubeQuantity>
 
 // Both numbers, where they are there.
 fn amounts<'a>(value: &'a Value, other: &Value) -> Option<(&'a KubeQuantity, KubeQuantity)>
-    ensures { option_map (λ p. (number p.0.now, number p.1)) result ≡ spec.amounts_of (view value.now) (view other.now) }
+    ensures { option_map (λ p. (number p.0.now, number p.1)) result
+        ≡ spec.amounts_of (view value.now) (view other.now) }
 {
     match value.as_quantity() {
         Some(quantity) => match amount(other) {

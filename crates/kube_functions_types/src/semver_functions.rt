@@ -15,7 +15,7 @@ use kube_types::KubeSemver;
 use std::alloc::Global;
 use std::rc::Rc;
 
-// Whether a string is to be read leniently, as the argument says. None where the argument is no bool.
+// Whether a string is to be read leniently, as the argument says. `None` where the argument is no bool.
 fn lenience(argument: Option<&Value>) -> Option<bool>
     ensures { result ≡ spec.lenience (option_map (λ v. view v.now) argument.entry) }
 {
@@ -27,7 +27,8 @@ fn lenience(argument: Option<&Value>) -> Option<bool>
 
 fn read(alloc: Global, text: &str, lenient: bool) -> Result<Answer, Refused>
     ensures value { IfOk result (λ r. outcome_view r
-        ≡ value_or (refusal (codes "semver") (spec.not_version text.now)) plain.semver (version_of lenient text.now)) }
+        ≡ value_or (refusal (codes "semver") (spec.not_version text.now))
+        plain.semver (version_of lenient text.now)) }
     ensures memory { IfErr result (λ e. e ≡ Refused.Memory) }
 {
     match KubeSemver::read(alloc, text, lenient)? {

@@ -162,7 +162,8 @@ fn add_values(
     values: Vec<String>,
 ) -> Result<(), Refused>
     ensures written { OnOk result (entries_view entries.new.entries
-        ≡ put (plain.text_key (string_bytes name)) (text_list (texts values)) (entries_view entries.old.entries)) }
+        ≡ put (plain.text_key (string_bytes name))
+        (text_list (texts values)) (entries_view entries.old.entries)) }
     ensures memory { IfErr result (λ e. e ≡ Refused.Memory) }
 {
     let name = Rc::new(alloc, name)?;
@@ -187,7 +188,8 @@ fn map_of(alloc: Global, query: BTreeMap<String, Vec<String>>) -> Result<Entries
 }
 
 fn query_map(alloc: Global, url: &KubeUrl) -> Result<Entries, Refused>
-    ensures value { IfOk result (λ m. entries_view m.entries ≡ spec.entries_among (spec.query_pairs (url_view url.now)) (spec.query_pairs (url_view url.now))) }
+    ensures value { IfOk result (λ m. entries_view m.entries
+        ≡ spec.entries_among (spec.query_pairs (url_view url.now)) (spec.query_pairs (url_view url.now))) }
     ensures memory { IfErr result (λ e. e ≡ Refused.Memory) }
 {
     let query = url.query(alloc)?;

@@ -118,12 +118,12 @@ or_false : (a b : Bool) → (a || b) ≡ false → (a ≡ false) × (b ≡ false
 or_false true b h = absurd (cc)
 or_false false b h = (refl, h)
 
-place_after : (front back : List ℕ) → list_any is_slash front ≡ false → position_or_len is_slash (front ++ 47 ∷ back) ≡ length front
-place_after [] back h = refl
-place_after (x ∷ xs) back h =
+offset_after : (front back : List ℕ) → list_any is_slash front ≡ false → position_or_len is_slash (front ++ 47 ∷ back) ≡ length front
+offset_after [] back h = refl
+offset_after (x ∷ xs) back h =
     let parts = or_false (is_slash x) (list_any is_slash xs) h in
     ap (λ b. cond (not b) (1 + position_or_len is_slash (xs ++ 47 ∷ back)) 0) parts.0
-    ∙ ap (λ n. 1 + n) (place_after xs back parts.1) ∙ one-add (length xs)
+    ∙ ap (λ n. 1 + n) (offset_after xs back parts.1) ∙ one-add (length xs)
 
 take_front : (front back : List ℕ) → take (length front) (front ++ back) ≡ front
 take_front [] back = refl
@@ -137,24 +137,24 @@ pub around-complete : (front back : List ℕ) → list_any is_slash front ≡ fa
 unfolding around_slash
 around-complete front back h =
     let text = front ++ 47 ∷ back in
-    let offset = place_after front back h in
+    let offset = offset_after front back h in
     let long : length front < length text = omega (arith, length-append front (47 ∷ back)) in
     let found : position is_slash text ≡ Some (length front) =
     ap (λ i. cond (ltb i (length text)) (Some i) None) offset ∙ ap (λ b. cond b (Some (length front)) None) (lt-ltb (length front) (length text) long) in
     ap (λ o. option_map (λ i. (take i text, drop (i + 1) text)) o) found
     ∙ ap₂ (λ a b. Some (a, b)) (take_front front (47 ∷ back)) (ap (λ i. drop i text) (add-one (length front)) ∙ drop_front front back 47)
 
-place_none : (text : List ℕ) → list_any is_slash text ≡ false → position_or_len is_slash text ≡ length text
-place_none [] h = refl
-place_none (x ∷ xs) h =
+no_offset : (text : List ℕ) → list_any is_slash text ≡ false → position_or_len is_slash text ≡ length text
+no_offset [] h = refl
+no_offset (x ∷ xs) h =
     let parts = or_false (is_slash x) (list_any is_slash xs) h in
-    ap (λ b. cond (not b) (1 + position_or_len is_slash xs) 0) parts.0 ∙ ap (λ n. 1 + n) (place_none xs parts.1) ∙ one-add (length xs)
+    ap (λ b. cond (not b) (1 + position_or_len is_slash xs) 0) parts.0 ∙ ap (λ n. 1 + n) (no_offset xs parts.1) ∙ one-add (length xs)
 
 around_none : (text : List ℕ) → list_any is_slash text ≡ false → around_slash text ≡ None
 unfolding around_slash
 around_none text h =
     ap (λ o. option_map (λ i. (take i text, drop (i + 1) text)) o)
-    (ap (λ i. cond (ltb i (length text)) (Some i) None) (place_none text h) ∙ ap (λ b. cond b (Some (length text)) None) (le-ltb (length text) (length text) (omega arith)))
+    (ap (λ i. cond (ltb i (length text)) (Some i) None) (no_offset text h) ∙ ap (λ b. cond b (Some (length text)) None) (le-ltb (length text) (length text) (omega arith)))
 
 -- a text with a first slash
 record Cut (text : List ℕ) : Type 0 where
@@ -194,7 +194,7 @@ around-sound text p h = elim (cut_cases text) as (λ _. (text ≡ p.0 ++ 47 ∷ 
       (subst (λ q. text ≡ q.0 ++ 47 ∷ q.1) same c.spelled, subst (λ q. list_any is_slash q.0 ≡ false) same c.clear)
 ]
 
--- what a place of a first slash gives
+-- what the offset of a first slash gives
 pub around_by_offset : (text : List ℕ) (offset : ℕ) → position is_slash text ≡ Some offset → around_slash text ≡ Some (take offset text, take (length text - (offset + 1)) (drop (offset + 1) text))
 unfolding around_slash
 around_by_offset text offset e =

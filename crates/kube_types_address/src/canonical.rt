@@ -14,7 +14,7 @@ impl KubeIP {
     ///
     /// # Errors
     ///
-    /// Those of `read`, where the text means no address.
+    /// The error of `read`, where the text means no address.
     pub fn is_canonical(text: &str) -> Result<bool, &'static str>
         ensures { test_answer result ≡ canonical_of text.now }
     {

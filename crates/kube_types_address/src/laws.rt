@@ -44,8 +44,10 @@ pub fn a_cidr_text_has_one_answer()
 
 /// What was read is an address that isn't mapped, or a network of such an address: the laws below hold of it.
 pub fn what_is_read_is_an_address()
-    ensures address { (text : List ℕ) (a : Address) → ip_of text ≡ Ok a → IsAddress a × (is_mapped a ≡ false) }
-    ensures network { (text : List ℕ) (c : Network) → cidr_of text ≡ Ok c → IsNetwork c × (is_mapped c.ip ≡ false) }
+    ensures address { (text : List ℕ) (a : Address)
+        → ip_of text ≡ Ok a → IsAddress a × (is_mapped a ≡ false) }
+    ensures network { (text : List ℕ) (c : Network)
+        → cidr_of text ≡ Ok c → IsNetwork c × (is_mapped c.ip ≡ false) }
 {}
 
 /// A CIDR contains another exactly where every address of the other is one of its own.
@@ -77,5 +79,6 @@ pub fn printed_cidrs_mean_themselves()
 
 /// Of all texts of one address the printed one alone is canonical.
 pub fn canonical_is_the_printed_text()
-    ensures { (text : List ℕ) (a : Address) → ip_of text ≡ Ok a → (canonical_of text ≡ Ok true) ↔ (text ≡ address_text a) }
+    ensures { (text : List ℕ) (a : Address) → ip_of text ≡ Ok a
+        → (canonical_of text ≡ Ok true) ↔ (text ≡ address_text a) }
 {}

@@ -4,7 +4,7 @@ use Rattle.std.proofs.lemmas.List.{take_all}
 use Rattle.kube_types_formats.specs.Forms.{fits}
 use Rattle.kube_types_formats.specs.Dates.{is_clock, last_sign}
 use Rattle.kube_types_formats.proofs.FormLemmas.{fits_lengths}
-use Rattle.kube_types_formats.proofs.PlaceLemmas.{last_place_end}
+use Rattle.kube_types_formats.proofs.OffsetLemmas.{last_offset_end}
 
 pub short_clock : (text : List ℕ) → length text < 8 → is_clock (take 8 text) ≡ false
 unfolding is_clock
@@ -17,4 +17,4 @@ short_clock text h =
 pub short_sign : (rest : List ℕ) → length rest < 2 → None ≡ last_sign rest
 short_sign rest h =
     let few : length rest ≤ 2 = omega arith in
-    sym (ap (option_map (λ byte_offset. byte_offset + 2)) (last_place_end (codes "+-") rest 2 few))
+    sym (ap (option_map (λ byte_offset. byte_offset + 2)) (last_offset_end (codes "+-") rest 2 few))

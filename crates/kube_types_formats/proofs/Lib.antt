@@ -1,5 +1,5 @@
 pub mod FormLemmas
-pub mod PlaceLemmas
+pub mod OffsetLemmas
 pub mod FoundLemmas
 pub mod PartLemmas
 pub mod KindLemmas

@@ -3,7 +3,7 @@ use Rattle.std.proofs.Common.{◌≡◌, ℕ, suc, ◌+◌, ◌<◌, ◌≤◌, 
 use Rattle.std.specs.List.{slice_split, onto_first, position_or_len}
 use Rattle.std.proofs.lemmas.List.Splits.{slice_split_first, length-slice_split}
 use Rattle.kube_types_formats.specs.Labels.{faults_of_parts}
-use Rattle.kube_types_formats.proofs.PlaceLemmas.{position_is, position_none}
+use Rattle.kube_types_formats.proofs.OffsetLemmas.{position_is, position_none}
 
 split_none : (p : ℕ → Bool) (text : List ℕ) → length text ≤ position_or_len p text → slice_split p text ≡ text ∷ []
 split_none p [] h = refl

@@ -62,7 +62,7 @@ else_sign None rest = last_sign rest
 unfoldable pub zone_start : List ℕ → Option ℕ
 zone_start rest = else_sign (last_offset (codes "Zz") rest) rest
 
--- the time and the zone that starts at this place
+-- the time and the zone that starts at this offset
 abbrev pub zoned_fault : Option ℕ → List ℕ → Option Fault
 zoned_fault None rest = Some NoTimeZone
 zoned_fault (Some byte_offset) rest =
@@ -71,7 +71,7 @@ zoned_fault (Some byte_offset) rest =
 abbrev pub time_fault : List ℕ → Option Fault
 time_fault rest = if length rest == 0 then Some NotDateTime else zoned_fault (zone_start rest) rest
 
--- the date and the time around the first letter, which stands at this place
+-- the date and the time around the first letter, which stands at this offset
 abbrev pub around_letter : Option ℕ → List ℕ → Option Fault
 around_letter None text = Some NotDateTime
 around_letter (Some byte_offset) text =

@@ -26,7 +26,7 @@ last_byte text = slice_index text (length text - 1)
 
 -- the faults of a text that may not be empty: that it is, and no other, or the rest
 abbrev pub unless_empty : List ℕ → List ℕ → List (List ℕ) → List (List ℕ)
-unless_empty byte_offset text others = if length text == 0 then fault_line byte_offset Empty ∷ [] else others
+unless_empty prefix text others = if length text == 0 then fault_line prefix Empty ∷ [] else others
 
 -- the fault of an empty text as a label
 abbrev pub empty_fault : Label → Option Fault
@@ -47,12 +47,12 @@ end_tests Rfc1035Prefix text = (not (is_ascii_lowercase (first_byte text)), Firs
 
 -- the faults of a label: of its length, its bytes and its ends
 unfoldable pub label_faults : Label → List ℕ → List ℕ → List (List ℕ)
-label_faults label byte_offset text = if length text == 0 then only byte_offset (empty_fault label) else
-    (faults_found byte_offset (
+label_faults label prefix text = if length text == 0 then only prefix (empty_fault label) else
+    (faults_found prefix (
     (nat_lt 63 (length text), TooLong 63 (length text))
     ∷ (not (list_all is_label_byte text), NotLabel)
     ∷ [])
-    ++ faults_found byte_offset (end_tests label text))
+    ++ faults_found prefix (end_tests label text))
 
 -- the parts of a text between its dots (46)
 abbrev pub parts_of : List ℕ → List (List ℕ)
@@ -67,6 +67,6 @@ faults_of_parts each last (part ∷ (next ∷ more)) =
 
 -- labels of RFC 1123 between dots, of which the last has a rule of its own
 unfoldable pub subdomain_faults : Label → List ℕ → List ℕ → List (List ℕ)
-subdomain_faults last byte_offset text = unless_empty byte_offset text (
-    faults_found byte_offset ((nat_lt 253 (length text), TooLong 253 (length text)) ∷ [])
-    ++ faults_of_parts (label_faults Rfc1123 byte_offset) (label_faults last byte_offset) (parts_of text))
+subdomain_faults last prefix text = unless_empty prefix text (
+    faults_found prefix ((nat_lt 253 (length text), TooLong 253 (length text)) ∷ [])
+    ++ faults_of_parts (label_faults Rfc1123 prefix) (label_faults last prefix) (parts_of text))

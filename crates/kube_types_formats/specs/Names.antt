@@ -15,7 +15,7 @@ abbrev pub is_name_byte : ℕ → Bool
 is_name_byte c = is_ascii_alphanumeric c || (c == 45) || (c == 95) || (c == 46)
 
 unfoldable pub name_faults : List ℕ → List ℕ → List (List ℕ)
-name_faults byte_offset text = unless_empty byte_offset text (faults_found byte_offset (
+name_faults prefix text = unless_empty prefix text (faults_found prefix (
     (nat_lt 63 (length text), TooLong 63 (length text))
     ∷ (not (list_all is_name_byte text), NotName)
     ∷ (not (is_ascii_alphanumeric (first_byte text)), FirstNotAlphanumeric)
@@ -31,7 +31,7 @@ unfoldable pub name_prefix_faults : List ℕ → List (List ℕ)
 name_prefix_faults prefix =
     if length prefix == 0 then fault_line [] EmptyPrefix ∷ [] else subdomain_faults Rfc1123 (codes "prefix: ") prefix
 
--- the text, cut at the place of its last slash (47)
+-- the text, cut at the offset of its last slash (47)
 unfoldable pub faults_around : Option ℕ → List ℕ → List (List ℕ)
 faults_around None text = name_faults [] text
 faults_around (Some slash) text =

@@ -16,7 +16,7 @@ abbrev pub is_scheme : List ℕ → Bool
 is_scheme [] = false
 is_scheme (c ∷ cs) = is_ascii_alphabetic c && list_all is_scheme_byte cs
 
--- the text, whose first colon (58) stands at this place
+-- the text, whose first colon (58) stands at this offset
 abbrev pub scheme_fault : Option ℕ → List ℕ → Option Fault
 scheme_fault None text = Some NoScheme
 scheme_fault (Some colon) text = if is_scheme (take colon text) then None else Some InvalidScheme

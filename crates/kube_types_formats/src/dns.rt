@@ -72,16 +72,11 @@ pub(crate) fn too_long(limit: usize, text: &[u8]) -> (bool, Fault)
 impl Report {
     /// Adds the faults of a label's ends.
     #[tactic(auto, unfolding(crate::specs::Labels::end_tests))]
-    fn add_end_faults(
-        &mut self,
-        label: Label,
-        byte_offset: &str,
-        text: &[u8],
-    ) -> Result<(), Refused>
+    fn add_end_faults(&mut self, label: Label, prefix: &str, text: &[u8]) -> Result<(), Refused>
         requires { 0 < length text.now }
         ensures added { OnOk result
             (texts_of self.new ≡ texts_of self.old
-            ++ faults_found byte_offset.now (end_tests label text.now)) }
+            ++ faults_found prefix.now (end_tests label text.now)) }
         ensures memory { IfErr result (λ e. e ≡ Refused.Memory) }
     {
         let hyphen_first = first_byte(text) == b'-';
@@ -90,20 +85,20 @@ impl Report {
         match label {
             Label::Rfc1123 => {
                 let hyphen_ends = hyphen_first || hyphen_last;
-                self.add_chosen(byte_offset, &[(hyphen_ends, Fault::EndNotAlphanumeric)])
+                self.add_chosen(prefix, &[(hyphen_ends, Fault::EndNotAlphanumeric)])
             }
             Label::Rfc1123Prefix => {
-                self.add_chosen(byte_offset, &[(hyphen_first, Fault::FirstNotAlphanumeric)])
+                self.add_chosen(prefix, &[(hyphen_first, Fault::FirstNotAlphanumeric)])
             }
             Label::Rfc1035 => self.add_chosen(
-                byte_offset,
+                prefix,
                 &[
                     (no_letter_first, Fault::FirstNotLetter),
                     (hyphen_last, Fault::LastNotAlphanumeric),
                 ],
             ),
             Label::Rfc1035Prefix => {
-                self.add_chosen(byte_offset, &[(no_letter_first, Fault::FirstNotLetter)])
+                self.add_chosen(prefix, &[(no_letter_first, Fault::FirstNotLetter)])
             }
         }
     }
@@ -113,39 +108,36 @@ impl Report {
     pub(crate) fn add_label(
         &mut self,
         label: Label,
-        byte_offset: &str,
+        prefix: &str,
         text: &[u8],
     ) -> Result<(), Refused>
         ensures added { OnOk result
-            (texts_of self.new ≡ texts_of self.old ++ label_faults label byte_offset.now text.now) }
+            (texts_of self.new ≡ texts_of self.old ++ label_faults label prefix.now text.now) }
         ensures memory { IfErr result (λ e. e ≡ Refused.Memory) }
     {
         if text.is_empty() {
-            return self.add_found(byte_offset, empty_fault(label));
+            return self.add_found(prefix, empty_fault(label));
         }
         let not_label = !is_label_text(text);
         self.add_chosen(
-            byte_offset,
+            prefix,
             &[too_long(LABEL_LIMIT, text), (not_label, Fault::NotLabel)],
         )?;
-        self.add_end_faults(label, byte_offset, text)
+        self.add_end_faults(label, prefix, text)
     }
 
     /// Adds the faults of each part before the last dot, and gives the part after it.
-    fn add_front_parts<'a>(
-        &mut self,
-        byte_offset: &str,
-        text: &'a [u8],
-    ) -> Result<&'a [u8], Refused>
+    fn add_front_parts<'a>(&mut self, prefix: &str, text: &'a [u8]) -> Result<&'a [u8], Refused>
         ensures added { IfOk result (λ last_part.
             (last : List ℕ → List (List ℕ)) → texts_of self.new ++ last last_part.now
-            ≡ texts_of self.old ++ faults_of_parts (label_faults Label.Rfc1123 byte_offset.now) last (parts_of text.now)) }
+            ≡ texts_of self.old
+            ++ faults_of_parts (label_faults Label.Rfc1123 prefix.now) last (parts_of text.now)) }
         ensures memory { IfErr result (λ e. e ≡ Refused.Memory) }
     {
         let mut rest = text;
         while let Some(dot) = first_offset(b".", rest) {
             let (part, after) = cut(rest, dot);
-            self.add_label(Label::Rfc1123, byte_offset, part)?;
+            self.add_label(Label::Rfc1123, prefix, part)?;
             rest = after;
         }
         Ok(rest)
@@ -156,18 +148,18 @@ impl Report {
     pub(crate) fn add_subdomain(
         &mut self,
         last: Label,
-        byte_offset: &str,
+        prefix: &str,
         text: &[u8],
     ) -> Result<(), Refused>
         ensures added { OnOk result
-            (texts_of self.new ≡ texts_of self.old ++ subdomain_faults last byte_offset.now text.now) }
+            (texts_of self.new ≡ texts_of self.old ++ subdomain_faults last prefix.now text.now) }
         ensures memory { IfErr result (λ e. e ≡ Refused.Memory) }
     {
         if text.is_empty() {
-            return self.add(byte_offset, Fault::Empty);
+            return self.add(prefix, Fault::Empty);
         }
-        self.add_chosen(byte_offset, &[too_long(SUBDOMAIN_LIMIT, text)])?;
-        let last_part = self.add_front_parts(byte_offset, text)?;
-        self.add_label(last, byte_offset, last_part)
+        self.add_chosen(prefix, &[too_long(SUBDOMAIN_LIMIT, text)])?;
+        let last_part = self.add_front_parts(prefix, text)?;
+        self.add_label(last, prefix, last_part)
     }
 }

@@ -32,7 +32,7 @@ pub(crate) fn fits(form: &[u8], text: &[u8]) -> bool
     true
 }
 
-/// The number that the two decimal digits at a place write.
+/// The number that the two decimal digits at an offset write.
 pub(crate) fn two_digits(text: &[u8], byte_offset: usize) -> u32
     requires { byte_offset + 1 < length text.now }
     ensures value { result ≡ two_digits text.now byte_offset }

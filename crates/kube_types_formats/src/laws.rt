@@ -5,7 +5,7 @@ ghost use Rattle.kube_types_formats.specs.declared.kind.FormatKind.{FormatKind};
 ghost use Rattle.kube_types_formats.specs.declared.kind.FormatKind.TheVariants.{Dns1035Label, Dns1123Label, Dns1123LabelPrefix};
 
 /// No two kinds have one name, so a name says which kind it is.
-pub fn names_tell_kinds_apart()
+pub fn names_distinguish_kinds()
     ensures { (first second : FormatKind) → name_of first ≡ name_of second → first ≡ second }
 {}
 

@@ -20,18 +20,18 @@ fn is_name_text(text: &[u8]) -> bool
 impl Report {
     /// Adds the faults of a name.
     #[tactic(auto, unfolding(crate::specs::Names::name_faults))]
-    fn add_name(&mut self, byte_offset: &str, text: &[u8]) -> Result<(), Refused>
+    fn add_name(&mut self, prefix: &str, text: &[u8]) -> Result<(), Refused>
         ensures added { OnOk result
-            (texts_of self.new ≡ texts_of self.old ++ name_faults byte_offset.now text.now) }
+            (texts_of self.new ≡ texts_of self.old ++ name_faults prefix.now text.now) }
         ensures memory { IfErr result (λ e. e ≡ Refused.Memory) }
     {
         if text.is_empty() {
-            return self.add(byte_offset, Fault::Empty);
+            return self.add(prefix, Fault::Empty);
         }
         let first_fault = !first_byte(text).is_ascii_alphanumeric();
         let last_fault = !last_byte(text).is_ascii_alphanumeric();
         self.add_chosen(
-            byte_offset,
+            prefix,
             &[
                 too_long(LABEL_LIMIT, text),
                 (!is_name_text(text), Fault::NotName),

@@ -1,8 +1,8 @@
-//! Places in a text.
+//! Offsets of bytes in a text.
 ghost use Rattle.std.specs.Prelude.{◌≡◌, ◌+◌, ◌<◌, length, take, drop, position, IfSome};
 ghost use Rattle.kube_types_formats.specs.Offsets.{is_one_of, last_offset};
 
-/// The first place at which one of the marks stands.
+/// The offset of the first byte that is one of the marks.
 #[tactic(auto, unfolding(crate::specs::Offsets::is_one_of))]
 pub(crate) fn first_offset(marks: &[u8], text: &[u8]) -> Option<usize>
     ensures byte_offset { result ≡ position (is_one_of marks.now) text.now }
@@ -11,8 +11,8 @@ pub(crate) fn first_offset(marks: &[u8], text: &[u8]) -> Option<usize>
     text.iter().position(|byte| marks.contains(byte))
 }
 
-/// The last place at which one of the marks stands.
-#[tactic(auto, using(crate::proofs::PlaceLemmas::last_place_more, crate::proofs::PlaceLemmas::last_place_end, crate::proofs::PlaceLemmas::last_place_here), unfolding(crate::specs::Offsets::is_one_of))]
+/// The offset of the last byte that is one of the marks.
+#[tactic(auto, using(crate::proofs::OffsetLemmas::last_offset_more, crate::proofs::OffsetLemmas::last_offset_end, crate::proofs::OffsetLemmas::last_offset_here), unfolding(crate::specs::Offsets::is_one_of))]
 pub(crate) fn last_offset(marks: &[u8], text: &[u8]) -> Option<usize>
     ensures byte_offset { result ≡ last_offset marks.now text.now }
     ensures within { IfSome result (λ byte_offset. byte_offset < length text.now) }
@@ -25,8 +25,8 @@ pub(crate) fn last_offset(marks: &[u8], text: &[u8]) -> Option<usize>
     None
 }
 
-/// What stands before a place of a text, and what stands after it.
-#[tactic(auto, using(crate::proofs::PlaceLemmas::rest_is_shorter))]
+/// What stands before the byte at an offset, and what stands after it.
+#[tactic(auto, using(crate::proofs::OffsetLemmas::rest_is_shorter))]
 pub(crate) fn cut(text: &[u8], byte_offset: usize) -> (&[u8], &[u8])
     requires { byte_offset < length text.now }
     ensures before { result.0.now ≡ take byte_offset text.now }

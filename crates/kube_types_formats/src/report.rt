@@ -1,4 +1,4 @@
-//! What is said of a text's faults, gathered in order.
+//! The texts of the faults found so far, in order.
 ghost use Rattle.std.specs.Prelude.{◌≡◌, [], ◌∷◌, ◌++◌, OnOk, IfErr, IfOk, map, string_bytes};
 ghost use Rattle.kube_types_formats.specs.Found.{fault_line, faults_found, only, texts_of};
 ghost use Rattle.kube_types_refused.specs.declared.Refused.{Refused};
@@ -32,42 +32,38 @@ impl Report {
         self.texts
     }
 
-    /// Adds a fault of the part of the text that is named so.
-    pub(crate) fn add(&mut self, byte_offset: &str, fault: Fault) -> Result<(), Refused>
+    /// Adds the text of a fault. The prefix names the part of the text that has it; it is empty for the whole text.
+    pub(crate) fn add(&mut self, prefix: &str, fault: Fault) -> Result<(), Refused>
         ensures added { OnOk result
-            (texts_of self.new ≡ texts_of self.old ++ (fault_line byte_offset.now fault ∷ [])) }
+            (texts_of self.new ≡ texts_of self.old ++ (fault_line prefix.now fault ∷ [])) }
         ensures memory { IfErr result (λ e. e ≡ Refused.Memory) }
     {
-        let text = format!(in self.alloc; "{byte_offset}{fault}")?;
+        let text = format!(in self.alloc; "{prefix}{fault}")?;
         self.texts.push(text)?;
         Ok(())
     }
 
     /// Adds the fault, if there is one.
-    pub(crate) fn add_found(
-        &mut self,
-        byte_offset: &str,
-        fault: Option<Fault>,
-    ) -> Result<(), Refused>
+    pub(crate) fn add_found(&mut self, prefix: &str, fault: Option<Fault>) -> Result<(), Refused>
         ensures added { OnOk result
-            (texts_of self.new ≡ texts_of self.old ++ only byte_offset.now fault) }
+            (texts_of self.new ≡ texts_of self.old ++ only prefix.now fault) }
         ensures memory { IfErr result (λ e. e ≡ Refused.Memory) }
     {
         match fault {
-            Some(fault) => self.add(byte_offset, fault),
+            Some(fault) => self.add(prefix, fault),
             None => Ok(()),
         }
     }
 
     /// Adds the fault, if its test found it.
     #[tactic(auto, unfolding(crate::specs::Found::faults_found))]
-    fn add_if(&mut self, byte_offset: &str, found: bool, fault: Fault) -> Result<(), Refused>
+    fn add_if(&mut self, prefix: &str, found: bool, fault: Fault) -> Result<(), Refused>
         ensures added { OnOk result
-            (texts_of self.new ≡ texts_of self.old ++ faults_found byte_offset.now ((found, fault) ∷ [])) }
+            (texts_of self.new ≡ texts_of self.old ++ faults_found prefix.now ((found, fault) ∷ [])) }
         ensures memory { IfErr result (λ e. e ≡ Refused.Memory) }
     {
         if found {
-            self.add(byte_offset, fault)
+            self.add(prefix, fault)
         } else {
             Ok(())
         }
@@ -76,16 +72,16 @@ impl Report {
     /// Adds each fault of the table whose test found it.
     pub(crate) fn add_chosen(
         &mut self,
-        byte_offset: &str,
+        prefix: &str,
         rules: &[(bool, Fault)],
     ) -> Result<(), Refused>
         ensures added { OnOk result
-            (texts_of self.new ≡ texts_of self.old ++ faults_found byte_offset.now rules.now) }
+            (texts_of self.new ≡ texts_of self.old ++ faults_found prefix.now rules.now) }
         ensures memory { IfErr result (λ e. e ≡ Refused.Memory) }
     {
         for rule in rules {
             let (found, fault) = *rule;
-            self.add_if(byte_offset, found, fault)?;
+            self.add_if(prefix, found, fault)?;
         }
         Ok(())
     }

@@ -133,7 +133,8 @@ impl KubeQuantity {
 
     /// The quantity of a mantissa at the smaller of the two scales, if its normal form has a scale of 32 bits.
     fn at_smaller_scale(&self, other: &KubeQuantity, mantissa: i128) -> Option<KubeQuantity>
-        ensures { option_map number result ≡ quantity_holding (decimal_at mantissa (int_min (number self.now).scale (number other.now).scale)) }
+        ensures { option_map number result ≡ quantity_holding (decimal_at mantissa
+            (int_min (number self.now).scale (number other.now).scale)) }
     {
         normalised(mantissa, i128::from(self.scale.min(other.scale)))
     }

@@ -29,8 +29,10 @@ pub fn lenient_keeps_versions()
 
 /// A lenient reading takes a text with one `v` (118) or `V` (86) before it as that text, unless the text has one itself.
 pub fn lenient_drops_one_v()
-    ensures small { (text : List ℕ) → without_v text ≡ text → version_of true (118 ∷ text) ≡ version_of true text }
-    ensures capital { (text : List ℕ) → without_v text ≡ text → version_of true (86 ∷ text) ≡ version_of true text }
+    ensures small { (text : List ℕ) → without_v text ≡ text
+        → version_of true (118 ∷ text) ≡ version_of true text }
+    ensures capital { (text : List ℕ) → without_v text ≡ text
+        → version_of true (86 ∷ text) ≡ version_of true text }
 {}
 
 /// A text is read strictly as a version exactly where it is that version by SemVer 2.0, and leniently exactly where it is that but for

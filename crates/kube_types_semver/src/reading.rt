@@ -86,7 +86,8 @@ fn parts_of<'a>(alloc: Global, text: &'a str) -> Result<Vec<&'a str>, AllocError
 
 /// Three numbers in full, and the tail after them. `None` for no part, and for more than three.
 fn full_text(alloc: Global, parts: &[&str], tail: &str) -> Result<Option<String>, AllocError>
-    ensures { IfOk result (λ text. option_map string_bytes text ≡ full_text (map (λ part. part.now) parts.now) tail.now) }
+    ensures { IfOk result
+        (λ text. option_map string_bytes text ≡ full_text (map (λ part. part.now) parts.now) tail.now) }
 {
     match parts {
         [major] => {

@@ -28,8 +28,8 @@ impl KubeUrl {
     ///
     /// A text that begins with `/` is a path: it is read as `http://localhost` and the text.
     ///
-    /// Answers `Refused::Memory` where memory is refused, and `Refused::TooLarge` where `url` answers `Overflow`: the text of
-    /// the URL would take 4 GB or more. No text of less than 256 MiB is reported as too large.
+    /// # Errors
+    /// `Memory` where memory is refused, and `TooLarge` where `url` answers `Overflow`, which it does for no text of less than 256 MiB.
     pub fn read(alloc: Global, text: &str) -> Result<Option<KubeUrl>, Refused>
         ensures url { IfOk result (λ url. option_map url_view url ≡ url_of text.now) }
         ensures large { IfErr result (λ e. e ≡ TooLarge → 268_435_456 ≤ length text.now) }

@@ -20,11 +20,15 @@ pub fn paths_differ_from_urls()
 
 /// One pair more adds its value after those of its name, and leaves the values of every other name.
 pub fn a_pair_adds_one_value()
-    ensures { (pairs : List (List ℕ × List ℕ)) (name value other : List ℕ) → values_of (pairs ++ (name, value) ∷ []) other
-        ≡ (if bytes_eq other name then Some (values_or_none (values_of pairs other) ++ value ∷ []) else values_of pairs other) }
+    ensures { (pairs : List (List ℕ × List ℕ)) (name value other : List ℕ)
+        → values_of (pairs ++ (name, value) ∷ []) other
+        ≡ (if bytes_eq other name
+        then Some (values_or_none (values_of pairs other) ++ value ∷ [])
+        else values_of pairs other) }
 {}
 
 /// The text of an `http`, `https`, `ws`, `wss` or `ftp` URL is read as that URL, and as no path.
 pub fn web_urls_read_back()
-    ensures { (url : Parts) → IsValid url → kind_of url ≡ SpecialNotFile → url_of (serialize url) ≡ Some (url, false) }
+    ensures { (url : Parts) → IsValid url → kind_of url ≡ SpecialNotFile
+        → url_of (serialize url) ≡ Some (url, false) }
 {}

@@ -22,7 +22,8 @@ fn decoded_text(alloc: Global, text: &str) -> Result<String, AllocError>
 
 /// The pieces of a query between `&`.
 fn pieces<'a>(alloc: Global, query: &'a str) -> Result<Vec<&'a str>, AllocError>
-    ensures { IfOk result (λ pieces. map (λ piece. piece.now) pieces.items ≡ slice_split (λ b. b == 38) query.now) }
+    ensures { IfOk result
+        (λ pieces. map (λ piece. piece.now) pieces.items ≡ slice_split (λ b. b == 38) query.now) }
 {
     query.split('&').collect(alloc)
 }
@@ -62,7 +63,8 @@ fn add_value(
     value: String,
 ) -> Result<(), Refused>
     ensures answer { OnOk result ((other : List ℕ) → option_map texts (get_by_text query.new other)
-        ≡ (if bytes_eq other (string_bytes name) then Some (values_or_none (option_map texts (get_by_text query.old other)) ++ string_bytes value ∷ [])
+        ≡ (if bytes_eq other (string_bytes name)
+        then Some (values_or_none (option_map texts (get_by_text query.old other)) ++ string_bytes value ∷ [])
         else option_map texts (get_by_text query.old other))) }
     ensures memory { IfErr result (λ e. e ≡ Memory) }
 {
@@ -75,7 +77,8 @@ pub(crate) fn grouped(
     alloc: Global,
     pairs: Vec<(String, String)>,
 ) -> Result<BTreeMap<String, Vec<String>>, Refused>
-    ensures answer { IfOk result (λ query. (name : List ℕ) → option_map texts (get_by_text query name) ≡ values_of (map pair_texts pairs.items) name) }
+    ensures answer { IfOk result (λ query. (name : List ℕ)
+        → option_map texts (get_by_text query name) ≡ values_of (map pair_texts pairs.items) name) }
     ensures memory { IfErr result (λ e. e ≡ Memory) }
 {
     let mut query = BTreeMap::new(alloc);

@@ -106,7 +106,8 @@ impl Map {
     /// The entries in the order of their keys, one after the other.
     pub fn iter(&self) -> Iter<'_, Key, Value>
         ensures value { entries_view result ≡ self.now }
-        ensures ordered { IsStrictlySortedBy (λ (a b : Key). key_order (key_view a) (key_view b)) (keys_of result) }
+        ensures ordered { IsStrictlySortedBy
+            (λ (a b : Key). key_order (key_view a) (key_view b)) (keys_of result) }
     {
         self.entries.iter()
     }

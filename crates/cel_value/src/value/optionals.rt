@@ -30,7 +30,7 @@ impl OptionalValue {
         })
     }
 
-    /// An optional that holds none.
+    /// An optional without a value.
     pub fn none() -> OptionalValue
         ensures { result ≡ no_items }
     {

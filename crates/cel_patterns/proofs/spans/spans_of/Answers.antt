@@ -2,7 +2,7 @@ use Rattle.std.proofs.Common.{◌≡◌, ◌∙◌, sym, ap, length, Some, lengt
 use Rattle.std.proofs.lemmas.List.Elements.{All-push}
 use Rattle.regex.specs.Strings.{spans_left, match_span, match_haystack, matches_haystack, placed_span, placed_spans_left}
 use Rattle.cel_patterns.specs.Book.{IsSpanIn}
-use Rattle.cel_patterns.proofs.Places.{took_all, took_most, still_within, step_whole, whole_spans, all_spans, span_inside, same_haystack}
+use Rattle.cel_patterns.proofs.SpanLemmas.{took_all, took_most, still_within, step_whole, whole_spans, all_spans, span_inside, same_haystack}
 use Rattle.cel_patterns.proofs.spans.spans_of.Goals as goal
 
 pub returns-then-is_full-clause-value : goal.returns-then-is_full-clause-value

@@ -1,7 +1,7 @@
 use Rattle.std.proofs.Common.{◌≡◌, ◌++◌, length, All}
 use Rattle.regex.specs.Strings.{placed_spans_left, matches_haystack}
 use Rattle.cel_patterns.specs.Book.{IsSpanIn}
-use Rattle.cel_patterns.proofs.Places.{IsUpTo, placed_in}
+use Rattle.cel_patterns.proofs.SpanLemmas.{IsUpTo, placed_in}
 use Rattle.cel_patterns.proofs.spans.spans_of.Given as goal
 
 abbrev pub invariant-loop-m : goal.invariant-loop-m

@@ -1,6 +1,6 @@
 use Rattle.std.proofs.Common.{◌<◌, arith, rules, length}
 use Rattle.std.specs.Str.{chars}
-use Rattle.kube_functions_strings.proofs.Between.{few_characters, some_characters, last_place_found, last_place_missing}
+use Rattle.kube_functions_strings.proofs.Between.{few_characters, some_characters, last_offset_found, last_offset_missing}
 use Rattle.kube_functions_strings.proofs.offsets.offset_up_to.Goals as goal
 
 pub overflow_add-most : goal.overflow_add-most
@@ -10,14 +10,14 @@ overflow_add-most c =
 
 pub returns-in-Some-clause-value : goal.returns-in-Some-clause-value
 returns-in-Some-clause-value c =
-    (last_place_found (chars c.args.text.now) (chars c.args.part.now) _ _ _ c.args.most c.character_count.result c.character_count-in-Some.result c.first_characters-front.ensures c.character_count.ensures.value
+    (last_offset_found (chars c.args.text.now) (chars c.args.part.now) _ _ _ c.args.most c.character_count.result c.character_count-in-Some.result c.first_characters-front.ensures c.character_count.ensures.value
     (some_characters c.args.part.now c.utf8.part c.requires.some) c.in-Some.ensures c.character_count-in-Some.ensures.value).0
 
 pub returns-in-Some-clause-within : goal.returns-in-Some-clause-within
 returns-in-Some-clause-within c =
-    let found = last_place_found (chars c.args.text.now) (chars c.args.part.now) _ _ _ c.args.most c.character_count.result c.character_count-in-Some.result c.first_characters-front.ensures c.character_count.ensures.value
+    let found = last_offset_found (chars c.args.text.now) (chars c.args.part.now) _ _ _ c.args.most c.character_count.result c.character_count-in-Some.result c.first_characters-front.ensures c.character_count.ensures.value
     (some_characters c.args.part.now c.utf8.part c.requires.some) c.in-Some.ensures c.character_count-in-Some.ensures.value in
     omega (arith, found.1, few_characters c.args.text.now c.utf8.text)
 
 pub returns-in-None-clause-value : goal.returns-in-None-clause-value
-returns-in-None-clause-value c = last_place_missing (chars c.args.text.now) (chars c.args.part.now) _ c.args.most c.character_count.result c.first_characters-front.ensures c.character_count.ensures.value c.in-None.ensures
+returns-in-None-clause-value c = last_offset_missing (chars c.args.text.now) (chars c.args.part.now) _ c.args.most c.character_count.result c.first_characters-front.ensures c.character_count.ensures.value c.in-None.ensures

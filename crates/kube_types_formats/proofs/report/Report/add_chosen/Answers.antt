@@ -5,9 +5,9 @@ use Rattle.kube_types_formats.proofs.report.Report.add_chosen.Goals as goal
 
 pub loop-rule-preserved : goal.loop-rule-preserved
 loop-rule-preserved c =
-    chosen_turn c.args.byte_offset.now c.args.rules.now c.loop-rule.rule-index _ (texts_of c.loop-rule.self) (texts_of c.add_if.new.self) c.loop-rule-test.true c.in_ok-add_if.ensures.added
+    chosen_turn c.args.prefix.now c.args.rules.now c.loop-rule.rule-index _ (texts_of c.loop-rule.self) (texts_of c.add_if.new.self) c.loop-rule-test.true c.in_ok-add_if.ensures.added
     ∙ c.loop-rule.invariant
 
 pub returns-clause-added : goal.returns-clause-added
 returns-clause-added c =
-    chosen_done c.args.byte_offset.now c.args.rules.now c.loop-rule.rule-index _ (texts_of c.loop-rule.self) c.loop-rule-test.false c.loop-rule.invariant
+    chosen_done c.args.prefix.now c.args.rules.now c.loop-rule.rule-index _ (texts_of c.loop-rule.self) c.loop-rule-test.false c.loop-rule.invariant

@@ -4,5 +4,5 @@ use Rattle.kube_types_formats.proofs.report.Report.add_chosen.Given as goal
 
 abbrev pub invariant-loop-rule : goal.invariant-loop-rule
 invariant-loop-rule l =
-    texts_of l.self ++ faults_found l.byte_offset (drop l.rule-index l.rules)
-    ≡ texts_of l.initial.self ++ faults_found l.byte_offset l.rules
+    texts_of l.self ++ faults_found l.prefix (drop l.rule-index l.rules)
+    ≡ texts_of l.initial.self ++ faults_found l.prefix l.rules

@@ -6,8 +6,8 @@ use Rattle.kube_types_formats.proofs.report.Report.add_front_parts.Given as goal
 
 abbrev pub invariant-loop-dot : goal.invariant-loop-dot
 invariant-loop-dot l =
-    (last : List ℕ → List (List ℕ)) → texts_of l.self ++ faults_of_parts (label_faults Rfc1123 l.byte_offset) last (parts_of l.rest)
-    ≡ texts_of l.initial.self ++ faults_of_parts (label_faults Rfc1123 l.byte_offset) last (parts_of l.text)
+    (last : List ℕ → List (List ℕ)) → texts_of l.self ++ faults_of_parts (label_faults Rfc1123 l.prefix) last (parts_of l.rest)
+    ≡ texts_of l.initial.self ++ faults_of_parts (label_faults Rfc1123 l.prefix) last (parts_of l.text)
 
 abbrev pub decreases-loop-dot : goal.decreases-loop-dot
 decreases-loop-dot l = length l.rest

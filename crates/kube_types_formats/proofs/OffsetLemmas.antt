@@ -1,34 +1,34 @@
--- The last place of a mark, from the end on, and the first.
+-- The offset of the last mark, from the end on, and of the first.
 use Rattle.std.proofs.Common.{◌≡◌, ℕ, zero, suc, ◌+◌, ◌<◌, ◌≤◌, Bool, true, false, cond, ltb, List, [], ◌∷◌, length, get_or, drop, Some, None, refl, ap, ◌∙◌, add-one, drop-cons, length-drop, position, arith}
 use Rattle.std.proofs.lemmas.Bool.Decides.{nat_tests}
 use Rattle.std.proofs.lemmas.List.{at_drop_all}
 use Rattle.std.specs.List.{position_or_len}
 use Rattle.kube_types_formats.specs.Offsets.{is_one_of, later_or_first, last_offset}
 
-pub last_place_step : (marks text : List ℕ) (i : ℕ) → i < length text → last_offset marks (drop i text) ≡ later_or_first (last_offset marks (drop (i + 1) text)) (is_one_of marks (get_or text i 0))
+pub last_offset_step : (marks text : List ℕ) (i : ℕ) → i < length text → last_offset marks (drop i text) ≡ later_or_first (last_offset marks (drop (i + 1) text)) (is_one_of marks (get_or text i 0))
 unfolding last_offset
-last_place_step marks text i h = rw add-one (ap (last_offset marks) (drop-cons text i 0 h))
+last_offset_step marks text i h = rw add-one (ap (last_offset marks) (drop-cons text i 0 h))
 
 -- no mark from here on
-pub last_place_more : (marks text : List ℕ) (i : ℕ) → i < length text → last_offset marks (drop (i + 1) text) ≡ None → is_one_of marks (get_or text i 0) ≡ false → last_offset marks (drop i text) ≡ None
-last_place_more marks text i h none absent =
-    last_place_step marks text i h ∙ (λ k. later_or_first (none k) (absent k))
+pub last_offset_more : (marks text : List ℕ) (i : ℕ) → i < length text → last_offset marks (drop (i + 1) text) ≡ None → is_one_of marks (get_or text i 0) ≡ false → last_offset marks (drop i text) ≡ None
+last_offset_more marks text i h none absent =
+    last_offset_step marks text i h ∙ (λ k. later_or_first (none k) (absent k))
 
-pub last_place_from : (marks text : List ℕ) (i k : ℕ) → last_offset marks (drop i text) ≡ Some k → last_offset marks text ≡ Some (i + k)
+pub last_offset_from : (marks text : List ℕ) (i k : ℕ) → last_offset marks (drop i text) ≡ Some k → last_offset marks text ≡ Some (i + k)
 unfolding last_offset
-last_place_from marks text zero k e = e ∙ ap Some (omega arith)
-last_place_from marks [] (suc i) k e = cc
-last_place_from marks (c ∷ cs) (suc i) k e =
-    ap (λ found. later_or_first found (is_one_of marks c)) (last_place_from marks cs i k e) ∙ ap Some (omega arith)
+last_offset_from marks text zero k e = e ∙ ap Some (omega arith)
+last_offset_from marks [] (suc i) k e = cc
+last_offset_from marks (c ∷ cs) (suc i) k e =
+    ap (λ found. later_or_first found (is_one_of marks c)) (last_offset_from marks cs i k e) ∙ ap Some (omega arith)
 
-pub last_place_end : (marks text : List ℕ) (i : ℕ) → length text ≤ i → last_offset marks (drop i text) ≡ None
+pub last_offset_end : (marks text : List ℕ) (i : ℕ) → length text ≤ i → last_offset marks (drop i text) ≡ None
 unfolding last_offset
-last_place_end marks text i h = at_drop_all (last_offset marks) text i h
+last_offset_end marks text i h = at_drop_all (last_offset marks) text i h
 
 -- a mark here, and none later
-pub last_place_here : (marks text : List ℕ) (i : ℕ) → i < length text → last_offset marks (drop (i + 1) text) ≡ None → is_one_of marks (get_or text i 0) ≡ true → last_offset marks text ≡ Some i
-last_place_here marks text i h none here =
-    last_place_from marks text i 0 (last_place_step marks text i h ∙ (λ k. later_or_first (none k) (here k))) ∙ ap Some (omega arith)
+pub last_offset_here : (marks text : List ℕ) (i : ℕ) → i < length text → last_offset marks (drop (i + 1) text) ≡ None → is_one_of marks (get_or text i 0) ≡ true → last_offset marks text ≡ Some i
+last_offset_here marks text i h none here =
+    last_offset_from marks text i 0 (last_offset_step marks text i h ∙ (λ k. later_or_first (none k) (here k))) ∙ ap Some (omega arith)
 
 -- what `position` says
 pub position_is : (p : ℕ → Bool) (text : List ℕ) (i : ℕ) → position p text ≡ Some i → (position_or_len p text ≡ i) × (i < length text)
