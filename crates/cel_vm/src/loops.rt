@@ -3,10 +3,10 @@ ghost use Rattle.std.specs.Prelude.{◌≡◌, ◌≢◌, ◌∷◌, [], ◌<◌
 ghost use Rattle.cel_value.specs.Data.{bool};
 ghost use Rattle.cel_value.specs.Faults.{Fault, fault_view};
 ghost use Rattle.cel_value.specs.View.{view};
-ghost use Rattle.cel_semantics.specs.Macros.{iteration_result_view};
+ghost use Rattle.cel_semantics.specs.Macros.{iteration_result_of, iteration_result_view};
 ghost use Rattle.cel_semantics.specs.Outcome.{Outcome, and_then, outcome_view};
 ghost use Rattle.cel_semantics.specs.Ranges.{range_list};
-ghost use Rattle.cel_vm.specs.Machine.{Loop, go, after_begin, after_next, may_lead_to, limit, loop_name, next_iteration, first_iteration, over_none, result_in_optional, iteration_result_at, after_deciding_item, after_collected_item, after_iteration};
+ghost use Rattle.cel_vm.specs.Machine.{Loop, go, after_begin, after_next, may_lead_to, limit, loop_name, next_iteration, first_iteration, over_none, after_deciding_item, after_collected_item, after_filter, after_filtered_item, after_iteration};
 ghost use Rattle.cel_vm_code.specs.Op.{op, next};
 ghost use Rattle.cel_vm.specs.State.{at_end, outcomes, values_of, pending_of, loops_of};
 ghost use Rattle.cel_vm.specs.Correct.{Enters, Advances, Top};
@@ -14,13 +14,14 @@ ghost use Rattle.cel_vm.specs.declared.state.LoopStep.TheVariants.{AfterLoop};
 ghost use Rattle.cel_vm.specs.declared.state.ResultRule.TheVariants.{Collected};
 
 use crate::items::{give, go_on, top_item};
+use crate::operands::pop_operand;
 use crate::stack::{
     drop_answer, keeps_none, pop_answer, pop_loop, pop_pending, push_answer, push_loop,
     push_pending, top,
 };
 use crate::state::{End, LoopState, LoopStep, ResultRule, Stacks};
 use cel_semantics::macros::{finish, iteration_result, name_of};
-use cel_semantics::operators::{Answer, Progress, absorb, no_such_overload, undecided_answer};
+use cel_semantics::operators::{Answer, Progress, absorb, undecided_answer};
 use cel_semantics::ranges::{Range, range_in};
 use cel_syntax_ast::MacroKind;
 use cel_value::{ExecutionError, Refused, Value};
@@ -244,39 +245,6 @@ fn take_outcome(
     }
 }
 
-/// What an optional value holds, or an error.
-#[inline(never)]
-fn held(alloc: Global, answer: Answer) -> Result<Result<Option<Value>, ExecutionError>, Refused>
-    ensures value { IfOk result (λ g. iteration_result_view g ≡ result_in_optional (outcome_view answer)) }
-    ensures memory { IfErr result (λ e. e ≡ Refused.Memory) }
-{
-    match answer {
-        Err(e) => Ok(Err(e)),
-        Ok(Value::Optional(optional)) => match optional.value() {
-            Some(value) => Ok(Ok(Some(value.try_clone()?))),
-            None => Ok(Ok(None)),
-        },
-        Ok(_) => Ok(Err(no_such_overload(alloc, "map")?)),
-    }
-}
-
-/// What an item adds to the result of its macro, by the outcome of the body there.
-fn iteration_result_from(
-    alloc: Global,
-    end: End,
-    item: &Value,
-    answer: Answer,
-) -> Result<Result<Option<Value>, ExecutionError>, Refused>
-    ensures value { IfOk result (λ g. iteration_result_view g ≡ iteration_result_at end.kind end.filtered (view item.now) (outcome_view answer)) }
-    ensures memory { IfErr result (λ e. e ≡ Refused.Memory) }
-{
-    if end.filtered {
-        held(alloc, answer)
-    } else {
-        iteration_result(alloc, end.kind, item, answer)
-    }
-}
-
 /// Adds what an item gives to the innermost loop, and goes to the next item. An error ends the loop.
 fn gather(
     alloc: Global,
@@ -305,23 +273,67 @@ fn gather(
 #[inline(never)]
 fn collect(
     alloc: Global,
-    end: End,
+    kind: MacroKind,
     pc: usize,
     answer: Answer,
     stacks: &mut Stacks,
 ) -> Result<LoopStep, Refused>
     ensures value { IfOk result (λ e. (body : ℕ) (k : Option Fault) (ab : List (Option Fault)) (l : Loop) (ls : List Loop)
         → pending_of stacks.old ≡ k ∷ ab → loops_of stacks.old ≡ l ∷ ls → l.start ≡ body → l.finish ≡ pc →
-        Advances (after_collected_item end.kind pc (iteration_result_at end.kind end.filtered l.item (outcome_view answer)) (values_of stacks.old) k ab l ls)
+        Advances (after_collected_item kind pc (iteration_result_of kind l.item [] (outcome_view answer)) (values_of stacks.old) k ab l ls)
         body pc e (values_of stacks.new) (pending_of stacks.new) (l ∷ ls) (loops_of stacks.new)) }
     ensures memory { IfErr result (λ e. e ≡ Refused.Memory) }
 {
     match top_item(&stacks.loops) {
         None => Ok(LoopStep::OutOfRange),
         Some(item) => {
-            let iteration_result = iteration_result_from(alloc, end, item, answer)?;
-            gather(alloc, end.kind, pc, iteration_result, stacks)
+            let iteration_result = iteration_result(alloc, kind, item, answer)?;
+            gather(alloc, kind, pc, iteration_result, stacks)
         }
+    }
+}
+
+/// After a filter's bool, under which the image stands if it is true.
+#[inline(always)]
+fn take_filtered_value(
+    alloc: Global,
+    pc: usize,
+    kept: Option<bool>,
+    stacks: &mut Stacks,
+) -> Result<LoopStep, Refused>
+    ensures value { IfOk result (λ e. (body : ℕ) (k : Option Fault) (ab : List (Option Fault)) (l : Loop) (ls : List Loop)
+        → pending_of stacks.old ≡ k ∷ ab → loops_of stacks.old ≡ l ∷ ls → l.start ≡ body → l.finish ≡ pc →
+        Advances (after_filter pc kept (values_of stacks.old) k ab l ls)
+        body pc e (values_of stacks.new) (pending_of stacks.new) (l ∷ ls) (loops_of stacks.new)) }
+    ensures memory { IfErr result (λ e. e ≡ Refused.Memory) }
+{
+    match kept {
+        None => Ok(LoopStep::OutOfRange),
+        Some(false) => gather(alloc, MacroKind::Map, pc, Ok(None), stacks),
+        Some(true) => match pop_operand(&mut stacks.values) {
+            None => Ok(LoopStep::OutOfRange),
+            Some(image) => gather(alloc, MacroKind::Map, pc, Ok(Some(image)), stacks),
+        },
+    }
+}
+
+/// After an item of a `map` with a filter.
+#[inline(always)]
+fn take_filtered(
+    alloc: Global,
+    pc: usize,
+    answer: Answer,
+    stacks: &mut Stacks,
+) -> Result<LoopStep, Refused>
+    ensures value { IfOk result (λ e. (body : ℕ) (k : Option Fault) (ab : List (Option Fault)) (l : Loop) (ls : List Loop)
+        → pending_of stacks.old ≡ k ∷ ab → loops_of stacks.old ≡ l ∷ ls → l.start ≡ body → l.finish ≡ pc →
+        Advances (after_filtered_item pc (outcome_view answer) (values_of stacks.old) k ab l ls)
+        body pc e (values_of stacks.new) (pending_of stacks.new) (l ∷ ls) (loops_of stacks.new)) }
+    ensures memory { IfErr result (λ e. e ≡ Refused.Memory) }
+{
+    match answer {
+        Err(e) => gather(alloc, MacroKind::Map, pc, Err(e), stacks),
+        Ok(value) => take_filtered_value(alloc, pc, value.as_bool(), stacks),
     }
 }
 
@@ -366,27 +378,27 @@ fn turn_back(
     match end.kind {
         MacroKind::All => take_outcome(alloc, false, pc, answer, stacks),
         MacroKind::Exists => take_outcome(alloc, true, pc, answer, stacks),
-        MacroKind::ExistsOne => collect(alloc, end, pc, answer, stacks),
+        MacroKind::ExistsOne => collect(alloc, MacroKind::ExistsOne, pc, answer, stacks),
         MacroKind::Map => {
             if end.filtered {
-                collect(alloc, end, pc, answer, stacks)
+                take_filtered(alloc, pc, answer, stacks)
             } else {
                 take_image(alloc, pc, answer, stacks)
             }
         }
-        MacroKind::Filter => collect(alloc, end, pc, answer, stacks),
+        MacroKind::Filter => collect(alloc, MacroKind::Filter, pc, answer, stacks),
     }
 }
 
 /// How a macro that keeps items comes to its outcome, where this bool gives none to it.
 #[inline(always)]
-fn passing_by(kind: MacroKind, filtered: bool, outcome: bool) -> Option<ResultRule>
-    ensures { IfSome result (λ rule. (rule ≡ Collected kind) × (filtered ≡ false) × (outcome ≡ false)) }
+fn passing_by(kind: MacroKind, outcome: bool) -> Option<ResultRule>
+    ensures { IfSome result (λ rule. (rule ≡ Collected kind) × (outcome ≡ false)) }
 {
-    if filtered || outcome {
-        None
-    } else {
+    if !outcome {
         Some(ResultRule::Collected(kind))
+    } else {
+        None
     }
 }
 
@@ -411,9 +423,15 @@ fn passing(end: End, outcome: bool) -> Option<ResultRule>
                 Some(ResultRule::Decided(true))
             }
         }
-        MacroKind::ExistsOne => passing_by(MacroKind::ExistsOne, end.filtered, outcome),
-        MacroKind::Filter => passing_by(MacroKind::Filter, end.filtered, outcome),
-        MacroKind::Map => None,
+        MacroKind::ExistsOne => passing_by(MacroKind::ExistsOne, outcome),
+        MacroKind::Filter => passing_by(MacroKind::Filter, outcome),
+        MacroKind::Map => {
+            if end.filtered {
+                passing_by(MacroKind::Map, outcome)
+            } else {
+                None
+            }
+        }
     }
 }
 

@@ -6,9 +6,9 @@ use Rattle.cel_syntax_ast.specs.declared.expr.BinaryOperator.{BinaryOperator}
 use Rattle.cel_syntax_ast.specs.declared.expr.BinaryOperator.TheVariants.{Or, And}
 use Rattle.cel_syntax_ast.specs.declared.expr.MacroKind.{MacroKind}
 use Rattle.cel_syntax_ast.specs.declared.expr.MacroKind.TheVariants.{All, Exists, ExistsOne, Map, Filter}
-use Rattle.cel_value.specs.Data.{Data, text_key, optional, no_items}
+use Rattle.cel_value.specs.Data.{Data, bool, text_key}
 use Rattle.cel_vm_code.specs.Code.{is_sure, with_guard, operand, one_with, both_with, logic, choice_code, loop, entry_code, filter_code, strict_code, binary_code, literal_of, code_in, code_of, operands, codes_in, entries_code, pairs_in}
-use Rattle.cel_vm_code.specs.Op.{Op, Work, one_value, two_values, with_literal, selected_at, has_at, indexed_by, as_list, put_entry, as_present, push, guard, apply, invoke, branch, skip, absorb, join, begin, next}
+use Rattle.cel_vm_code.specs.Op.{Op, Work, one_value, two_values, with_literal, selected_at, has_at, indexed_by, as_list, put_entry, push, guard, apply, invoke, branch, skip, absorb, join, begin, next}
 use Rattle.cel_vm_code.specs.Size.{nodes, all_nodes, pair_nodes}
 
 -- an instruction is the whole of code that is sure
@@ -65,7 +65,7 @@ pub choice_length : (name : List ℕ) (a b c : List Op) → length (choice_code 
 choice_length name a b c = omega (arith, length-append a (branch name (length b + 1) (length b + 1 + length c) ∷ (b ++ skip (length c) ∷ c)), length-append b (skip (length c) ∷ c))
 
 filter_length : (a b : List Op) → length (filter_code a b) ≤ length a + length b + 5
-filter_length a b = omega (arith, choice_length (codes "map") a (one_with as_present b) (push (optional no_items) ∷ []), one_length as_present b)
+filter_length a b = omega (arith, choice_length (codes "map") a (operand b 0 (push (bool true) ∷ [])) (push (bool false) ∷ []), operand_length b 0 (push (bool true) ∷ []))
 
 pub loop_length : (k : MacroKind) (f : Bool) (a b : List Op) → length (loop k f a b) ≡ length a + length b + 2
 loop_length k f a b = omega (arith, length-append a (begin k (length b + 1) ∷ (b ++ next k f ∷ [])), length-append b (next k f ∷ []))

@@ -9,7 +9,7 @@ ghost use Rattle.cel_vm_code.specs.CodeViews.{variables, codes_view, pairs_view,
 
 use crate::instr::{Instr, Operation, Test};
 use cel_syntax_ast::{BinaryOperator, Expr, MacroKind};
-use cel_value::{Entries, Key, OptionalValue, Refused, Value};
+use cel_value::{Entries, Key, Refused, Value};
 use std::alloc::{AllocError, Global};
 use std::rc::Rc;
 
@@ -515,8 +515,9 @@ fn join_branches(
 fn join_filter(alloc: Global, test: Vec<Instr>, body: Vec<Instr>) -> Result<Vec<Instr>, AllocError>
     ensures { IfOk result (λ all. map op all.items ≡ filter_code (map op test.items) (map op body.items)) }
 {
-    let yes = join_one(alloc, Operation::Present, body)?;
-    let no = one(alloc, Instr::Push(Value::Optional(OptionalValue::none())))?;
+    let kept = one(alloc, Instr::Push(Value::Bool(true)))?;
+    let yes = join_operand(body, 0, kept)?;
+    let no = one(alloc, Instr::Push(Value::Bool(false)))?;
     join_branches(Test::Filter, test, yes, no)
 }
 

@@ -30,8 +30,6 @@ pub enum Operation {
     List(usize),
     /// A map with one more entry: takes the map so far, the key, the value.
     Put,
-    /// An optional value that holds the top.
-    Present,
 }
 
 /// One instruction. It takes its operands from a stack of values, each of them a value or the error that stands for it, and leaves its
@@ -84,7 +82,8 @@ pub enum Instr {
         kind: MacroKind,
         offset: usize,
     },
-    /// Takes the outcome at an item, an optional value where it went through a filter: ends the loop, or goes back with the next item.
+    /// Takes what the body leaves at an item: ends the loop, or goes back with the next item. Behind a filter that is `true` over the
+    /// outcome, or `false` alone.
     Next {
         kind: MacroKind,
         filtered: bool,

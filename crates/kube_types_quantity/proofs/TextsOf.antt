@@ -252,27 +252,27 @@ unfolding factor_of
 factor-sound text f h = elim (factor_facts (eqb (length text) 0) (eqb (length text) 1) (eqb (length text) 2 && eqb (get_or text 1 0) 105)
     (eqb (get_or text 0 0) 101 || eqb (get_or text 0 0) 69) (Some (power_of_ten (pos 0))) (option_map power_of_ten (decimal_suffix (get_or text 0 0)))
     (option_map whole_factor (binary_suffix (get_or text 0 0))) (option_map power_of_ten (exponent_of (drop 1 text))) f h) as (λ _. IsSuffix text f) [
-  | inl none ↦ inl (inl (no_bytes text (eqb-true (length text) 0 none.0), sym (same_some (power_of_ten (pos 0)) f none.1)))
-  | inr others ↦ elim others as (λ _. IsSuffix text f) [
-    | inl one ↦
-        let m = mapped_facts power_of_ten (decimal_suffix (get_or text 0 0)) f one.1 in
-        let row = decimal-sound (get_or text 0 0) m.0 m.1 in
-        inl (subst (λ t. IsRow suffixes t f) (sym (one_byte text (eqb-true (length text) 1 one.0))) (subst (λ g. IsRow suffixes (get_or text 0 0 ∷ []) g) m.2 row))
-    | inr more ↦ elim more as (λ _. IsSuffix text f) [
-      | inl two ↦
-          let parts = and_parts (eqb (length text) 2) (eqb (get_or text 1 0) 105) two.0 in
-          let m = mapped_facts whole_factor (binary_suffix (get_or text 0 0)) f two.1 in
-          let row = binary-sound (get_or text 0 0) m.0 m.1 in
-          let shape : text ≡ get_or text 0 0 ∷ 105 ∷ [] = two_bytes text (eqb-true (length text) 2 parts.0) ∙ ap (λ b. get_or text 0 0 ∷ b ∷ []) (eqb-true (get_or text 1 0) 105 parts.1) in
-          inl (subst (λ t. IsRow suffixes t f) (sym shape) (subst (λ g. IsRow suffixes (get_or text 0 0 ∷ 105 ∷ []) g) m.2 row))
-      | inr tens ↦
-          let m = mapped_facts power_of_ten (exponent_of (drop 1 text)) f tens.2 in
-          let e = exponent-sound (get_or text 0 0) (drop 1 text) m.0 tens.1 m.1 in
-          let shape = some_bytes text (eqb-false (length text) 0 tens.0) in
-          inr (m.0, subst (λ t. IsExponent t m.0) (sym shape) e, m.2)
+      | inl none ↦ inl (inl (no_bytes text (eqb-true (length text) 0 none.0), sym (same_some (power_of_ten (pos 0)) f none.1)))
+      | inr others ↦ elim others as (λ _. IsSuffix text f) [
+        | inl one ↦
+            let m = mapped_facts power_of_ten (decimal_suffix (get_or text 0 0)) f one.1 in
+            let row = decimal-sound (get_or text 0 0) m.0 m.1 in
+            inl (subst (λ t. IsRow suffixes t f) (sym (one_byte text (eqb-true (length text) 1 one.0))) (subst (λ g. IsRow suffixes (get_or text 0 0 ∷ []) g) m.2 row))
+        | inr more ↦ elim more as (λ _. IsSuffix text f) [
+          | inl two ↦
+              let parts = and_parts (eqb (length text) 2) (eqb (get_or text 1 0) 105) two.0 in
+              let m = mapped_facts whole_factor (binary_suffix (get_or text 0 0)) f two.1 in
+              let row = binary-sound (get_or text 0 0) m.0 m.1 in
+              let shape : text ≡ get_or text 0 0 ∷ 105 ∷ [] = two_bytes text (eqb-true (length text) 2 parts.0) ∙ ap (λ b. get_or text 0 0 ∷ b ∷ []) (eqb-true (get_or text 1 0) 105 parts.1) in
+              inl (subst (λ t. IsRow suffixes t f) (sym shape) (subst (λ g. IsRow suffixes (get_or text 0 0 ∷ 105 ∷ []) g) m.2 row))
+          | inr tens ↦
+              let m = mapped_facts power_of_ten (exponent_of (drop 1 text)) f tens.2 in
+              let e = exponent-sound (get_or text 0 0) (drop 1 text) m.0 tens.1 m.1 in
+              let shape = some_bytes text (eqb-false (length text) 0 tens.0) in
+              inr (m.0, subst (λ t. IsExponent t m.0) (sym shape) e, m.2)
+        ]
+      ]
     ]
-  ]
-]
 
 -- ---- numbers
 
@@ -341,7 +341,6 @@ front_taken (x ∷ xs) back = ap (λ t. x ∷ t) (front_taken xs back)
 front_dropped : (front back : List ℕ) → drop (length front) (front ++ back) ≡ back
 front_dropped [] back = refl
 front_dropped (x ∷ xs) back = front_dropped xs back
-
 
 no_lead : (text : List ℕ) → is_ascii_digit (get_or text 0 0) ≡ false → prefix_len is_ascii_digit text ≡ 0
 no_lead [] h = refl

@@ -76,5 +76,5 @@ pub record IsQuantityText (text : List ℕ) (x : Decimal) : Type 0 where
   pub size_within : digits_value 10 (whole ++ fraction) * factor.times < 2 ^ 127
   pub normal : IsNormal x
   pub value : SameNumber x (decimal_at (with_sign negative (digits_value 10 (whole ++ fraction) * factor.times))
-    (factor.tens -ℤ pos (length fraction)))
+      (factor.tens -ℤ pos (length fraction)))
   pub scale_within : fits 31 x.scale ≡ true

@@ -278,8 +278,8 @@ numbered (x ∷ []) tail full p h f v s =
     let a = (and_parts (is_number x) true h).0 in
     let same : dotted (number_text x) (48 ∷ []) (48 ∷ []) tail ≡ full = same_some (dotted (number_text x) (48 ∷ []) (48 ∷ []) tail) full (sym (full_one x tail) ∙ f) in
     let apart = dots_apart (decimal p.0) (decimal p.1) (decimal p.2) (number_text x) (48 ∷ []) (48 ∷ []) (tail_text p) tail
-        (decimal-digits p.0 v.1.0) (decimal-digits p.1 v.1.1) (decimal-digits p.2 v.1.2) (plain_of x (number_digits x a).1).all zero_digits zero_digits
-        (tail_no_digit p.3 p.4) (starts_no_digit tail s) (v.0 ∙ sym same) in
+    (decimal-digits p.0 v.1.0) (decimal-digits p.1 v.1.1) (decimal-digits p.2 v.1.2) (plain_of x (number_digits x a).1).all zero_digits zero_digits
+    (tail_no_digit p.3 p.4) (starts_no_digit tail s) (v.0 ∙ sym same) in
     record { values = (number_read p.0 x v.1.0 a apart.0, zero_read p.1 v.1.1 apart.1, zero_read p.2 v.1.2 apart.2); rest = apart.3 }
 numbered (x ∷ y ∷ []) tail full p h f v s =
     let both = and_parts (is_number x) (is_number y && true) h in
@@ -287,8 +287,8 @@ numbered (x ∷ y ∷ []) tail full p h f v s =
     let b = (and_parts (is_number y) true both.1).0 in
     let same : dotted (number_text x) (number_text y) (48 ∷ []) tail ≡ full = same_some (dotted (number_text x) (number_text y) (48 ∷ []) tail) full (sym (full_two x y tail) ∙ f) in
     let apart = dots_apart (decimal p.0) (decimal p.1) (decimal p.2) (number_text x) (number_text y) (48 ∷ []) (tail_text p) tail
-        (decimal-digits p.0 v.1.0) (decimal-digits p.1 v.1.1) (decimal-digits p.2 v.1.2) (plain_of x (number_digits x a).1).all (plain_of y (number_digits y b).1).all zero_digits
-        (tail_no_digit p.3 p.4) (starts_no_digit tail s) (v.0 ∙ sym same) in
+    (decimal-digits p.0 v.1.0) (decimal-digits p.1 v.1.1) (decimal-digits p.2 v.1.2) (plain_of x (number_digits x a).1).all (plain_of y (number_digits y b).1).all zero_digits
+    (tail_no_digit p.3 p.4) (starts_no_digit tail s) (v.0 ∙ sym same) in
     record { values = (number_read p.0 x v.1.0 a apart.0, number_read p.1 y v.1.1 b apart.1, zero_read p.2 v.1.2 apart.2); rest = apart.3 }
 numbered (x ∷ y ∷ z ∷ []) tail full p h f v s =
     let both = and_parts (is_number x) (is_number y && (is_number z && true)) h in
@@ -298,8 +298,8 @@ numbered (x ∷ y ∷ z ∷ []) tail full p h f v s =
     let c = (and_parts (is_number z) true more.1).0 in
     let same : dotted (number_text x) (number_text y) (number_text z) tail ≡ full = same_some (dotted (number_text x) (number_text y) (number_text z) tail) full (sym (full_three x y z tail) ∙ f) in
     let apart = dots_apart (decimal p.0) (decimal p.1) (decimal p.2) (number_text x) (number_text y) (number_text z) (tail_text p) tail
-        (decimal-digits p.0 v.1.0) (decimal-digits p.1 v.1.1) (decimal-digits p.2 v.1.2) (plain_of x (number_digits x a).1).all (plain_of y (number_digits y b).1).all (plain_of z (number_digits z c).1).all
-        (tail_no_digit p.3 p.4) (starts_no_digit tail s) (v.0 ∙ sym same) in
+    (decimal-digits p.0 v.1.0) (decimal-digits p.1 v.1.1) (decimal-digits p.2 v.1.2) (plain_of x (number_digits x a).1).all (plain_of y (number_digits y b).1).all (plain_of z (number_digits z c).1).all
+    (tail_no_digit p.3 p.4) (starts_no_digit tail s) (v.0 ∙ sym same) in
     record { values = (number_read p.0 x v.1.0 a apart.0, number_read p.1 y v.1.1 b apart.1, number_read p.2 z v.1.2 c apart.2); rest = apart.3 }
 numbered (x ∷ y ∷ z ∷ w ∷ more) tail full p h f v s = none_or_some (full_text (x ∷ y ∷ z ∷ w ∷ more) tail) full (full_more x y z w more tail) f
 
@@ -375,7 +375,7 @@ full-of (x ∷ y ∷ []) tail k m n hk hm hn v c t =
     let text = x ++ (46 ∷ (y ++ tail)) in
     let shape : join_dots (x ∷ y ∷ []) ++ tail ≡ text = ap (λ (r : List ℕ). r ++ tail) (join_two x y) ∙ append_assoc x (46 ∷ y) tail in
     let at_core : core_of text ≡ x ++ (46 ∷ y) = core-digits x (46 ∷ (y ++ tail)) d
-        ∙ ap (λ r. x ++ r) (core-dot (y ++ tail) ∙ ap (λ r. 46 ∷ r) (core-digits y tail e ∙ ap (λ r. y ++ r) c ∙ append-nil y)) in
+    ∙ ap (λ r. x ++ r) (core-dot (y ++ tail) ∙ ap (λ r. 46 ∷ r) (core-digits y tail e ∙ ap (λ r. y ++ r) c ∙ append-nil y)) in
     let at_tail : tail_of text ≡ tail = tail-digits x (46 ∷ (y ++ tail)) d ∙ tail-dot (y ++ tail) ∙ tail-digits y tail e ∙ t in
     let cut : parts (x ++ (46 ∷ y)) ≡ x ∷ y ∷ [] = parts-dot x y d ∙ ap (λ (q : List (List ℕ)). x ∷ q) (parts-one y e) in
     ap normal_text shape
@@ -390,11 +390,11 @@ full-of (x ∷ y ∷ z ∷ []) tail k m n hk hm hn v c t =
     let f = v.2.1 in
     let text = dotted x y z tail in
     let shape : join_dots (x ∷ y ∷ z ∷ []) ++ tail ≡ text = ap (λ (r : List ℕ). r ++ tail) (join_three x y z) ∙ append_assoc x (46 ∷ (y ++ (46 ∷ z))) tail
-        ∙ ap (λ r. x ++ (46 ∷ r)) (append_assoc y (46 ∷ z) tail) in
+    ∙ ap (λ r. x ++ (46 ∷ r)) (append_assoc y (46 ∷ z) tail) in
     let at_core : core_of text ≡ dotted x y z [] = dotted-core x y z tail d e f ∙ ap (dotted x y z) c in
     let at_tail : tail_of text ≡ tail = dotted-tail x y z tail d e f ∙ t in
     let cut : parts (dotted x y z []) ≡ x ∷ y ∷ z ∷ [] = dotted-parts x y z [] d e
-        ∙ ap (λ (l : List ℕ). x ∷ y ∷ parts l) (append-nil z) ∙ ap (λ (q : List (List ℕ)). x ∷ y ∷ q) (parts-one z f) in
+    ∙ ap (λ (l : List ℕ). x ∷ y ∷ parts l) (append-nil z) ∙ ap (λ (q : List (List ℕ)). x ∷ y ∷ q) (parts-one z f) in
     let all : list_all is_number (x ∷ y ∷ z ∷ []) ≡ true = and_from (is_number x) (list_all is_number (y ∷ z ∷ [])) (is_number_text x k v.0) (both_numbers y z (is_number_text y m v.1) (is_number_text z n v.2)) in
     ap normal_text shape
     ∙ normal_by text (dotted x y z []) tail (x ∷ y ∷ z ∷ []) at_core at_tail cut all
