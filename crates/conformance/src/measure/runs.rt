@@ -1,6 +1,6 @@
 //! The runs. What the texts stand for is made before the run is made twice.
 
-use crate::twice::make_twice;
+use crate::measure::twice::make_twice;
 use kube_cel::cel::{Answer, Program};
 use kube_cel::{
     Context, KubeCelExt, Refused, ScopeContext, Validator, VapEvaluator, VapExpression,
