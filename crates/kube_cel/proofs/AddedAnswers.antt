@@ -11,7 +11,7 @@ use Rattle.kube_cel_walk.specs.Errors.{ErrorData}
 use Rattle.kube_cel_walk.specs.RuleErrors.{too_deep}
 use Rattle.kube_schema_rules.proofs.Candidates.{visit_places}
 use Rattle.kube_schema_rules.proofs.Found.{flat_map_same}
-use Rattle.kube_schema_rules.proofs.Raw.{raw_names_all}
+use Rattle.kube_schema_rules.proofs.Raw.{raw_counts_all}
 use Rattle.kube_schema_rules.specs.declared.branches.BranchKind.TheVariants.{AllOf, OneOf, AnyOf}
 use Rattle.kube_schema_rules.specs.Raw.{raw_shape}
 use Rattle.kube_schema_rules.specs.Visit.{Root, Visit, candidates, goes, root_visit}
@@ -134,7 +134,7 @@ module _ (b : Book) (more : Items) where
   unfolding answer answers raw_form found_at
   answer_added node m starts = record {
     all_places = places (goes raw_shape) (candidates raw_shape) 65 (with_node_of as_was m);
-    are_all = visit_places raw_shape raw_names_all 65 (with_node_of as_was m);
+    are_all = visit_places raw_shape raw_counts_all 65 (with_node_of as_was m);
     before_is = refl;
     after_is = ap (flat_map (λ p. if_some (verdicts raw_form b) (leads (goes raw_shape) p (with_node_of (as_is more) m)))) (sym (places_are more 65 m) ∙ places_were 65 m)
         ∙ flat_map_same _ (λ p. found_at b (with_node_of as_was m) p ++ added_at b more node (with_node_of as_was m) p) (place_added node m starts) (places (goes raw_shape) (candidates raw_shape) 65 (with_node_of as_was m));

@@ -7,14 +7,14 @@ use Rattle.serde_json.specs.Data.{Data, Items}
 use Rattle.serde_json.specs.Find.{as_bool, as_object, get}
 use Rattle.kube_schema_rules.specs.declared.branches.BranchKind.{BranchKind}
 use Rattle.kube_schema_rules.specs.declared.branches.BranchKind.TheVariants.{AllOf, OneOf, AnyOf}
-use Rattle.kube_schema_rules.specs.Inside.{count_at, keys_at}
+use Rattle.kube_schema_rules.specs.Inside.{count_at}
 use Rattle.kube_schema_rules.specs.Raw.{undeclared_property}
 use Rattle.kube_schema_rules.specs.Step as place
 use Rattle.kube_schema_rules.specs.Step.{keyword}
 use Rattle.kube_schema_values.specs.DefaultsAccessors.{keys_in as names_in, members_or_none}
 use Rattle.kube_cel.specs.Added.{NodeStep, to_property, to_items, to_additional, to_branch, left_after, with_rules}
 use Rattle.kube_cel.proofs.Changed.{where_true}
-use Rattle.kube_cel.proofs.AddedParts.{added, additional_added, at_key, bools_stay, change, changed_key, count_at_stays, if_object, keys_at_stay, names_at_stay, same_option}
+use Rattle.kube_cel.proofs.AddedParts.{added, additional_added, at_key, bools_stay, change, changed_key, count_at_stays, if_object, names_at_stay, same_option}
 
 -- ---- keywords that are never changed
 
@@ -63,16 +63,6 @@ module _ (more : Items) where
   -- what is seen of them stays where they do
   elsewhere : {A : Type 0} (see : Option Data → A) (l : List ℕ) (ts : List NodeStep) (d : Data) → bytes_eq (changed_key more ts) l ≡ false → see (get l (with_rules more ts d)) ≡ see (get l d)
   elsewhere see l ts d e = ap see (same_at l ts d e)
-
-  pub keys_added : (r : Option (List NodeStep)) (d : Data) → keys_at (get (codes "properties") (added more r d)) ≡ keys_at (get (codes "properties") d)
-  keys_added None d = refl
-  keys_added (Some []) d = elsewhere keys_at (codes "properties") [] d refl
-  keys_added (Some (to_property k ∷ ts)) d = ap keys_at (at_key more (codes "properties") (to_property k ∷ ts) d) ∙ keys_at_stay k (with_rules more ts) (get (codes "properties") d)
-  keys_added (Some (to_items ∷ ts)) d = elsewhere keys_at (codes "properties") (to_items ∷ ts) d refl
-  keys_added (Some (to_additional ∷ ts)) d = elsewhere keys_at (codes "properties") (to_additional ∷ ts) d refl
-  keys_added (Some (to_branch AllOf i ∷ ts)) d = elsewhere keys_at (codes "properties") (to_branch AllOf i ∷ ts) d refl
-  keys_added (Some (to_branch OneOf i ∷ ts)) d = elsewhere keys_at (codes "properties") (to_branch OneOf i ∷ ts) d refl
-  keys_added (Some (to_branch AnyOf i ∷ ts)) d = elsewhere keys_at (codes "properties") (to_branch AnyOf i ∷ ts) d refl
 
   abbrev names_at : Option Data → List (List ℕ)
   names_at o = names_in (members_or_none (option_and_then as_object o))

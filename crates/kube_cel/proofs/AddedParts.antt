@@ -5,12 +5,12 @@ use Rattle.serde_json.specs.Data.{Data, null, boolean, number, string, array, ob
 use Rattle.serde_json.specs.Find.{as_bool, as_object, at, get}
 use Rattle.kube_schema_rules.specs.declared.branches.BranchKind.{BranchKind}
 use Rattle.kube_schema_rules.specs.declared.branches.BranchKind.TheVariants.{AllOf, OneOf, AnyOf}
-use Rattle.kube_schema_rules.specs.Inside.{count_at, keys_at}
+use Rattle.kube_schema_rules.specs.Inside.{count_at}
 use Rattle.kube_schema_rules.specs.Step as place
 use Rattle.kube_schema_rules.specs.Step.{keyword}
 use Rattle.kube_schema_values.specs.DefaultsAccessors.{keys_in as names_in, members_or_none}
 use Rattle.kube_cel.specs.Added.{NodeStep, to_property, to_items, to_additional, to_branch, keyword_of, left_after, with_items, with_rules, with_key, with_index, within}
-use Rattle.kube_cel.proofs.Changed.{where_true, get_changed, at_changed, keys_stay, names_stay, length_stays}
+use Rattle.kube_cel.proofs.Changed.{where_true, get_changed, at_changed, names_stay, length_stays}
 
 -- ---- values of which a part was changed
 
@@ -37,16 +37,6 @@ bool_stays k f (number n) = refl
 bool_stays k f (string s) = refl
 bool_stays k f (array ds) = refl
 bool_stays k f (object ms) = refl
-
-pub keys_at_stay : (k : List ℕ) (f : Data → Data) (o : Option Data) → keys_at (option_map (with_key k f) o) ≡ keys_at o
-unfolding keys_at
-keys_at_stay k f None = refl
-keys_at_stay k f (Some null) = refl
-keys_at_stay k f (Some (boolean b)) = refl
-keys_at_stay k f (Some (number n)) = refl
-keys_at_stay k f (Some (string s)) = refl
-keys_at_stay k f (Some (array ds)) = refl
-keys_at_stay k f (Some (object ms)) = keys_stay k f ms
 
 pub names_at_stay : (k : List ℕ) (f : Data → Data) (o : Option Data) → names_in (members_or_none (option_and_then as_object (option_map (with_key k f) o))) ≡ names_in (members_or_none (option_and_then as_object o))
 names_at_stay k f None = refl

@@ -5,10 +5,10 @@ use Rattle.kube_cel.specs.Raw.{raw_form}
 use Rattle.kube_cel.specs.Starts.{compiled_start, with_schema_defaults, source_start}
 use Rattle.kube_cel_walk.specs.Errors.{ErrorData}
 use Rattle.kube_cel_walk.specs.RuleErrors.{too_deep}
-use Rattle.kube_schema_rules.proofs.Candidates.{NamesAll}
+use Rattle.kube_schema_rules.proofs.Candidates.{CountsAll}
 use Rattle.kube_schema_rules.specs.Raw.{raw_shape}
 use Rattle.kube_schema_rules.specs.Visit.{Visit, Root, root_visit}
-use Rattle.kube_cel.proofs.Named.{compiled_names_all}
+use Rattle.kube_cel.proofs.Counted.{compiled_counts_all}
 use Rattle.kube_cel.proofs.Same.{tree_answers}
 use Rattle.kube_cel.specs.CompiledShape.{compiled_shape}
 use Rattle.kube_cel.specs.Visits.{with_node_of}
@@ -37,9 +37,9 @@ use Rattle.std.proofs.Common.{Bor, ◌≡◌, ◌+◌, ◌-◌, ◌==◌, ℕ, z
 use Rattle.std.proofs.lemmas.Bool.Decides.{nat_tests}
 use Rattle.std.specs.List.{flat_map}
 
-pub compiled_form_names_all : NamesAll compiled_form.shape
+pub compiled_form_counts_all : CountsAll compiled_form.shape
 unfolding compiled_form
-compiled_form_names_all = compiled_names_all
+compiled_form_counts_all = compiled_counts_all
 
 -- ---- what is bound
 

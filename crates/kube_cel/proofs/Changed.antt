@@ -7,7 +7,6 @@ use Rattle.serde_json.specs.Data.{Data, null, boolean, number, string, array, ob
 use Rattle.serde_json.specs.Events.{items_len}
 use Rattle.serde_json.specs.Find.{at, get, get_item, get_member}
 use Rattle.kube_schema_rules.proofs.Sorted.{key_cmp, same_key}
-use Rattle.kube_schema_rules.specs.Inside.{keys_in}
 use Rattle.kube_schema_values.specs.DefaultsAccessors.{keys_in as names_in}
 use Rattle.kube_cel.specs.Added.{members_with, items_with, with_key, with_index}
 
@@ -56,10 +55,6 @@ at_changed i j f (array ds) = item_changed i j f ds
 at_changed i j f (object ms) = refl
 
 -- ---- what stays
-
-pub keys_stay : (k : List ℕ) (f : Data → Data) (ms : Members) → keys_in (members_with k f ms) ≡ keys_in ms
-keys_stay k f no_members = refl
-keys_stay k f (member l d ms) = ap (λ ls. l ∷ ls) (keys_stay k f ms)
 
 pub names_stay : (k : List ℕ) (f : Data → Data) (ms : Members) → names_in (members_with k f ms) ≡ names_in ms
 names_stay k f no_members = refl

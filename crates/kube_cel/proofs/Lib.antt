@@ -1,12 +1,11 @@
 pub mod PlacesAlike
 pub mod Same
-pub mod Named
+pub mod Counted
 pub mod AddedAnswers
 pub mod AddedKept
 pub mod AddedParts
 pub mod Alike
 pub mod Changed
-pub mod CompiledNodes
 pub mod Marks
 pub mod Parts
 pub mod RawNodes

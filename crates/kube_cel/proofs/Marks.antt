@@ -22,7 +22,7 @@ use Rattle.kube_cel.specs.Visits.{with_node_of}
 use Rattle.kube_cel.proofs.PlacesAlike as walk
 use Rattle.kube_schema.proofs.SameDefaults as filling
 use Rattle.kube_schema.proofs.SameBinding as binding
-use Rattle.kube_cel.proofs.AddedKept.{counts_added, default_stays, embedded_stays, format_stays, int_or_string_stays, keys_added, maps_added, names_added, undeclared_added}
+use Rattle.kube_cel.proofs.AddedKept.{counts_added, default_stays, embedded_stays, format_stays, int_or_string_stays, maps_added, names_added, undeclared_added}
 use Rattle.kube_cel.proofs.AddedParts.{added, additional_added, branch_added, items_added, property_added}
 
 -- a node, and the steps that are left, or none where they lead elsewhere
@@ -46,7 +46,6 @@ was r (Some d) = refl
 
 unfoldable pub marked_shape : StepAccessors Marked
 marked_shape = record {
-  keys = λ m. raw_shape.keys m.0;
   property = λ k m. option_map (marked (behind (place.property k) m)) (raw_shape.property k m.0);
   items = λ m. option_map (marked (behind (place.item 0) m)) (raw_shape.items m.0);
   additional_property = λ m. option_map (marked (behind (place.additional_property []) m)) (raw_shape.additional_property m.0);
@@ -78,7 +77,6 @@ marked_bind = record {
 walk_was : (m : Marked) → walk.Alike marked_shape raw_shape as_was m m.0
 unfolding marked_shape
 walk_was m = record {
-  keys = refl;
   property = λ k. was (behind (place.property k) m) (raw_shape.property k m.0);
   items = was (behind (place.item 0) m) (raw_shape.items m.0);
   additional_property = was (behind (place.additional_property []) m) (raw_shape.additional_property m.0);
@@ -136,7 +134,6 @@ module _ (more : Items) where
   walk_is : (m : Marked) → walk.Alike marked_shape raw_shape as_is m (as_is m)
   unfolding marked_shape raw_shape seen.declared_property
   walk_is m = record {
-    keys = sym (keys_added more m.1 m.0);
     property = λ k. is (behind (place.property k) m) (raw_shape.property k m.0) ∙ sym (property_added more k m.1 m.0);
     items = is (behind (place.item 0) m) (raw_shape.items m.0) ∙ sym (items_added more 0 m.1 m.0);
     additional_property = is (behind (place.additional_property []) m) (raw_shape.additional_property m.0) ∙ sym (undeclared_added more [] m.1 m.0);

@@ -39,7 +39,6 @@ deeper shape (branch kind j) s u e = further_deeper s.root s.depth s.path (shape
 module _ {S T : Type 0} (ls : StepAccessors S) (lt : StepAccessors T) (view : S → T) where
   -- t is what s looks like
   pub record Alike (s : S) (t : T) : Type 0 where
-    pub keys : ls.keys s ≡ lt.keys t
     pub property : (k : List ℕ) → option_map view (ls.property k s) ≡ lt.property k t
     pub items : option_map view (ls.items s) ≡ lt.items t
     pub additional_property : option_map view (ls.additional_property s) ≡ lt.additional_property t
@@ -66,7 +65,7 @@ module _ {S T : Type 0} (ls : StepAccessors S) (lt : StepAccessors T) (view : S 
     candidates_same : candidates ls s ≡ candidates lt (with_node_of at_t s)
     unfolding candidates property_steps item_steps additional_steps branch_steps
     candidates_same =
-        λ i. map property (in_order (h.keys i))
+        λ i. map property (in_order (keys_at (Some s.value)))
         ++ (map item (up_to (count_at (Some s.value)))
         ++ (map additional_property (in_order (keys_at (Some s.value)))
         ++ (map (branch AllOf) (up_to (h.branch_count AllOf i)) ++ (map (branch OneOf) (up_to (h.branch_count OneOf i)) ++ map (branch AnyOf) (up_to (h.branch_count AnyOf i))))))

@@ -8,7 +8,7 @@ use Rattle.kube_cel_walk.specs.declared.error.ValidationError.{ValidationError}
 use Rattle.kube_cel_walk.specs.declared.error.ValidationErrors.{ValidationErrors}
 use Rattle.kube_cel_walk.specs.ErrorLists.{errors_in}
 use Rattle.kube_cel_walk.specs.Errors.{ErrorData, error_view}
-use Rattle.kube_schema_rules.proofs.Candidates.{NamesAll, visit_answers}
+use Rattle.kube_schema_rules.proofs.Candidates.{CountsAll, visit_answers}
 use Rattle.kube_schema_rules.specs.Visit.{Visit, Root, root_visit, goes}
 use Rattle.kube_schema_rules.specs.Walk.{AreFoundAtPlaces}
 use Rattle.kube_cel_walk.specs.Answers.{answer, verdicts, IsAnswer}
@@ -40,7 +40,7 @@ reported_found (Err x) [] q = cc
 reported_found (Err x) (e ∷ es) q = let same : map error_view (errors_in x) ≡ e ∷ es = cc in same
 
 -- the computed answer is what stands at the places
-pub is_answer : {S : Type 0} (form : WalkAccessors S) → NamesAll form.shape → (b : Book) (root : Visit S) (found : List ErrorData) → found ≡ answer form b 65 root → IsAnswer form b root found
+pub is_answer : {S : Type 0} (form : WalkAccessors S) → CountsAll form.shape → (b : Book) (root : Visit S) (found : List ErrorData) → found ≡ answer form b 65 root → IsAnswer form b root found
 unfolding IsAnswer answer
 is_answer form all b root found e = subst (λ f. AreFoundAtPlaces (goes form.shape) (verdicts form b) 65 root f) (sym e) (visit_answers form.shape all (verdicts form b) 65 root)
 

@@ -1,11 +1,11 @@
 -- A walk looks only at what the tree keeps of a schema.
-use Rattle.std.proofs.Common.{◌≡◌, ◌+◌, ℕ, zero, suc, List, ◌∷◌, length, Option, Some, None, option_map, option_and_then, unwrap_or, refl, ap, ◌∙◌, codes}
-use Rattle.serde_json.specs.Data.{Data, null, boolean, number, string, array, object, Items, no_items, item, Members, no_members, member}
+use Rattle.std.proofs.Common.{◌≡◌, ◌+◌, ℕ, zero, suc, List, length, Option, Some, None, option_map, option_and_then, unwrap_or, refl, ap, ◌∙◌, codes}
+use Rattle.serde_json.specs.Data.{Data, null, boolean, number, string, array, object, Items, no_items, item}
 use Rattle.serde_json.specs.Events.{items_len}
 use Rattle.serde_json.specs.Find.{as_array, at, get, get_item}
 use Rattle.kube_schema_rules.specs.declared.branches.BranchKind.{BranchKind}
 use Rattle.kube_schema_rules.specs.declared.branches.BranchKind.TheVariants.{AllOf, OneOf, AnyOf}
-use Rattle.kube_schema_rules.specs.Inside.{count_at, keys_at, keys_in}
+use Rattle.kube_schema_rules.specs.Inside.{count_at, keys_at}
 use Rattle.kube_schema_rules.specs.Raw as seen
 use Rattle.kube_schema_rules.specs.Raw.{raw_shape}
 use Rattle.kube_schema_rules.specs.Visit.{Visit, goes, candidates}
@@ -13,20 +13,12 @@ use Rattle.kube_schema_rules.specs.Step.{Step}
 use Rattle.kube_schema_rules.specs.Walk.{leads, places, answers}
 use Rattle.kube_schema_values.specs.DefaultsAccessors.{additional, declared_properties, members_or_none, preserves, property}
 use Rattle.kube_schema_values.proofs.Fills.{property_is}
-use Rattle.kube_schema.specs.Tree.{Node, names, nodes_length, nth_node}
-use Rattle.kube_schema.specs.View.{branches, children_view, items_or_none, named_view, nodes_view, own_view, view_of}
+use Rattle.kube_schema.specs.Tree.{Node, nodes_length, nth_node}
+use Rattle.kube_schema.specs.View.{branches, children_view, items_or_none, nodes_view, own_view, view_of}
 use Rattle.kube_schema.proofs.SameDefaults.{find_same, maybe_same, unless}
 use Rattle.kube_cel.specs.CompiledShape.{compiled_shape}
 use Rattle.kube_cel.specs.Visits.{with_node_of}
 use Rattle.kube_cel.proofs.PlacesAlike.{Alike, places_same, leads_same, answers_same}
-
-keys_same : (f : Data → Node) (ms : Members) → keys_in ms ≡ names (named_view f ms)
-keys_same f no_members = refl
-keys_same f (member k d ms) = ap (λ ks. k ∷ ks) (keys_same f ms)
-
-names_are : (f : Data → Node) (o : Option Members) → keys_in (unwrap_or o no_members) ≡ names (named_view f (members_or_none o))
-names_are f None = refl
-names_are f (Some ms) = keys_same f ms
 
 length_same : (f : Data → Node) (ds : Items) → items_len ds ≡ nodes_length (nodes_view f ds)
 length_same f no_items = refl
@@ -66,7 +58,6 @@ module _ (n : ℕ) (s : Data) where
   pub alike : Alike raw_shape compiled_shape (view_of n) s (view_of (suc n) s)
   unfolding view_of own_view children_view raw_shape compiled_shape seen.declared_property seen.undeclared_property keys_at declared_properties preserves additional property
   alike = record {
-    keys = names_are (view_of n) (declared_properties s);
     property = λ k. ap (option_map (view_of n)) (property_is k s) ∙ find_same (view_of n) k (members_or_none (declared_properties s));
     items = maybe_same (view_of n) (get (codes "items") s);
     additional_property = unless (view_of n) (preserves s) (additional s);

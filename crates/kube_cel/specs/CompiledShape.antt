@@ -4,7 +4,7 @@ use Rattle.std.specs.Prelude.{if◌then◌else◌, None}
 use Rattle.kube_schema_rules.specs.declared.branches.BranchKind.{BranchKind}
 use Rattle.kube_schema_rules.specs.declared.branches.BranchKind.TheVariants.{AllOf, OneOf, AnyOf}
 use Rattle.kube_schema_rules.specs.StepAccessors.{StepAccessors}
-use Rattle.kube_schema.specs.Tree.{Node, Nodes, own, named_of, names, items_of, additional_of, property_of, all_of, one_of, any_of, nth_node, nodes_length}
+use Rattle.kube_schema.specs.Tree.{Node, Nodes, own, items_of, additional_of, property_of, all_of, one_of, any_of, nth_node, nodes_length}
 
 -- the branches of a keyword
 abbrev pub branches_of : BranchKind → Node → Nodes
@@ -14,7 +14,6 @@ branches_of AnyOf n = any_of n
 
 unfoldable pub compiled_shape : StepAccessors Node
 compiled_shape = record {
-  keys = λ n. names (named_of n);
   property = property_of;
   items = items_of;
   additional_property = λ n. if (own n).preserves then None else additional_of n;

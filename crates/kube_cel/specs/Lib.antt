@@ -4,7 +4,6 @@ pub mod Added
 pub mod AddedVerdicts
 pub mod Answers
 pub mod Compiled
-pub mod Named
 pub mod Parts
 pub mod Raw
 pub mod RuleSets

@@ -2,17 +2,15 @@
 ghost use Rattle.cel_patterns.specs.Book.{Extends, Book};
 ghost use Rattle.cel_patterns.specs.Entries.{entries_of};
 ghost use Rattle.cel_semantics.specs.Bindings.{bindings_of};
-ghost use Rattle.kube_cel.specs.Named.{named_node, named_property};
-ghost use Rattle.kube_schema_rules.specs.Inside.{in_order};
 ghost use Rattle.kube_cel.specs.CompiledShape.{compiled_shape};
 ghost use Rattle.kube_cel_walk.specs.AddedErrors.{AreAdded};
 ghost use Rattle.kube_cel_walk.specs.Verdicts.{list_of_option, verdict};
 ghost use Rattle.kube_schema_rules.specs.Compilation.{compiled_seen};
 ghost use Rattle.kube_schema.specs.Shown.{node_tree};
-ghost use Rattle.kube_schema.specs.Tree.{Node as Tree, named_of, names, property_of};
+ghost use Rattle.kube_schema.specs.Tree.{Node as Tree};
 ghost use Rattle.serde_json.specs.View.{view};
 ghost use Rattle.std.specs.List.{flat_map};
-ghost use Rattle.std.specs.Prelude.{◌≡◌, ◌++◌, ℕ, IfErr, IfOk, List, map, OnOk, Option, option_map, Some};
+ghost use Rattle.std.specs.Prelude.{◌≡◌, IfErr, OnOk, Option, option_map, Some};
 
 use crate::branches::{branch_count, branch_of};
 use cel::PatternBook;
@@ -24,42 +22,12 @@ use kube_schema::{CompilationError, CompilationResult, SchemaNode, bind_node_par
 use kube_schema_rules::BranchKind;
 use kube_types::Refused;
 use serde_json::Value;
-use std::alloc::{AllocError, Global};
+use std::alloc::Global;
 
 /// A node of a schema that was compiled.
 #[derive(Clone, Copy)]
 pub(crate) struct CompiledNode<'a> {
     pub(crate) node: SchemaNode<'a>,
-}
-
-/// Adds a declared member with its name, if there is one.
-fn push_named<'a>(
-    property: Option<(&'a str, SchemaNode<'a>)>,
-    nodes: &mut Vec<(&'a str, CompiledNode<'a>)>,
-) -> Result<(), AllocError>
-    ensures { OnOk result (map named_node nodes.new.items ≡ map named_node nodes.old.items ++ list_of_option (option_map named_property property.entry)) }
-{
-    let Some((name, node)) = property else {
-        return Ok(());
-    };
-    nodes.push((name, CompiledNode { node }))?;
-    Ok(())
-}
-
-/// The declared members of a node, each with its name.
-fn named_nodes<'a>(
-    alloc: Global,
-    node: &SchemaNode<'a>,
-) -> Result<Vec<(&'a str, CompiledNode<'a>)>, AllocError>
-    ensures { IfOk result (λ v. map named_node v.items
-        ≡ map {B = List ℕ × Option Tree} (λ k. (k, property_of k (node_tree node.now))) (in_order (names (named_of (node_tree node.now))))) }
-{
-    let count = node.property_count();
-    let mut nodes = Vec::with_capacity(alloc, count)?;
-    for index in 0..count {
-        push_named(node.property(index), &mut nodes)?;
-    }
-    Ok(nodes)
 }
 
 /// The node of the members whose names aren't declared.
@@ -103,12 +71,6 @@ impl Node for CompiledNode<'_> {
     ghost seen = { λ n. node_tree n.node };
 
     ghost form = { compiled_form };
-
-    #[tactic(auto, unfolding(crate::specs::Compiled::compiled_form, crate::specs::CompiledShape::compiled_shape))]
-    fn properties(&self, alloc: Global) -> Result<Vec<(&str, Self)>, AllocError> {
-        let nodes = named_nodes(alloc, &self.node)?;
-        Ok(nodes)
-    }
 
     #[tactic(auto, unfolding(crate::specs::Compiled::compiled_form, crate::specs::CompiledShape::compiled_shape))]
     fn property(&self, name: &str) -> Option<Self> {

@@ -4,7 +4,6 @@ ghost use Rattle.cel_demand.specs.Part.{both_read};
 ghost use Rattle.cel_patterns.specs.Book.{Extends, Book};
 ghost use Rattle.cel_patterns.specs.Entries.{entries_of};
 ghost use Rattle.cel_semantics.specs.Bindings.{bindings_of};
-ghost use Rattle.kube_schema_rules.specs.Inside.{in_order, keys_in};
 ghost use Rattle.kube_schema_rules.specs.Raw.{declared_property, undeclared_property};
 ghost use Rattle.kube_schema_rules.specs.Step.{keyword};
 ghost use Rattle.kube_cel_walk.specs.AddedErrors.{AreAdded};
@@ -12,10 +11,10 @@ ghost use Rattle.kube_cel_walk.specs.Verdicts.{list_of_option, verdict};
 ghost use Rattle.kube_schema_rules.specs.Compilation.{compiled_rule, compiled_rules};
 ghost use Rattle.kube_schema_rules.specs.Demands.{AreDemands, rule_read, rules_read};
 ghost use Rattle.serde_json.specs.Data.{Data};
-ghost use Rattle.serde_json.specs.Find.{get, get_member, as_array, as_object};
-ghost use Rattle.serde_json.specs.View.{items_view, members_view, view};
+ghost use Rattle.serde_json.specs.Find.{get, as_array};
+ghost use Rattle.serde_json.specs.View.{items_view, view};
 ghost use Rattle.std.specs.List.{flat_map};
-ghost use Rattle.std.specs.Prelude.{◌≡◌, ℕ, codes, IfErr, IfOk, List, map, OnOk, Option, option_and_then, option_map, Some};
+ghost use Rattle.std.specs.Prelude.{◌≡◌, codes, IfErr, IfOk, OnOk, Option, option_and_then, option_map, Some};
 
 use crate::cache::RuleCache;
 use cel::PatternBook;
@@ -26,38 +25,14 @@ use kube_cel_walk::{Node, NodeDemands, ValidationError};
 use kube_schema::{Demands, bind, rule_values};
 use kube_schema_rules::{BranchKind, no_demands, with_rule};
 use kube_types::Refused;
-use serde_json::{Map, Value};
-use std::alloc::{AllocError, Global};
+use serde_json::Value;
+use std::alloc::Global;
 
 /// A node of a schema as JSON, with the rules that were compiled so far.
 #[derive(Clone, Copy)]
 pub(crate) struct JsonNode<'a> {
     pub(crate) schema: &'a Value,
     pub(crate) cache: &'a RuleCache,
-}
-
-/// The members of an object, each as a node with its name.
-fn named_nodes<'a>(
-    alloc: Global,
-    members: &'a Map<String, Value>,
-    cache: &'a RuleCache,
-) -> Result<Vec<(&'a str, JsonNode<'a>)>, AllocError>
-    ensures { IfOk result (λ v. map {B = List ℕ × Option Data} (λ p. (p.0.now, Some (view p.1.schema.now))) v.items
-        ≡ map {B = List ℕ × Option Data} (λ k. (k, get_member k (members_view members.now.entries))) (in_order (keys_in (members_view members.now.entries)))) }
-{
-    let mut nodes = Vec::with_capacity(alloc, members.len())?;
-    for (key, schema) in members.iter() {
-        nodes.push((key.as_str(), JsonNode { schema, cache }))?;
-    }
-    Ok(nodes)
-}
-
-/// The declared members of a node.
-fn properties_of(node: &Value) -> Option<&Map<String, Value>>
-    ensures { option_map (λ m. members_view m.now.entries) result
-        ≡ option_and_then as_object (get (codes "properties") (view node.now)) }
-{
-    node.get("properties")?.as_object()
 }
 
 /// The schema of a declared name.
@@ -178,17 +153,6 @@ impl Node for JsonNode<'_> {
     ghost seen = { λ n. view n.schema.now };
 
     ghost form = { raw_form };
-
-    #[tactic(auto, unfolding(crate::specs::Raw::raw_form, kube_schema_rules::specs::Raw::raw_shape))]
-    fn properties(&self, alloc: Global) -> Result<Vec<(&str, Self)>, AllocError> {
-        match properties_of(self.schema) {
-            Some(members) => {
-                let nodes = named_nodes(alloc, members, self.cache)?;
-                Ok(nodes)
-            }
-            None => Ok(Vec::new(alloc)),
-        }
-    }
 
     #[tactic(auto, unfolding(crate::specs::Raw::raw_form, kube_schema_rules::specs::Raw::raw_shape))]
     fn property(&self, name: &str) -> Option<Self> {

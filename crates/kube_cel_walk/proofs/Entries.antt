@@ -5,8 +5,7 @@ use Rattle.serde_json.proofs.Views.{Entry}
 use Rattle.serde_json.specs.Data.{Data, no_members}
 use Rattle.serde_json.specs.Find.{get_member, as_object}
 use Rattle.serde_json.specs.View.{view, members_view}
-use Rattle.std.proofs.Common.{Bor, ◌≡◌, ◌<◌, ℕ, zero, suc, ◌+◌, length, take, get_or, arith, List, [], ◌∷◌, ◌++◌, map, Option, Some, None, option_and_then, unwrap_or, Less, Greater, string_bytes, string_cmp, nat_cmp, refl, sym, ap, ◌∙◌}
-use Rattle.std.proofs.lemmas.List.{map-append, take_more}
+use Rattle.std.proofs.Common.{◌≡◌, ℕ, ◌+◌, List, [], ◌∷◌, ◌++◌, map, Option, Some, None, option_and_then, unwrap_or, Less, Greater, string_bytes, string_cmp, nat_cmp, refl, sym, ap, ◌∙◌}
 use Rattle.std.proofs.lemmas.Cmp.{nat_list_cmp_total, tied_itself}
 use Rattle.std.specs.Cmp.Lexicographic.{slice_cmp}
 use Rattle.std.specs.List.{AllByRecursion}
@@ -57,40 +56,3 @@ keys_of_map o es e h = ap (λ ms. in_order (keys_in (unwrap_or ms no_members))) 
 pub keys_of_none : (o : Option Data) → None ≡ option_and_then as_object o → in_order (keys_at o) ≡ []
 unfolding keys_at
 keys_of_none o e = ap (λ ms. in_order (keys_in (unwrap_or ms no_members))) (sym e)
-
--- ---- declared names with their nodes
-
--- the names of one more
-pub names_taken : {N : Type 0} (ps : List (Bor (List ℕ) × N)) (i : ℕ) (p : Bor (List ℕ) × N) → p ≡ get_or ps i p → i < length ps
-    → map (λ p. p.0.now) (take (i + 1) ps) ≡ map (λ p. p.0.now) (take i ps) ++ p.0.now ∷ []
-names_taken ps i p here within =
-    ap (map (λ p. p.0.now)) (take_more ps i p within) ∙ map-append (λ p. p.0.now) (take i ps) (get_or ps i p ∷ [])
-    ∙ ap (λ q. map (λ p. p.0.now) (take i ps) ++ q.0.now ∷ []) (sym here)
-
-module _ {N S : Type 0} (seen : N → S) (find : List ℕ → Option S) where
-  abbrev pub shown : Bor (List ℕ) × N → List ℕ × Option S
-  shown p = (p.0.now, Some (seen p.1))
-
-  abbrev pub sought : List ℕ → List ℕ × Option S
-  sought k = (k, find k)
-
-  -- their names alone
-  pub declared_names : (ps : List (Bor (List ℕ) × N)) (ks : List (List ℕ)) → map shown ps ≡ map sought ks → map (λ p. p.0.now) ps ≡ ks
-  declared_names [] [] e = refl
-  declared_names [] (k ∷ ks) e = cc
-  declared_names (p ∷ ps) [] e = cc
-  declared_names (p ∷ ps) (k ∷ ks) e =
-      let here : shown p ≡ sought k = cc in
-      let more : map shown ps ≡ map sought ks = cc in
-      λ i. (here i).0 ∷ declared_names ps ks more i
-
-  same_found : (p : Bor (List ℕ) × N) (k : List ℕ) → shown p ≡ sought k → find p.0.now ≡ Some (seen p.1)
-  same_found p k e = ap find (λ i. (e i).0) ∙ sym (λ i. (e i).1)
-
-  -- each is the node of its name
-  pub declared_at : (ps : List (Bor (List ℕ) × N)) (ks : List (List ℕ)) (i : ℕ) (d : Bor (List ℕ) × N) → map shown ps ≡ map sought ks → i < length ps
-      → find (get_or ps i d).0.now ≡ Some (seen (get_or ps i d).1)
-  declared_at [] ks i d e h = absurd (omega (arith, h))
-  declared_at (p ∷ ps) [] i d e h = cc
-  declared_at (p ∷ ps) (k ∷ ks) zero d e h = let here : shown p ≡ sought k = cc in same_found p k here
-  declared_at (p ∷ ps) (k ∷ ks) (suc i) d e h = let more : map shown ps ≡ map sought ks = cc in declared_at ps ks i d more (omega (arith, h))

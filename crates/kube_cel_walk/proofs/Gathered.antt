@@ -71,9 +71,13 @@ module _ {S : Type 0} (shape : StepAccessors S) where
   unfolding item_steps
   item_steps_are s vs e = ap (λ n. map item (up_to n)) (counted_items (Some s.value) vs e)
 
-  pub property_steps_are : (s : Visit S) → property_steps shape s ≡ map property (in_order (shape.keys s.node))
+  pub property_steps_none : (s : Visit S) → None ≡ as_object s.value → property_steps shape s ≡ []
   unfolding property_steps
-  property_steps_are s = refl
+  property_steps_none s e = ap (map property) (keys_of_none (Some s.value) e)
+
+  pub property_steps_are : (s : Visit S) (es : List Entry) → Some (members_view es) ≡ as_object s.value → IsStrictlySortedBy string_cmp (keys_of es) → property_steps shape s ≡ map property (names_of es)
+  unfolding property_steps
+  property_steps_are s es e h = ap (map property) (keys_of_map (Some s.value) es e h)
 
   pub branch_steps_are : (kind : BranchKind) (s : Visit S) → branch_steps shape kind s ≡ map (branch kind) (up_to (shape.branch_count kind s.node))
   unfolding branch_steps

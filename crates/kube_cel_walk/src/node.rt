@@ -5,7 +5,6 @@ ghost use Rattle.cel_patterns.specs.Book.{Extends, Book};
 ghost use Rattle.cel_patterns.specs.Entries.{entries_of};
 ghost use Rattle.cel_semantics.specs.Bindings.{bindings_of};
 ghost use Rattle.cel_value.specs.View.{view as cel_view};
-ghost use Rattle.kube_schema_rules.specs.Inside.{in_order};
 ghost use Rattle.kube_cel_walk.specs.AddedErrors.{AreAdded};
 ghost use Rattle.kube_cel_walk.specs.Verdicts.{list_of_option, verdict};
 ghost use Rattle.kube_cel_walk.specs.WalkAccessors.{WalkAccessors, is_none_of};
@@ -14,7 +13,7 @@ ghost use Rattle.kube_schema_values.specs.Conversion.{to_cel, levels};
 ghost use Rattle.kube_schema_rules.specs.Demands.{AreDemands, rules_read};
 ghost use Rattle.serde_json.specs.View.{view};
 ghost use Rattle.std.specs.List.{flat_map};
-ghost use Rattle.std.specs.Prelude.{◌≡◌, ℕ, IfErr, IfOk, List, map, OnOk, Option, option_map, Some};
+ghost use Rattle.std.specs.Prelude.{◌≡◌, IfErr, IfOk, OnOk, Option, option_map};
 
 use crate::demands::NodeDemands;
 use crate::error::ValidationError;
@@ -25,7 +24,7 @@ use cel_value::Value as CelValue;
 use kube_schema_rules::BranchKind;
 use kube_types::Refused;
 use serde_json::Value;
-use std::alloc::{AllocError, Global};
+use std::alloc::Global;
 
 /// A node of a schema, in whatever form the schema is held. Definitions see it as a `Seen`, and ask of it what the form says.
 pub trait Node: Copy {
@@ -34,11 +33,6 @@ pub trait Node: Copy {
     ghost seen: { Self → Seen };
 
     ghost form: { WalkAccessors Seen };
-
-    /// The declared names with their nodes, in the order of the names.
-    fn properties(&self, alloc: Global) -> Result<Vec<(&str, Self)>, AllocError>
-        ensures { IfOk result (λ v. map {B = List ℕ × Option Seen} (λ p. (p.0.now, Some (seen p.1))) v.items
-            ≡ map {B = List ℕ × Option Seen} (λ k. (k, form.shape.property k (seen self.now))) (in_order (form.shape.keys (seen self.now)))) };
 
     /// The node of a declared name.
     fn property(&self, name: &str) -> Option<Self>

@@ -4,6 +4,7 @@ ghost use Rattle.kube_schema_rules.specs.Visit.{item_path, member_path};
 ghost use Rattle.kube_schema_rules.specs.Rules.{rule_view};
 ghost use Rattle.std.specs.Prelude.{◌≡◌, IfOk, OnOk, string_bytes};
 
+use itoa::Buffer;
 use kube_schema_rules::Rule;
 use std::alloc::{AllocError, Global};
 
@@ -24,8 +25,10 @@ pub fn push_member(path: &mut String, key: &str) -> Result<(), AllocError>
 pub fn push_item(path: &mut String, index: usize) -> Result<(), AllocError>
     ensures { OnOk result (string_bytes path.new ≡ item_path (string_bytes path.old) index) }
 {
-    let step = format!(in *path.allocator(); "[{index}]")?;
-    path.push_str(step.as_str())?;
+    let mut digits = Buffer::new();
+    path.push_str("[")?;
+    path.push_str(digits.format(index))?;
+    path.push_str("]")?;
     Ok(())
 }
 

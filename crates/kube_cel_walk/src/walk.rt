@@ -48,7 +48,7 @@ pub fn walk_node<N: Node>(
     Ok(())
 }
 
-/// Adds what is found through the declared members, in the order of their names.
+/// Adds what is found through the members whose names are declared, in the order of their names.
 #[cycle(walk)]
 fn walk_properties<N: Node>(
     state: &WalkState<'_, N>,
@@ -63,9 +63,13 @@ fn walk_properties<N: Node>(
     ensures keeps { (b : Book) → Extends b (entries_of book.new) → Extends b (entries_of book.old) }
     ensures memory { IfErr result (λ e. e ≡ Refused.Memory) }
 {
-    let properties = state.node.properties(*errors.allocator())?;
-    for property in &properties {
-        walk_member(state, Some(property.1), property.0, path, book, errors)?;
+    let Some(members) = state.value.as_object() else {
+        return Ok(());
+    };
+    for (key, _member) in members.iter() {
+        let name = key.as_str();
+        let node = state.node.property(name);
+        walk_member(state, node, name, path, book, errors)?;
     }
     Ok(())
 }

@@ -1,5 +1,5 @@
 -- The steps that may be allowed: in order, and all of them.
-use Rattle.kube_schema_rules.proofs.ByKind.{last_kind, kind_before, properties_in_order, items_in_order, extras_in_order, branches_in_order, AreFromRank}
+use Rattle.kube_schema_rules.proofs.ByKind.{last_kind, kind_before, properties_in_order, items_in_order, extras_in_order, branches_in_order}
 use Rattle.kube_schema_rules.proofs.Ordered.{IsIn, in_left, in_right, in_map, are_places}
 use Rattle.kube_schema_rules.proofs.Sorted.{same_key, key_cmp, in_ordered, in_up}
 use Rattle.kube_schema_rules.specs.declared.branches.BranchKind.{BranchKind}
@@ -12,7 +12,7 @@ use Rattle.kube_schema_rules.specs.Walk.{ArePlaces, AreFoundAtPlaces, places, an
 use Rattle.serde_json.specs.Data.{Data, null, boolean, number, string, array, object, Items, no_items, item as one_item, Members, no_members, member}
 use Rattle.serde_json.specs.Events.{items_len}
 use Rattle.serde_json.specs.Find.{get, at, get_item, get_member}
-use Rattle.std.proofs.Common.{◌≡◌, ◌<◌, ℕ, zero, suc, List, ◌++◌, map, Option, Some, None, option_and_then, IsSome, Ordering, Less, Equal, Greater, refl, sym, inl, inr, arith}
+use Rattle.std.proofs.Common.{◌≡◌, ◌<◌, ℕ, zero, suc, List, ◌++◌, Option, Some, None, option_and_then, IsSome, Ordering, Less, Equal, Greater, refl, sym, inl, inr, arith}
 use Rattle.std.specs.List.Sorted.{IsStrictlySortedBy}
 use Rattle.std.specs.Ordering.{match_ordering}
 
@@ -63,16 +63,15 @@ value_there r d t None b c h = cc
 value_there r d t (Some n) None c h = h
 value_there r d t (Some n) (Some v) c h = refl
 
--- a shape whose names and counts leave nothing out
-pub record NamesAll {S : Type 0} (shape : StepAccessors S) : Type 0 where
-  pub keys : (k : List ℕ) (node : S) → IsSome (shape.property k node) → IsIn k (shape.keys node)
+-- a shape whose counts leave no branch out
+pub record CountsAll {S : Type 0} (shape : StepAccessors S) : Type 0 where
   pub branches : (kind : BranchKind) (j : ℕ) (node : S) → IsSome (shape.branch kind j node) → j < shape.branch_count kind node
 
 module _ {S : Type 0} (shape : StepAccessors S) where
   pub candidates_sorted : (s : Visit S) → IsStrictlySortedBy step_cmp (candidates shape s)
   unfolding candidates property_steps item_steps additional_steps branch_steps
   candidates_sorted s =
-      (kind_before 0 (property_steps shape s) _ (properties_in_order (shape.keys s.node))
+      (kind_before 0 (property_steps shape s) _ (properties_in_order (keys_at (Some s.value)))
       (kind_before 1 (item_steps shape s) _ (items_in_order (count_at (Some s.value)))
       (kind_before 2 (additional_steps shape s) _ (extras_in_order (keys_at (Some s.value)))
       (kind_before 3 (branch_steps shape AllOf s) _ (branches_in_order AllOf (shape.branch_count AllOf s.node))
@@ -93,11 +92,11 @@ module _ {S : Type 0} (shape : StepAccessors S) where
   branch_named OneOf p s h = in_right p (branch_steps shape AllOf s) _ (in_left p (branch_steps shape OneOf s) (branch_steps shape AnyOf s) h)
   branch_named AnyOf p s h = in_right p (branch_steps shape AllOf s) _ (in_right p (branch_steps shape OneOf s) (branch_steps shape AnyOf s) h)
 
-  pub candidates_all : NamesAll shape → (p : Step) (s : Visit S) → IsSome (goes shape p s) → IsIn p (candidates shape s)
+  pub candidates_all : CountsAll shape → (p : Step) (s : Visit S) → IsSome (goes shape p s) → IsIn p (candidates shape s)
   unfolding candidates property_steps item_steps additional_steps goes
   candidates_all all (property k) s h =
-      in_left (property k) (property_steps shape s) _ (in_map property k (in_order (shape.keys s.node))
-      (in_ordered k (shape.keys s.node) (all.keys k s.node (node_there None s.depth (member_path s.path k) _ _ _ h))))
+      in_left (property k) (property_steps shape s) _ (in_map property k (in_order (keys_at (Some s.value)))
+      (in_ordered k (keys_at (Some s.value)) (named k (Some s.value) (value_there None s.depth (member_path s.path k) (shape.property k s.node) _ _ h))))
   candidates_all all (item i) s h =
       in_right (item i) (property_steps shape s) _ (in_left (item i) (item_steps shape s) _ (in_map item i (up_to (count_at (Some s.value)))
       (in_up i (count_at (Some s.value)) (counted i (Some s.value) (value_there None s.depth (item_path s.path i) (shape.items s.node) _ _ h)))))
@@ -109,10 +108,10 @@ module _ {S : Type 0} (shape : StepAccessors S) where
       (branch_named kind (branch kind j) s (in_branches kind j s (all.branches kind j s.node (node_there s.root s.depth s.path (shape.branch kind j s.node) (Some s.value) s.old h))))
 
   -- the computed places are the places
-  pub visit_places : NamesAll shape → (n : ℕ) (s : Visit S) → ArePlaces (goes shape) n s (places (goes shape) (candidates shape) n s)
+  pub visit_places : CountsAll shape → (n : ℕ) (s : Visit S) → ArePlaces (goes shape) n s (places (goes shape) (candidates shape) n s)
   visit_places all n s = are_places (goes shape) (candidates shape) candidates_sorted (candidates_all all) n s
 
   -- the computed answers are what stands at the places
-  pub visit_answers : NamesAll shape → {E : Type 0} (found_at : Visit S → List E) (n : ℕ) (s : Visit S) → AreFoundAtPlaces (goes shape) found_at n s (answers (goes shape) (candidates shape) found_at n s)
+  pub visit_answers : CountsAll shape → {E : Type 0} (found_at : Visit S → List E) (n : ℕ) (s : Visit S) → AreFoundAtPlaces (goes shape) found_at n s (answers (goes shape) (candidates shape) found_at n s)
   unfolding answers
   visit_answers all found_at n s = record { all_places = places (goes shape) (candidates shape) n s; are_all = visit_places all n s; joined = refl }

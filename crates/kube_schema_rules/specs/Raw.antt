@@ -1,11 +1,11 @@
 -- Trusted by the headline.
 -- A schema as JSON (Kubernetes documentation, "Specifying a structural schema").
-use Rattle.kube_schema_rules.specs.Inside.{keys_at, count_at}
+use Rattle.kube_schema_rules.specs.Inside.{count_at}
 use Rattle.kube_schema_rules.specs.StepAccessors.{StepAccessors}
 use Rattle.kube_schema_rules.specs.Step.{keyword}
 use Rattle.serde_json.specs.Data.{Data}
 use Rattle.serde_json.specs.Find.{get, at, as_bool, as_object}
-use Rattle.std.specs.Prelude.{ℕ, List, Bool, false, if◌then◌else◌, Option, Some, None, option_and_then, unwrap_or, is_some, codes}
+use Rattle.std.specs.Prelude.{ℕ, List, false, if◌then◌else◌, Option, Some, None, option_and_then, unwrap_or, is_some, codes}
 
 -- the schema of a declared name
 unfoldable pub declared_property : List ℕ → Data → Option Data
@@ -19,7 +19,6 @@ undeclared_property node =
 
 unfoldable pub raw_shape : StepAccessors Data
 raw_shape = record {
-  keys = λ node. keys_at (get (codes "properties") node);
   property = declared_property;
   items = get (codes "items");
   additional_property = undeclared_property;

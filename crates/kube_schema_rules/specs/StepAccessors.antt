@@ -4,8 +4,6 @@ use Rattle.kube_schema_rules.specs.declared.branches.BranchKind.{BranchKind}
 use Rattle.std.specs.Prelude.{ℕ, List, Option}
 
 pub record StepAccessors (S : Type 0) : Type 0 where
-  -- the declared names
-  pub keys : S → List (List ℕ)
   -- the node of the member of a declared name
   pub property : List ℕ → S → Option S
   -- the node of all items

@@ -65,9 +65,9 @@ module _ {S : Type 0} (shape : StepAccessors S) where
       further None s.depth (member_path s.path k) (unless_there (shape.property k s.node) (shape.additional_property s.node)) (get k s.value) (option_and_then (get k) s.old)
   goes (branch kind j) s = further s.root s.depth s.path (shape.branch kind j s.node) (Some s.value) s.old
 
-  -- all steps that may be allowed, kind by kind
+  -- all steps that may be allowed, kind by kind: no member is reached but by a key of the value
   unfoldable pub property_steps : Visit S → List Step
-  property_steps s = map property (in_order (shape.keys s.node))
+  property_steps s = map property (in_order (keys_at (Some s.value)))
 
   unfoldable pub item_steps : Visit S → List Step
   item_steps s = map item (up_to (count_at (Some s.value)))

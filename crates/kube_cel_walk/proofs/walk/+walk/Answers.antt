@@ -1,12 +1,12 @@
 use Rattle.kube_cel_walk.specs.Errors.{error_view}
 use Rattle.kube_schema_rules.specs.declared.branches.BranchKind.TheVariants.{AllOf, OneOf, AnyOf}
-use Rattle.kube_schema_rules.specs.Inside.{in_order, up_to}
+use Rattle.kube_schema_rules.specs.Inside.{up_to}
 use Rattle.kube_schema_rules.specs.Visit.{visit, further, unless_there, member_path, item_path, goes, property_steps, item_steps, additional_steps, branch_steps}
 use Rattle.kube_schema_rules.specs.Step.{property, item, additional_property, branch}
 use Rattle.kube_cel_walk.specs.Roots.{root_view}
 use Rattle.kube_cel_walk.proofs.Cut.{member_path_cut, member_path_splits, item_path_cut, item_path_splits}
-use Rattle.kube_cel_walk.proofs.Entries.{names_of, names_more, names_taken, shown, sought, declared_at, declared_names}
-use Rattle.kube_cel_walk.proofs.Gathered.{answer_last, gathered, through_none, no_item, no_additional_property, one_more, none_up, one_more_up, property_steps_are, additional_steps_none, additional_steps_are, item_steps_none, item_steps_are, branch_steps_are, property_goes, additional_goes, item_goes, branch_goes}
+use Rattle.kube_cel_walk.proofs.Entries.{names_of, names_more}
+use Rattle.kube_cel_walk.proofs.Gathered.{answer_last, gathered, through_none, no_item, no_additional_property, one_more, none_up, one_more_up, property_steps_none, property_steps_are, additional_steps_none, additional_steps_are, item_steps_none, item_steps_are, branch_steps_are, property_goes, additional_goes, item_goes, branch_goes}
 use Rattle.kube_cel_walk.proofs.walk.+walk.Goals as goal
 use Rattle.kube_cel_walk.specs.Answers.{answer, answer_if_reached, verdicts, found_through, found_by}
 use Rattle.kube_cel_walk.specs.Visits.{visit_at}
@@ -14,8 +14,7 @@ use Rattle.serde_json.proofs.Views.{Entry, get_item_within}
 use Rattle.serde_json.specs.Data.{Data}
 use Rattle.serde_json.specs.Find.{get, at}
 use Rattle.serde_json.specs.View.{view, members_view, items_view}
-use Rattle.std.proofs.Common.{rules, Bor, Option, ◌≡◌, ◌<◌, ◌==◌, suc, ◌+◌, ◌-◌, [], ◌∷◌, ◌++◌, map, option_map, option_and_then, None, Some, refl, sym, ap, ◌∙◌, subst, append_assoc, append-nil, string_bytes, string_cmp, arith, length, take}
-use Rattle.std.proofs.lemmas.List.{take_all}
+use Rattle.std.proofs.Common.{rules, Option, ◌≡◌, ◌<◌, suc, ◌+◌, ◌-◌, [], ◌∷◌, ◌++◌, map, option_map, option_and_then, None, Some, refl, sym, ap, ◌∙◌, subst, append_assoc, append-nil, string_bytes, string_cmp, arith, length, take}
 use Rattle.std.specs.List.Sorted.{IsStrictlySortedBy}
 use Rattle.std.specs.Map.{keys_of}
 use Rattle.std.specs.String.Boundary.{IsSplitPoint}
@@ -63,64 +62,64 @@ walk_node-returns-clause-found g t c = λ b h.
 
 -- ---- declared members
 
-pub walk_properties-loop-property-init : goal.walk_properties-loop-property-init
-walk_properties-loop-property-init g t c = record {
+pub walk_properties-returns-in_default-clause-found : goal.walk_properties-returns-in_default-clause-found
+walk_properties-returns-in_default-clause-found g t c = λ b h.
+    let s = visit_at g.N.Node.seen c.args.state.now (string_bytes c.args.path.now) in
+    through_none g.N.Node.form b (64 - c.args.state.now.depth) s (map error_view c.args.errors.now.items) (property_steps g.N.Node.form.shape s) (property_steps_none g.N.Node.form.shape s c.in_default.ensures)
+
+pub walk_properties-loop-key-init : goal.walk_properties-loop-key-init
+walk_properties-loop-key-init g t c = record {
+  done = [];
+  all = search rules;
+  ordered = search rules;
   path = refl;
   keeps = λ b h. h;
   found = λ b h. through_none g.N.Node.form b (64 - c.args.state.now.depth) (visit_at g.N.Node.seen c.args.state.now (string_bytes c.args.path.now)) (map error_view c.args.errors.now.items) [] refl;
 }
 
-pub walk_properties-loop-property-preserved : goal.walk_properties-loop-property-preserved
-walk_properties-loop-property-preserved g t c =
-    let l = c.loop-property in
-    let form = g.N.Node.form in
-    let seen = g.N.Node.seen in
-    let s = visit_at seen c.args.state.now (string_bytes c.args.path.now) in
+pub walk_properties-loop-key-preserved : goal.walk_properties-loop-key-preserved
+walk_properties-loop-key-preserved g t c =
+    let l = c.loop-key in
+    let done = l.invariant.done in
+    let e : Entry = (c.in-Some-2.key.now, c.in-Some-2._member.now) in
+    let k = string_bytes e.0 in
+    let left = c.next.new.self in
+    let s = visit_at g.N.Node.seen c.args.state.now (string_bytes c.args.path.now) in
     let n = 64 - c.args.state.now.depth in
     let d = c.args.state.now.depth in
     let v = view c.args.state.now.value.now in
     let o = option_map (λ x. view x.now) c.args.state.now.old in
-    let old = map error_view c.args.errors.now.items in
     let had = map error_view l.errors.items in
-    let xs = c.deref-property-items.result.now in
-    let x = c.property-item.result in
-    let k = x.0.now in
-    let within : l.property-index < length xs = omega arith in
-    let here = declared_at seen (λ k. form.shape.property k (seen c.args.state.now.node)) xs (in_order (form.shape.keys (seen c.args.state.now.node))) l.property-index x
-    (subst (λ ys. map (shown seen (λ k. form.shape.property k (seen c.args.state.now.node))) ys ≡ map (sought seen (λ k. form.shape.property k (seen c.args.state.now.node))) (in_order (form.shape.keys (seen c.args.state.now.node))))
-    (sym c.deref-property-items.ensures.value) c.in_ok-properties.ensures) within in
-    let there : form.shape.property k (seen c.args.state.now.node) ≡ Some (seen x.1) =
-    subst (λ y. form.shape.property y.0.now (seen c.args.state.now.node) ≡ Some (seen y.1)) (sym c.property-item.is) here in
-    let goes_there = property_goes form.shape s k (Some (seen x.1)) there in
+    let joined : done ++ l.key-iterator ≡ done ++ e ∷ left = ap (λ es. done ++ es) c.in-Some-2.ensures.steps in
+    let moved : done ++ l.key-iterator ≡ (done ++ e ∷ []) ++ left = joined ∙ sym (append_assoc done (e ∷ []) left) in
+    let form = g.N.Node.form in
+    let node = g.N.Node.seen c.args.state.now.node in
+    let goes_there = property_goes form.shape s k (form.shape.property k node) refl in
     record {
+      done = done ++ e ∷ [];
+      all = ap (λ es. Some (members_view es)) (sym moved) ∙ l.invariant.all;
+      ordered = subst (λ es. IsStrictlySortedBy string_cmp (keys_of es)) moved l.invariant.ordered;
       path = c.in_ok-walk_member.ensures.path ∙ l.invariant.path;
       keeps = λ b h. l.invariant.keeps b (c.in_ok-walk_member.ensures.keeps b h);
       found = λ b h.
-          let more : map error_view c.walk_member.new.errors.items ≡ had ++ answer_if_reached form b n (further None d (member_path (string_bytes c.args.path.now) k) (Some (seen x.1)) (get k v) (option_and_then (get k) o)) =
+          let name = c.as_str-name.result.now in
+          let more : map error_view c.walk_member.new.errors.items ≡ had ++ answer_if_reached form b n (further None d (member_path (string_bytes c.args.path.now) k) (form.shape.property k node) (get k v) (option_and_then (get k) o)) =
           c.in_ok-walk_member.ensures.found b h
-          ∙ ap (λ q. had ++ answer_if_reached form b n (further None d (member_path q k) (Some (seen x.1)) (get k v) (option_and_then (get k) o))) l.invariant.path in
-          one_more form b n s property (map (λ p. p.0.now) (take l.property-index xs)) k old had (map error_view c.walk_member.new.errors.items)
+          ∙ ap (λ w. had ++ answer_if_reached form b n (further None d (member_path (string_bytes l.path) name) w (get name v) (option_and_then (get name) o))) c.property-node.ensures
+          ∙ ap (λ q. had ++ answer_if_reached form b n (further None d (member_path (string_bytes l.path) q) (form.shape.property q node) (get q v) (option_and_then (get q) o))) c.as_str-name.ensures.value
+          ∙ ap (λ q. had ++ answer_if_reached form b n (further None d (member_path q k) (form.shape.property k node) (get k v) (option_and_then (get k) o))) l.invariant.path in
+          one_more form b n s property (names_of done) k (map error_view c.args.errors.now.items) had (map error_view c.walk_member.new.errors.items)
           (l.invariant.found b (c.in_ok-walk_member.ensures.keeps b h)) (more ∙ ap (λ r. had ++ answer_if_reached form b n r) (sym goes_there))
-          ∙ ap (λ ks. old ++ found_through form b n s (map property ks)) (sym (names_taken xs l.property-index x c.property-item.is within));
+          ∙ ap (λ ks. map error_view c.args.errors.now.items ++ found_through form b n s (map property ks)) (sym (names_more done e));
     }
 
 pub walk_properties-returns-clause-found : goal.walk_properties-returns-clause-found
 walk_properties-returns-clause-found g t c = λ b h.
-    let l = c.loop-property in
-    let form = g.N.Node.form in
-    let seen = g.N.Node.seen in
-    let s = visit_at seen c.args.state.now (string_bytes c.args.path.now) in
-    let n = 64 - c.args.state.now.depth in
-    let old = map error_view c.args.errors.now.items in
-    let xs = c.deref-property-items.result.now in
-    let all = take_all l.property-index xs c.loop-property-test.false in
-    let named = declared_names seen (λ k. form.shape.property k (seen c.args.state.now.node)) xs (in_order (form.shape.keys (seen c.args.state.now.node)))
-    (subst (λ ys. map (shown seen (λ k. form.shape.property k (seen c.args.state.now.node))) ys ≡ map (sought seen (λ k. form.shape.property k (seen c.args.state.now.node))) (in_order (form.shape.keys (seen c.args.state.now.node))))
-    (sym c.deref-property-items.ensures.value) c.in_ok-properties.ensures) in
-    l.invariant.found b h
-    ∙ ap (λ ys. old ++ found_through form b n s (map property (map (λ p. p.0.now) ys))) all
-    ∙ ap (λ ks. old ++ found_through form b n s (map property ks)) named
-    ∙ ap (λ ps. old ++ found_through form b n s ps) (sym (property_steps_are form.shape s))
+    let l = c.loop-key in
+    let s = visit_at g.N.Node.seen c.args.state.now (string_bytes c.args.path.now) in
+    let ended : l.invariant.done ++ l.key-iterator ≡ l.invariant.done = ap (λ es. l.invariant.done ++ es) c.in-None.ensures.steps.0 ∙ append-nil l.invariant.done in
+    let steps = property_steps_are g.N.Node.form.shape s l.invariant.done (ap (λ es. Some (members_view es)) (sym ended) ∙ l.invariant.all) (subst (λ es. IsStrictlySortedBy string_cmp (keys_of es)) ended l.invariant.ordered) in
+    l.invariant.found b h ∙ ap (λ ps. map error_view c.args.errors.now.items ++ found_through g.N.Node.form b (64 - c.args.state.now.depth) s ps) (sym steps)
 
 -- ---- other members
 

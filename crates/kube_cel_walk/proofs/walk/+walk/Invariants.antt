@@ -10,7 +10,7 @@ use Rattle.kube_cel_walk.specs.Visits.{visit_at}
 use Rattle.serde_json.proofs.Views.{Entry}
 use Rattle.serde_json.specs.Find.{as_object}
 use Rattle.serde_json.specs.View.{view, members_view}
-use Rattle.std.proofs.Common.{◌≡◌, ◌*◌, ◌-◌, List, ◌++◌, map, take, Some, string_bytes, string_cmp}
+use Rattle.std.proofs.Common.{◌≡◌, ◌*◌, ◌-◌, List, ◌++◌, map, Some, string_bytes, string_cmp}
 use Rattle.std.specs.List.Sorted.{IsStrictlySortedBy}
 use Rattle.std.specs.Map.{keys_of}
 
@@ -38,12 +38,15 @@ decreases-walk_item g l = 3 * (66 - l.state.now.depth) - 2
 abbrev pub decreases-walk_branch : goal.decreases-walk_branch
 decreases-walk_branch g l = 3 * (66 - l.state.now.depth) - 2
 
-abbrev pub invariant-walk_properties-loop-property : goal.invariant-walk_properties-loop-property
-invariant-walk_properties-loop-property g l = record {
+abbrev pub invariant-walk_properties-loop-key : goal.invariant-walk_properties-loop-key
+invariant-walk_properties-loop-key g l = record {
+  done : List Entry;
+  all : Some (members_view (done ++ l.key-iterator)) ≡ as_object (view l.state.value.now);
+  ordered : IsStrictlySortedBy string_cmp (keys_of (done ++ l.key-iterator));
   path : string_bytes l.path ≡ string_bytes l.initial.path;
   keeps : (b : Book) → Extends b (entries_of l.book) → Extends b (entries_of l.initial.book);
   found : (b : Book) → Extends b (entries_of l.book) → map error_view l.errors.items ≡ map error_view l.initial.errors.items
-      ++ found_through g.N.Node.form b (64 - l.state.depth) (visit_at g.N.Node.seen l.state (string_bytes l.initial.path)) (map property (map (λ p. p.0.now) (take l.property-index l.property-items)));
+      ++ found_through g.N.Node.form b (64 - l.state.depth) (visit_at g.N.Node.seen l.state (string_bytes l.initial.path)) (map property (names_of done));
 }
 
 abbrev pub invariant-walk_extras-loop-key : goal.invariant-walk_extras-loop-key

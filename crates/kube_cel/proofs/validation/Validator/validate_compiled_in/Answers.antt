@@ -1,5 +1,5 @@
 use Rattle.kube_cel.proofs.Alike.{compiled_found, trees_alike}
-use Rattle.kube_cel.proofs.RawNodes.{raw_form_names_all}
+use Rattle.kube_cel.proofs.RawNodes.{raw_form_counts_all}
 use Rattle.kube_cel.proofs.Reports.{is_answer, reported_found}
 use Rattle.kube_cel.proofs.validation.Validator.validate_compiled_in.Goals as goal
 use Rattle.kube_cel.specs.Answers.{found_in, report_of}
@@ -33,7 +33,7 @@ returns-in_default-clause-places c = λ b h s e.
     (ap (λ o. option_map (defaulted_value tree_accessors 65 (whole c.args.compiled.now)) (option_map (λ v. view v.now) o)) (sym c.in_default.is)) in
     let found = c.in_ok-answer.ensures.answer b h ∙ ap (λ s. report_of (answer compiled_form b 65 s)) here
     ∙ ap report_of (compiled_found b s c0 c.args.object.now c.args.old c.args.root e) in
-    is_answer raw_form raw_form_names_all b _ (found_in c.in_ok-answer.answer) (reported_found c.in_ok-answer.answer _ found)
+    is_answer raw_form raw_form_counts_all b _ (found_in c.in_ok-answer.answer) (reported_found c.in_ok-answer.answer _ found)
 
 pub returns-clause-answer : goal.returns-clause-answer
 returns-clause-answer c = λ b h s e.
@@ -57,7 +57,7 @@ returns-clause-places c = λ b h s e.
     ∙ ap (λ o. option_map (defaulted_value tree_accessors 65 (whole c.args.compiled.now)) (option_map (λ v. view v.now) o)) (sym c.in-Some.is)) in
     let found = c.in_ok-answer-2.ensures.answer b h ∙ ap (λ s. report_of (answer compiled_form b 65 s)) here
     ∙ ap report_of (compiled_found b s c0 c.args.object.now c.args.old c.args.root e) in
-    is_answer raw_form raw_form_names_all b _ (found_in c.in_ok-answer-2.answer) (reported_found c.in_ok-answer-2.answer _ found)
+    is_answer raw_form raw_form_counts_all b _ (found_in c.in_ok-answer-2.answer) (reported_found c.in_ok-answer-2.answer _ found)
 
 pub returns-in_default-clause-tree : goal.returns-in_default-clause-tree
 returns-in_default-clause-tree c = λ b h.
