@@ -43,7 +43,9 @@ impl Program {
     /// # Errors
     /// [`ParseErrors`] where the text derives no tree. The outer error is `Memory` alone.
     pub fn compile(alloc: Global, text: &str) -> Result<Result<Program, ParseErrors>, Refused>
-        ensures grammar { IfOk result (λ answer. MatchResult answer (λ p. TextDerives text.now (program_term p)) (λ _. (t : Term) → TextDerives text.now t → ⊥)) }
+        ensures grammar { IfOk result
+            (λ answer. MatchResult answer (λ p. TextDerives text.now (program_term p))
+            (λ _. (t : Term) → TextDerives text.now t → ⊥)) }
         ensures reads { IfOk result (λ answer. program_seen answer ≡ tree_of text.now) }
         ensures memory { IfErr result (λ e. e ≡ Memory) }
     {
@@ -92,8 +94,10 @@ impl Program {
     /// # Errors
     /// `Memory` alone.
     pub fn references(&self, alloc: Global) -> Result<References, Refused>
-        ensures variables { IfOk result (λ r. AreNames (variable_names r) (λ x. is_free x (program_term self.now))) }
-        ensures functions { IfOk result (λ r. AreNames (function_names r) (λ x. is_called x (program_term self.now))) }
+        ensures variables { IfOk result
+            (λ r. AreNames (variable_names r) (λ x. is_free x (program_term self.now))) }
+        ensures functions { IfOk result
+            (λ r. AreNames (function_names r) (λ x. is_called x (program_term self.now))) }
         ensures memory { IfErr result (λ e. e ≡ Memory) }
     {
         References::of(alloc, &self.expression)
@@ -110,7 +114,8 @@ impl Program {
     ) -> Result<Answer, Refused>
         ensures value { IfOk result (λ r. (book : Book) × IsBook book
             × HoldsForExtensions book (outcome_view r)
-            (λ b. meaning (F.library (functions_of context.now)) b (program_term self.now) (bindings_of context.now))) }
+            (λ b. meaning (F.library (functions_of context.now)) b
+            (program_term self.now) (bindings_of context.now))) }
         ensures memory { IfErr result (λ e. e ≡ Memory) }
     {
         let mut book = PatternBook::new(alloc);
@@ -129,7 +134,8 @@ impl Program {
     ) -> Result<Answer, Refused>
         ensures keeps { Extends (entries_of book.new) (entries_of book.old) }
         ensures value { IfOk result (λ r. HoldsForExtensions (entries_of book.new) (outcome_view r)
-            (λ b. meaning (F.library (functions_of context.now)) b (program_term self.now) (bindings_of context.now))) }
+            (λ b. meaning (F.library (functions_of context.now)) b
+            (program_term self.now) (bindings_of context.now))) }
         ensures memory { IfErr result (λ e. e ≡ Memory) }
     {
         run_code(alloc, self.code.as_slice(), context, book)

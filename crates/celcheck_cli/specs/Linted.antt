@@ -21,7 +21,8 @@ kind_text Depth = codes "depth"
 
 -- the line of a finding, with its line feed
 abbrev pub finding_line : Finding → List ℕ
-finding_line f = codes "#" ++ (f.pointer ++ (codes ": " ++ (kind_text f.kind ++ (codes ": " ++ (f.message ++ 10 ∷ [])))))
+finding_line f =
+    codes "#" ++ (f.pointer ++ (codes ": " ++ (kind_text f.kind ++ (codes ": " ++ (f.message ++ 10 ∷ [])))))
 
 -- 0 where nothing was found, else 1
 abbrev pub findings_status : List Finding → ℕ
@@ -36,7 +37,8 @@ module _ {S : Type 0} (reads : S → List ℕ → Option (List ℕ) → S → Ty
     pub all : (names : Naming) → map finding_view found ≡ findings names [] (view_of 65 schema)
 
   -- so it was, this status stands for the findings, and a line of each was written
-  pub record IsLinted (before : S) (path : List ℕ) (after : S) (status : ℕ) (Writes : List ℕ → Type 0) : Type 0 where
+  pub record IsLinted (before : S) (path : List ℕ) (after : S)
+      (status : ℕ) (Writes : List ℕ → Type 0) : Type 0 where
     pub found : List LintFinding
     pub are : AreFindings before path after found
     pub status_is : status ≡ findings_status (map finding_view found)

@@ -38,7 +38,8 @@ expressions_in (item d ds) = before (expression_in d) (expressions_in ds)
 
 -- the array `spec.validations`
 abbrev pub validation_items : Data → Option Items
-validation_items d = option_and_then as_array (option_and_then (get (codes "validations")) (get (codes "spec") d))
+validation_items d =
+    option_and_then as_array (option_and_then (get (codes "validations")) (get (codes "spec") d))
 
 -- the validations of a policy, none where it has another shape
 abbrev pub validations_in : Data → Option (List ExpressionData)
@@ -47,4 +48,8 @@ validations_in d = option_and_then expressions_in (validation_items d)
 -- ---- what the code's values stand for
 
 abbrev pub parts_view : Parts → ExpressionData
-parts_view p = record { expression = p.expression.now; message = option_map (λ s. s.now) p.message; message_expression = option_map (λ s. s.now) p.message_expression }
+parts_view p = record {
+  expression = p.expression.now;
+  message = option_map (λ s. s.now) p.message;
+  message_expression = option_map (λ s. s.now) p.message_expression;
+}

@@ -89,7 +89,8 @@ with_object d = record no_variables { object = Some d }
 
 module _ {S : Type 0} (reads : S → List ℕ → Option (List ℕ) → S → Type 0) where
   -- policy and object were read in order, nothing else was, and these are the results of the policy's validations
-  pub record AreResults (before : S) (policy object : List ℕ) (after : S) (results : List VapResult) : Type 0 where
+  pub record AreResults (before : S) (policy object : List ℕ)
+      (after : S) (results : List VapResult) : Type 0 where
     pub policy_read : Data
     pub object_read : Data
     pub between : S
@@ -100,7 +101,8 @@ module _ {S : Type 0} (reads : S → List ℕ → Option (List ℕ) → S → Ty
     pub judged : AreResultsOf (with_object object_read) validations results
 
   -- so they were, this status stands for the results, and a line of each was written
-  pub record IsReviewed (before : S) (policy object : List ℕ) (after : S) (status : ℕ) (Writes : List ℕ → Type 0) : Type 0 where
+  pub record IsReviewed (before : S) (policy object : List ℕ)
+      (after : S) (status : ℕ) (Writes : List ℕ → Type 0) : Type 0 where
     pub results : List VapResult
     pub found : AreResults before policy object after results
     pub status_is : status ≡ results_status (map result_view results)

@@ -3,7 +3,7 @@
 use Rattle.celcheck_cli.specs.declared.status.Stop.{Stop}
 use Rattle.celcheck_cli.specs.Words.{Paths}
 use Rattle.kube_cel.specs.Answers.{IsReportOf}
-use Rattle.kube_cel.specs.Raw.{raw_form}
+use Rattle.kube_cel.specs.Raw.{raw_accessors}
 use Rattle.kube_cel_walk.specs.declared.error.ValidationErrors.{ValidationErrors}
 use Rattle.kube_cel.specs.Starts.{defaulted_start}
 use Rattle.serde_json.specs.Data.{Data}
@@ -32,7 +32,8 @@ module _ {S : Type 0} (reads : S → List ℕ → Option (List ℕ) → S → Ty
   IsReadWhereNamed before (Some path) (Some value) after = IsRead before path value after
 
   -- the named files were read in order, nothing else was, and this is the answer to what they hold
-  pub record IsAnswered (before : S) (named : Paths) (after : S) (answered : Result (Unit {0}) ValidationErrors) : Type 0 where
+  pub record IsAnswered (before : S) (named : Paths) (after : S)
+      (answered : Result (Unit {0}) ValidationErrors) : Type 0 where
     pub schema : Data
     pub object : Data
     pub old : Option Data
@@ -41,7 +42,7 @@ module _ {S : Type 0} (reads : S → List ℕ → Option (List ℕ) → S → Ty
     pub schema_read : IsRead before named.schema schema with_schema
     pub object_read : IsRead with_schema named.object object with_object
     pub old_read : IsReadWhereNamed with_object named.old old after
-    pub reported : IsReportOf raw_form (defaulted_start schema object old None) answered
+    pub reported : IsReportOf raw_accessors (defaulted_start schema object old None) answered
 
 -- ---- for private clauses
 

@@ -29,12 +29,15 @@ command_of_one name word =
 
 abbrev pub command_of_two : List ℕ → List ℕ → List ℕ → Option CommandData
 command_of_two name first second =
-    if bytes_eq name (codes "check") then Some (check (record { schema = first; object = second; old = None })) else
-    (if bytes_eq name (codes "vap") then Some (vap first second) else None)
+    if bytes_eq name (codes "check")
+    then Some (check (record { schema = first; object = second; old = None }))
+    else (if bytes_eq name (codes "vap") then Some (vap first second) else None)
 
 abbrev pub command_of_three : List ℕ → List ℕ → List ℕ → List ℕ → Option CommandData
 command_of_three name first second third =
-    if bytes_eq name (codes "check") then Some (check (record { schema = first; object = second; old = Some third })) else None
+    if bytes_eq name (codes "check")
+    then Some (check (record { schema = first; object = second; old = Some third }))
+    else None
 
 -- what `check SCHEMA OBJECT [OLD]`, `eval TEXT`, `vap POLICY OBJECT` and `lint SCHEMA` ask for; other words ask for nothing
 unfoldable pub command_of : List (List ℕ) → Option CommandData

@@ -2,7 +2,7 @@
 ghost use Rattle.celcheck_cli.specs.Runs.{IfErrors, IsAnswered};
 ghost use Rattle.celcheck_cli.specs.Words.{named_view};
 ghost use Rattle.kube_cel.specs.Answers.{IsReportOf};
-ghost use Rattle.kube_cel.specs.Raw.{raw_form};
+ghost use Rattle.kube_cel.specs.Raw.{raw_accessors};
 ghost use Rattle.kube_cel.specs.Starts.{call_start};
 ghost use Rattle.kube_cel_walk.specs.declared.error.ValidationErrors.{ValidationErrors};
 ghost use Rattle.kube_cel_walk.specs.ErrorLists.{errors_in};
@@ -58,7 +58,8 @@ fn validation_of(
     object: &Value,
     old: Option<&Value>,
 ) -> Result<Result<(), ValidationErrors>, Refused>
-    ensures answer { IfOk result (IsReportOf raw_form (call_start schema.now object.now old.entry None)) }
+    ensures answer { IfOk result
+        (IsReportOf raw_accessors (call_start schema.now object.now old.entry None)) }
 {
     let compiled = compile_schema(alloc, schema)?;
     validate_compiled(alloc, &compiled, object, old)

@@ -32,7 +32,8 @@ pub(crate) fn run_eval<O: Write, E: Write>(
     out: &mut O,
     err: &mut E,
 ) -> u8
-    ensures evaluated { result ≤ 1 → IsEvaluated text.now result (Appends (O.contents out.old) (O.contents out.new)) }
+    ensures evaluated { result ≤ 1
+        → IsEvaluated text.now result (Appends (O.contents out.old) (O.contents out.new)) }
     ensures statuses { result ≤ 2 }
 {
     match found_of(alloc, text) {
@@ -68,7 +69,8 @@ fn found_value(alloc: Global, value: &Value) -> Result<Found, Refused>
 
 /// Writes what an expression came to.
 fn report_found<O: Write>(found: Found, out: &mut O) -> u8
-    ensures reported { result ≤ 1 → (result ≡ found_status found) × Appends (O.contents out.old) (O.contents out.new) (found_line found ++ 10 ∷ []) }
+    ensures reported { result ≤ 1 → (result ≡ found_status found)
+        × Appends (O.contents out.old) (O.contents out.new) (found_line found ++ 10 ∷ []) }
     ensures statuses { result ≤ 2 }
 {
     match found {

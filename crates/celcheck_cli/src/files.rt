@@ -12,7 +12,7 @@ use std::io;
 /// The files that a command names.
 pub trait Sources {
     // That a read at a path, from the first state on, may give this text, or none where it can't be read, and leave the second
-    // state. Of real files nothing is said.
+    // state. Of real files nothing is promised.
     ghost reads: { Self → List ℕ → Option (List ℕ) → Self → Type 0 } = { λ _ _ _ _. ⊤ };
 
     /// The text of a file, or why it can't be read.
@@ -26,7 +26,8 @@ pub(crate) fn read_where_named<S: Sources>(
     path: Option<&str>,
     files: &mut S,
 ) -> Result<Option<Value>, Stop>
-    ensures { IfOk result (λ value. IsReadWhereNamed S.reads files.old (option_map (λ s. s.now) path.entry) (option_map view value) files.new) }
+    ensures { IfOk result (λ value. IsReadWhereNamed S.reads files.old
+        (option_map (λ s. s.now) path.entry) (option_map view value) files.new) }
 {
     match path {
         Some(path) => Ok(Some(read_json(alloc, path, files)?)),

@@ -48,18 +48,24 @@ pub fn run<S: Sources, O: Write, E: Write>(
     out: &mut O,
     err: &mut E,
 ) -> u8
-    ensures passed { IfCheck (command_of (map string_bytes words.now)) (λ named. result ≡ 0 → IsAnswered S.reads files.old named files.new (Ok tt)) }
-    ensures silent { IfCheck (command_of (map string_bytes words.now)) (λ _. result ≡ 0 → O.contents out.new ≡ O.contents out.old) }
-    ensures failed { IfCheck (command_of (map string_bytes words.now)) (λ named. result ≡ 1 → (errors : ValidationErrors)
+    ensures passed { IfCheck (command_of (map string_bytes words.now))
+        (λ named. result ≡ 0 → IsAnswered S.reads files.old named files.new (Ok tt)) }
+    ensures silent { IfCheck (command_of (map string_bytes words.now))
+        (λ _. result ≡ 0 → O.contents out.new ≡ O.contents out.old) }
+    ensures failed { IfCheck (command_of (map string_bytes words.now))
+        (λ named. result ≡ 1 → (errors : ValidationErrors)
         × IsAnswered S.reads files.old named files.new (Err errors)
         × Appends (O.contents out.old) (O.contents out.new) (errors_text (errors_in errors) ++ 10 ∷ [])) }
     ensures evaluated { IfEval (command_of (map string_bytes words.now)) (λ text. result ≤ 1
         → IsEvaluated text result (Appends (O.contents out.old) (O.contents out.new))) }
     ensures reviewed { IfVap (command_of (map string_bytes words.now)) (λ policy object. result ≤ 1
-        → IsReviewed S.reads files.old policy object files.new result (Appends (O.contents out.old) (O.contents out.new))) }
+        → IsReviewed S.reads files.old policy object files.new result
+        (Appends (O.contents out.old) (O.contents out.new))) }
     ensures linted { IfLint (command_of (map string_bytes words.now)) (λ schema. result ≤ 1
-        → IsLinted S.reads files.old schema files.new result (Appends (O.contents out.old) (O.contents out.new))) }
-    ensures unasked { command_of (map string_bytes words.now) ≡ None → (result ≡ 2) × (O.contents out.new ≡ O.contents out.old) }
+        → IsLinted S.reads files.old schema files.new result
+        (Appends (O.contents out.old) (O.contents out.new))) }
+    ensures unasked { command_of (map string_bytes words.now) ≡ None
+        → (result ≡ 2) × (O.contents out.new ≡ O.contents out.old) }
     ensures statuses { result ≤ 2 }
 {
     match command_in(words) {
@@ -76,17 +82,22 @@ fn dispatch<S: Sources, O: Write, E: Write>(
     out: &mut O,
     err: &mut E,
 ) -> u8
-    ensures passed { IfCheck (Some (command_view command.entry)) (λ named. result ≡ 0 → IsAnswered S.reads files.old named files.new (Ok tt)) }
-    ensures silent { IfCheck (Some (command_view command.entry)) (λ _. result ≡ 0 → O.contents out.new ≡ O.contents out.old) }
-    ensures failed { IfCheck (Some (command_view command.entry)) (λ named. result ≡ 1 → (errors : ValidationErrors)
+    ensures passed { IfCheck (Some (command_view command.entry))
+        (λ named. result ≡ 0 → IsAnswered S.reads files.old named files.new (Ok tt)) }
+    ensures silent { IfCheck (Some (command_view command.entry))
+        (λ _. result ≡ 0 → O.contents out.new ≡ O.contents out.old) }
+    ensures failed { IfCheck (Some (command_view command.entry))
+        (λ named. result ≡ 1 → (errors : ValidationErrors)
         × IsAnswered S.reads files.old named files.new (Err errors)
         × Appends (O.contents out.old) (O.contents out.new) (errors_text (errors_in errors) ++ 10 ∷ [])) }
     ensures evaluated { IfEval (Some (command_view command.entry)) (λ text. result ≤ 1
         → IsEvaluated text result (Appends (O.contents out.old) (O.contents out.new))) }
     ensures reviewed { IfVap (Some (command_view command.entry)) (λ policy object. result ≤ 1
-        → IsReviewed S.reads files.old policy object files.new result (Appends (O.contents out.old) (O.contents out.new))) }
+        → IsReviewed S.reads files.old policy object files.new result
+        (Appends (O.contents out.old) (O.contents out.new))) }
     ensures linted { IfLint (Some (command_view command.entry)) (λ schema. result ≤ 1
-        → IsLinted S.reads files.old schema files.new result (Appends (O.contents out.old) (O.contents out.new))) }
+        → IsLinted S.reads files.old schema files.new result
+        (Appends (O.contents out.old) (O.contents out.new))) }
     ensures statuses { result ≤ 2 }
 {
     match command {

@@ -20,7 +20,9 @@ pub(crate) fn run_lint<S: Sources, O: Write, E: Write>(
     out: &mut O,
     err: &mut E,
 ) -> u8
-    ensures linted { result ≤ 1 → IsLinted S.reads files.old schema.now files.new result (Appends (O.contents out.old) (O.contents out.new)) }
+    ensures linted { result ≤ 1
+        → IsLinted S.reads files.old schema.now files.new result
+        (Appends (O.contents out.old) (O.contents out.new)) }
     ensures statuses { result ≤ 2 }
 {
     match findings_of(alloc, schema, files) {
@@ -45,7 +47,8 @@ fn findings_of<S: Sources>(
 /// Writes a line for each finding, and answers the status that stands for them.
 fn report_findings<O: Write>(findings: &[LintFinding], out: &mut O) -> u8
     ensures reported { result ≤ 1 → (result ≡ findings_status (map finding_view findings.now))
-        × Appends (O.contents out.old) (O.contents out.new) (flat_map finding_line (map finding_view findings.now)) }
+        × Appends (O.contents out.old) (O.contents out.new)
+        (flat_map finding_line (map finding_view findings.now)) }
     ensures statuses { result ≤ 2 }
 {
     status_reported(status_of(findings), write_findings(findings, out))
@@ -64,7 +67,8 @@ fn status_of(findings: &[LintFinding]) -> u8
 
 /// Writes a line for each finding. The first write that fails ends it.
 fn write_findings<O: Write>(findings: &[LintFinding], out: &mut O) -> io::Result<()>
-    ensures { OnOk result (Appends (O.contents out.old) (O.contents out.new) (flat_map finding_line (map finding_view findings.now))) }
+    ensures { OnOk result (Appends (O.contents out.old) (O.contents out.new)
+        (flat_map finding_line (map finding_view findings.now))) }
 {
     for finding in findings {
         write_finding(finding, out)?;
@@ -74,7 +78,8 @@ fn write_findings<O: Write>(findings: &[LintFinding], out: &mut O) -> io::Result
 
 /// Writes the line of a finding.
 fn write_finding<O: Write>(finding: &LintFinding, out: &mut O) -> io::Result<()>
-    ensures { OnOk result (Appends (O.contents out.old) (O.contents out.new) (finding_line (finding_view finding.now))) }
+    ensures { OnOk result (Appends (O.contents out.old)
+        (O.contents out.new) (finding_line (finding_view finding.now))) }
 {
     let kind = kind_text(finding.kind);
     writeln!(out, "#{}: {kind}: {}", finding.pointer, finding.message)

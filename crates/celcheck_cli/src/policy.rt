@@ -23,7 +23,8 @@ pub(crate) fn validations_of(
     alloc: Global,
     policy: &Value,
 ) -> Result<Option<Vec<VapExpression>>, Refused>
-    ensures { IfOk result (λ o. option_map (λ v. map expression_view v.items) o ≡ validations_in (view policy.now)) }
+    ensures { IfOk result (λ o. option_map (λ v. map expression_view v.items) o
+        ≡ validations_in (view policy.now)) }
 {
     match validation_values(policy) {
         Some(values) => expressions_of(alloc, values),
@@ -41,7 +42,8 @@ fn validation_values(policy: &Value) -> Option<&[Value]>
 
 /// The validations that these values are, none where one of them is none.
 fn expressions_of(alloc: Global, values: &[Value]) -> Result<Option<Vec<VapExpression>>, Refused>
-    ensures { IfOk result (λ o. option_map (λ v. map expression_view v.items) o ≡ expressions_in (items_view values.now)) }
+    ensures { IfOk result (λ o. option_map (λ v. map expression_view v.items) o
+        ≡ expressions_in (items_view values.now)) }
 {
     let mut expressions = Vec::with_capacity(alloc, values.len())?;
     for value in values {

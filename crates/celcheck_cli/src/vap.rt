@@ -22,7 +22,9 @@ pub(crate) fn run_vap<S: Sources, O: Write, E: Write>(
     out: &mut O,
     err: &mut E,
 ) -> u8
-    ensures reviewed { result ≤ 1 → IsReviewed S.reads files.old policy.now object.now files.new result (Appends (O.contents out.old) (O.contents out.new)) }
+    ensures reviewed { result ≤ 1
+        → IsReviewed S.reads files.old policy.now object.now files.new result
+        (Appends (O.contents out.old) (O.contents out.new)) }
     ensures statuses { result ≤ 2 }
 {
     match results_of(alloc, policy, object, files) {
@@ -54,7 +56,8 @@ fn results_of<S: Sources>(
 /// Writes a line for each result, and answers the status that stands for them.
 fn report_results<O: Write>(results: &[VapResult], out: &mut O) -> u8
     ensures reported { result ≤ 1 → (result ≡ results_status (map result_view results.now))
-        × Appends (O.contents out.old) (O.contents out.new) (flat_map result_line (map result_view results.now)) }
+        × Appends (O.contents out.old) (O.contents out.new)
+        (flat_map result_line (map result_view results.now)) }
     ensures statuses { result ≤ 2 }
 {
     status_reported(status_of(results), write_results(results, out))
@@ -75,7 +78,8 @@ fn status_of(results: &[VapResult]) -> u8
 
 /// Writes a line for each result. The first write that fails ends it.
 fn write_results<O: Write>(results: &[VapResult], out: &mut O) -> io::Result<()>
-    ensures { OnOk result (Appends (O.contents out.old) (O.contents out.new) (flat_map result_line (map result_view results.now))) }
+    ensures { OnOk result (Appends (O.contents out.old) (O.contents out.new)
+        (flat_map result_line (map result_view results.now))) }
 {
     for result in results {
         write_result(result, out)?;
@@ -85,7 +89,8 @@ fn write_results<O: Write>(results: &[VapResult], out: &mut O) -> io::Result<()>
 
 /// Writes the line of a result.
 fn write_result<O: Write>(reported: &VapResult, out: &mut O) -> io::Result<()>
-    ensures { OnOk result (Appends (O.contents out.old) (O.contents out.new) (result_line (result_view reported.now))) }
+    ensures { OnOk result (Appends (O.contents out.old)
+        (O.contents out.new) (result_line (result_view reported.now))) }
 {
     match &reported.message {
         None => writeln!(out, "pass {}", reported.expression),

@@ -1,4 +1,4 @@
-//! Rows of what is said of a rule without an object: names that aren't there, costs, and both.
+//! Rows of what is found of a rule without an object: names that aren't there, costs, and both.
 
 use crate::schemas::compiled_given;
 use crate::types::{put_and_read, scope_of};

@@ -23,7 +23,7 @@ fn fill(field: &mut String, value: &Value, key: &str) -> Result<(), AllocError> 
     }
 }
 
-/// A copy of what JSON tells of a whole object. What it leaves out is as by default.
+/// A copy of the root context that JSON gives. What the JSON leaves out is as by default.
 fn root_of(alloc: Global, reported: &Value) -> Result<RootContext, Stop> {
     let mut root = RootContext::default(alloc);
     fill(&mut root.api_version, reported, "apiVersion")?;
@@ -32,7 +32,7 @@ fn root_of(alloc: Global, reported: &Value) -> Result<RootContext, Stop> {
     Ok(root.try_clone()?)
 }
 
-/// What a row told last of the whole object.
+/// The root context that a row gave last.
 fn root_given(alloc: Global, given: &[Field]) -> Result<Option<RootContext>, Stop> {
     match rows::json(alloc, given, "root context")? {
         Some(reported) => Ok(Some(root_of(alloc, &reported)?)),

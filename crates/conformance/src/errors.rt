@@ -5,7 +5,7 @@ use conformance_rows::texts::{push_line, push_member};
 use kube_cel::{ErrorKind, ValidationError, ValidationErrors};
 use std::alloc::Global;
 
-/// What is said of an object.
+/// What validation answers of an object.
 pub(crate) type Verdict = Result<(), ValidationErrors>;
 
 /// Writes an error behind others, as a JSON object on a line.
@@ -66,7 +66,7 @@ fn change(alloc: Global, error: &mut ValidationError, what: &str) -> Result<(), 
 }
 
 /// Whether `==` distinguishes a list of errors, and its last error, from a copy that is changed in one field, or has one error less.
-fn tells_apart(alloc: Global, errors: &ValidationErrors, what: &str) -> Result<bool, Stop> {
+fn distinguishes(alloc: Global, errors: &ValidationErrors, what: &str) -> Result<bool, Stop> {
     let mut copies = errors.try_clone()?.into_vec();
     if what == "count" {
         let _ = copies.pop();
@@ -81,10 +81,10 @@ fn tells_apart(alloc: Global, errors: &ValidationErrors, what: &str) -> Result<b
     Ok(*errors != ValidationErrors::from(copies) && !is_last_equal)
 }
 
-/// Writes by which changes `==` tells a list of errors, and its last error, from a copy.
+/// Writes the changes by which `==` distinguishes a list of errors, and its last error, from a copy.
 fn put_changes(alloc: Global, errors: &ValidationErrors, out: &mut String) -> Result<(), Stop> {
     for &what in CHANGES.iter() {
-        if tells_apart(alloc, errors, what)? {
+        if distinguishes(alloc, errors, what)? {
             out.push_str(if out.is_empty() { "" } else { ", " })?;
             out.push_str(what)?;
         }

@@ -21,9 +21,8 @@ mod types;
 mod verdicts;
 
 use conformance_rows::run_files;
-use std::env;
-use std::io;
 use std::process::ExitCode;
+use std::{env, io};
 use subject::Rows;
 
 /// Whether the one word asks for a measured run.

@@ -35,8 +35,8 @@ fn macro_name(kind: MacroKind) -> &'static str {
     }
 }
 
-/// What the line of a node says: what it is, and the name that it has. That of a literal says more.
-fn said(expr: &Expr) -> (&str, &str) {
+/// The words of the line of a node: what it is, and the name that it has. The line of a literal has more.
+fn words_of(expr: &Expr) -> (&str, &str) {
     match expr {
         Expr::Literal(_) => ("", ""),
         Expr::Ident(name) => ("name ", name.as_str()),
@@ -85,7 +85,7 @@ fn write_line(expr: &Expr, depth: usize, out: &mut String) -> Result<(), AllocEr
             write_literal(value, out)
         }
         _ => {
-            let (what, name) = said(expr);
+            let (what, name) = words_of(expr);
             push_indented(out, depth, &[what, name])
         }
     }

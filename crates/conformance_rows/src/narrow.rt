@@ -6,7 +6,7 @@ use std::io;
 /// A number that no count of reads or writes comes to.
 pub const MANY: u64 = 1_000_000;
 
-/// A writer that takes so many writes, and refuses each further one.
+/// A writer that takes a number of writes, and refuses each further one.
 #[derive(Drop)]
 pub struct Narrow {
     room: u64,
@@ -14,7 +14,7 @@ pub struct Narrow {
 }
 
 impl Narrow {
-    /// A writer that takes so many writes.
+    /// A writer that takes this number of writes.
     pub fn new(alloc: Global, room: u64) -> Narrow {
         Narrow {
             room,

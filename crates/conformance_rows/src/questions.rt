@@ -84,7 +84,7 @@ pub fn question(key: &str, of: &str, other: &str) -> Option<&'static str> {
     None
 }
 
-/// What is said where a question has an error in place of a value, by the error's message.
+/// The answer to a question that has an error for a value, by the error's message.
 pub fn word_for<'m>(key: &str, message: &'m str) -> &'m str {
     match (key, message) {
         ("sum" | "difference", "quantity overflow" | "integer overflow") => "overflow",

@@ -37,13 +37,13 @@ impl Ran {
     ) -> Result<(), Stop> {
         found.other = String::from_utf8_lossy(alloc, written)?;
         let written = found.other.as_str();
-        let said = if text.is_empty() || text.ends_with('\n') {
+        let compared = if text.is_empty() || text.ends_with('\n') {
             Some(written)
         } else {
             written.strip_suffix("\n")
         };
-        match said {
-            Some(said) if other.is_empty() || !self.is_alone => found.text.push_str(said)?,
+        match compared {
+            Some(compared) if other.is_empty() || !self.is_alone => found.text.push_str(compared)?,
             _ => {
                 found.text.push_str(written)?;
                 found.text.push_str("with no line feed, or beside this: ")?;

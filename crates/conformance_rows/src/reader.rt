@@ -53,8 +53,8 @@ fn field_line(line: &str) -> Line<'_> {
     }
 }
 
-/// What a line says.
-fn said(line: &str) -> Line<'_> {
+/// What a line is.
+fn line_of(line: &str) -> Line<'_> {
     if line.is_empty() || line.starts_with('#') {
         return Line::Nothing;
     }
@@ -121,7 +121,7 @@ impl Reader {
             return self.go_on(inner);
         }
         self.in_block = false;
-        match said(text) {
+        match line_of(text) {
             Line::Nothing => Ok(None),
             Line::Row(name) if self.has_row(name) => Ok(Some("another row has this name")),
             Line::Row(name) => self.put(alloc, "==", String::from_str(alloc, name)?, line),

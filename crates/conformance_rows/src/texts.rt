@@ -139,7 +139,7 @@ pub fn push_refused(text: &mut String, before: &str, refused: Refused) -> Result
     })
 }
 
-/// Begins a line so many levels further in, two blanks each.
+/// Begins a line at a depth, with two blanks for each level.
 pub fn push_indented(text: &mut String, depth: usize, parts: &[&str]) -> Result<(), AllocError> {
     push_line(text, "")?;
     push_times(text, "  ", depth)?;

@@ -2,7 +2,7 @@
 #![tactic(auto)]
 
 ghost use Rattle.kube_cel.specs.Answers.{IsReportOf};
-ghost use Rattle.kube_cel.specs.Raw.{raw_form};
+ghost use Rattle.kube_cel.specs.Raw.{raw_accessors};
 ghost use Rattle.kube_cel.specs.Starts.{call_start};
 ghost use Rattle.kube_cel_walk.specs.ErrorLists.{errors_in};
 ghost use Rattle.kube_cel_walk.specs.Texts.{errors_text};
@@ -16,9 +16,10 @@ use std::io;
 
 /// Why an object is denied; `None` where it is admitted. `Refused` is neither: there was no memory.
 fn denial(alloc: Global, schema: &Value, object: &Value) -> Result<Option<String>, Refused>
-    ensures admitted { result ≡ Ok None → IsReportOf raw_form (call_start schema.now object.now None None) (Ok tt) }
+    ensures admitted { result ≡ Ok None
+        → IsReportOf raw_accessors (call_start schema.now object.now None None) (Ok tt) }
     ensures denied { IfOk result (λ why. IfSome why (λ text. (errors : ValidationErrors)
-        × IsReportOf raw_form (call_start schema.now object.now None None) (Err errors)
+        × IsReportOf raw_accessors (call_start schema.now object.now None None) (Err errors)
         × (string_bytes text ≡ errors_text (errors_in errors)))) }
 {
     match validate(alloc, schema, object, None)? {

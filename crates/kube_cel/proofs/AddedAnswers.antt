@@ -2,10 +2,10 @@
 use Rattle.cel_patterns.specs.Book.{Book}
 use Rattle.kube_cel.proofs.AddedKept.{same_at}
 use Rattle.kube_cel.proofs.AddedParts.{added, at_key}
-use Rattle.kube_cel.proofs.Marks.{Marked, marked_shape, as_is, as_was, bound_alike, filled_alike, leads_is, leads_left, leads_was, places_are, places_were}
+use Rattle.kube_cel.proofs.Marks.{Marked, marked_steps, as_is, as_was, bound_alike, filled_alike, leads_is, leads_left, leads_was, places_are, places_were}
 use Rattle.kube_cel.specs.Added.{NodeStep, to_property, to_items, to_additional, to_branch, all_items, left_behind, with_items, with_rules}
 use Rattle.kube_cel.specs.AddedVerdicts.{AddsAlone, added_at, added_rules, added_verdicts, found_at, if_there}
-use Rattle.kube_cel.specs.Raw.{raw_form}
+use Rattle.kube_cel.specs.Raw.{raw_accessors}
 use Rattle.kube_cel.specs.Starts.{with_schema_defaults, defaulted_start}
 use Rattle.kube_cel_walk.specs.Errors.{ErrorData}
 use Rattle.kube_cel_walk.specs.RuleErrors.{too_deep}
@@ -13,7 +13,7 @@ use Rattle.kube_schema_rules.proofs.Candidates.{visit_places}
 use Rattle.kube_schema_rules.proofs.Found.{flat_map_same}
 use Rattle.kube_schema_rules.proofs.Raw.{raw_counts_all}
 use Rattle.kube_schema_rules.specs.declared.branches.BranchKind.TheVariants.{AllOf, OneOf, AnyOf}
-use Rattle.kube_schema_rules.specs.Raw.{raw_shape}
+use Rattle.kube_schema_rules.specs.Raw.{raw_steps}
 use Rattle.kube_schema_rules.specs.Visit.{Root, Visit, candidates, goes, root_visit}
 use Rattle.kube_schema_rules.specs.Step.{Step}
 use Rattle.kube_schema_rules.specs.Walk.{answers, if_some, leads, places}
@@ -65,26 +65,26 @@ rules_stay more t ts d = ap (λ o. unwrap_or (option_and_then as_array o) no_ite
 -- ---- one place
 
 module _ (b : Book) (more : Items) where
-  value_alike : (r : Option (List NodeStep)) (s : Visit Data) (value : Data) → bound_at raw_form (with_node_of (added more r) s) value ≡ bound_at raw_form s value
-  unfolding raw_form
+  value_alike : (r : Option (List NodeStep)) (s : Visit Data) (value : Data) → bound_at raw_accessors (with_node_of (added more r) s) value ≡ bound_at raw_accessors s value
+  unfolding raw_accessors
   value_alike r s value = bound_alike more (levels s.depth) r s.node value
 
-  old_alike : (r : Option (List NodeStep)) (s : Visit Data) (old : Option Data) → option_map (bound_at raw_form (with_node_of (added more r) s)) old ≡ option_map (bound_at raw_form s) old
+  old_alike : (r : Option (List NodeStep)) (s : Visit Data) (old : Option Data) → option_map (bound_at raw_accessors (with_node_of (added more r) s)) old ≡ option_map (bound_at raw_accessors s) old
   old_alike r s None = refl
   old_alike r s (Some old) = ap Some (value_alike r s old)
 
-  bindings_alike : (r : Option (List NodeStep)) (s : Visit Data) → place_bindings raw_form (with_node_of (added more r) s) ≡ place_bindings raw_form s
+  bindings_alike : (r : Option (List NodeStep)) (s : Visit Data) → place_bindings raw_accessors (with_node_of (added more r) s) ≡ place_bindings raw_accessors s
   unfolding place_bindings
   bindings_alike r s = λ i. with_root s.root (with_old (old_alike r s s.old i) ((codes "self", value_alike r s s.value i) ∷ []))
 
   -- what a rule reports at a visit
   reported : Visit Data → Result Compiled Malformed → List ErrorData
-  reported s q = list_of_option (verdict b (place_bindings raw_form s) s.old s.path q)
+  reported s q = list_of_option (verdict b (place_bindings raw_accessors s) s.old s.path q)
 
   -- the same bindings, whatever the rules
   same_reported : (r : Option (List NodeStep)) (s : Visit Data)
-      → rule_verdicts raw_form b (place_bindings raw_form (with_node_of (added more r) s)) (with_node_of (added more r) s) ≡ flat_map (reported s) (compiled_rules (rule_items (added more r s.node)))
-  unfolding rule_verdicts raw_form reported
+      → rule_verdicts raw_accessors b (place_bindings raw_accessors (with_node_of (added more r) s)) (with_node_of (added more r) s) ≡ flat_map (reported s) (compiled_rules (rule_items (added more r s.node)))
+  unfolding rule_verdicts raw_accessors reported
   same_reported r s = ap (λ e. flat_map (λ q. list_of_option (verdict b e s.old s.path q)) (compiled_rules (rule_items (added more r s.node)))) (bindings_alike r s)
 
   -- the rules of a node, and those behind them where the node is the one that got them
@@ -95,8 +95,8 @@ module _ (b : Book) (more : Items) where
   all_reported (Some (t ∷ ts)) s = ap (λ ds. flat_map (reported s) (compiled_rules ds)) (rules_stay more t ts s.node) ∙ sym (append-nil (flat_map (reported s) (compiled_rules (rule_items s.node))))
 
   rules_reported : (r : Option (List NodeStep)) (s : Visit Data)
-      → rule_verdicts raw_form b (place_bindings raw_form (with_node_of (added more r) s)) (with_node_of (added more r) s)
-      ≡ rule_verdicts raw_form b (place_bindings raw_form s) s ++ if_there r (flat_map (reported s) (added_rules more s.node))
+      → rule_verdicts raw_accessors b (place_bindings raw_accessors (with_node_of (added more r) s)) (with_node_of (added more r) s)
+      ≡ rule_verdicts raw_accessors b (place_bindings raw_accessors s) s ++ if_there r (flat_map (reported s) (added_rules more s.node))
   rules_reported r s = same_reported r s ∙ all_reported r s ∙ ap (λ es. es ++ if_there r (flat_map (reported s) (added_rules more s.node))) (sym (same_reported None s))
 
   nothing_there : {E : Type 0} (r : Option (List NodeStep)) → if_there {E = E} r [] ≡ []
@@ -109,35 +109,35 @@ module _ (b : Book) (more : Items) where
   unless_deep true r deep after before here e = sym (append-nil deep) ∙ ap (λ es. deep ++ es) (sym (nothing_there r))
   unless_deep false r deep after before here e = e
 
-  verdicts_added : (r : Option (List NodeStep)) (s : Visit Data) → verdicts raw_form b (with_node_of (added more r) s) ≡ verdicts raw_form b s ++ if_there r (added_verdicts b more s)
+  verdicts_added : (r : Option (List NodeStep)) (s : Visit Data) → verdicts raw_accessors b (with_node_of (added more r) s) ≡ verdicts raw_accessors b s ++ if_there r (added_verdicts b more s)
   unfolding verdicts added_verdicts reported
   verdicts_added r s =
-      unless_deep (s.depth == 65) r (too_deep s.path ∷ []) _ (rule_verdicts raw_form b (place_bindings raw_form s) s) (flat_map (reported s) (added_rules more s.node)) (rules_reported r s)
+      unless_deep (s.depth == 65) r (too_deep s.path ∷ []) _ (rule_verdicts raw_accessors b (place_bindings raw_accessors s) s) (flat_map (reported s) (added_rules more s.node)) (rules_reported r s)
 
   reached_added : (o : Option (Visit Marked)) (r : Option (List NodeStep)) → ((u : Visit Marked) → o ≡ Some u → u.node.1 ≡ r)
-      → if_some (verdicts raw_form b) (option_map (with_node_of (as_is more)) o) ≡ if_some (verdicts raw_form b) (option_map (with_node_of as_was) o) ++ if_there r (if_some (added_verdicts b more) (option_map (with_node_of as_was) o))
+      → if_some (verdicts raw_accessors b) (option_map (with_node_of (as_is more)) o) ≡ if_some (verdicts raw_accessors b) (option_map (with_node_of as_was) o) ++ if_there r (if_some (added_verdicts b more) (option_map (with_node_of as_was) o))
   reached_added None r e = sym (nothing_there r)
-  reached_added (Some u) r e = verdicts_added u.node.1 (with_node_of as_was u) ∙ ap (λ r. verdicts raw_form b (with_node_of as_was u) ++ if_there r (added_verdicts b more (with_node_of as_was u))) (e u refl)
+  reached_added (Some u) r e = verdicts_added u.node.1 (with_node_of as_was u) ∙ ap (λ r. verdicts raw_accessors b (with_node_of as_was u) ++ if_there r (added_verdicts b more (with_node_of as_was u))) (e u refl)
 
   -- ---- all places, where a walk begins at a marked node
 
   place_added : (node : List NodeStep) (m : Visit Marked) → m.node.1 ≡ Some node → (p : List Step)
-      → if_some (verdicts raw_form b) (leads (goes raw_shape) p (with_node_of (as_is more) m)) ≡ found_at b (with_node_of as_was m) p ++ added_at b more node (with_node_of as_was m) p
+      → if_some (verdicts raw_accessors b) (leads (goes raw_steps) p (with_node_of (as_is more) m)) ≡ found_at b (with_node_of as_was m) p ++ added_at b more node (with_node_of as_was m) p
   unfolding found_at added_at
   place_added node m starts p =
-      ap (if_some (verdicts raw_form b)) (sym (leads_is more p m))
-      ∙ reached_added (leads (goes marked_shape) p m) (left_behind p (Some node)) (λ u e. leads_left p m u e ∙ ap (left_behind p) starts)
-      ∙ ap (λ o. if_some (verdicts raw_form b) o ++ if_there (left_behind p (Some node)) (if_some (added_verdicts b more) o)) (leads_was p m)
+      ap (if_some (verdicts raw_accessors b)) (sym (leads_is more p m))
+      ∙ reached_added (leads (goes marked_steps) p m) (left_behind p (Some node)) (λ u e. leads_left p m u e ∙ ap (left_behind p) starts)
+      ∙ ap (λ o. if_some (verdicts raw_accessors b) o ++ if_there (left_behind p (Some node)) (if_some (added_verdicts b more) o)) (leads_was p m)
 
   answer_added : (node : List NodeStep) (m : Visit Marked) → m.node.1 ≡ Some node
-      → AddsAlone b more node (with_node_of as_was m) (answer raw_form b 65 (with_node_of as_was m)) (answer raw_form b 65 (with_node_of (as_is more) m))
-  unfolding answer answers raw_form found_at
+      → AddsAlone b more node (with_node_of as_was m) (answer raw_accessors b 65 (with_node_of as_was m)) (answer raw_accessors b 65 (with_node_of (as_is more) m))
+  unfolding answer answers raw_accessors found_at
   answer_added node m starts = record {
-    all_places = places (goes raw_shape) (candidates raw_shape) 65 (with_node_of as_was m);
-    are_all = visit_places raw_shape raw_counts_all 65 (with_node_of as_was m);
+    all_places = places (goes raw_steps) (candidates raw_steps) 65 (with_node_of as_was m);
+    are_all = visit_places raw_steps raw_counts_all 65 (with_node_of as_was m);
     before_is = refl;
-    after_is = ap (flat_map (λ p. if_some (verdicts raw_form b) (leads (goes raw_shape) p (with_node_of (as_is more) m)))) (sym (places_are more 65 m) ∙ places_were 65 m)
-        ∙ flat_map_same _ (λ p. found_at b (with_node_of as_was m) p ++ added_at b more node (with_node_of as_was m) p) (place_added node m starts) (places (goes raw_shape) (candidates raw_shape) 65 (with_node_of as_was m));
+    after_is = ap (flat_map (λ p. if_some (verdicts raw_accessors b) (leads (goes raw_steps) p (with_node_of (as_is more) m)))) (sym (places_are more 65 m) ∙ places_were 65 m)
+        ∙ flat_map_same _ (λ p. found_at b (with_node_of as_was m) p ++ added_at b more node (with_node_of as_was m) p) (place_added node m starts) (places (goes raw_steps) (candidates raw_steps) 65 (with_node_of as_was m));
   }
 
 -- ---- from the root on
@@ -147,9 +147,9 @@ old_defaults more node schema None = refl
 old_defaults more node schema (Some old) = ap Some (filled_alike more 65 (Some node) schema old)
 
 pub adds_alone : (b : Book) (schema value : Data) (old : Option Data) (root : Option Root) (more : Items) (node : List NodeStep)
-    → AddsAlone b more node (defaulted_start schema value old root) (answer raw_form b 65 (defaulted_start schema value old root)) (answer raw_form b 65 (defaulted_start (with_rules more node schema) value old root))
+    → AddsAlone b more node (defaulted_start schema value old root) (answer raw_accessors b 65 (defaulted_start schema value old root)) (answer raw_accessors b 65 (defaulted_start (with_rules more node schema) value old root))
 adds_alone b schema value old root more node =
     let begins : defaulted_start (with_rules more node schema) value old root ≡ root_visit (with_rules more node schema) (with_schema_defaults schema value) (option_map (with_schema_defaults schema) old) root =
     λ i. root_visit (with_rules more node schema) (filled_alike more 65 (Some node) schema value i) (old_defaults more node schema old i) root in
-    subst (λ s. AddsAlone b more node (defaulted_start schema value old root) (answer raw_form b 65 (defaulted_start schema value old root)) (answer raw_form b 65 s)) (sym begins)
+    subst (λ s. AddsAlone b more node (defaulted_start schema value old root) (answer raw_accessors b 65 (defaulted_start schema value old root)) (answer raw_accessors b 65 s)) (sym begins)
     (answer_added b more node (root_visit (schema, Some node) (with_schema_defaults schema value) (option_map (with_schema_defaults schema) old) root) refl)

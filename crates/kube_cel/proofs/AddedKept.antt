@@ -9,7 +9,7 @@ use Rattle.kube_schema_rules.specs.declared.branches.BranchKind.{BranchKind}
 use Rattle.kube_schema_rules.specs.declared.branches.BranchKind.TheVariants.{AllOf, OneOf, AnyOf}
 use Rattle.kube_schema_rules.specs.Inside.{count_at}
 use Rattle.kube_schema_rules.specs.Raw.{undeclared_property}
-use Rattle.kube_schema_rules.specs.Step as place
+use Rattle.kube_schema_rules.specs.Step as step
 use Rattle.kube_schema_rules.specs.Step.{keyword}
 use Rattle.kube_schema_values.specs.DefaultsAccessors.{keys_in as names_in, members_or_none}
 use Rattle.kube_cel.specs.Added.{NodeStep, to_property, to_items, to_additional, to_branch, left_after, with_rules}
@@ -145,9 +145,9 @@ module _ (more : Items) where
   preserves : Data → Bool
   preserves d = unwrap_or (option_and_then as_bool (get (codes "x-kubernetes-preserve-unknown-fields") d)) false
 
-  pub undeclared_added : (k : List ℕ) (r : Option (List NodeStep)) (d : Data) → undeclared_property (added more r d) ≡ option_map (added more (option_and_then (left_after (place.additional_property k)) r)) (undeclared_property d)
+  pub undeclared_added : (k : List ℕ) (r : Option (List NodeStep)) (d : Data) → undeclared_property (added more r d) ≡ option_map (added more (option_and_then (left_after (step.additional_property k)) r)) (undeclared_property d)
   unfolding undeclared_property preserves
   undeclared_added k r d =
       ap (λ o. if unwrap_or (option_and_then as_bool o) false then None else option_and_then if_object (get (codes "additionalProperties") (added more r d))) (preserving_stays r d)
       ∙ ap (λ o. if preserves d then None else o) (additional_added more k r d)
-      ∙ unless (added more (option_and_then (left_after (place.additional_property k)) r)) (preserves d) (option_and_then if_object (get (codes "additionalProperties") d))
+      ∙ unless (added more (option_and_then (left_after (step.additional_property k)) r)) (preserves d) (option_and_then if_object (get (codes "additionalProperties") d))

@@ -6,7 +6,7 @@ use Rattle.serde_json.specs.Find.{as_bool, as_object, at, get}
 use Rattle.kube_schema_rules.specs.declared.branches.BranchKind.{BranchKind}
 use Rattle.kube_schema_rules.specs.declared.branches.BranchKind.TheVariants.{AllOf, OneOf, AnyOf}
 use Rattle.kube_schema_rules.specs.Inside.{count_at}
-use Rattle.kube_schema_rules.specs.Step as place
+use Rattle.kube_schema_rules.specs.Step as step
 use Rattle.kube_schema_rules.specs.Step.{keyword}
 use Rattle.kube_schema_values.specs.DefaultsAccessors.{keys_in as names_in, members_or_none}
 use Rattle.kube_cel.specs.Added.{NodeStep, to_property, to_items, to_additional, to_branch, keyword_of, left_after, with_items, with_rules, with_key, with_index, within}
@@ -96,7 +96,7 @@ module _ (more : Items) where
   -- ---- one step down
 
   pub property_added : (l : List ℕ) (r : Option (List NodeStep)) (d : Data)
-      → option_and_then (get l) (get (codes "properties") (added r d)) ≡ option_map (added (option_and_then (left_after (place.property l)) r)) (option_and_then (get l) (get (codes "properties") d))
+      → option_and_then (get l) (get (codes "properties") (added r d)) ≡ option_map (added (option_and_then (left_after (step.property l)) r)) (option_and_then (get l) (get (codes "properties") d))
   property_added l None d = sym (same_option (option_and_then (get l) (get (codes "properties") d)))
   property_added l (Some []) d = other (codes "properties") (get l) [] d refl
   property_added l (Some (to_property k ∷ ts)) d = ap (option_and_then (get l)) (at_key (codes "properties") (to_property k ∷ ts) d) ∙ by (get (codes "properties") d)
@@ -110,7 +110,7 @@ module _ (more : Items) where
   property_added l (Some (to_branch OneOf i ∷ ts)) d = other (codes "properties") (get l) (to_branch OneOf i ∷ ts) d refl
   property_added l (Some (to_branch AnyOf i ∷ ts)) d = other (codes "properties") (get l) (to_branch AnyOf i ∷ ts) d refl
 
-  pub items_added : (i : ℕ) (r : Option (List NodeStep)) (d : Data) → get (codes "items") (added r d) ≡ option_map (added (option_and_then (left_after (place.item i)) r)) (get (codes "items") d)
+  pub items_added : (i : ℕ) (r : Option (List NodeStep)) (d : Data) → get (codes "items") (added r d) ≡ option_map (added (option_and_then (left_after (step.item i)) r)) (get (codes "items") d)
   items_added i None d = sym (same_option (get (codes "items") d))
   items_added i (Some []) d = at_key (codes "items") [] d
   items_added i (Some (to_property k ∷ ts)) d = at_key (codes "items") (to_property k ∷ ts) d
@@ -129,7 +129,7 @@ module _ (more : Items) where
   bools_stay (t ∷ ts) d = bool_stays (keyword_of t) (within t (with_rules more ts)) d
 
   pub additional_added : (k : List ℕ) (r : Option (List NodeStep)) (d : Data)
-      → option_and_then if_object (get (codes "additionalProperties") (added r d)) ≡ option_map (added (option_and_then (left_after (place.additional_property k)) r)) (option_and_then if_object (get (codes "additionalProperties") d))
+      → option_and_then if_object (get (codes "additionalProperties") (added r d)) ≡ option_map (added (option_and_then (left_after (step.additional_property k)) r)) (option_and_then if_object (get (codes "additionalProperties") d))
   additional_added k None d = sym (same_option (option_and_then if_object (get (codes "additionalProperties") d)))
   additional_added k (Some []) d = other (codes "additionalProperties") if_object [] d refl
   additional_added k (Some (to_property l ∷ ts)) d = other (codes "additionalProperties") if_object (to_property l ∷ ts) d refl
@@ -157,7 +157,7 @@ module _ (more : Items) where
       by false = refl
 
   pub branch_added : (kind : BranchKind) (j : ℕ) (r : Option (List NodeStep)) (d : Data)
-      → option_and_then (at j) (get (keyword kind) (added r d)) ≡ option_map (added (option_and_then (left_after (place.branch kind j)) r)) (option_and_then (at j) (get (keyword kind) d))
+      → option_and_then (at j) (get (keyword kind) (added r d)) ≡ option_map (added (option_and_then (left_after (step.branch kind j)) r)) (option_and_then (at j) (get (keyword kind) d))
   branch_added kind j None d = sym (same_option (option_and_then (at j) (get (keyword kind) d)))
   branch_added AllOf j (Some []) d = other (codes "allOf") (at j) [] d refl
   branch_added OneOf j (Some []) d = other (codes "oneOf") (at j) [] d refl

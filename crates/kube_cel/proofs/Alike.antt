@@ -1,16 +1,16 @@
 -- A schema and its tree are answered alike.
 use Rattle.cel_patterns.specs.Book.{Book}
-use Rattle.kube_cel.specs.Compiled.{compiled_form}
-use Rattle.kube_cel.specs.Raw.{raw_form}
+use Rattle.kube_cel.specs.Compiled.{compiled_accessors}
+use Rattle.kube_cel.specs.Raw.{raw_accessors}
 use Rattle.kube_cel.specs.Starts.{compiled_start, with_schema_defaults, source_start}
 use Rattle.kube_cel_walk.specs.Errors.{ErrorData}
 use Rattle.kube_cel_walk.specs.RuleErrors.{too_deep}
 use Rattle.kube_schema_rules.proofs.Candidates.{CountsAll}
-use Rattle.kube_schema_rules.specs.Raw.{raw_shape}
+use Rattle.kube_schema_rules.specs.Raw.{raw_steps}
 use Rattle.kube_schema_rules.specs.Visit.{Visit, Root, root_visit}
 use Rattle.kube_cel.proofs.Counted.{compiled_counts_all}
 use Rattle.kube_cel.proofs.Same.{tree_answers}
-use Rattle.kube_cel.specs.CompiledShape.{compiled_shape}
+use Rattle.kube_cel.specs.CompiledSteps.{compiled_steps}
 use Rattle.kube_cel.specs.Visits.{with_node_of}
 use Rattle.kube_cel_walk.specs.declared.root.RootContext.{RootContext}
 use Rattle.kube_cel_walk.specs.Roots.{root_view}
@@ -19,7 +19,6 @@ use Rattle.kube_cel_walk.specs.Answers.{bound_at, place_bindings, rule_verdicts,
 use Rattle.kube_schema_values.specs.Conversion.{to_cel}
 use Rattle.kube_schema_values.specs.Conversion as accessors
 use Rattle.kube_schema_values.specs.Defaults.{defaulted_value}
-use Rattle.kube_schema_values.specs.DefaultsAccessors as raw_accessors
 use Rattle.kube_schema_rules.specs.Compilation.{compiled_rules}
 use Rattle.kube_schema_rules.specs.Rules.{rule_items}
 use Rattle.kube_schema.proofs.SameDefaults.{filled_same}
@@ -37,41 +36,41 @@ use Rattle.std.proofs.Common.{Bor, ◌≡◌, ◌+◌, ◌-◌, ◌==◌, ℕ, z
 use Rattle.std.proofs.lemmas.Bool.Decides.{nat_tests}
 use Rattle.std.specs.List.{flat_map}
 
-pub compiled_form_counts_all : CountsAll compiled_form.shape
-unfolding compiled_form
-compiled_form_counts_all = compiled_counts_all
+pub compiled_accessors_counts_all : CountsAll compiled_accessors.steps
+unfolding compiled_accessors
+compiled_accessors_counts_all = compiled_counts_all
 
 -- ---- what is bound
 
-bound_alike : (n : ℕ) (s : Visit Data) (value : Data) → s.depth + n ≡ 65 → bound_at raw_form s value ≡ bound_at compiled_form (with_node_of (view_of n) s) value
-unfolding raw_form compiled_form
+bound_alike : (n : ℕ) (s : Visit Data) (value : Data) → s.depth + n ≡ 65 → bound_at raw_accessors s value ≡ bound_at compiled_accessors (with_node_of (view_of n) s) value
+unfolding raw_accessors compiled_accessors
 bound_alike n s value e =
     let levels : 65 - s.depth ≡ n = omega (arith, e) in
     ap (λ m. to_cel accessors.raw m s.node value) levels ∙ bound_same n s.node value ∙ sym (ap (λ m. to_cel tree_conversion.tree_accessors m (view_of n s.node) value) levels)
 
-old_alike : (n : ℕ) (s : Visit Data) (old : Option Data) → s.depth + n ≡ 65 → option_map (bound_at raw_form s) old ≡ option_map (bound_at compiled_form (with_node_of (view_of n) s)) old
+old_alike : (n : ℕ) (s : Visit Data) (old : Option Data) → s.depth + n ≡ 65 → option_map (bound_at raw_accessors s) old ≡ option_map (bound_at compiled_accessors (with_node_of (view_of n) s)) old
 old_alike n s None e = refl
 old_alike n s (Some old) e = ap Some (bound_alike n s old e)
 
-bindings_alike : (n : ℕ) (s : Visit Data) → s.depth + n ≡ 65 → place_bindings raw_form s ≡ place_bindings compiled_form (with_node_of (view_of n) s)
+bindings_alike : (n : ℕ) (s : Visit Data) → s.depth + n ≡ 65 → place_bindings raw_accessors s ≡ place_bindings compiled_accessors (with_node_of (view_of n) s)
 unfolding place_bindings
 bindings_alike n s e = λ i. with_root s.root (with_old (old_alike n s s.old e i) ((codes "self", bound_alike n s s.value e i) ∷ []))
 
 -- ---- what is found
 
-deep_alike : (b : Book) (s : Visit Data) (t : Visit Node) → s.path ≡ t.path → (s.depth == 65) ≡ true → (t.depth == 65) ≡ true → verdicts raw_form b s ≡ verdicts compiled_form b t
+deep_alike : (b : Book) (s : Visit Data) (t : Visit Node) → s.path ≡ t.path → (s.depth == 65) ≡ true → (t.depth == 65) ≡ true → verdicts raw_accessors b s ≡ verdicts compiled_accessors b t
 unfolding verdicts
 deep_alike b s t p d e =
-    ap (λ d. if d then too_deep s.path ∷ [] else rule_verdicts raw_form b (place_bindings raw_form s) s) d
+    ap (λ d. if d then too_deep s.path ∷ [] else rule_verdicts raw_accessors b (place_bindings raw_accessors s) s) d
     ∙ ap (λ p. too_deep p ∷ []) p
-    ∙ sym (ap (λ d. if d then too_deep t.path ∷ [] else rule_verdicts compiled_form b (place_bindings compiled_form t) t) e)
+    ∙ sym (ap (λ d. if d then too_deep t.path ∷ [] else rule_verdicts compiled_accessors b (place_bindings compiled_accessors t) t) e)
 
-rules_alike : (n : ℕ) (b : Book) (s : Visit Data) → s.depth + suc n ≡ 65 → rule_verdicts raw_form b (place_bindings raw_form s) s
-    ≡ rule_verdicts compiled_form b (place_bindings compiled_form (with_node_of (view_of (suc n)) s)) (with_node_of (view_of (suc n)) s)
-unfolding rule_verdicts raw_form compiled_form view_of children_view own_view
+rules_alike : (n : ℕ) (b : Book) (s : Visit Data) → s.depth + suc n ≡ 65 → rule_verdicts raw_accessors b (place_bindings raw_accessors s) s
+    ≡ rule_verdicts compiled_accessors b (place_bindings compiled_accessors (with_node_of (view_of (suc n)) s)) (with_node_of (view_of (suc n)) s)
+unfolding rule_verdicts raw_accessors compiled_accessors view_of children_view own_view
 rules_alike n b s e = λ i. flat_map (λ r. list_of_option (verdict b (bindings_alike (suc n) s e i) s.old s.path r)) (compiled_rules (rule_items s.node))
 
-verdicts_alike : (b : Book) (n : ℕ) (s : Visit Data) → s.depth + n ≡ 65 → verdicts raw_form b s ≡ verdicts compiled_form b (with_node_of (view_of n) s)
+verdicts_alike : (b : Book) (n : ℕ) (s : Visit Data) → s.depth + n ≡ 65 → verdicts raw_accessors b s ≡ verdicts compiled_accessors b (with_node_of (view_of n) s)
 unfolding verdicts
 verdicts_alike b zero s e =
     let d : (s.depth == 65) ≡ true = grind (arith, nat_tests, e) in
@@ -80,9 +79,9 @@ verdicts_alike b (suc n) s e = ap (λ vs. if s.depth == 65 then too_deep s.path 
 
 -- what is found at all places of a schema is found at all places of its tree
 pub answered_alike : (b : Book) (schema value : Data) (old : Option Data) (root : Option Root)
-    → answer raw_form b 65 (root_visit schema value old root) ≡ answer compiled_form b 65 (root_visit (view_of 65 schema) value old root)
-unfolding answer raw_form compiled_form
-answered_alike b schema value old root = tree_answers (verdicts raw_form b) (verdicts compiled_form b) 65 (verdicts_alike b) 65 (root_visit schema value old root) refl
+    → answer raw_accessors b 65 (root_visit schema value old root) ≡ answer compiled_accessors b 65 (root_visit (view_of 65 schema) value old root)
+unfolding answer raw_accessors compiled_accessors
+answered_alike b schema value old root = tree_answers (verdicts raw_accessors b) (verdicts compiled_accessors b) 65 (verdicts_alike b) 65 (root_visit schema value old root) refl
 
 -- ---- defaults
 
@@ -92,15 +91,15 @@ defaults_alike schema (Some old) = ap Some (filled_same 65 schema old)
 
 -- what is found where a schema and a value begin is found where its tree and the value do, each with its defaults
 pub judged_alike : (b : Book) (schema value : Data) (old : Option Data) (root : Option Root) (tree : Node) → tree ≡ view_of 65 schema
-    → answer compiled_form b 65 (root_visit tree (defaulted_value tree_fill.tree_accessors 65 tree value) (option_map (defaulted_value tree_fill.tree_accessors 65 tree) old) root)
-    ≡ answer raw_form b 65 (root_visit schema (with_schema_defaults schema value) (option_map (with_schema_defaults schema) old) root)
+    → answer compiled_accessors b 65 (root_visit tree (defaulted_value tree_fill.tree_accessors 65 tree value) (option_map (defaulted_value tree_fill.tree_accessors 65 tree) old) root)
+    ≡ answer raw_accessors b 65 (root_visit schema (with_schema_defaults schema value) (option_map (with_schema_defaults schema) old) root)
 judged_alike b schema value old root tree e =
-    ap (λ t. answer compiled_form b 65 (root_visit t (defaulted_value tree_fill.tree_accessors 65 t value) (option_map (defaulted_value tree_fill.tree_accessors 65 t) old) root)) e
-    ∙ (λ i. answer compiled_form b 65 (root_visit (view_of 65 schema) (sym (filled_same 65 schema value) i) (sym (defaults_alike schema old) i) root))
+    ap (λ t. answer compiled_accessors b 65 (root_visit t (defaulted_value tree_fill.tree_accessors 65 t value) (option_map (defaulted_value tree_fill.tree_accessors 65 t) old) root)) e
+    ∙ (λ i. answer compiled_accessors b 65 (root_visit (view_of 65 schema) (sym (filled_same 65 schema value) i) (sym (defaults_alike schema old) i) root))
     ∙ sym (answered_alike b schema (with_schema_defaults schema value) (option_map (with_schema_defaults schema) old) root)
 
 pub compiled_found : (b : Book) (schema : Data) (c : CompiledSchema) (value : Value) (old : Option (Bor Value)) (root : Option (Bor RootContext)) → whole c ≡ view_of 65 schema
-    → answer compiled_form b 65 (compiled_start c value old root) ≡ answer raw_form b 65 (source_start schema value old root)
+    → answer compiled_accessors b 65 (compiled_start c value old root) ≡ answer raw_accessors b 65 (source_start schema value old root)
 compiled_found b schema c value old root e =
     judged_alike b schema (view value) (option_map (λ v. view v.now) old) (option_map (λ r. root_view r.now) root) (whole c) e
 

@@ -3,14 +3,14 @@ use Rattle.cel_semantics.specs.Members.{index_outcome, nth_item, selection}
 use Rattle.cel_value.specs.Data as cel
 use Rattle.cel_value.specs.Data.{text_key}
 use Rattle.cel_value.specs.Faults.{no_key, out_of_bounds}
-use Rattle.kube_cel.specs.Compiled.{compiled_form}
+use Rattle.kube_cel.specs.Compiled.{compiled_accessors}
 use Rattle.kube_cel.specs.Parts.{is_branch, part_along, part_at}
-use Rattle.kube_cel.specs.Raw.{raw_form}
-use Rattle.kube_schema_rules.specs.Raw.{declared_property, raw_shape, undeclared_property}
+use Rattle.kube_cel.specs.Raw.{raw_accessors}
+use Rattle.kube_schema_rules.specs.Raw.{declared_property, raw_steps, undeclared_property}
 use Rattle.kube_schema_rules.specs.Step.{Step, property, item, additional_property, branch}
 use Rattle.kube_schema_rules.specs.Visit.{Root, Visit, further, goes, item_path, member_path, unless_there, visit}
 use Rattle.kube_schema_rules.specs.Walk.{leads}
-use Rattle.kube_cel.specs.CompiledShape.{compiled_shape}
+use Rattle.kube_cel.specs.CompiledSteps.{compiled_steps}
 use Rattle.kube_cel_walk.specs.Answers.{bound_at}
 use Rattle.kube_cel_walk.specs.WalkAccessors.{WalkAccessors}
 use Rattle.kube_schema.specs.CompiledConversion.{tree_accessors}
@@ -64,20 +64,20 @@ module _ {S : Type 0} (accessors : ConversionAccessors S) (n : ℕ) (node p : S)
 -- ---- forms in which the walk and the binding see the same nodes
 
 pub record SeesAlike {S : Type 0} (form : WalkAccessors S) : Type 0 where
-  pub property : (k : List ℕ) (node : S) → form.shape.property k node ≡ form.accessors.property k node
-  pub items : (node : S) → form.shape.items node ≡ form.accessors.items node
-  pub additional : (node p : S) → form.shape.additional_property node ≡ Some p → form.accessors.additional node ≡ Some p
+  pub property : (k : List ℕ) (node : S) → form.steps.property k node ≡ form.conversion.property k node
+  pub items : (node : S) → form.steps.items node ≡ form.conversion.items node
+  pub additional : (node p : S) → form.steps.additional_property node ≡ Some p → form.conversion.additional node ≡ Some p
 
 unless_kept : {S : Type 0} (kept : Bool) (o : Option S) (p : S) → (if kept then None else o) ≡ Some p → o ≡ Some p
 unless_kept true o p e = cc
 unless_kept false o p e = e
 
-pub raw_sees_alike : SeesAlike raw_form
-unfolding raw_form raw_shape raw declared_property undeclared_property property_of items_of additional_of
+pub raw_sees_alike : SeesAlike raw_accessors
+unfolding raw_accessors raw_steps raw declared_property undeclared_property property_of items_of additional_of
 raw_sees_alike = record { property = λ k node. refl; items = λ node. refl; additional = λ node p e. unless_kept (unwrap_or (option_and_then as_bool (get (codes "x-kubernetes-preserve-unknown-fields") node)) false) (additional_of node) p e }
 
-pub tree_sees_alike : SeesAlike compiled_form
-unfolding compiled_form compiled_shape tree_accessors
+pub tree_sees_alike : SeesAlike compiled_accessors
+unfolding compiled_accessors compiled_steps tree_accessors
 tree_sees_alike = record { property = λ k node. refl; items = λ node. refl; additional = λ node p e. unless_kept (own node).preserves (tree.additional_of node) p e }
 
 -- ---- one step of a walk
@@ -102,80 +102,80 @@ undeclared None b p e = (refl, e)
 undeclared (Some s) b p e = cc
 
 module _ {S : Type 0} (form : WalkAccessors S) (alike : SeesAlike form) where
-  declared_node : (k : List ℕ) (node p : S) → form.shape.property k node ≡ Some p → member_node form.accessors node k ≡ Some p
-  declared_node k node p e = ap (λ o. or_else o (form.accessors.additional node)) (sym (alike.property k node) ∙ e)
+  declared_node : (k : List ℕ) (node p : S) → form.steps.property k node ≡ Some p → member_node form.conversion node k ≡ Some p
+  declared_node k node p e = ap (λ o. or_else o (form.conversion.additional node)) (sym (alike.property k node) ∙ e)
 
-  undeclared_node : (k : List ℕ) (node p : S) → unless_there (form.shape.property k node) (form.shape.additional_property node) ≡ Some p → member_node form.accessors node k ≡ Some p
+  undeclared_node : (k : List ℕ) (node p : S) → unless_there (form.steps.property k node) (form.steps.additional_property node) ≡ Some p → member_node form.conversion node k ≡ Some p
   undeclared_node k node p e =
-      let u = undeclared (form.shape.property k node) (form.shape.additional_property node) p e in
-      ap (λ o. or_else o (form.accessors.additional node)) (sym (alike.property k node) ∙ u.0) ∙ alike.additional node p u.1
+      let u = undeclared (form.steps.property k node) (form.steps.additional_property node) p e in
+      ap (λ o. or_else o (form.conversion.additional node)) (sym (alike.property k node) ∙ u.0) ∙ alike.additional node p u.1
 
   -- by the levels of nodes that count there, and one fewer a step further
-  value_part : (p : Step) (s t : Visit S) (n : ℕ) → is_branch p ≡ false → goes form.shape p s ≡ Some t
-      → part_at form s.node p (to_cel form.accessors (suc n) s.node s.value) ≡ Ok (to_cel form.accessors n t.node t.value)
+  value_part : (p : Step) (s t : Visit S) (n : ℕ) → is_branch p ≡ false → goes form.steps p s ≡ Some t
+      → part_at form s.node p (to_cel form.conversion (suc n) s.node s.value) ≡ Ok (to_cel form.conversion n t.node t.value)
   unfolding goes
   value_part (property k) s t n b e =
-      let r = reached None s.depth (member_path s.path k) (form.shape.property k s.node) (get k s.value) (option_and_then (get k) s.old) t e in
-      member_part form.accessors n s.node t.node k s.value t.value (declared_node k s.node t.node r.node_there) r.value_there
+      let r = reached None s.depth (member_path s.path k) (form.steps.property k s.node) (get k s.value) (option_and_then (get k) s.old) t e in
+      member_part form.conversion n s.node t.node k s.value t.value (declared_node k s.node t.node r.node_there) r.value_there
   value_part (item i) s t n b e =
-      let r = reached None s.depth (item_path s.path i) (form.shape.items s.node) (at i s.value) (option_and_then (at i) s.old) t e in
-      item_part form.accessors n s.node t.node i s.value t.value (sym (alike.items s.node) ∙ r.node_there) r.value_there
+      let r = reached None s.depth (item_path s.path i) (form.steps.items s.node) (at i s.value) (option_and_then (at i) s.old) t e in
+      item_part form.conversion n s.node t.node i s.value t.value (sym (alike.items s.node) ∙ r.node_there) r.value_there
   value_part (additional_property k) s t n b e =
-      let r = reached None s.depth (member_path s.path k) (unless_there (form.shape.property k s.node) (form.shape.additional_property s.node)) (get k s.value) (option_and_then (get k) s.old) t e in
-      member_part form.accessors n s.node t.node k s.value t.value (undeclared_node k s.node t.node r.node_there) r.value_there
+      let r = reached None s.depth (member_path s.path k) (unless_there (form.steps.property k s.node) (form.steps.additional_property s.node)) (get k s.value) (option_and_then (get k) s.old) t e in
+      member_part form.conversion n s.node t.node k s.value t.value (undeclared_node k s.node t.node r.node_there) r.value_there
   value_part (branch kind j) s t n b e = cc
 
-  old_part : (p : Step) (s t : Visit S) (n : ℕ) (o q : Data) → is_branch p ≡ false → goes form.shape p s ≡ Some t → s.old ≡ Some o → t.old ≡ Some q
-      → part_at form s.node p (to_cel form.accessors (suc n) s.node o) ≡ Ok (to_cel form.accessors n t.node q)
+  old_part : (p : Step) (s t : Visit S) (n : ℕ) (o q : Data) → is_branch p ≡ false → goes form.steps p s ≡ Some t → s.old ≡ Some o → t.old ≡ Some q
+      → part_at form s.node p (to_cel form.conversion (suc n) s.node o) ≡ Ok (to_cel form.conversion n t.node q)
   unfolding goes
   old_part (property k) s t n o q b e before after =
-      let r = reached None s.depth (member_path s.path k) (form.shape.property k s.node) (get k s.value) (option_and_then (get k) s.old) t e in
-      member_part form.accessors n s.node t.node k o q (declared_node k s.node t.node r.node_there) (sym (ap (option_and_then (get k)) before) ∙ r.old_there ∙ after)
+      let r = reached None s.depth (member_path s.path k) (form.steps.property k s.node) (get k s.value) (option_and_then (get k) s.old) t e in
+      member_part form.conversion n s.node t.node k o q (declared_node k s.node t.node r.node_there) (sym (ap (option_and_then (get k)) before) ∙ r.old_there ∙ after)
   old_part (item i) s t n o q b e before after =
-      let r = reached None s.depth (item_path s.path i) (form.shape.items s.node) (at i s.value) (option_and_then (at i) s.old) t e in
-      item_part form.accessors n s.node t.node i o q (sym (alike.items s.node) ∙ r.node_there) (sym (ap (option_and_then (at i)) before) ∙ r.old_there ∙ after)
+      let r = reached None s.depth (item_path s.path i) (form.steps.items s.node) (at i s.value) (option_and_then (at i) s.old) t e in
+      item_part form.conversion n s.node t.node i o q (sym (alike.items s.node) ∙ r.node_there) (sym (ap (option_and_then (at i)) before) ∙ r.old_there ∙ after)
   old_part (additional_property k) s t n o q b e before after =
-      let r = reached None s.depth (member_path s.path k) (unless_there (form.shape.property k s.node) (form.shape.additional_property s.node)) (get k s.value) (option_and_then (get k) s.old) t e in
-      member_part form.accessors n s.node t.node k o q (undeclared_node k s.node t.node r.node_there) (sym (ap (option_and_then (get k)) before) ∙ r.old_there ∙ after)
+      let r = reached None s.depth (member_path s.path k) (unless_there (form.steps.property k s.node) (form.steps.additional_property s.node)) (get k s.value) (option_and_then (get k) s.old) t e in
+      member_part form.conversion n s.node t.node k o q (undeclared_node k s.node t.node r.node_there) (sym (ap (option_and_then (get k)) before) ∙ r.old_there ∙ after)
   old_part (branch kind j) s t n o q b e before after = cc
 
-  deeper : (p : Step) (s t : Visit S) → goes form.shape p s ≡ Some t → s.depth + 1 ≡ t.depth
+  deeper : (p : Step) (s t : Visit S) → goes form.steps p s ≡ Some t → s.depth + 1 ≡ t.depth
   unfolding goes
-  deeper (property k) s t e = (reached None s.depth (member_path s.path k) (form.shape.property k s.node) (get k s.value) (option_and_then (get k) s.old) t e).deeper
-  deeper (item i) s t e = (reached None s.depth (item_path s.path i) (form.shape.items s.node) (at i s.value) (option_and_then (at i) s.old) t e).deeper
+  deeper (property k) s t e = (reached None s.depth (member_path s.path k) (form.steps.property k s.node) (get k s.value) (option_and_then (get k) s.old) t e).deeper
+  deeper (item i) s t e = (reached None s.depth (item_path s.path i) (form.steps.items s.node) (at i s.value) (option_and_then (at i) s.old) t e).deeper
   deeper (additional_property k) s t e =
-      (reached None s.depth (member_path s.path k) (unless_there (form.shape.property k s.node) (form.shape.additional_property s.node)) (get k s.value) (option_and_then (get k) s.old) t e).deeper
-  deeper (branch kind j) s t e = (reached s.root s.depth s.path (form.shape.branch kind j s.node) (Some s.value) s.old t e).deeper
+      (reached None s.depth (member_path s.path k) (unless_there (form.steps.property k s.node) (form.steps.additional_property s.node)) (get k s.value) (option_and_then (get k) s.old) t e).deeper
+  deeper (branch kind j) s t e = (reached s.root s.depth s.path (form.steps.branch kind j s.node) (Some s.value) s.old t e).deeper
 
-  no_old : (p : Step) (s t : Visit S) → goes form.shape p s ≡ Some t → s.old ≡ None → t.old ≡ None
+  no_old : (p : Step) (s t : Visit S) → goes form.steps p s ≡ Some t → s.old ≡ None → t.old ≡ None
   unfolding goes
   no_old (property k) s t e none =
-      sym (reached None s.depth (member_path s.path k) (form.shape.property k s.node) (get k s.value) (option_and_then (get k) s.old) t e).old_there ∙ ap (option_and_then (get k)) none
+      sym (reached None s.depth (member_path s.path k) (form.steps.property k s.node) (get k s.value) (option_and_then (get k) s.old) t e).old_there ∙ ap (option_and_then (get k)) none
   no_old (item i) s t e none =
-      sym (reached None s.depth (item_path s.path i) (form.shape.items s.node) (at i s.value) (option_and_then (at i) s.old) t e).old_there ∙ ap (option_and_then (at i)) none
+      sym (reached None s.depth (item_path s.path i) (form.steps.items s.node) (at i s.value) (option_and_then (at i) s.old) t e).old_there ∙ ap (option_and_then (at i)) none
   no_old (additional_property k) s t e none =
-      sym (reached None s.depth (member_path s.path k) (unless_there (form.shape.property k s.node) (form.shape.additional_property s.node)) (get k s.value) (option_and_then (get k) s.old) t e).old_there
+      sym (reached None s.depth (member_path s.path k) (unless_there (form.steps.property k s.node) (form.steps.additional_property s.node)) (get k s.value) (option_and_then (get k) s.old) t e).old_there
       ∙ ap (option_and_then (get k)) none
-  no_old (branch kind j) s t e none = sym (reached s.root s.depth s.path (form.shape.branch kind j s.node) (Some s.value) s.old t e).old_there ∙ none
+  no_old (branch kind j) s t e none = sym (reached s.root s.depth s.path (form.steps.branch kind j s.node) (Some s.value) s.old t e).old_there ∙ none
 
   -- ---- all steps
 
-  levels_at : (s : Visit S) (n : ℕ) (v : Data) → s.depth + n ≡ 65 → bound_at form s v ≡ to_cel form.accessors n s.node v
-  levels_at s n v d = let levels : 65 - s.depth ≡ n = omega (arith, d) in ap (λ m. to_cel form.accessors m s.node v) levels
+  levels_at : (s : Visit S) (n : ℕ) (v : Data) → s.depth + n ≡ 65 → bound_at form s v ≡ to_cel form.conversion n s.node v
+  levels_at s n v d = let levels : 65 - s.depth ≡ n = omega (arith, d) in ap (λ m. to_cel form.conversion m s.node v) levels
 
   neither : (a b : Bool) → (a || b) ≡ false → (a ≡ false) × (b ≡ false)
   neither true b e = cc
   neither false b e = (refl, e)
 
-  pub values_along : (ps : List Step) (s t : Visit S) (n : ℕ) → list_any is_branch ps ≡ false → s.depth + n ≡ 65 → length ps ≤ n → leads (goes form.shape) ps s ≡ Some t
+  pub values_along : (ps : List Step) (s t : Visit S) (n : ℕ) → list_any is_branch ps ≡ false → s.depth + n ≡ 65 → length ps ≤ n → leads (goes form.steps) ps s ≡ Some t
       → part_along form ps s (bound_at form s s.value) ≡ Some (bound_at form t t.value)
   unfolding leads part_along
   values_along [] s t n b d l e = let same : s ≡ t = cc in ap (λ u. Some (bound_at form u u.value)) same
   values_along (p ∷ ps) s t zero b d l e = absurd (omega (arith, l))
-  values_along (p ∷ ps) s t (suc n) b d l e = by (goes form.shape p s) refl e (λ u bs below led. values_along ps u t n bs below (omega (arith, l)) led)
+  values_along (p ∷ ps) s t (suc n) b d l e = by (goes form.steps p s) refl e (λ u bs below led. values_along ps u t n bs below (omega (arith, l)) led)
     where
-      by : (o : Option (Visit S)) → goes form.shape p s ≡ o → option_and_then (leads (goes form.shape) ps) o ≡ Some t
-          → ((u : Visit S) → list_any is_branch ps ≡ false → u.depth + n ≡ 65 → leads (goes form.shape) ps u ≡ Some t → part_along form ps u (bound_at form u u.value) ≡ Some (bound_at form t t.value))
+      by : (o : Option (Visit S)) → goes form.steps p s ≡ o → option_and_then (leads (goes form.steps) ps) o ≡ Some t
+          → ((u : Visit S) → list_any is_branch ps ≡ false → u.depth + n ≡ 65 → leads (goes form.steps) ps u ≡ Some t → part_along form ps u (bound_at form u u.value) ≡ Some (bound_at form t t.value))
           → option_and_then (λ u. option_and_then (part_along form ps u) (result_ok (part_at form s.node p (bound_at form s s.value)))) o ≡ Some (bound_at form t t.value)
       by None g e rec = cc
       by (Some u) g e rec =
@@ -187,17 +187,17 @@ module _ {S : Type 0} (form : WalkAccessors S) (alike : SeesAlike form) where
           ∙ ap (part_along form ps u) (sym (levels_at u n u.value below))
           ∙ rec u bs.1 below e
 
-  none_along : (ps : List Step) (s t : Visit S) → leads (goes form.shape) ps s ≡ Some t → s.old ≡ None → t.old ≡ None
+  none_along : (ps : List Step) (s t : Visit S) → leads (goes form.steps) ps s ≡ Some t → s.old ≡ None → t.old ≡ None
   unfolding leads
   none_along [] s t e none = let same : s ≡ t = cc in ap (λ u. u.old) (sym same) ∙ none
-  none_along (p ∷ ps) s t e none = by (goes form.shape p s) refl e (λ u led gone. none_along ps u t led gone)
+  none_along (p ∷ ps) s t e none = by (goes form.steps p s) refl e (λ u led gone. none_along ps u t led gone)
     where
-      by : (o : Option (Visit S)) → goes form.shape p s ≡ o → option_and_then (leads (goes form.shape) ps) o ≡ Some t
-          → ((u : Visit S) → leads (goes form.shape) ps u ≡ Some t → u.old ≡ None → t.old ≡ None) → t.old ≡ None
+      by : (o : Option (Visit S)) → goes form.steps p s ≡ o → option_and_then (leads (goes form.steps) ps) o ≡ Some t
+          → ((u : Visit S) → leads (goes form.steps) ps u ≡ Some t → u.old ≡ None → t.old ≡ None) → t.old ≡ None
       by None g e rec = cc
       by (Some u) g e rec = rec u e (no_old p s u g none)
 
-  pub olds_along : (ps : List Step) (s t : Visit S) (n : ℕ) (o q : Data) → list_any is_branch ps ≡ false → s.depth + n ≡ 65 → length ps ≤ n → leads (goes form.shape) ps s ≡ Some t
+  pub olds_along : (ps : List Step) (s t : Visit S) (n : ℕ) (o q : Data) → list_any is_branch ps ≡ false → s.depth + n ≡ 65 → length ps ≤ n → leads (goes form.steps) ps s ≡ Some t
       → s.old ≡ Some o → t.old ≡ Some q → part_along form ps s (bound_at form s o) ≡ Some (bound_at form t q)
   unfolding leads part_along
   olds_along [] s t n o q b d l e before after =
@@ -206,10 +206,10 @@ module _ {S : Type 0} (form : WalkAccessors S) (alike : SeesAlike form) where
       (λ i. Some (bound_at form (same i) (one i)))
   olds_along (p ∷ ps) s t zero o q b d l e before after = absurd (omega (arith, l))
   olds_along (p ∷ ps) s t (suc n) o q b d l e before after =
-      by (goes form.shape p s) refl e (λ u w bs below led there. olds_along ps u t n w q bs below (omega (arith, l)) led there after)
+      by (goes form.steps p s) refl e (λ u w bs below led there. olds_along ps u t n w q bs below (omega (arith, l)) led there after)
     where
       -- where the old value goes on, and it has to
-      on : (u : Visit S) → goes form.shape p s ≡ Some u → leads (goes form.shape) ps u ≡ Some t
+      on : (u : Visit S) → goes form.steps p s ≡ Some u → leads (goes form.steps) ps u ≡ Some t
           → ((w : Data) → list_any is_branch ps ≡ false → u.depth + n ≡ 65 → u.old ≡ Some w → part_along form ps u (bound_at form u w) ≡ Some (bound_at form t q))
           → (m : Option Data) → u.old ≡ m → option_and_then (part_along form ps u) (result_ok (part_at form s.node p (bound_at form s o))) ≡ Some (bound_at form t q)
       on u g e rec None none = let gone = none_along ps u t e none in cc
@@ -222,22 +222,22 @@ module _ {S : Type 0} (form : WalkAccessors S) (alike : SeesAlike form) where
           ∙ ap (part_along form ps u) (sym (levels_at u n w below))
           ∙ rec w bs.1 below there
 
-      by : (g : Option (Visit S)) → goes form.shape p s ≡ g → option_and_then (leads (goes form.shape) ps) g ≡ Some t
-          → ((u : Visit S) (w : Data) → list_any is_branch ps ≡ false → u.depth + n ≡ 65 → leads (goes form.shape) ps u ≡ Some t → u.old ≡ Some w
+      by : (g : Option (Visit S)) → goes form.steps p s ≡ g → option_and_then (leads (goes form.steps) ps) g ≡ Some t
+          → ((u : Visit S) (w : Data) → list_any is_branch ps ≡ false → u.depth + n ≡ 65 → leads (goes form.steps) ps u ≡ Some t → u.old ≡ Some w
           → part_along form ps u (bound_at form u w) ≡ Some (bound_at form t q))
           → option_and_then (λ u. option_and_then (part_along form ps u) (result_ok (part_at form s.node p (bound_at form s o)))) g ≡ Some (bound_at form t q)
       by None g e rec = cc
       by (Some u) g e rec = on u g e (λ w bs below there. rec u w bs below e there) u.old refl
 
   -- within the levels that count
-  pub values_within : (s t : Visit S) (ps : List Step) → s.depth + length ps ≤ 65 → list_any is_branch ps ≡ false → leads (goes form.shape) ps s ≡ Some t
+  pub values_within : (s t : Visit S) (ps : List Step) → s.depth + length ps ≤ 65 → list_any is_branch ps ≡ false → leads (goes form.steps) ps s ≡ Some t
       → part_along form ps s (bound_at form s s.value) ≡ Some (bound_at form t t.value)
   values_within s t ps within b e =
       let there : s.depth + (65 - s.depth) ≡ 65 = omega (arith, within) in
       let short : length ps ≤ 65 - s.depth = omega (arith, within) in
       values_along ps s t (65 - s.depth) b there short e
 
-  pub olds_within : (s t : Visit S) (ps : List Step) (o q : Data) → s.depth + length ps ≤ 65 → list_any is_branch ps ≡ false → leads (goes form.shape) ps s ≡ Some t
+  pub olds_within : (s t : Visit S) (ps : List Step) (o q : Data) → s.depth + length ps ≤ 65 → list_any is_branch ps ≡ false → leads (goes form.steps) ps s ≡ Some t
       → s.old ≡ Some o → t.old ≡ Some q → part_along form ps s (bound_at form s o) ≡ Some (bound_at form t q)
   olds_within s t ps o q within b e before after =
       let there : s.depth + (65 - s.depth) ≡ 65 = omega (arith, within) in

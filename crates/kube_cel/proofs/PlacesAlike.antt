@@ -29,12 +29,12 @@ further_deeper r d path None b c u e = absurd cc
 further_deeper r d path (Some n) None c u e = absurd cc
 further_deeper r d path (Some n) (Some v) c u e = let same : visit n v c r path (d + 1) ≡ u = cc in ap (λ s. s.depth) (sym same)
 
-deeper : {S : Type 0} (shape : StepAccessors S) (p : Step) (s u : Visit S) → goes shape p s ≡ Some u → u.depth ≡ s.depth + 1
+deeper : {S : Type 0} (steps : StepAccessors S) (p : Step) (s u : Visit S) → goes steps p s ≡ Some u → u.depth ≡ s.depth + 1
 unfolding goes
-deeper shape (property k) s u e = further_deeper None s.depth (member_path s.path k) (shape.property k s.node) (get k s.value) (option_and_then (get k) s.old) u e
-deeper shape (item i) s u e = further_deeper None s.depth (item_path s.path i) (shape.items s.node) (at i s.value) (option_and_then (at i) s.old) u e
-deeper shape (additional_property k) s u e = further_deeper None s.depth (member_path s.path k) (unless_there (shape.property k s.node) (shape.additional_property s.node)) (get k s.value) (option_and_then (get k) s.old) u e
-deeper shape (branch kind j) s u e = further_deeper s.root s.depth s.path (shape.branch kind j s.node) (Some s.value) s.old u e
+deeper steps (property k) s u e = further_deeper None s.depth (member_path s.path k) (steps.property k s.node) (get k s.value) (option_and_then (get k) s.old) u e
+deeper steps (item i) s u e = further_deeper None s.depth (item_path s.path i) (steps.items s.node) (at i s.value) (option_and_then (at i) s.old) u e
+deeper steps (additional_property k) s u e = further_deeper None s.depth (member_path s.path k) (unless_there (steps.property k s.node) (steps.additional_property s.node)) (get k s.value) (option_and_then (get k) s.old) u e
+deeper steps (branch kind j) s u e = further_deeper s.root s.depth s.path (steps.branch kind j s.node) (Some s.value) s.old u e
 
 module _ {S T : Type 0} (ls : StepAccessors S) (lt : StepAccessors T) (view : S → T) where
   -- t is what s looks like

@@ -1,5 +1,5 @@
 -- A schema as JSON, as a walk asks of it.
-use Rattle.kube_cel.specs.Raw.{raw_form}
+use Rattle.kube_cel.specs.Raw.{raw_accessors}
 use Rattle.kube_schema_rules.proofs.Candidates.{CountsAll}
 use Rattle.kube_schema_rules.proofs.Raw.{raw_counts_all}
 use Rattle.kube_schema_rules.specs.Inside.{count_at}
@@ -15,9 +15,9 @@ use Rattle.kube_cel_walk.specs.WalkAccessors.{is_none_of}
 use Rattle.kube_schema_rules.specs.Compilation.{Compiled, Malformed, compiled_rule, compiled_rules}
 use Rattle.std.specs.List.{flat_map}
 
-pub raw_form_counts_all : CountsAll raw_form.shape
-unfolding raw_form
-raw_form_counts_all = raw_counts_all
+pub raw_accessors_counts_all : CountsAll raw_accessors.steps
+unfolding raw_accessors
+raw_accessors_counts_all = raw_counts_all
 
 -- ---- rules
 

@@ -40,9 +40,9 @@ reported_found (Err x) [] q = cc
 reported_found (Err x) (e ∷ es) q = let same : map error_view (errors_in x) ≡ e ∷ es = cc in same
 
 -- the computed answer is what stands at the places
-pub is_answer : {S : Type 0} (form : WalkAccessors S) → CountsAll form.shape → (b : Book) (root : Visit S) (found : List ErrorData) → found ≡ answer form b 65 root → IsAnswer form b root found
+pub is_answer : {S : Type 0} (form : WalkAccessors S) → CountsAll form.steps → (b : Book) (root : Visit S) (found : List ErrorData) → found ≡ answer form b 65 root → IsAnswer form b root found
 unfolding IsAnswer answer
-is_answer form all b root found e = subst (λ f. AreFoundAtPlaces (goes form.shape) (verdicts form b) 65 root f) (sym e) (visit_answers form.shape all (verdicts form b) 65 root)
+is_answer form all b root found e = subst (λ f. AreFoundAtPlaces (goes form.steps) (verdicts form b) 65 root f) (sym e) (visit_answers form.steps all (verdicts form b) 65 root)
 
 pub if_ok_both : {T E : Type 0} {P Q R : T → Type 0} (r : Result T E) → ((x : T) → P x → Q x → R x) → IfOk r P → IfOk r Q → IfOk r R
 if_ok_both (Ok x) f p q = f x p q

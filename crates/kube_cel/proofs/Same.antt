@@ -7,7 +7,7 @@ use Rattle.kube_schema_rules.specs.declared.branches.BranchKind.{BranchKind}
 use Rattle.kube_schema_rules.specs.declared.branches.BranchKind.TheVariants.{AllOf, OneOf, AnyOf}
 use Rattle.kube_schema_rules.specs.Inside.{count_at, keys_at}
 use Rattle.kube_schema_rules.specs.Raw as seen
-use Rattle.kube_schema_rules.specs.Raw.{raw_shape}
+use Rattle.kube_schema_rules.specs.Raw.{raw_steps}
 use Rattle.kube_schema_rules.specs.Visit.{Visit, goes, candidates}
 use Rattle.kube_schema_rules.specs.Step.{Step}
 use Rattle.kube_schema_rules.specs.Walk.{leads, places, answers}
@@ -16,7 +16,7 @@ use Rattle.kube_schema_values.proofs.Fills.{property_is}
 use Rattle.kube_schema.specs.Tree.{Node, nodes_length, nth_node}
 use Rattle.kube_schema.specs.View.{branches, children_view, items_or_none, nodes_view, own_view, view_of}
 use Rattle.kube_schema.proofs.SameDefaults.{find_same, maybe_same, unless}
-use Rattle.kube_cel.specs.CompiledShape.{compiled_shape}
+use Rattle.kube_cel.specs.CompiledSteps.{compiled_steps}
 use Rattle.kube_cel.specs.Visits.{with_node_of}
 use Rattle.kube_cel.proofs.PlacesAlike.{Alike, places_same, leads_same, answers_same}
 
@@ -43,20 +43,20 @@ nth_is f i (Some (array ds)) = nth_same f i ds
 nth_is f i (Some (object ms)) = refl
 
 module _ (n : ℕ) (s : Data) where
-  counted : (kind : BranchKind) → raw_shape.branch_count kind s ≡ compiled_shape.branch_count kind (view_of (suc n) s)
-  unfolding view_of own_view children_view raw_shape compiled_shape count_at branches
+  counted : (kind : BranchKind) → raw_steps.branch_count kind s ≡ compiled_steps.branch_count kind (view_of (suc n) s)
+  unfolding view_of own_view children_view raw_steps compiled_steps count_at branches
   counted AllOf = counts_are (view_of n) (option_and_then as_array (get (codes "allOf") s))
   counted OneOf = counts_are (view_of n) (option_and_then as_array (get (codes "oneOf") s))
   counted AnyOf = counts_are (view_of n) (option_and_then as_array (get (codes "anyOf") s))
 
-  branched : (kind : BranchKind) (i : ℕ) → option_map (view_of n) (raw_shape.branch kind i s) ≡ compiled_shape.branch kind i (view_of (suc n) s)
-  unfolding view_of own_view children_view raw_shape compiled_shape branches
+  branched : (kind : BranchKind) (i : ℕ) → option_map (view_of n) (raw_steps.branch kind i s) ≡ compiled_steps.branch kind i (view_of (suc n) s)
+  unfolding view_of own_view children_view raw_steps compiled_steps branches
   branched AllOf i = nth_is (view_of n) i (get (codes "allOf") s)
   branched OneOf i = nth_is (view_of n) i (get (codes "oneOf") s)
   branched AnyOf i = nth_is (view_of n) i (get (codes "anyOf") s)
 
-  pub alike : Alike raw_shape compiled_shape (view_of n) s (view_of (suc n) s)
-  unfolding view_of own_view children_view raw_shape compiled_shape seen.declared_property seen.undeclared_property keys_at declared_properties preserves additional property
+  pub alike : Alike raw_steps compiled_steps (view_of n) s (view_of (suc n) s)
+  unfolding view_of own_view children_view raw_steps compiled_steps seen.declared_property seen.undeclared_property keys_at declared_properties preserves additional property
   alike = record {
     property = λ k. ap (option_map (view_of n)) (property_is k s) ∙ find_same (view_of n) k (members_or_none (declared_properties s));
     items = maybe_same (view_of n) (get (codes "items") s);
@@ -65,13 +65,13 @@ module _ (n : ℕ) (s : Data) where
     branch = branched;
   }
 
-pub tree_places : (n : ℕ) (s : Visit Data) → places (goes raw_shape) (candidates raw_shape) n s ≡ places (goes compiled_shape) (candidates compiled_shape) n (with_node_of (view_of n) s)
-tree_places = places_same raw_shape compiled_shape view_of alike
+pub tree_places : (n : ℕ) (s : Visit Data) → places (goes raw_steps) (candidates raw_steps) n s ≡ places (goes compiled_steps) (candidates compiled_steps) n (with_node_of (view_of n) s)
+tree_places = places_same raw_steps compiled_steps view_of alike
 
-pub tree_leads : (n : ℕ) (ps : List Step) (s : Visit Data) → option_map (with_node_of (view_of n)) (leads (goes raw_shape) ps s) ≡ leads (goes compiled_shape) ps (with_node_of (view_of (n + length ps)) s)
-tree_leads = leads_same raw_shape compiled_shape view_of alike
+pub tree_leads : (n : ℕ) (ps : List Step) (s : Visit Data) → option_map (with_node_of (view_of n)) (leads (goes raw_steps) ps s) ≡ leads (goes compiled_steps) ps (with_node_of (view_of (n + length ps)) s)
+tree_leads = leads_same raw_steps compiled_steps view_of alike
 
 -- what is found at all places of the tree is what is found at all places of the schema, where the same is found at each visit
 pub tree_answers : {E : Type 0} (found : Visit Data → List E) (found_in_tree : Visit Node → List E) (levels : ℕ) → ((n : ℕ) (s : Visit Data) → s.depth + n ≡ levels → found s ≡ found_in_tree (with_node_of (view_of n) s))
-    → (n : ℕ) (s : Visit Data) → s.depth + n ≡ levels → answers (goes raw_shape) (candidates raw_shape) found n s ≡ answers (goes compiled_shape) (candidates compiled_shape) found_in_tree n (with_node_of (view_of n) s)
-tree_answers = answers_same raw_shape compiled_shape view_of alike
+    → (n : ℕ) (s : Visit Data) → s.depth + n ≡ levels → answers (goes raw_steps) (candidates raw_steps) found n s ≡ answers (goes compiled_steps) (candidates compiled_steps) found_in_tree n (with_node_of (view_of n) s)
+tree_answers = answers_same raw_steps compiled_steps view_of alike

@@ -8,8 +8,8 @@ use Rattle.cel_semantics.specs.Bindings.{Bindings}
 use Rattle.cel_syntax_ast.specs.Term.{Term}
 use Rattle.kube_cel.proofs.Alike.{judged_alike}
 use Rattle.kube_cel.specs.Answers.{report_of}
-use Rattle.kube_cel.specs.Compiled.{compiled_form}
-use Rattle.kube_cel.specs.Raw.{raw_form}
+use Rattle.kube_cel.specs.Compiled.{compiled_accessors}
+use Rattle.kube_cel.specs.Raw.{raw_accessors}
 use Rattle.kube_cel.specs.Starts.{defaulted_start, tree_start}
 use Rattle.kube_cel_walk.specs.Errors.{ErrorData}
 use Rattle.kube_cel_walk.specs.RuleErrors.{too_deep}
@@ -52,7 +52,7 @@ module _ (a b : Book) (alike : (text : List ℕ) → IsRefused a text ↔ IsRefu
 
     pub answer_same : (n : ℕ) (s : Visit S) → answer form a n s ≡ answer form b n s
     unfolding answer
-    answer_same n s = λ i. answers (goes form.shape) (candidates form.shape) (λ t. verdicts_same t i) n s
+    answer_same n s = λ i. answers (goes form.steps) (candidates form.steps) (λ t. verdicts_same t i) n s
 
 pub plain_same : {S : Type 0} (a b : Book) → IsBook a → IsBook b → IsPlain a → IsPlain b → (form : WalkAccessors S) (root : Visit S) → answer form a 65 root ≡ answer form b 65 root
 plain_same a b is_a is_b plain_a plain_b form root = answer_same a b (plain_alike a b is_a is_b plain_a plain_b) form 65 root
@@ -64,15 +64,15 @@ Report = Result (Unit {0}) (List ErrorData)
 
 -- one call after the other, by the schema and by its tree in either order: under the book as it is at the end both answer one list
 pub tree_after_schema : (between after : Book) (schema value : Data) (old : Option Data) (root : Option Root) (first second : Report) → Extends after between
-    → ((b : Book) → Extends b between → first ≡ report_of (answer raw_form b 65 (defaulted_start schema value old root)))
-    → ((b : Book) → Extends b after → second ≡ report_of (answer compiled_form b 65 (tree_start (view_of 65 schema) value old root)))
+    → ((b : Book) → Extends b between → first ≡ report_of (answer raw_accessors b 65 (defaulted_start schema value old root)))
+    → ((b : Book) → Extends b after → second ≡ report_of (answer compiled_accessors b 65 (tree_start (view_of 65 schema) value old root)))
     → first ≡ second
 tree_after_schema between after schema value old root first second kept f s =
     f after kept ∙ sym (ap report_of (judged_alike after schema value old root (view_of 65 schema) refl)) ∙ sym (s after (Extends-refl after))
 
 pub schema_after_tree : (between after : Book) (schema value : Data) (old : Option Data) (root : Option Root) (first second : Report) → Extends after between
-    → ((b : Book) → Extends b between → first ≡ report_of (answer compiled_form b 65 (tree_start (view_of 65 schema) value old root)))
-    → ((b : Book) → Extends b after → second ≡ report_of (answer raw_form b 65 (defaulted_start schema value old root)))
+    → ((b : Book) → Extends b between → first ≡ report_of (answer compiled_accessors b 65 (tree_start (view_of 65 schema) value old root)))
+    → ((b : Book) → Extends b after → second ≡ report_of (answer raw_accessors b 65 (defaulted_start schema value old root)))
     → first ≡ second
 schema_after_tree between after schema value old root first second kept f s =
     f after kept ∙ ap report_of (judged_alike after schema value old root (view_of 65 schema) refl) ∙ sym (s after (Extends-refl after))

@@ -1,7 +1,7 @@
 -- Trusted by laws alone.
 -- A schema with rules added to those of one of its nodes.
 use Rattle.kube_schema_rules.specs.declared.branches.BranchKind.{BranchKind}
-use Rattle.kube_schema_rules.specs.Step as place
+use Rattle.kube_schema_rules.specs.Step as step
 use Rattle.kube_schema_rules.specs.Step.{branch_rank, keyword}
 use Rattle.serde_json.specs.Data.{Data, null, boolean, number, string, array, object, Items, no_items, item, Members, no_members, member}
 use Rattle.std.specs.Prelude.{ℕ, zero, suc, ◌==◌, ◌&&◌, List, [], ◌∷◌, Bool, if◌then◌else◌, Option, Some, None, option_and_then, codes}
@@ -79,11 +79,11 @@ with_rules more (t ∷ ts) = with_key (keyword_of t) (within t (with_rules more 
 -- ---- the places of that node
 
 -- the step of the schema in a step of a schema and a value
-abbrev pub node_step : place.Step → NodeStep
-node_step (place.property k) = to_property k
-node_step (place.item i) = to_items
-node_step (place.additional_property k) = to_additional
-node_step (place.branch kind i) = to_branch kind i
+abbrev pub node_step : step.Step → NodeStep
+node_step (step.property k) = to_property k
+node_step (step.item i) = to_items
+node_step (step.additional_property k) = to_additional
+node_step (step.branch kind i) = to_branch kind i
 
 abbrev pub rank : NodeStep → ℕ
 rank (to_property k) = 0
@@ -101,11 +101,11 @@ abbrev pub same_step : NodeStep → NodeStep → Bool
 same_step t u = (rank t == rank u) && bytes_eq (content t) (content u)
 
 -- the steps to the node that are left behind one step of a place, or none, where it leads elsewhere
-abbrev pub left_after : place.Step → List NodeStep → Option (List NodeStep)
+abbrev pub left_after : step.Step → List NodeStep → Option (List NodeStep)
 left_after p [] = None
 left_after p (t ∷ ts) = if same_step t (node_step p) then Some ts else None
 
 -- and behind all steps of a place
-abbrev pub left_behind : List place.Step → Option (List NodeStep) → Option (List NodeStep)
+abbrev pub left_behind : List step.Step → Option (List NodeStep) → Option (List NodeStep)
 left_behind [] r = r
 left_behind (p ∷ ps) r = left_behind ps (option_and_then (left_after p) r)

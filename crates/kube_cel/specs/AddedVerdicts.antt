@@ -2,9 +2,9 @@
 -- What is answered where rules were added to those of one node of a schema.
 use Rattle.cel_patterns.specs.Book.{Book}
 use Rattle.kube_cel.specs.Added.{NodeStep, left_behind}
-use Rattle.kube_cel.specs.Raw.{raw_form}
+use Rattle.kube_cel.specs.Raw.{raw_accessors}
 use Rattle.kube_cel_walk.specs.Errors.{ErrorData}
-use Rattle.kube_schema_rules.specs.Raw.{raw_shape}
+use Rattle.kube_schema_rules.specs.Raw.{raw_steps}
 use Rattle.kube_schema_rules.specs.Visit.{Visit, goes}
 use Rattle.kube_schema_rules.specs.Step.{Step}
 use Rattle.kube_schema_rules.specs.Walk.{ArePlaces, if_some, leads}
@@ -18,11 +18,16 @@ use Rattle.std.specs.Prelude.{◌≡◌, ◌==◌, List, [], ◌∷◌, ◌++◌
 
 -- the rules that were added, where the node has a list of rules
 abbrev pub added_rules : Items → Data → List (Result Compiled Malformed)
-added_rules more node = if is_some (option_and_then as_array (get (codes "x-kubernetes-validations") node)) then compiled_rules more else []
+added_rules more node =
+    if is_some (option_and_then as_array (get (codes "x-kubernetes-validations") node))
+    then compiled_rules more else []
 
 -- their verdicts at a visit, by the bindings that all rules have there; past depth 64 none
 unfoldable pub added_verdicts : Book → Items → Visit Data → List ErrorData
-added_verdicts b more s = if s.depth == 65 then [] else flat_map (λ r. list_of_option (verdict b (place_bindings raw_form s) s.old s.path r)) (added_rules more s.node)
+added_verdicts b more s =
+    if s.depth == 65 then []
+    else flat_map (λ r. list_of_option (verdict b (place_bindings raw_accessors s) s.old s.path r))
+    (added_rules more s.node)
 
 -- only where no step is left
 abbrev pub if_there : {E : Type 0} → Option (List NodeStep) → List E → List E
@@ -32,16 +37,18 @@ if_there (Some (t ∷ ts)) es = []
 
 -- what is found at a place
 unfoldable pub found_at : Book → Visit Data → List Step → List ErrorData
-found_at b root p = if_some (verdicts raw_form b) (leads (goes raw_shape) p root)
+found_at b root p = if_some (verdicts raw_accessors b) (leads (goes raw_steps) p root)
 
 -- and what the rules add that were added to the node at these steps: their verdicts at the places of that node, and nothing elsewhere
 unfoldable pub added_at : Book → Items → List NodeStep → Visit Data → List Step → List ErrorData
-added_at b more node root p = if_there (left_behind p (Some node)) (if_some (added_verdicts b more) (leads (goes raw_shape) p root))
+added_at b more node root p =
+    if_there (left_behind p (Some node)) (if_some (added_verdicts b more) (leads (goes raw_steps) p root))
 
 -- The errors before and after: those at the same places in the same order, and at each place what was found there before, and behind it what
 -- the rules add that were added.
-pub record AddsAlone (b : Book) (more : Items) (node : List NodeStep) (root : Visit Data) (before after : List ErrorData) : Type 0 where
+pub record AddsAlone (b : Book) (more : Items) (node : List NodeStep)
+    (root : Visit Data) (before after : List ErrorData) : Type 0 where
   pub all_places : List (List Step)
-  pub are_all : ArePlaces (goes raw_shape) 65 root all_places
+  pub are_all : ArePlaces (goes raw_steps) 65 root all_places
   pub before_is : before ≡ flat_map (found_at b root) all_places
   pub after_is : after ≡ flat_map (λ p. found_at b root p ++ added_at b more node root p) all_places

@@ -1,14 +1,14 @@
 -- Trusted by the clauses of other library calls.
 -- A schema that was compiled, as its tree of nodes.
-use Rattle.kube_cel.specs.CompiledShape.{compiled_shape}
+use Rattle.kube_cel.specs.CompiledSteps.{compiled_steps}
 use Rattle.kube_cel_walk.specs.WalkAccessors.{WalkAccessors}
 use Rattle.kube_schema.specs.Tree.{Node, own}
 use Rattle.kube_schema.specs.CompiledConversion.{tree_accessors}
 
 -- its rules were read when it was compiled
-unfoldable pub compiled_form : WalkAccessors Node
-compiled_form = record {
-  shape = compiled_shape;
-  accessors = tree_accessors;
+unfoldable pub compiled_accessors : WalkAccessors Node
+compiled_accessors = record {
+  steps = compiled_steps;
+  conversion = tree_accessors;
   rules = λ node. (own node).validations;
 }

@@ -1,4 +1,4 @@
-pub mod CompiledShape
+pub mod CompiledSteps
 pub mod Visits
 pub mod Added
 pub mod AddedVerdicts

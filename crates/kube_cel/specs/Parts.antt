@@ -20,12 +20,14 @@ is_branch (branch kind j) = true
 module _ {S : Type 0} (form : WalkAccessors S) where
   -- in the value at a node: `self.name`, where the name is a map's own or else escaped, and `self[index]`
   abbrev pub part_at : S → Step → Data → Outcome
-  part_at node (property k) v = selection (text_key (member_key form.accessors node k)) v
+  part_at node (property k) v = selection (text_key (member_key form.conversion node k)) v
   part_at node (item i) v = index_outcome v (int (pos i))
-  part_at node (additional_property k) v = selection (text_key (member_key form.accessors node k)) v
+  part_at node (additional_property k) v = selection (text_key (member_key form.conversion node k)) v
   part_at node (branch kind j) v = Ok v
 
   -- and so on, along all steps, if each is allowed
   unfoldable pub part_along : List Step → Visit S → Data → Option Data
   part_along [] s v = Some v
-  part_along (p ∷ ps) s v = option_and_then (λ t. option_and_then (part_along ps t) (result_ok (part_at s.node p v))) (goes form.shape p s)
+  part_along (p ∷ ps) s v =
+      option_and_then (λ t. option_and_then (part_along ps t) (result_ok (part_at s.node p v)))
+      (goes form.steps p s)

@@ -1,6 +1,6 @@
 -- Trusted by the headline.
 -- A schema as JSON.
-use Rattle.kube_schema_rules.specs.Raw.{raw_shape}
+use Rattle.kube_schema_rules.specs.Raw.{raw_steps}
 use Rattle.kube_cel_walk.specs.WalkAccessors.{WalkAccessors}
 use Rattle.kube_schema_rules.specs.Compilation.{compiled_rules}
 use Rattle.kube_schema_rules.specs.Rules.{rule_items}
@@ -8,9 +8,9 @@ use Rattle.kube_schema_values.specs.Conversion.{raw}
 use Rattle.serde_json.specs.Data.{Data}
 
 -- its rules are read where they stand
-unfoldable pub raw_form : WalkAccessors Data
-raw_form = record {
-  shape = raw_shape;
-  accessors = raw;
+unfoldable pub raw_accessors : WalkAccessors Data
+raw_accessors = record {
+  steps = raw_steps;
+  conversion = raw;
   rules = λ node. compiled_rules (rule_items node);
 }

@@ -119,7 +119,9 @@ text_set : IsSet (List ℕ)
 text_set = List-set ℕ_set
 
 plain_set : IsSet Plain
-plain_set = Plain-set Data-set text_set (Coded-set (unary_operator.the_row).coded) (Coded-set (binary_operator.the_row).coded) (Coded-set (macro_kind.the_row).coded)
+plain_set =
+    Plain-set Data-set text_set (Coded-set (unary_operator.the_row).coded)
+    (Coded-set (binary_operator.the_row).coded) (Coded-set (macro_kind.the_row).coded)
 
 option_set : {A : Type 0} → IsSet A → IsSet (Option A)
 option_set set = retract_set to_list of_list list_back (List-set set)

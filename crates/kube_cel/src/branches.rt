@@ -1,6 +1,6 @@
 //! The branches of a node of a compiled schema, by keyword.
 ghost use Rattle.std.specs.Prelude.{◌≡◌, option_map};
-ghost use Rattle.kube_cel.specs.CompiledShape.{branches_of};
+ghost use Rattle.kube_cel.specs.CompiledSteps.{branches_of};
 ghost use Rattle.kube_schema.specs.Shown.{node_tree};
 ghost use Rattle.kube_schema.specs.Tree.{nodes_length, nth_node};
 

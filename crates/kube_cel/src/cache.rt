@@ -83,7 +83,8 @@ impl RuleCache {
         &self,
         rule: &Rule,
     ) -> Result<Option<Rc<Result<CompilationResult, CompilationError>>>, AllocError>
-        ensures { IfOk result (λ found. IfSome found (λ r. compiled_seen r.value ≡ compile_result (rule_view rule.now))) }
+        ensures { IfOk result (λ found. IfSome found (λ r. compiled_seen r.value
+            ≡ compile_result (rule_view rule.now))) }
     {
         let Ok(entries) = self.entries.try_borrow() else {
             return Ok(None);

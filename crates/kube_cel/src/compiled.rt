@@ -2,7 +2,7 @@
 ghost use Rattle.cel_patterns.specs.Book.{Extends, Book};
 ghost use Rattle.cel_patterns.specs.Entries.{entries_of};
 ghost use Rattle.cel_semantics.specs.Bindings.{bindings_of};
-ghost use Rattle.kube_cel.specs.CompiledShape.{compiled_shape};
+ghost use Rattle.kube_cel.specs.CompiledSteps.{compiled_steps};
 ghost use Rattle.kube_cel_walk.specs.AddedErrors.{AreAdded};
 ghost use Rattle.kube_cel_walk.specs.Verdicts.{list_of_option, verdict};
 ghost use Rattle.kube_schema_rules.specs.Compilation.{compiled_seen};
@@ -31,9 +31,9 @@ pub(crate) struct CompiledNode<'a> {
 }
 
 /// The node of the members whose names aren't declared.
-#[tactic(auto, unfolding(crate::specs::CompiledShape::compiled_shape))]
+#[tactic(auto, unfolding(crate::specs::CompiledSteps::compiled_steps))]
 fn additional_property<'a>(node: &SchemaNode<'a>) -> Option<SchemaNode<'a>>
-    ensures { option_map node_tree result ≡ compiled_shape.additional_property (node_tree node.now) }
+    ensures { option_map node_tree result ≡ compiled_steps.additional_property (node_tree node.now) }
 {
     if node.preserve_unknown_fields() {
         return None;
@@ -52,7 +52,9 @@ fn add_verdicts(
 ) -> Result<(), Refused>
     ensures keeps { (b : Book) → Extends b (entries_of book.new) → Extends b (entries_of book.old) }
     ensures found { OnOk result (AreAdded (entries_of book.new) errors.old.items errors.new.items
-        (λ b. flat_map (λ r. list_of_option (verdict b (bindings_of context.now) (option_map (λ v. view v.now) old.entry) path.now (compiled_seen r))) rules.now)) }
+        (λ b. flat_map (λ r. list_of_option
+        (verdict b (bindings_of context.now)
+        (option_map (λ v. view v.now) old.entry) path.now (compiled_seen r))) rules.now)) }
     ensures memory { IfErr result (λ e. e ≡ Refused.Memory) }
 {
     for rule in rules {
@@ -62,7 +64,7 @@ fn add_verdicts(
 }
 
 impl Node for CompiledNode<'_> {
-    ghost use Rattle.kube_cel.specs.Compiled.{compiled_form};
+    ghost use Rattle.kube_cel.specs.Compiled.{compiled_accessors};
     ghost use Rattle.kube_schema.specs.Shown.{node_tree};
     ghost use Rattle.kube_schema.specs.Tree.{Node as Tree};
 
@@ -70,43 +72,43 @@ impl Node for CompiledNode<'_> {
 
     ghost seen = { λ n. node_tree n.node };
 
-    ghost form = { compiled_form };
+    ghost form = { compiled_accessors };
 
-    #[tactic(auto, unfolding(crate::specs::Compiled::compiled_form, crate::specs::CompiledShape::compiled_shape))]
+    #[tactic(auto, unfolding(crate::specs::Compiled::compiled_accessors, crate::specs::CompiledSteps::compiled_steps))]
     fn property(&self, name: &str) -> Option<Self> {
         let node = self.node.property_named(name)?;
         Some(CompiledNode { node })
     }
 
-    #[tactic(auto, unfolding(crate::specs::Compiled::compiled_form, crate::specs::CompiledShape::compiled_shape))]
+    #[tactic(auto, unfolding(crate::specs::Compiled::compiled_accessors, crate::specs::CompiledSteps::compiled_steps))]
     fn items(&self) -> Option<Self> {
         let node = self.node.items()?;
         Some(CompiledNode { node })
     }
 
-    #[tactic(auto, unfolding(crate::specs::Compiled::compiled_form, crate::specs::CompiledShape::compiled_shape))]
+    #[tactic(auto, unfolding(crate::specs::Compiled::compiled_accessors, crate::specs::CompiledSteps::compiled_steps))]
     fn additional_property(&self) -> Option<Self> {
         let node = additional_property(&self.node)?;
         Some(CompiledNode { node })
     }
 
-    #[tactic(auto, unfolding(crate::specs::Compiled::compiled_form, crate::specs::CompiledShape::compiled_shape))]
+    #[tactic(auto, unfolding(crate::specs::Compiled::compiled_accessors, crate::specs::CompiledSteps::compiled_steps))]
     fn branch_count(&self, kind: BranchKind) -> usize {
         branch_count(&self.node, kind)
     }
 
-    #[tactic(auto, unfolding(crate::specs::Compiled::compiled_form, crate::specs::CompiledShape::compiled_shape))]
+    #[tactic(auto, unfolding(crate::specs::Compiled::compiled_accessors, crate::specs::CompiledSteps::compiled_steps))]
     fn branch(&self, kind: BranchKind, index: usize) -> Option<Self> {
         let node = branch_of(&self.node, kind, index)?;
         Some(CompiledNode { node })
     }
 
-    #[tactic(auto, unfolding(crate::specs::Compiled::compiled_form))]
+    #[tactic(auto, unfolding(crate::specs::Compiled::compiled_accessors))]
     fn demands(&self, _alloc: Global) -> Result<NodeDemands<'_>, Refused> {
         Ok(NodeDemands::Known(self.node.demands()))
     }
 
-    #[tactic(auto, unfolding(crate::specs::Compiled::compiled_form))]
+    #[tactic(auto, unfolding(crate::specs::Compiled::compiled_accessors))]
     fn bind_part(
         &self,
         alloc: Global,
@@ -118,12 +120,12 @@ impl Node for CompiledNode<'_> {
         Ok(part)
     }
 
-    #[tactic(auto, unfolding(crate::specs::Compiled::compiled_form))]
+    #[tactic(auto, unfolding(crate::specs::Compiled::compiled_accessors))]
     fn is_without_rules(&self) -> bool {
         self.node.validations().is_empty()
     }
 
-    #[tactic(auto, unfolding(crate::specs::Compiled::compiled_form))]
+    #[tactic(auto, unfolding(crate::specs::Compiled::compiled_accessors))]
     fn add_verdicts(
         &self,
         context: &Context<'_>,

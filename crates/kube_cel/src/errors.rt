@@ -24,7 +24,8 @@ pub(crate) fn validation_of<N: Node>(
     ensures kept { Extends (entries_of book.new) (entries_of book.old) }
     ensures memory { IfErr result (λ e. e ≡ Refused.Memory) }
     ensures answer { IfOk result (λ r. (b : Book) → Extends b (entries_of book.new)
-        → answer_view r ≡ report_of (answer N.form b 65 (start_without_defaults (N.seen node) object.now old.entry root.entry))) }
+        → answer_view r ≡ report_of
+        (answer N.form b 65 (start_without_defaults (N.seen node) object.now old.entry root.entry))) }
 {
     let mut path = String::new(alloc);
     let mut errors = Vec::new(alloc);

@@ -5,13 +5,13 @@ ghost use Rattle.cel_patterns.specs.declared.book.PatternBook.{PatternBook};
 ghost use Rattle.kube_cel.specs.Added.{NodeStep, with_rules};
 ghost use Rattle.kube_cel.specs.AddedVerdicts.{AddsAlone};
 ghost use Rattle.kube_cel.specs.Answers.{report_of};
-ghost use Rattle.kube_cel.specs.Compiled.{compiled_form};
-ghost use Rattle.kube_cel.specs.CompiledShape.{compiled_shape};
+ghost use Rattle.kube_cel.specs.Compiled.{compiled_accessors};
+ghost use Rattle.kube_cel.specs.CompiledSteps.{compiled_steps};
 ghost use Rattle.kube_cel.specs.Parts.{is_branch, part_along};
-ghost use Rattle.kube_cel.specs.Raw.{raw_form};
+ghost use Rattle.kube_cel.specs.Raw.{raw_accessors};
 ghost use Rattle.kube_cel.specs.Starts.{defaulted_start, tree_start};
 ghost use Rattle.kube_cel.specs.Visits.{with_node_of};
-ghost use Rattle.kube_schema_rules.specs.Raw.{raw_shape};
+ghost use Rattle.kube_schema_rules.specs.Raw.{raw_steps};
 ghost use Rattle.kube_schema_rules.specs.Step.{Step};
 ghost use Rattle.kube_schema_rules.specs.Visit.{Visit, candidates, goes, Root, root_visit};
 ghost use Rattle.kube_schema_rules.specs.Walk.{answers, leads, places};
@@ -27,10 +27,11 @@ ghost use Rattle.std.specs.Prelude.{◌≡◌, ◌+◌, ℕ, List, length, optio
 /// The places of a schema are those of its tree, in the same order, and the same steps lead to the same visits: the node is the tree of the
 /// schema there.
 pub fn the_tree_has_the_same_places()
-    ensures places { (n : ℕ) (s : Visit Data) → places (goes raw_shape) (candidates raw_shape) n s
-        ≡ places (goes compiled_shape) (candidates compiled_shape) n (with_node_of (view_of n) s) }
-    ensures visits { (n : ℕ) (s : Visit Data) (p : List Step) → option_map (with_node_of (view_of n)) (leads (goes raw_shape) p s)
-        ≡ leads (goes compiled_shape) p (with_node_of (view_of (n + length p)) s) }
+    ensures places { (n : ℕ) (s : Visit Data) → places (goes raw_steps) (candidates raw_steps) n s
+        ≡ places (goes compiled_steps) (candidates compiled_steps) n (with_node_of (view_of n) s) }
+    ensures visits { (n : ℕ) (s : Visit Data) (p : List Step)
+        → option_map (with_node_of (view_of n)) (leads (goes raw_steps) p s)
+        ≡ leads (goes compiled_steps) p (with_node_of (view_of (n + length p)) s) }
 {}
 
 /// What is found at all places of a schema is found at all places of its tree, if at each visit the same is found.
@@ -39,8 +40,8 @@ pub fn the_tree_is_answered_alike<E>()
         → ((n : ℕ) (s : Visit Data) → s.depth + n ≡ levels → found s
         ≡ found_in_tree (with_node_of (view_of n) s))
         → (n : ℕ) (s : Visit Data) → s.depth + n ≡ levels
-        → answers (goes raw_shape) (candidates raw_shape) found n s
-        ≡ answers (goes compiled_shape) (candidates compiled_shape) found_in_tree n
+        → answers (goes raw_steps) (candidates raw_steps) found n s
+        ≡ answers (goes compiled_steps) (candidates compiled_steps) found_in_tree n
         (with_node_of (view_of n) s) }
 {}
 
@@ -48,18 +49,21 @@ pub fn the_tree_is_answered_alike<E>()
 /// of values that each has filled with its defaults, and of values as they are.
 pub fn a_compiled_schema_answers_alike()
     ensures filled { (b : Book) (schema value : Data) (old : Option Data) (root : Option Root)
-        → answer raw_form b 65 (defaulted_start schema value old root) ≡ answer compiled_form b 65 (tree_start (view_of 65 schema) value old root) }
+        → answer raw_accessors b 65 (defaulted_start schema value old root)
+        ≡ answer compiled_accessors b 65 (tree_start (view_of 65 schema) value old root) }
     ensures plain { (b : Book) (schema value : Data) (old : Option Data) (root : Option Root)
-        → answer raw_form b 65 (root_visit schema value old root) ≡ answer compiled_form b 65 (root_visit (view_of 65 schema) value old root) }
+        → answer raw_accessors b 65 (root_visit schema value old root)
+        ≡ answer compiled_accessors b 65 (root_visit (view_of 65 schema) value old root) }
 {}
 
 /// Under one book, rules that are added behind the last one of a node leave all other errors as they were: at each place stands what was
 /// found there before, in the same order, and behind it, at the places of that node alone, the verdicts of the added rules.
 pub fn added_rules_leave_all_other_errors()
-    ensures { (b : Book) (schema value : Data) (old : Option Data) (root : Option Root) (more : Items) (node : List NodeStep)
+    ensures { (b : Book) (schema value : Data) (old : Option Data)
+        (root : Option Root) (more : Items) (node : List NodeStep)
         → AddsAlone b more node (defaulted_start schema value old root)
-        (answer raw_form b 65 (defaulted_start schema value old root))
-        (answer raw_form b 65 (defaulted_start (with_rules more node schema) value old root)) }
+        (answer raw_accessors b 65 (defaulted_start schema value old root))
+        (answer raw_accessors b 65 (defaulted_start (with_rules more node schema) value old root)) }
 {}
 
 /// What is answered rests on a book only by which texts the book refuses, whatever form the schema has. So all plain books give one list.
@@ -73,16 +77,20 @@ pub fn books_that_refuse_alike_give_one_list<S>()
 /// One book that is lent to two calls, by the schema and by its tree in either order, gives one list: what the first call answers holds under
 /// each book that has the entries between the calls, and the book has them also at the end.
 pub fn one_lent_book_gives_one_list()
-    ensures tree_second { (between after : Book) (schema value : Data) (old : Option Data) (root : Option Root)
+    ensures tree_second { (between after : Book) (schema value : Data)
+        (old : Option Data) (root : Option Root)
         (first second : Result (Unit {0}) (List ErrorData)) → Extends after between
-        → ((b : Book) → Extends b between → first ≡ report_of (answer raw_form b 65 (defaulted_start schema value old root)))
+        → ((b : Book) → Extends b between
+        → first ≡ report_of (answer raw_accessors b 65 (defaulted_start schema value old root)))
         → ((b : Book) → Extends b after
-        → second ≡ report_of (answer compiled_form b 65 (tree_start (view_of 65 schema) value old root))) → first ≡ second }
+        → second ≡ report_of (answer compiled_accessors b 65 (tree_start (view_of 65 schema) value old root)))
+        → first ≡ second }
     ensures tree_first { (between after : Book) (schema value : Data) (old : Option Data) (root : Option Root)
         (first second : Result (Unit {0}) (List ErrorData)) → Extends after between
         → ((b : Book) → Extends b between
-        → first ≡ report_of (answer compiled_form b 65 (tree_start (view_of 65 schema) value old root)))
-        → ((b : Book) → Extends b after → second ≡ report_of (answer raw_form b 65 (defaulted_start schema value old root)))
+        → first ≡ report_of (answer compiled_accessors b 65 (tree_start (view_of 65 schema) value old root)))
+        → ((b : Book) → Extends b after
+        → second ≡ report_of (answer raw_accessors b 65 (defaulted_start schema value old root)))
         → first ≡ second }
 {}
 
@@ -98,17 +106,26 @@ pub fn a_plain_lent_book_gives_the_plain_list<S>()
 /// (escaped, but in a map), or the item at the index. Steps to branches stay at the value, whose node then binds it anew: they are left out.
 /// The same holds of `oldSelf`, where there is one. So a value that was bound at the root need not be bound again at the places within it.
 pub fn self_is_the_part_of_the_roots()
-    ensures schema { (root place : Visit Data) (steps : List Step) → root.depth + length steps ≤ 65 → list_any is_branch steps ≡ false
-        → leads (goes raw_form.shape) steps root ≡ Some place
-        → part_along raw_form steps root (bound_at raw_form root root.value) ≡ Some (bound_at raw_form place place.value) }
-    ensures schema_old { (root place : Visit Data) (steps : List Step) (old part : Data) → root.depth + length steps ≤ 65
-        → list_any is_branch steps ≡ false → leads (goes raw_form.shape) steps root ≡ Some place → root.old ≡ Some old → place.old ≡ Some part
-        → part_along raw_form steps root (bound_at raw_form root old) ≡ Some (bound_at raw_form place part) }
-    ensures tree { (root place : Visit Node) (steps : List Step) → root.depth + length steps ≤ 65 → list_any is_branch steps ≡ false
-        → leads (goes compiled_form.shape) steps root ≡ Some place
-        → part_along compiled_form steps root (bound_at compiled_form root root.value) ≡ Some (bound_at compiled_form place place.value) }
-    ensures tree_old { (root place : Visit Node) (steps : List Step) (old part : Data) → root.depth + length steps ≤ 65
-        → list_any is_branch steps ≡ false → leads (goes compiled_form.shape) steps root ≡ Some place
+    ensures schema { (root place : Visit Data) (steps : List Step)
+        → root.depth + length steps ≤ 65 → list_any is_branch steps ≡ false
+        → leads (goes raw_accessors.steps) steps root ≡ Some place
+        → part_along raw_accessors steps root (bound_at raw_accessors root root.value)
+        ≡ Some (bound_at raw_accessors place place.value) }
+    ensures schema_old { (root place : Visit Data) (steps : List Step) (old part : Data)
+        → root.depth + length steps ≤ 65
+        → list_any is_branch steps ≡ false → leads (goes raw_accessors.steps) steps root ≡ Some place
         → root.old ≡ Some old → place.old ≡ Some part
-        → part_along compiled_form steps root (bound_at compiled_form root old) ≡ Some (bound_at compiled_form place part) }
+        → part_along raw_accessors steps root (bound_at raw_accessors root old)
+        ≡ Some (bound_at raw_accessors place part) }
+    ensures tree { (root place : Visit Node) (steps : List Step)
+        → root.depth + length steps ≤ 65 → list_any is_branch steps ≡ false
+        → leads (goes compiled_accessors.steps) steps root ≡ Some place
+        → part_along compiled_accessors steps root (bound_at compiled_accessors root root.value)
+        ≡ Some (bound_at compiled_accessors place place.value) }
+    ensures tree_old { (root place : Visit Node) (steps : List Step) (old part : Data)
+        → root.depth + length steps ≤ 65
+        → list_any is_branch steps ≡ false → leads (goes compiled_accessors.steps) steps root ≡ Some place
+        → root.old ≡ Some old → place.old ≡ Some part
+        → part_along compiled_accessors steps root (bound_at compiled_accessors root old)
+        ≡ Some (bound_at compiled_accessors place part) }
 {}

@@ -79,9 +79,11 @@ fn with_demands(
     demands: Demands,
 ) -> Result<Demands, Refused>
     ensures value { IfOk result (λ d. option_map part_of d.value
-        ≡ both_read (rule_read (codes "self") (compiled_rule (view rule.now))) (option_map part_of demands.value)) }
+        ≡ both_read (rule_read (codes "self") (compiled_rule (view rule.now)))
+        (option_map part_of demands.value)) }
     ensures old { IfOk result (λ d. option_map part_of d.old
-        ≡ both_read (rule_read (codes "oldSelf") (compiled_rule (view rule.now))) (option_map part_of demands.old)) }
+        ≡ both_read (rule_read (codes "oldSelf") (compiled_rule (view rule.now)))
+        (option_map part_of demands.old)) }
     ensures memory { IfErr result (λ e. e ≡ Refused.Memory) }
 {
     let compiled = cache.compiled(rule)?;
@@ -91,7 +93,8 @@ fn with_demands(
 
 /// What rules read as JSON gives them.
 fn demands_of(alloc: Global, rules: &[Value], cache: &RuleCache) -> Result<Demands, Refused>
-    ensures demands { IfOk result (λ d. AreDemands d (λ x. rules_read x (compiled_rules (items_view rules.now)))) }
+    ensures demands { IfOk result
+        (λ d. AreDemands d (λ x. rules_read x (compiled_rules (items_view rules.now)))) }
     ensures memory { IfErr result (λ e. e ≡ Refused.Memory) }
 {
     let mut demands = no_demands();
@@ -115,7 +118,8 @@ fn add_raw_verdict(
 ) -> Result<(), Refused>
     ensures keeps { (b : Book) → Extends b (entries_of book.new) → Extends b (entries_of book.old) }
     ensures found { OnOk result (AreAdded (entries_of book.new) errors.old.items errors.new.items
-        (λ b. list_of_option (verdict b (bindings_of context.now) (option_map (λ v. view v.now) old.entry) path.now (compiled_rule (view rule.now))))) }
+        (λ b. list_of_option (verdict b (bindings_of context.now)
+        (option_map (λ v. view v.now) old.entry) path.now (compiled_rule (view rule.now))))) }
     ensures memory { IfErr result (λ e. e ≡ Refused.Memory) }
 {
     let compiled = cache.compiled(rule)?;
@@ -134,7 +138,9 @@ fn add_verdicts(
 ) -> Result<(), Refused>
     ensures keeps { (b : Book) → Extends b (entries_of book.new) → Extends b (entries_of book.old) }
     ensures found { OnOk result (AreAdded (entries_of book.new) errors.old.items errors.new.items
-        (λ b. flat_map (λ r. list_of_option (verdict b (bindings_of context.now) (option_map (λ v. view v.now) old.entry) path.now r)) (compiled_rules (items_view rules.now)))) }
+        (λ b. flat_map (λ r. list_of_option
+        (verdict b (bindings_of context.now) (option_map (λ v. view v.now) old.entry) path.now r))
+        (compiled_rules (items_view rules.now)))) }
     ensures memory { IfErr result (λ e. e ≡ Refused.Memory) }
 {
     for rule in rules {
@@ -144,7 +150,7 @@ fn add_verdicts(
 }
 
 impl Node for JsonNode<'_> {
-    ghost use Rattle.kube_cel.specs.Raw.{raw_form};
+    ghost use Rattle.kube_cel.specs.Raw.{raw_accessors};
     ghost use Rattle.serde_json.specs.Data.{Data};
     ghost use Rattle.serde_json.specs.View.{view};
 
@@ -152,9 +158,9 @@ impl Node for JsonNode<'_> {
 
     ghost seen = { λ n. view n.schema.now };
 
-    ghost form = { raw_form };
+    ghost form = { raw_accessors };
 
-    #[tactic(auto, unfolding(crate::specs::Raw::raw_form, kube_schema_rules::specs::Raw::raw_shape))]
+    #[tactic(auto, unfolding(crate::specs::Raw::raw_accessors, kube_schema_rules::specs::Raw::raw_steps))]
     fn property(&self, name: &str) -> Option<Self> {
         let schema = declared(self.schema, name)?;
         Some(JsonNode {
@@ -163,7 +169,7 @@ impl Node for JsonNode<'_> {
         })
     }
 
-    #[tactic(auto, unfolding(crate::specs::Raw::raw_form, kube_schema_rules::specs::Raw::raw_shape))]
+    #[tactic(auto, unfolding(crate::specs::Raw::raw_accessors, kube_schema_rules::specs::Raw::raw_steps))]
     fn items(&self) -> Option<Self> {
         let schema = self.schema.get("items")?;
         Some(JsonNode {
@@ -172,7 +178,7 @@ impl Node for JsonNode<'_> {
         })
     }
 
-    #[tactic(auto, unfolding(crate::specs::Raw::raw_form, kube_schema_rules::specs::Raw::raw_shape))]
+    #[tactic(auto, unfolding(crate::specs::Raw::raw_accessors, kube_schema_rules::specs::Raw::raw_steps))]
     fn additional_property(&self) -> Option<Self> {
         let schema = undeclared(self.schema)?;
         Some(JsonNode {
@@ -181,7 +187,7 @@ impl Node for JsonNode<'_> {
         })
     }
 
-    #[tactic(auto, unfolding(crate::specs::Raw::raw_form, kube_schema_rules::specs::Raw::raw_shape))]
+    #[tactic(auto, unfolding(crate::specs::Raw::raw_accessors, kube_schema_rules::specs::Raw::raw_steps))]
     fn branch_count(&self, kind: BranchKind) -> usize {
         match branches_of(self.schema, kind) {
             Some(branches) => branches.len(),
@@ -189,7 +195,7 @@ impl Node for JsonNode<'_> {
         }
     }
 
-    #[tactic(auto, unfolding(crate::specs::Raw::raw_form, kube_schema_rules::specs::Raw::raw_shape))]
+    #[tactic(auto, unfolding(crate::specs::Raw::raw_accessors, kube_schema_rules::specs::Raw::raw_steps))]
     fn branch(&self, kind: BranchKind, index: usize) -> Option<Self> {
         let schema = self.schema.get(kind.keyword())?.get(index)?;
         Some(JsonNode {
@@ -198,13 +204,13 @@ impl Node for JsonNode<'_> {
         })
     }
 
-    #[tactic(auto, unfolding(crate::specs::Raw::raw_form, kube_schema_rules::specs::Raw::raw_shape))]
+    #[tactic(auto, unfolding(crate::specs::Raw::raw_accessors, kube_schema_rules::specs::Raw::raw_steps))]
     fn demands(&self, alloc: Global) -> Result<NodeDemands<'_>, Refused> {
         let demands = demands_of(alloc, rule_values(self.schema), self.cache)?;
         Ok(NodeDemands::Made(demands))
     }
 
-    #[tactic(auto, unfolding(crate::specs::Raw::raw_form, kube_schema_rules::specs::Raw::raw_shape))]
+    #[tactic(auto, unfolding(crate::specs::Raw::raw_accessors, kube_schema_rules::specs::Raw::raw_steps))]
     fn bind_part(
         &self,
         alloc: Global,
@@ -216,12 +222,12 @@ impl Node for JsonNode<'_> {
         Ok(whole)
     }
 
-    #[tactic(auto, unfolding(crate::specs::Raw::raw_form, kube_schema_rules::specs::Raw::raw_shape))]
+    #[tactic(auto, unfolding(crate::specs::Raw::raw_accessors, kube_schema_rules::specs::Raw::raw_steps))]
     fn is_without_rules(&self) -> bool {
         rule_values(self.schema).is_empty()
     }
 
-    #[tactic(auto, unfolding(crate::specs::Raw::raw_form))]
+    #[tactic(auto, unfolding(crate::specs::Raw::raw_accessors))]
     fn add_verdicts(
         &self,
         context: &Context<'_>,

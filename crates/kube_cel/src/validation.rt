@@ -2,8 +2,8 @@
 ghost use Rattle.cel_patterns.specs.Book.{Extends, Book};
 ghost use Rattle.cel_patterns.specs.Entries.{entries_of};
 ghost use Rattle.kube_cel.specs.Answers.{found_in, report_of, answer_view, IsReportOf};
-ghost use Rattle.kube_cel.specs.Raw.{raw_form};
-ghost use Rattle.kube_cel.specs.Compiled.{compiled_form};
+ghost use Rattle.kube_cel.specs.Raw.{raw_accessors};
+ghost use Rattle.kube_cel.specs.Compiled.{compiled_accessors};
 ghost use Rattle.kube_cel.specs.Starts.{compiled_start, call_start, source_start};
 ghost use Rattle.kube_cel_walk.specs.Answers.{answer, IsAnswer};
 ghost use Rattle.kube_schema.specs.Shown.{whole};
@@ -44,7 +44,8 @@ impl Validator {
         object: &Value,
         old: Option<&Value>,
     ) -> Result<Result<(), ValidationErrors>, Refused>
-        ensures answer { IfOk result (IsReportOf raw_form (call_start schema.now object.now old.entry None)) }
+        ensures answer { IfOk result
+            (IsReportOf raw_accessors (call_start schema.now object.now old.entry None)) }
         ensures memory { IfErr result (λ e. e ≡ Refused.Memory) }
     {
         self.validate_with_context(alloc, schema, object, old, None)
@@ -63,7 +64,8 @@ impl Validator {
         old: Option<&Value>,
         root: Option<&RootContext>,
     ) -> Result<Result<(), ValidationErrors>, Refused>
-        ensures answer { IfOk result (IsReportOf raw_form (call_start schema.now object.now old.entry root.entry)) }
+        ensures answer { IfOk result
+            (IsReportOf raw_accessors (call_start schema.now object.now old.entry root.entry)) }
         ensures memory { IfErr result (λ e. e ≡ Refused.Memory) }
     {
         let mut book = PatternBook::new(alloc);
@@ -87,9 +89,10 @@ impl Validator {
         ensures kept { Extends (entries_of book.new) (entries_of book.old) }
         ensures memory { IfErr result (λ e. e ≡ Refused.Memory) }
         ensures answer { IfOk result (λ r. (b : Book) → Extends b (entries_of book.new)
-            → answer_view r ≡ report_of (answer raw_form b 65 (call_start schema.now object.now old.entry root.entry))) }
+            → answer_view r ≡ report_of
+            (answer raw_accessors b 65 (call_start schema.now object.now old.entry root.entry))) }
         ensures places { IfOk result (λ r. (b : Book) → Extends b (entries_of book.new)
-            → IsAnswer raw_form b (call_start schema.now object.now old.entry root.entry) (found_in r)) }
+            → IsAnswer raw_accessors b (call_start schema.now object.now old.entry root.entry) (found_in r)) }
     {
         let object = filled_value(alloc, schema, object)?;
         let cache = RuleCache::new(alloc);
@@ -118,7 +121,8 @@ impl Validator {
         object: &Value,
         old: Option<&Value>,
     ) -> Result<Result<(), ValidationErrors>, Refused>
-        ensures answer { IfOk result (λ r. (s : Data) → whole compiled.now ≡ view_of 65 s → IsReportOf raw_form (source_start s object.now old.entry None) r) }
+        ensures answer { IfOk result (λ r. (s : Data) → whole compiled.now ≡ view_of 65 s
+            → IsReportOf raw_accessors (source_start s object.now old.entry None) r) }
         ensures memory { IfErr result (λ e. e ≡ Refused.Memory) }
     {
         self.validate_compiled_with_context(alloc, compiled, object, old, None)
@@ -137,7 +141,8 @@ impl Validator {
         old: Option<&Value>,
         root: Option<&RootContext>,
     ) -> Result<Result<(), ValidationErrors>, Refused>
-        ensures answer { IfOk result (λ r. (s : Data) → whole compiled.now ≡ view_of 65 s → IsReportOf raw_form (source_start s object.now old.entry root.entry) r) }
+        ensures answer { IfOk result (λ r. (s : Data) → whole compiled.now ≡ view_of 65 s
+            → IsReportOf raw_accessors (source_start s object.now old.entry root.entry) r) }
         ensures memory { IfErr result (λ e. e ≡ Refused.Memory) }
     {
         let mut book = PatternBook::new(alloc);
@@ -161,12 +166,15 @@ impl Validator {
         ensures kept { Extends (entries_of book.new) (entries_of book.old) }
         ensures memory { IfErr result (λ e. e ≡ Refused.Memory) }
         ensures tree { IfOk result (λ r. (b : Book) → Extends b (entries_of book.new)
-            → answer_view r ≡ report_of (answer compiled_form b 65 (compiled_start compiled.now object.now old.entry root.entry))) }
-        ensures answer { IfOk result (λ r. (b : Book) → Extends b (entries_of book.new) → (s : Data) → whole compiled.now ≡ view_of 65 s
-            → answer_view r ≡ report_of (answer raw_form b 65
+            → answer_view r ≡ report_of
+            (answer compiled_accessors b 65 (compiled_start compiled.now object.now old.entry root.entry))) }
+        ensures answer { IfOk result (λ r. (b : Book) → Extends b (entries_of book.new)
+            → (s : Data) → whole compiled.now ≡ view_of 65 s
+            → answer_view r ≡ report_of (answer raw_accessors b 65
             (source_start s object.now old.entry root.entry))) }
-        ensures places { IfOk result (λ r. (b : Book) → Extends b (entries_of book.new) → (s : Data) → whole compiled.now ≡ view_of 65 s
-            → IsAnswer raw_form b (source_start s object.now old.entry root.entry) (found_in r)) }
+        ensures places { IfOk result (λ r. (b : Book) → Extends b (entries_of book.new)
+            → (s : Data) → whole compiled.now ≡ view_of 65 s
+            → IsAnswer raw_accessors b (source_start s object.now old.entry root.entry) (found_in r)) }
     {
         let root_node = compiled.root();
         let object = filled_by_node(alloc, &root_node, object)?;
@@ -192,7 +200,8 @@ impl Validator {
         object: &Value,
         old: Option<&Value>,
     ) -> Result<Result<(), ValidationErrors>, Refused>
-        ensures answer { IfOk result (IsReportOf raw_form (call_start schema.now object.now old.entry None)) }
+        ensures answer { IfOk result
+            (IsReportOf raw_accessors (call_start schema.now object.now old.entry None)) }
         ensures memory { IfErr result (λ e. e ≡ Refused.Memory) }
     {
         self.validate(alloc, schema, object, old)
@@ -211,7 +220,8 @@ impl Validator {
         old: Option<&Value>,
         root: Option<&RootContext>,
     ) -> Result<Result<(), ValidationErrors>, Refused>
-        ensures answer { IfOk result (IsReportOf raw_form (call_start schema.now object.now old.entry root.entry)) }
+        ensures answer { IfOk result
+            (IsReportOf raw_accessors (call_start schema.now object.now old.entry root.entry)) }
         ensures memory { IfErr result (λ e. e ≡ Refused.Memory) }
     {
         self.validate_with_context(alloc, schema, object, old, root)
@@ -230,7 +240,8 @@ pub fn validate(
     old: Option<&Value>,
 ) -> Result<Result<(), ValidationErrors>, Refused>
     ensures memory { IfErr result (λ e. e ≡ Refused.Memory) }
-    ensures answer { IfOk result (IsReportOf raw_form (call_start schema.now object.now old.entry None)) }
+    ensures answer { IfOk result
+        (IsReportOf raw_accessors (call_start schema.now object.now old.entry None)) }
 {
     Validator::new().validate(alloc, schema, object, old)
 }
@@ -247,7 +258,8 @@ pub fn validate_compiled(
     old: Option<&Value>,
 ) -> Result<Result<(), ValidationErrors>, Refused>
     ensures memory { IfErr result (λ e. e ≡ Refused.Memory) }
-    ensures answer { IfOk result (λ r. (s : Data) → whole compiled.now ≡ view_of 65 s → IsReportOf raw_form (source_start s object.now old.entry None) r) }
+    ensures answer { IfOk result (λ r. (s : Data) → whole compiled.now ≡ view_of 65 s
+        → IsReportOf raw_accessors (source_start s object.now old.entry None) r) }
 {
     Validator::new().validate_compiled(alloc, compiled, object, old)
 }

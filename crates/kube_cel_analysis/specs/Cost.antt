@@ -72,7 +72,8 @@ abbrev mutual
   cost s (call target name ts) = sum (call_cost s name) (sum (cost_of_all s target) (cost_of_all s ts))
   -- what stands before the dot counts as a name
   cost s (qualified name ts) = sum (call_cost s name) (sum 1 (cost_of_all s ts))
-  cost s (macro k r x f b) = product s.items (sum (step_cost k (is_there f)) (sum (cost_of_all s f) (cost s b)))
+  cost s (macro k r x f b) =
+      product s.items (sum (step_cost k (is_there f)) (sum (cost_of_all s f) (cost s b)))
 
   pub cost_of_all : Sizes → Terms → ℕ
   cost_of_all s no_terms = 0

@@ -1,6 +1,6 @@
 -- Trusted by the clauses of analysis and linter.
--- What is said of a rule's cost at a node of a schema (Kubernetes documentation, "Resource use by validation functions"), and all that is said
--- of it.
+-- The warnings of a rule's cost at a node of a schema (Kubernetes documentation, "Resource use by validation functions"), and all warnings
+-- of the rule.
 use Rattle.std.specs.Prelude.{◌≡◌, ℕ, List, [], ◌∷◌, ◌++◌, Bool, true, false, ◌&&◌, Option, Some, None, if◌then◌else◌, codes, decimal, nat_lt}
 use Rattle.cel_syntax_ast.specs.Term.{Term, literal, ident, select, has, index, unary, binary, conditional, list_of, map_with, call, qualified, macro}
 use Rattle.kube_cel_analysis.specs.Cost.{cost}
@@ -14,7 +14,8 @@ use Rattle.kube_schema.specs.Tree.{Node, named_of}
 abbrev pub cost_warning : List ℕ → ℕ → Warning
 cost_warning rule c = record {
   rule = rule;
-  message = codes "estimated cost " ++ (decimal c ++ codes " exceeds K8s budget 1000000; consider adding maxItems/maxLength to schema bounds");
+  message = codes "estimated cost "
+      ++ (decimal c ++ codes " exceeds K8s budget 1000000; consider adding maxItems/maxLength to schema bounds");
   kind = CostExceeded;
 }
 
@@ -59,4 +60,6 @@ text_estimates rule n (Some t) = estimates rule n t
 
 -- exactly all warnings: of the names, then of the cost, then of the bounds
 abbrev pub AreWarnings : ScopeContext → List ℕ → Node → Option Term → List Warning → Type 0
-AreWarnings scope rule n tree found = (reported : List Warning) × AreScopeWarnings scope rule tree reported × (found ≡ reported ++ text_estimates rule n tree)
+AreWarnings scope rule n tree found =
+    (reported : List Warning) × AreScopeWarnings scope rule tree reported
+    × (found ≡ reported ++ text_estimates rule n tree)

@@ -1,5 +1,5 @@
 -- Trusted by the clauses of analysis and linter.
--- What is said of the rules of one node: why a rule isn't compiled, which functions it calls that there aren't, what an analysis warns of.
+-- The findings of the rules of one node: why a rule isn't compiled, which functions it calls that there aren't, what an analysis warns of.
 use Rattle.std.specs.Prelude.{ℕ, List, [], ◌∷◌, ◌++◌, map, Bool, true, false, Result, Ok, Err, if◌then◌else◌, codes, string_bytes}
 use Rattle.std.specs.List.{flat_map}
 use Rattle.cel_semantics.specs.declared.functions.Form.{Form}
@@ -28,7 +28,12 @@ pub record Finding : Type 0 where
   pub message : List ℕ
 
 abbrev pub finding_view : LintFinding → Finding
-finding_view f = record { pointer = string_bytes f.pointer; rule = string_bytes f.rule; kind = f.kind; message = string_bytes f.message }
+finding_view f = record {
+  pointer = string_bytes f.pointer;
+  rule = string_bytes f.rule;
+  kind = f.kind;
+  message = string_bytes f.message;
+}
 
 -- ---- a rule that isn't compiled
 
@@ -46,7 +51,12 @@ rule_of_error (invalid f) = []
 rule_of_error (past_depth n) = []
 
 abbrev pub error_finding : List ℕ → Malformed → Finding
-error_finding p m = record { pointer = p; rule = rule_of_error m; kind = kind_of_error m; message = error_text m }
+error_finding p m = record {
+  pointer = p;
+  rule = rule_of_error m;
+  kind = kind_of_error m;
+  message = error_text m;
+}
 
 -- ---- the functions that a rule calls
 
@@ -60,7 +70,12 @@ unfoldable pub is_unknown : List ℕ → Bool
 is_unknown name = is_unknown_form (all_library.form_of name false 0)
 
 abbrev pub unknown_finding : List ℕ → List ℕ → List ℕ → Finding
-unknown_finding p rule name = record { pointer = p; rule = rule; kind = Function; message = codes "function '" ++ (name ++ codes "' is unknown") }
+unknown_finding p rule name = record {
+  pointer = p;
+  rule = rule;
+  kind = Function;
+  message = codes "function '" ++ (name ++ codes "' is unknown");
+}
 
 abbrev pub name_findings : List ℕ → List ℕ → List ℕ → List Finding
 name_findings p rule name = if is_unknown name then unknown_finding p rule name ∷ [] else []
@@ -78,7 +93,12 @@ kind_of_warning CostExceeded = Cost
 kind_of_warning MissingBounds = Bounds
 
 abbrev pub warning_finding : List ℕ → Warning → Finding
-warning_finding p w = record { pointer = p; rule = w.rule; kind = kind_of_warning w.kind; message = w.message }
+warning_finding p w = record {
+  pointer = p;
+  rule = w.rule;
+  kind = kind_of_warning w.kind;
+  message = w.message;
+}
 
 -- ---- all rules of a node
 
@@ -95,7 +115,8 @@ warnings_at names rule n t = names_warnings CrdValidation rule (names.free t) ++
 
 abbrev pub compiled_findings : Naming → List ℕ → Node → Compiled → List Finding
 compiled_findings names p n c =
-    names_findings p c.fields.rule (names.called c.tree) ++ map (warning_finding p) (warnings_at names c.fields.rule n c.tree)
+    names_findings p c.fields.rule (names.called c.tree)
+    ++ map (warning_finding p) (warnings_at names c.fields.rule n c.tree)
 
 abbrev pub rule_findings : Naming → List ℕ → Node → Result Compiled Malformed → List Finding
 rule_findings names p n (Ok c) = compiled_findings names p n c

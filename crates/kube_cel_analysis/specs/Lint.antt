@@ -1,5 +1,5 @@
 -- Trusted by the clauses of analysis and linter.
--- What is said of all rules of a schema: those of a node before those of the nodes within it, and these in the order in which Kubernetes' walk over
+-- The findings of all rules of a schema: those of a node before those of the nodes within it, and these in the order in which Kubernetes' walk over
 -- an object takes them (properties by name, list items, other keys, the branches of allOf, oneOf and anyOf).
 use Rattle.std.specs.Prelude.{ℕ, suc, List, [], ◌++◌, Option, Some, None}
 use Rattle.kube_cel_analysis.specs.Findings.{Finding, Naming, rules_findings}
@@ -32,7 +32,8 @@ unfoldable mutual
   -- of its branches from the i-th on
   pub branch_findings : Naming → BranchKind → List ℕ → ℕ → Nodes → List Finding
   branch_findings names kind p i no_nodes = []
-  branch_findings names kind p i (more n ns) = findings names (branch_pointer kind p i) n ++ branch_findings names kind p (suc i) ns
+  branch_findings names kind p i (more n ns) =
+      findings names (branch_pointer kind p i) n ++ branch_findings names kind p (suc i) ns
 
 -- of a node that may be there
 abbrev pub findings_at : Naming → List ℕ → Option Node → List Finding

@@ -38,7 +38,8 @@ pointer_of steps = pointer_behind [] steps
 
 -- what is found of the rules of the node at these steps, in their order
 unfoldable pub found_at : Naming → Node → List Step → List Finding
-found_at names root steps = if_some (λ n. rules_findings names (pointer_of steps) n (own n).validations) (leads goes steps root)
+found_at names root steps =
+    if_some (λ n. rules_findings names (pointer_of steps) n (own n).validations) (leads goes steps root)
 
 -- What is found of a schema: at exactly its nodes, each once and in the order of places, all joined.
 pub record AreFoundAtNodes (names : Naming) (root : Node) (found : List Finding) : Type 0 where

@@ -17,9 +17,11 @@ scope_name AdmissionPolicy = codes "AdmissionPolicy"
 
 -- the names that are there
 abbrev pub variables : ScopeContext → List (List ℕ)
-variables CrdValidation = codes "self" ∷ codes "oldSelf" ∷ codes "apiVersion" ∷ codes "apiGroup" ∷ codes "kind" ∷ []
+variables CrdValidation =
+    codes "self" ∷ codes "oldSelf" ∷ codes "apiVersion" ∷ codes "apiGroup" ∷ codes "kind" ∷ []
 variables AdmissionPolicy =
-    codes "self" ∷ codes "oldSelf" ∷ codes "object" ∷ codes "oldObject" ∷ codes "request" ∷ codes "params" ∷ codes "namespaceObject"
+    codes "self" ∷ codes "oldSelf" ∷ codes "object" ∷ codes "oldObject"
+    ∷ codes "request" ∷ codes "params" ∷ codes "namespaceObject"
     ∷ codes "authorizer" ∷ codes "variables" ∷ []
 
 -- the same names, as a warning lists them
@@ -34,7 +36,9 @@ is_available scope name = list_any (bytes_eq name) (variables scope)
 abbrev pub scope_warning : ScopeContext → List ℕ → List ℕ → Warning
 scope_warning scope rule name = record {
   rule = rule;
-  message = codes "variable '" ++ (name ++ (codes "' is not available in " ++ (scope_name scope ++ (codes " context; valid variables: " ++ valid_variables scope))));
+  message = codes "variable '"
+      ++ (name ++ (codes "' is not available in "
+      ++ (scope_name scope ++ (codes " context; valid variables: " ++ valid_variables scope))));
   kind = WrongScope;
 }
 
@@ -50,4 +54,5 @@ names_warnings scope rule (n ∷ ns) = name_warnings scope rule n ++ names_warni
 -- exactly the warnings of a text: of each free name of its tree, in the order of names
 abbrev pub AreScopeWarnings : ScopeContext → List ℕ → Option Term → List Warning → Type 0
 AreScopeWarnings scope rule None found = found ≡ []
-AreScopeWarnings scope rule (Some t) found = (names : List (List ℕ)) × AreNames names (λ x. is_free x t) × (found ≡ names_warnings scope rule names)
+AreScopeWarnings scope rule (Some t) found =
+    (names : List (List ℕ)) × AreNames names (λ x. is_free x t) × (found ≡ names_warnings scope rule names)

@@ -76,7 +76,8 @@ fn add_cost(
     cost: u64,
     warnings: &mut Vec<AnalysisWarning>,
 ) -> Result<(), AllocError>
-    ensures { OnOk result (map warning_view warnings.new.items ≡ map warning_view warnings.old.items ++ cost_warnings rule.now cost) }
+    ensures { OnOk result (map warning_view warnings.new.items
+        ≡ map warning_view warnings.old.items ++ cost_warnings rule.now cost) }
 {
     if cost > BUDGET {
         warnings.push(cost_warning(alloc, rule, cost)?)?;
@@ -92,7 +93,9 @@ fn add_bounds(
     node: &SchemaNode<'_>,
     warnings: &mut Vec<AnalysisWarning>,
 ) -> Result<(), AllocError>
-    ensures { OnOk result (map warning_view warnings.new.items ≡ map warning_view warnings.old.items ++ bounds_warnings rule.now (node_tree node.now) (term expression.now)) }
+    ensures { OnOk result (map warning_view warnings.new.items
+        ≡ map warning_view warnings.old.items
+        ++ bounds_warnings rule.now (node_tree node.now) (term expression.now)) }
 {
     if is_macro(expression) && has_unbounded(node) {
         warnings.push(bounds_warning(alloc, rule)?)?;
@@ -109,7 +112,9 @@ fn add_estimates(
     node: &SchemaNode<'_>,
     warnings: &mut Vec<AnalysisWarning>,
 ) -> Result<(), AllocError>
-    ensures { OnOk result (map warning_view warnings.new.items ≡ map warning_view warnings.old.items ++ estimates rule.now (node_tree node.now) (term expression.now)) }
+    ensures { OnOk result (map warning_view warnings.new.items
+        ≡ map warning_view warnings.old.items
+        ++ estimates rule.now (node_tree node.now) (term expression.now)) }
 {
     let cost = estimated_cost(expression, sizes_of(node));
     add_cost(alloc, rule, cost, warnings)?;
@@ -124,7 +129,8 @@ fn estimated(
     expression: &Expr,
     node: &SchemaNode<'_>,
 ) -> Result<Vec<AnalysisWarning>, AllocError>
-    ensures { IfOk result (λ v. map warning_view v.items ≡ estimates rule.now (node_tree node.now) (term expression.now)) }
+    ensures { IfOk result (λ v. map warning_view v.items
+        ≡ estimates rule.now (node_tree node.now) (term expression.now)) }
 {
     let mut warnings = Vec::new(alloc);
     add_estimates(alloc, rule, expression, node, &mut warnings)?;
@@ -142,7 +148,8 @@ pub fn estimate_rule_cost(
     rule: &str,
     schema: &CompiledSchema,
 ) -> Result<Vec<AnalysisWarning>, Refused>
-    ensures warnings { IfOk result (λ v. map warning_view v.items ≡ text_estimates rule.now (whole schema.now) (tree_of rule.now)) }
+    ensures warnings { IfOk result (λ v. map warning_view v.items
+        ≡ text_estimates rule.now (whole schema.now) (tree_of rule.now)) }
     ensures memory { IfErr result (λ e. e ≡ Refused.Memory) }
 {
     match parse(alloc, rule)? {
@@ -164,7 +171,9 @@ pub fn analyze_expression(
     node: &SchemaNode<'_>,
     scope: ScopeContext,
 ) -> Result<Vec<AnalysisWarning>, Refused>
-    ensures warnings { IfOk result (λ v. AreWarnings scope rule.now (node_tree node.now) (Some (term expression.now)) (map warning_view v.items)) }
+    ensures warnings { IfOk result
+        (λ v. AreWarnings scope rule.now (node_tree node.now)
+        (Some (term expression.now)) (map warning_view v.items)) }
     ensures memory { IfErr result (λ e. e ≡ Refused.Memory) }
 {
     let mut warnings = check_expression_scope(alloc, rule, expression, scope)?;
@@ -184,7 +193,8 @@ pub fn analyze_rule(
     schema: &CompiledSchema,
     scope: ScopeContext,
 ) -> Result<Vec<AnalysisWarning>, Refused>
-    ensures warnings { IfOk result (λ v. AreWarnings scope rule.now (whole schema.now) (tree_of rule.now) (map warning_view v.items)) }
+    ensures warnings { IfOk result
+        (λ v. AreWarnings scope rule.now (whole schema.now) (tree_of rule.now) (map warning_view v.items)) }
     ensures memory { IfErr result (λ e. e ≡ Refused.Memory) }
 {
     match parse(alloc, rule)? {

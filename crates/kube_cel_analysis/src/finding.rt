@@ -17,10 +17,10 @@ pub enum LintKind {
     Depth,
 }
 
-/// What is wrong at one place of a schema.
+/// What is wrong at one node of a schema.
 #[derive(Debug, Drop, PartialEq)]
 pub struct LintFinding {
-    /// The place: the JSON Pointer of the node in the schema (RFC 6901).
+    /// The JSON Pointer of the node in the schema (RFC 6901).
     pub pointer: String,
     /// The text of the rule, empty where there is none.
     pub rule: String,

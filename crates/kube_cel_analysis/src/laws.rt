@@ -27,14 +27,16 @@ pub fn each_tree_has_its_names()
 /// What is found of a compiled schema is what is found of the rules at exactly its nodes, each a list of steps from the root, in the order of
 /// places, with the JSON Pointer of those steps.
 pub fn findings_are_those_of_all_nodes()
-    ensures { (names : Naming) (schema : CompiledSchema) → AreFoundAtNodes names (whole schema) (findings names [] (whole schema)) }
+    ensures { (names : Naming) (schema : CompiledSchema)
+        → AreFoundAtNodes names (whole schema) (findings names [] (whole schema)) }
 {}
 
 /// A name is reported as unknown exactly where no form of it is known or wrong, with a receiver or without and with any number of arguments.
 pub fn reported_names_have_no_form()
     ensures reported { (name : List ℕ) → is_unknown name ≡ true → (receiver : Bool) (count : ℕ)
         → all_library.form_of name receiver count ≡ Unknown }
-    ensures others { (name : List ℕ) (receiver : Bool) (count : ℕ) → all_library.form_of name receiver count ≡ Unknown
+    ensures others { (name : List ℕ) (receiver : Bool) (count : ℕ)
+        → all_library.form_of name receiver count ≡ Unknown
         → is_unknown name ≡ true }
 {}
 

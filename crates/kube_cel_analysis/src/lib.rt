@@ -1,4 +1,4 @@
-//! What can be said of a rule without an object: the names that it may not use, what it is estimated to cost over the sizes that a
+//! What can be found of a rule without an object: the names that it may not use, what it is estimated to cost over the sizes that a
 //! schema allows; and what is wrong with the rules of a compiled schema.
 #![tactic(auto)]
 

@@ -49,7 +49,8 @@ fn add_error(
     error: &CompilationError,
     found: &mut Vec<LintFinding>,
 ) -> Result<(), AllocError>
-    ensures { OnOk result (map finding_view found.new.items ≡ map finding_view found.old.items ++ error_finding pointer.now (error_view error.now) ∷ []) }
+    ensures { OnOk result (map finding_view found.new.items
+        ≡ map finding_view found.old.items ++ error_finding pointer.now (error_view error.now) ∷ []) }
 {
     found.push(LintFinding {
         pointer: String::from_str(alloc, pointer)?,
@@ -97,7 +98,8 @@ fn add_name(
     name: &str,
     found: &mut Vec<LintFinding>,
 ) -> Result<(), AllocError>
-    ensures { OnOk result (map finding_view found.new.items ≡ map finding_view found.old.items ++ name_findings pointer.now rule.now name.now) }
+    ensures { OnOk result (map finding_view found.new.items
+        ≡ map finding_view found.old.items ++ name_findings pointer.now rule.now name.now) }
 {
     if is_unknown(name) {
         found.push(unknown_finding(alloc, pointer, rule, name)?)?;
@@ -113,7 +115,8 @@ fn add_names(
     names: &[String],
     found: &mut Vec<LintFinding>,
 ) -> Result<(), AllocError>
-    ensures { OnOk result (map finding_view found.new.items ≡ map finding_view found.old.items ++ names_findings pointer.now rule.now (names_of names.now)) }
+    ensures { OnOk result (map finding_view found.new.items
+        ≡ map finding_view found.old.items ++ names_findings pointer.now rule.now (names_of names.now)) }
 {
     for name in names {
         add_name(alloc, pointer, rule, name.as_str(), found)?;
@@ -139,7 +142,8 @@ fn add_warning(
     warning: &AnalysisWarning,
     found: &mut Vec<LintFinding>,
 ) -> Result<(), AllocError>
-    ensures { OnOk result (map finding_view found.new.items ≡ map finding_view found.old.items ++ warning_finding pointer.now (warning_view warning.now) ∷ []) }
+    ensures { OnOk result (map finding_view found.new.items
+        ≡ map finding_view found.old.items ++ warning_finding pointer.now (warning_view warning.now) ∷ []) }
 {
     found.push(LintFinding {
         pointer: String::from_str(alloc, pointer)?,
@@ -157,7 +161,9 @@ fn add_warnings(
     warnings: &[AnalysisWarning],
     found: &mut Vec<LintFinding>,
 ) -> Result<(), AllocError>
-    ensures { OnOk result (map finding_view found.new.items ≡ map finding_view found.old.items ++ map (λ w. warning_finding pointer.now (warning_view w)) warnings.now) }
+    ensures { OnOk result (map finding_view found.new.items
+        ≡ map finding_view found.old.items
+        ++ map (λ w. warning_finding pointer.now (warning_view w)) warnings.now) }
 {
     for warning in warnings {
         add_warning(alloc, pointer, warning, found)?;
@@ -174,7 +180,8 @@ fn add_compiled(
     found: &mut Vec<LintFinding>,
 ) -> Result<(), Refused>
     ensures found { OnOk result ((names : Naming) → map finding_view found.new.items
-        ≡ map finding_view found.old.items ++ compiled_findings names pointer.now (node_tree node.now) (result_view rule.now)) }
+        ≡ map finding_view found.old.items
+        ++ compiled_findings names pointer.now (node_tree node.now) (result_view rule.now)) }
     ensures memory { IfErr result (λ e. e ≡ Refused.Memory) }
 {
     let text = rule.rule.rule.as_str();
@@ -195,7 +202,8 @@ fn add_rule(
     found: &mut Vec<LintFinding>,
 ) -> Result<(), Refused>
     ensures found { OnOk result ((names : Naming) → map finding_view found.new.items
-        ≡ map finding_view found.old.items ++ rule_findings names pointer.now (node_tree node.now) (compiled_seen rule.now)) }
+        ≡ map finding_view found.old.items
+        ++ rule_findings names pointer.now (node_tree node.now) (compiled_seen rule.now)) }
     ensures memory { IfErr result (λ e. e ≡ Refused.Memory) }
 {
     match rule {
@@ -212,7 +220,8 @@ pub(crate) fn add_rules(
     found: &mut Vec<LintFinding>,
 ) -> Result<(), Refused>
     ensures found { OnOk result ((names : Naming) → map finding_view found.new.items
-        ≡ map finding_view found.old.items ++ rules_findings names pointer.now (node_tree node.now) (own (node_tree node.now)).validations) }
+        ≡ map finding_view found.old.items
+        ++ rules_findings names pointer.now (node_tree node.now) (own (node_tree node.now)).validations) }
     ensures memory { IfErr result (λ e. e ≡ Refused.Memory) }
 {
     for rule in node.validations() {

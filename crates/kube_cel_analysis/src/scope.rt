@@ -96,12 +96,12 @@ fn scope_warning(
 ) -> Result<AnalysisWarning, AllocError>
     ensures { IfOk result (λ w. warning_view w ≡ scope_warning scope rule.now name.now) }
 {
-    let place = scope.name();
+    let context = scope.name();
     let names = scope.valid_variables();
     Ok(AnalysisWarning {
         rule: String::from_str(alloc, rule)?,
         message: format!(in alloc;
-            "variable '{name}' is not available in {place} context; valid variables: {names}"
+            "variable '{name}' is not available in {context} context; valid variables: {names}"
         )?,
         kind: WarningKind::WrongScope,
     })
@@ -115,7 +115,8 @@ fn add_name(
     scope: ScopeContext,
     warnings: &mut Vec<AnalysisWarning>,
 ) -> Result<(), AllocError>
-    ensures { OnOk result (map warning_view warnings.new.items ≡ map warning_view warnings.old.items ++ name_warnings scope rule.now name.now) }
+    ensures { OnOk result (map warning_view warnings.new.items
+        ≡ map warning_view warnings.old.items ++ name_warnings scope rule.now name.now) }
 {
     if scope.has(name) {
         return Ok(());
@@ -132,7 +133,8 @@ fn add_names(
     scope: ScopeContext,
     warnings: &mut Vec<AnalysisWarning>,
 ) -> Result<(), AllocError>
-    ensures { OnOk result (map warning_view warnings.new.items ≡ map warning_view warnings.old.items ++ names_warnings scope rule.now (names_of names.now)) }
+    ensures { OnOk result (map warning_view warnings.new.items
+        ≡ map warning_view warnings.old.items ++ names_warnings scope rule.now (names_of names.now)) }
 {
     for name in names {
         add_name(alloc, rule, name.as_str(), scope, warnings)?;
@@ -152,7 +154,8 @@ pub fn check_expression_scope(
     expression: &Expr,
     scope: ScopeContext,
 ) -> Result<Vec<AnalysisWarning>, Refused>
-    ensures warnings { IfOk result (λ v. AreScopeWarnings scope rule.now (Some (term expression.now)) (map warning_view v.items)) }
+    ensures warnings { IfOk result
+        (λ v. AreScopeWarnings scope rule.now (Some (term expression.now)) (map warning_view v.items)) }
     ensures memory { IfErr result (λ e. e ≡ Refused.Memory) }
 {
     let references = References::of(alloc, expression)?;
@@ -171,7 +174,8 @@ pub fn check_rule_scope(
     rule: &str,
     scope: ScopeContext,
 ) -> Result<Vec<AnalysisWarning>, Refused>
-    ensures warnings { IfOk result (λ v. AreScopeWarnings scope rule.now (tree_of rule.now) (map warning_view v.items)) }
+    ensures warnings { IfOk result
+        (λ v. AreScopeWarnings scope rule.now (tree_of rule.now) (map warning_view v.items)) }
     ensures memory { IfErr result (λ e. e ≡ Refused.Memory) }
 {
     match parse(alloc, rule)? {

@@ -22,8 +22,10 @@ use std::alloc::Global;
 ///
 /// [`Refused`] where memory is refused.
 pub fn lint_schema(alloc: Global, schema: &CompiledSchema) -> Result<Vec<LintFinding>, Refused>
-    ensures nodes { IfOk result (λ v. (names : Naming) × AreFoundAtNodes names (whole schema.now) (map finding_view v.items)) }
-    ensures findings { IfOk result (λ v. (names : Naming) → map finding_view v.items ≡ findings names [] (whole schema.now)) }
+    ensures nodes { IfOk result (λ v. (names : Naming)
+        × AreFoundAtNodes names (whole schema.now) (map finding_view v.items)) }
+    ensures findings { IfOk result (λ v. (names : Naming)
+        → map finding_view v.items ≡ findings names [] (whole schema.now)) }
     ensures memory { IfErr result (λ e. e ≡ Refused.Memory) }
 {
     let mut found = Vec::new(alloc);
@@ -39,7 +41,9 @@ fn lint_node(
     node: &SchemaNode<'_>,
     found: &mut Vec<LintFinding>,
 ) -> Result<(), Refused>
-    ensures found { OnOk result ((names : Naming) → map finding_view found.new.items ≡ map finding_view found.old.items ++ findings names pointer.now (node_tree node.now)) }
+    ensures found { OnOk result ((names : Naming)
+        → map finding_view found.new.items
+        ≡ map finding_view found.old.items ++ findings names pointer.now (node_tree node.now)) }
     ensures memory { IfErr result (λ e. e ≡ Refused.Memory) }
 {
     add_rules(alloc, pointer, node, found)?;
@@ -60,7 +64,10 @@ fn lint_properties(
     node: &SchemaNode<'_>,
     found: &mut Vec<LintFinding>,
 ) -> Result<(), Refused>
-    ensures found { OnOk result ((names : Naming) → map finding_view found.new.items ≡ map finding_view found.old.items ++ named_findings names pointer.now (named_of (node_tree node.now))) }
+    ensures found { OnOk result ((names : Naming)
+        → map finding_view found.new.items
+        ≡ map finding_view found.old.items
+        ++ named_findings names pointer.now (named_of (node_tree node.now))) }
     ensures memory { IfErr result (λ e. e ≡ Refused.Memory) }
 {
     for index in 0..node.property_count() {
@@ -81,7 +88,10 @@ fn lint_items(
     node: &SchemaNode<'_>,
     found: &mut Vec<LintFinding>,
 ) -> Result<(), Refused>
-    ensures found { OnOk result ((names : Naming) → map finding_view found.new.items ≡ map finding_view found.old.items ++ findings_at names (items_pointer pointer.now) (items_of (node_tree node.now))) }
+    ensures found { OnOk result ((names : Naming)
+        → map finding_view found.new.items
+        ≡ map finding_view found.old.items
+        ++ findings_at names (items_pointer pointer.now) (items_of (node_tree node.now))) }
     ensures memory { IfErr result (λ e. e ≡ Refused.Memory) }
 {
     let Some(items) = node.items() else {
@@ -100,7 +110,9 @@ fn lint_additional(
     node: &SchemaNode<'_>,
     found: &mut Vec<LintFinding>,
 ) -> Result<(), Refused>
-    ensures found { OnOk result ((names : Naming) → map finding_view found.new.items ≡ map finding_view found.old.items ++ findings_at names (additional_pointer pointer.now) (additional_of (node_tree node.now))) }
+    ensures found { OnOk result ((names : Naming)
+        → map finding_view found.new.items ≡ map finding_view found.old.items
+        ++ findings_at names (additional_pointer pointer.now) (additional_of (node_tree node.now))) }
     ensures memory { IfErr result (λ e. e ≡ Refused.Memory) }
 {
     let Some(additional) = node.additional_properties() else {
@@ -120,7 +132,10 @@ fn lint_branches(
     node: &SchemaNode<'_>,
     found: &mut Vec<LintFinding>,
 ) -> Result<(), Refused>
-    ensures found { OnOk result ((names : Naming) → map finding_view found.new.items ≡ map finding_view found.old.items ++ branch_findings names kind pointer.now 0 (branches_of kind (node_tree node.now))) }
+    ensures found { OnOk result ((names : Naming)
+        → map finding_view found.new.items
+        ≡ map finding_view found.old.items
+        ++ branch_findings names kind pointer.now 0 (branches_of kind (node_tree node.now))) }
     ensures memory { IfErr result (λ e. e ≡ Refused.Memory) }
 {
     for index in 0..branch_count(kind, node) {

@@ -15,8 +15,10 @@ AreResultsOf v xs reported = (b : Book) × IsBook b × (map result_view reported
 
 -- the same of expressions that were compiled
 abbrev pub AreResultsOfCompiled : Variables → List (Result Compiled Unread) → List VapResult → Type 0
-AreResultsOfCompiled v cs reported = (b : Book) × IsBook b × (map result_view reported ≡ compiled_results b v cs)
+AreResultsOfCompiled v cs reported =
+    (b : Book) × IsBook b × (map result_view reported ≡ compiled_results b v cs)
 
 -- the results where the names are bound so, under every book that agrees with this one
 abbrev pub AreResultsUnder : Book → Bindings → List (Result Compiled Unread) → List VapResult → Type 0
-AreResultsUnder known e cs reported = (b : Book) → Extends b known → map result_view reported ≡ map (compiled_result b e) cs
+AreResultsUnder known e cs reported =
+    (b : Book) → Extends b known → map result_view reported ≡ map (compiled_result b e) cs

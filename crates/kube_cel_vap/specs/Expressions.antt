@@ -44,7 +44,12 @@ message_tree_in x (Some m) = do
 
 -- an expression with these trees
 abbrev pub with_trees : ExpressionData → Term → Option Term → Compiled
-with_trees x tree message_tree = record { expression = x.expression; message = x.message; tree = tree; message_tree = message_tree }
+with_trees x tree message_tree = record {
+  expression = x.expression;
+  message = x.message;
+  tree = tree;
+  message_tree = message_tree;
+}
 
 -- an expression with this tree: its messageExpression has to derive one too
 abbrev pub with_tree : ExpressionData → Term → Result Compiled Unread

@@ -66,14 +66,20 @@ unfoldable pub texts_value : List (List ℕ) → Data
 texts_value texts = list (items_of (map text texts))
 
 unfoldable pub kind_value : KindData → Data
-kind_value k = map_with ((codes "group", text k.group) ∷ (codes "version", text k.version) ∷ (codes "kind", text k.kind) ∷ [])
+kind_value k =
+    map_with ((codes "group", text k.group)
+    ∷ (codes "version", text k.version) ∷ (codes "kind", text k.kind) ∷ [])
 
 unfoldable pub resource_value : ResourceData → Data
-resource_value r = map_with ((codes "group", text r.group) ∷ (codes "version", text r.version) ∷ (codes "resource", text r.resource) ∷ [])
+resource_value r =
+    map_with ((codes "group", text r.group) ∷ (codes "version", text r.version)
+    ∷ (codes "resource", text r.resource) ∷ [])
 
 -- who asks
 unfoldable pub user_value : RequestData → Data
-user_value r = map_with ((codes "username", text r.username) ∷ (codes "uid", text r.uid) ∷ (codes "groups", texts_value r.groups) ∷ [])
+user_value r =
+    map_with ((codes "username", text r.username) ∷ (codes "uid", text r.uid)
+    ∷ (codes "groups", texts_value r.groups) ∷ [])
 
 unfoldable pub request_value : RequestData → Data
 request_value r = map_with (
@@ -89,10 +95,18 @@ request_value r = map_with (
 -- ---- what the code's values stand for
 
 abbrev pub kind_view : GroupVersionKind → KindData
-kind_view k = record { group = string_bytes k.group; version = string_bytes k.version; kind = string_bytes k.kind }
+kind_view k = record {
+  group = string_bytes k.group;
+  version = string_bytes k.version;
+  kind = string_bytes k.kind;
+}
 
 abbrev pub resource_view : GroupVersionResource → ResourceData
-resource_view r = record { group = string_bytes r.group; version = string_bytes r.version; resource = string_bytes r.resource }
+resource_view r = record {
+  group = string_bytes r.group;
+  version = string_bytes r.version;
+  resource = string_bytes r.resource;
+}
 
 abbrev pub request_view : AdmissionRequest → RequestData
 request_view r = record {

@@ -33,7 +33,8 @@ message_text (Err e) = None
 
 -- the expression's own message, else its text
 abbrev pub own_message : Compiled → List ℕ
-own_message c = unwrap_or c.message (codes "validation expression '" ++ (c.expression ++ codes "' evaluated to false"))
+own_message c =
+    unwrap_or c.message (codes "validation expression '" ++ (c.expression ++ codes "' evaluated to false"))
 
 -- what is reported of an expression that is false: the string that its messageExpression came to, if it did, else its own message
 abbrev pub false_message : Compiled → Option Outcome → List ℕ
@@ -51,11 +52,16 @@ outcome_message m (Err e) = Some (codes "evaluation error: " ++ fault_text e)
 
 -- what is reported of an expression where its names are bound so
 unfoldable pub message_in : Book → Bindings → Compiled → Option (List ℕ)
-message_in b e c = outcome_message (false_message c (option_map (outcome_in b e) c.message_tree)) (outcome_in b e c.tree)
+message_in b e c =
+    outcome_message (false_message c (option_map (outcome_in b e) c.message_tree)) (outcome_in b e c.tree)
 
 -- an expression passes exactly where nothing is reported of it
 abbrev pub result_with : List ℕ → Option (List ℕ) → ResultData
-result_with expression message = record { expression = expression; passed = is_none message; message = message }
+result_with expression message = record {
+  expression = expression;
+  passed = is_none message;
+  message = message;
+}
 
 -- the result of an expression that was compiled, where its names are bound so
 abbrev pub compiled_result : Book → Bindings → Result Compiled Unread → ResultData

@@ -26,4 +26,8 @@ expression_view x = record {
 }
 
 abbrev pub result_view : VapResult → ResultData
-result_view r = record { expression = string_bytes r.expression; passed = r.passed; message = option_map string_bytes r.message }
+result_view r = record {
+  expression = string_bytes r.expression;
+  passed = r.passed;
+  message = option_map string_bytes r.message;
+}

@@ -20,7 +20,13 @@ pub record Variables : Type 0 where
   pub request : Option RequestData
 
 abbrev pub no_variables : Variables
-no_variables = record { object = None; old_object = None; params = None; namespace_object = None; request = None }
+no_variables = record {
+  object = None;
+  old_object = None;
+  params = None;
+  namespace_object = None;
+  request = None;
+}
 
 abbrev pub value_or_null : Option Json → Data
 value_or_null None = null
@@ -37,11 +43,15 @@ request_in v = request_value (unwrap_or v.request empty_request)
 
 -- the names that are always bound
 unfoldable pub bindings_always : Variables → Bindings
-bindings_always v = (codes "request", request_in v) ∷ (codes "oldObject", value_or_null v.old_object) ∷ (codes "object", value_or_null v.object) ∷ []
+bindings_always v =
+    (codes "request", request_in v) ∷ (codes "oldObject", value_or_null v.old_object)
+    ∷ (codes "object", value_or_null v.object) ∷ []
 
 -- all names that are bound
 unfoldable pub policy_bindings : Variables → Bindings
-policy_bindings v = with_given (codes "namespaceObject") v.namespace_object (with_given (codes "params") v.params (bindings_always v))
+policy_bindings v =
+    with_given (codes "namespaceObject") v.namespace_object
+    (with_given (codes "params") v.params (bindings_always v))
 
 -- ---- what the code's values stand for
 

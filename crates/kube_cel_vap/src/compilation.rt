@@ -72,7 +72,8 @@ fn compile_message(
     expression: &VapExpression,
     program: Program,
 ) -> Result<Result<CompiledVapExpression, VapError>, Refused>
-    ensures compiled { IfOk result (λ r. compiled_seen r ≡ with_tree (expression_view expression.now) (program_term program)) }
+    ensures compiled { IfOk result (λ r. compiled_seen r
+        ≡ with_tree (expression_view expression.now) (program_term program)) }
     ensures memory { IfErr result (λ e. e ≡ Refused.Memory) }
 {
     match read_message(alloc, expression)? {
@@ -87,7 +88,8 @@ fn read_message(
     expression: &VapExpression,
 ) -> Result<Result<Option<Program>, VapError>, Refused>
     ensures read { IfOk result (λ r. message_program_seen r
-        ≡ message_tree_in (expression_view expression.now) (expression_view expression.now).message_expression) }
+        ≡ message_tree_in (expression_view expression.now)
+        (expression_view expression.now).message_expression) }
     ensures memory { IfErr result (λ e. e ≡ Refused.Memory) }
 {
     let Some(text) = &expression.message_expression else {
@@ -121,7 +123,8 @@ fn with_programs(
     message_program: Option<Program>,
 ) -> Result<CompiledVapExpression, AllocError>
     ensures { IfOk result (λ c. compiled_view c
-        ≡ with_trees (expression_view expression.now) (program_term program) (option_map program_term message_program)) }
+        ≡ with_trees (expression_view expression.now)
+        (program_term program) (option_map program_term message_program)) }
 {
     let (text, message) = texts_of(expression)?;
     Ok(CompiledVapExpression {
@@ -148,7 +151,8 @@ fn error_of(
     expression: &VapExpression,
     source: ParseErrors,
 ) -> Result<VapError, AllocError>
-    ensures { IfOk result (λ e. error_view e ≡ record { text = text.now; original = string_bytes expression.now.expression }) }
+    ensures { IfOk result (λ e. error_view e
+        ≡ record { text = text.now; original = string_bytes expression.now.expression }) }
 {
     Ok(VapError {
         expression: String::from_str(alloc, text)?,

@@ -58,7 +58,8 @@ impl VapEvaluatorBuilder {
 
     /// Sets the object's namespace, `namespaceObject`.
     pub fn namespace_object(mut self, namespace: Value) -> VapEvaluatorBuilder
-        ensures { builder_view result ≡ record (builder_view self) { namespace_object = Some (view namespace) } }
+        ensures { builder_view result
+            ≡ record (builder_view self) { namespace_object = Some (view namespace) } }
     {
         self.given.namespace_object = Some(namespace);
         self
@@ -112,7 +113,8 @@ impl VapEvaluator {
         alloc: Global,
         expressions: &[VapExpression],
     ) -> Result<Vec<Result<CompiledVapExpression, VapError>>, Refused>
-        ensures compiled { IfOk result (λ v. map compiled_seen v.items ≡ map compile_result (map expression_view expressions.now)) }
+        ensures compiled { IfOk result (λ v. map compiled_seen v.items
+            ≡ map compile_result (map expression_view expressions.now)) }
         ensures memory { IfErr result (λ e. e ≡ Refused.Memory) }
     {
         let mut all = Vec::with_capacity(alloc, expressions.len())?;
@@ -132,7 +134,8 @@ impl VapEvaluator {
         alloc: Global,
         compiled: &[Result<CompiledVapExpression, VapError>],
     ) -> Result<Vec<VapResult>, Refused>
-        ensures results { IfOk result (λ v. AreResultsOfCompiled (evaluator_view self.now) (map compiled_seen compiled.now) v.items) }
+        ensures results { IfOk result
+            (λ v. AreResultsOfCompiled (evaluator_view self.now) (map compiled_seen compiled.now) v.items) }
         ensures memory { IfErr result (λ e. e ≡ Refused.Memory) }
     {
         let context = context_of(alloc, &self.given)?;
@@ -151,7 +154,8 @@ impl VapEvaluator {
         alloc: Global,
         expressions: &[VapExpression],
     ) -> Result<Vec<VapResult>, Refused>
-        ensures results { IfOk result (λ v. AreResultsOf (evaluator_view self.now) (map expression_view expressions.now) v.items) }
+        ensures results { IfOk result
+            (λ v. AreResultsOf (evaluator_view self.now) (map expression_view expressions.now) v.items) }
         ensures memory { IfErr result (λ e. e ≡ Refused.Memory) }
     {
         let compiled = self.compile_expressions(alloc, expressions)?;

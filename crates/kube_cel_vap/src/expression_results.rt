@@ -26,7 +26,8 @@ fn result_with(
     expression: &str,
     message: Option<String>,
 ) -> Result<VapResult, AllocError>
-    ensures { IfOk result (λ r. result_view r ≡ result_with expression.now (option_map string_bytes message)) }
+    ensures { IfOk result (λ r. result_view r
+        ≡ result_with expression.now (option_map string_bytes message)) }
 {
     Ok(VapResult {
         expression: String::from_str(alloc, expression)?,
@@ -64,7 +65,9 @@ fn false_message(
     book: &mut PatternBook,
 ) -> Result<String, Refused>
     ensures keeps { Extends (entries_of book.new) (entries_of book.old) }
-    ensures reported { IfOk result (λ s. HoldsForExtensions (entries_of book.new) (string_bytes s) (λ b. false_message (compiled_view compiled.now)
+    ensures reported { IfOk result
+        (λ s. HoldsForExtensions (entries_of book.new) (string_bytes s)
+        (λ b. false_message (compiled_view compiled.now)
         (option_map (outcome_in b (bindings_of context.now)) (compiled_view compiled.now).message_tree))) }
     ensures memory { IfErr result (λ e. e ≡ Refused.Memory) }
 {
@@ -81,7 +84,8 @@ fn report_message(
     compiled: &CompiledVapExpression,
     outcome: &Answer,
 ) -> Result<String, AllocError>
-    ensures { IfOk result (λ s. string_bytes s ≡ false_message (compiled_view compiled.now) (Some (outcome_view outcome.now))) }
+    ensures { IfOk result (λ s. string_bytes s
+        ≡ false_message (compiled_view compiled.now) (Some (outcome_view outcome.now))) }
 {
     match message_text(outcome) {
         Some(text) => String::from_str(alloc, text),
@@ -98,8 +102,11 @@ fn value_message(
     book: &mut PatternBook,
 ) -> Result<Option<String>, Refused>
     ensures keeps { Extends (entries_of book.new) (entries_of book.old) }
-    ensures reported { IfOk result (λ o. HoldsForExtensions (entries_of book.new) (option_map string_bytes o) (λ b. value_message
-        (false_message (compiled_view compiled.now) (option_map (outcome_in b (bindings_of context.now)) (compiled_view compiled.now).message_tree))
+    ensures reported { IfOk result
+        (λ o. HoldsForExtensions (entries_of book.new) (option_map string_bytes o)
+        (λ b. value_message
+        (false_message (compiled_view compiled.now)
+        (option_map (outcome_in b (bindings_of context.now)) (compiled_view compiled.now).message_tree))
         (view value.now) (bool_in (view value.now)))) }
     ensures memory { IfErr result (λ e. e ≡ Refused.Memory) }
 {

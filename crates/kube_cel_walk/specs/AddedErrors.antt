@@ -11,4 +11,5 @@ IsVerdict known answered verdict = (b : Book) → Extends b known → option_map
 
 -- the errors that were added to those before
 abbrev pub AreAdded : Book → List ValidationError → List ValidationError → (Book → List ErrorData) → Type 0
-AreAdded known before after added = (b : Book) → Extends b known → map error_view after ≡ map error_view before ++ added b
+AreAdded known before after added =
+    (b : Book) → Extends b known → map error_view after ≡ map error_view before ++ added b

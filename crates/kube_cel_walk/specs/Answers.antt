@@ -19,11 +19,12 @@ use Rattle.std.specs.Prelude.{ℕ, ◌==◌, List, [], ◌∷◌, if◌then◌el
 module _ {S : Type 0} (form : WalkAccessors S) where
   -- a value at a place as its node has it bound
   abbrev pub bound_at : Visit S → Json → Data
-  bound_at s value = to_cel form.accessors (levels s.depth) s.node value
+  bound_at s value = to_cel form.conversion (levels s.depth) s.node value
 
   -- what all rules at a place have: `self` is the value there
   unfoldable pub place_bindings : Visit S → Bindings
-  place_bindings s = with_root s.root (with_old (option_map (bound_at s) s.old) ((codes "self", bound_at s s.value) ∷ []))
+  place_bindings s =
+      with_root s.root (with_old (option_map (bound_at s) s.old) ((codes "self", bound_at s s.value) ∷ []))
 
   -- the verdicts of the node's rules, in order, where names are bound so
   unfoldable pub rule_verdicts : Book → Bindings → Visit S → List ErrorData
@@ -35,14 +36,14 @@ module _ {S : Type 0} (form : WalkAccessors S) where
 
   -- what is found from a visit on, within n steps
   unfoldable pub answer : Book → ℕ → Visit S → List ErrorData
-  answer b n s = answers (goes form.shape) (candidates form.shape) (verdicts b) n s
+  answer b n s = answers (goes form.steps) (candidates form.steps) (verdicts b) n s
 
   unfoldable pub answer_if_reached : Book → ℕ → Option (Visit S) → List ErrorData
   answer_if_reached b n o = if_some (answer b n) o
 
   -- what is found through these steps, with n more at most behind each
   unfoldable pub found_through : Book → ℕ → Visit S → List Step → List ErrorData
-  found_through b n s steps = flat_map (λ p. answer_if_reached b n (goes form.shape p s)) steps
+  found_through b n s steps = flat_map (λ p. answer_if_reached b n (goes form.steps p s)) steps
 
   -- through the steps of one kind
   abbrev pub found_by : (Visit S → List Step) → Book → ℕ → Visit S → List ErrorData
@@ -50,4 +51,4 @@ module _ {S : Type 0} (form : WalkAccessors S) where
 
   -- all places of at most 65 steps, in order, each replaced by the errors at it, all joined
   unfoldable pub IsAnswer : Book → Visit S → List ErrorData → Type 0
-  IsAnswer b root found = AreFoundAtPlaces (goes form.shape) (verdicts b) 65 root found
+  IsAnswer b root found = AreFoundAtPlaces (goes form.steps) (verdicts b) 65 root found

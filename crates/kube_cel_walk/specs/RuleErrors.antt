@@ -11,50 +11,96 @@ use Rattle.std.specs.Prelude.{ℕ, ◌==◌, List, [], ◌++◌, if◌then◌els
 
 -- what is beyond the greatest depth
 unfoldable pub too_deep : List ℕ → ErrorData
-too_deep path = record { rule = []; message = codes "schema nesting exceeds the maximum depth of 64"; field_path = path; reason = None; kind = SchemaTooDeep; cause = None }
+too_deep path = record {
+  rule = [];
+  message = codes "schema nesting exceeds the maximum depth of 64";
+  field_path = path;
+  reason = None;
+  kind = SchemaTooDeep;
+  cause = None;
+}
 
 -- what is no rule has no text
 abbrev pub invalid_rule : List ℕ → schema.Fault → ErrorData
-invalid_rule path fault = record { rule = []; message = codes "invalid rule definition: " ++ schema.fault_text fault; field_path = path; reason = None; kind = InvalidRule; cause = None }
+invalid_rule path fault = record {
+  rule = [];
+  message = codes "invalid rule definition: " ++ schema.fault_text fault;
+  field_path = path;
+  reason = None;
+  kind = InvalidRule;
+  cause = None;
+}
 
 -- a rule with a text that is no CEL expression
 abbrev pub not_compiled : List ℕ → List ℕ → List ℕ → ErrorData
-not_compiled path rule message = record { rule = rule; message = message; field_path = path; reason = None; kind = CompilationFailure; cause = None }
+not_compiled path rule message = record {
+  rule = rule;
+  message = message;
+  field_path = path;
+  reason = None;
+  kind = CompilationFailure;
+  cause = None;
+}
 
 abbrev pub unread_rule : List ℕ → List ℕ → ErrorData
-unread_rule path rule = not_compiled path rule (codes "failed to compile rule \"" ++ (rule ++ codes "\": invalid CEL expression"))
+unread_rule path rule =
+    not_compiled path rule (codes "failed to compile rule \"" ++ (rule ++ codes "\": invalid CEL expression"))
 
 abbrev pub unread_message_rule : List ℕ → List ℕ → List ℕ → ErrorData
-unread_message_rule path rule m = not_compiled path rule (codes "failed to compile messageExpression \"" ++ (m ++ (codes "\" for rule \"" ++ (rule ++ codes "\": invalid CEL expression"))))
+unread_message_rule path rule m =
+    not_compiled path rule (codes "failed to compile messageExpression \""
+    ++ (m ++ (codes "\" for rule \"" ++ (rule ++ codes "\": invalid CEL expression"))))
 
--- a place and the own path of a rule: one that begins with a dot (46) stands as it is, another as a member
+-- a path and the own path of a rule behind it: one that begins with a dot (46) stands as it is, another as a member
 abbrev pub joined_path : List ℕ → List ℕ → List ℕ
-joined_path place own = if slice_index own 0 == 46 then place ++ own else member_path place own
+joined_path path own = if slice_index own 0 == 46 then path ++ own else member_path path own
 
 -- the path that the error of a rule has
 abbrev pub rule_path : List ℕ → Option (List ℕ) → List ℕ
-rule_path place None = place
-rule_path place (Some own) = joined_path place own
+rule_path path None = path
+rule_path path (Some own) = joined_path path own
 
 -- a rule that is false, with its reason
 abbrev pub failed_rule : List ℕ → schema.Fields → List ℕ → ErrorData
-failed_rule place r message = record { rule = r.rule; message = message; field_path = rule_path place r.field_path; reason = r.reason; kind = ValidationFailure; cause = None }
+failed_rule path r message = record {
+  rule = r.rule;
+  message = message;
+  field_path = rule_path path r.field_path;
+  reason = r.reason;
+  kind = ValidationFailure;
+  cause = None;
+}
 
 abbrev pub no_bool : List ℕ → schema.Fields → ErrorData
-no_bool place r = record { rule = r.rule; message = codes "rule \"" ++ (r.rule ++ codes "\" did not evaluate to bool"); field_path = rule_path place r.field_path; reason = None; kind = InvalidResult; cause = None }
+no_bool path r = record {
+  rule = r.rule;
+  message = codes "rule \"" ++ (r.rule ++ codes "\" did not evaluate to bool");
+  field_path = rule_path path r.field_path;
+  reason = None;
+  kind = InvalidResult;
+  cause = None;
+}
 
 abbrev pub unsupported_reference : List ℕ → schema.Fields → List ℕ → Fault → ErrorData
-unsupported_reference place r name fault = record {
+unsupported_reference path r name fault = record {
   rule = r.rule;
-  message = codes "rule references '" ++ (name ++ codes "', which this kube-cel build does not support (an unsupported CEL macro, or a feature disabled at compile time); it cannot be evaluated client-side");
-  field_path = rule_path place r.field_path;
+  message = codes "rule references '"
+      ++ (name ++ codes "', which this kube-cel build does not support (an unsupported CEL macro, or a feature disabled at compile time); it cannot be evaluated client-side");
+  field_path = rule_path path r.field_path;
   reason = None;
   kind = UnsupportedReference;
   cause = Some fault;
 }
 
 abbrev pub evaluation_error : List ℕ → schema.Fields → Fault → ErrorData
-evaluation_error place r fault = record { rule = r.rule; message = codes "rule evaluation error: " ++ fault_text fault; field_path = rule_path place r.field_path; reason = None; kind = EvaluationError; cause = Some fault }
+evaluation_error path r fault = record {
+  rule = r.rule;
+  message = codes "rule evaluation error: " ++ fault_text fault;
+  field_path = rule_path path r.field_path;
+  reason = None;
+  kind = EvaluationError;
+  cause = Some fault;
+}
 
 -- the name that nothing declares
 abbrev pub undeclared_name : Fault → Option (List ℕ)
@@ -62,8 +108,8 @@ undeclared_name (undeclared n) = Some n
 undeclared_name _ = None
 
 abbrev pub fault_error : List ℕ → schema.Fields → Fault → Option (List ℕ) → ErrorData
-fault_error place r fault (Some name) = unsupported_reference place r name fault
-fault_error place r fault None = evaluation_error place r fault
+fault_error path r fault (Some name) = unsupported_reference path r name fault
+fault_error path r fault None = evaluation_error path r fault
 
 -- why a rule is malformed
 abbrev pub malformed_error : List ℕ → Malformed → ErrorData

@@ -5,13 +5,13 @@ use Rattle.kube_cel_walk.specs.Errors.{ErrorData, error_view}
 use Rattle.std.specs.List.{flat_map}
 use Rattle.std.specs.Prelude.{ℕ, List, [], ◌∷◌, ◌++◌, length, codes, decimal}
 
--- the message, after its place unless that is the root
-abbrev pub placed_text : List ℕ → List ℕ → List ℕ
-placed_text [] message = message
-placed_text (b ∷ bs) message = (b ∷ bs) ++ (codes ": " ++ message)
+-- the message, behind its path unless that is empty
+abbrev pub text_at : List ℕ → List ℕ → List ℕ
+text_at [] message = message
+text_at (b ∷ bs) message = (b ∷ bs) ++ (codes ": " ++ message)
 
 abbrev pub error_text : ErrorData → List ℕ
-error_text e = placed_text e.field_path e.message
+error_text e = text_at e.field_path e.message
 
 -- an error on a line of its own
 abbrev pub line_text : ErrorData → List ℕ

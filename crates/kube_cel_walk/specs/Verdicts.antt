@@ -52,7 +52,9 @@ with_old (Some old) e = (codes "oldSelf", old) ∷ e
 -- what is known of the whole object
 abbrev pub with_root : Option Root → Bindings → Bindings
 with_root None e = e
-with_root (Some r) e = (codes "kind", text r.kind) ∷ (codes "apiGroup", text r.api_group) ∷ (codes "apiVersion", text r.api_version) ∷ e
+with_root (Some r) e =
+    (codes "kind", text r.kind) ∷ (codes "apiGroup", text r.api_group)
+    ∷ (codes "apiVersion", text r.api_version) ∷ e
 
 -- `optionalOldSelf` is true
 abbrev pub is_old_optional : schema.Fields → Bool
@@ -72,7 +74,9 @@ outcome_in b e t = meaning all_library b t e
 
 -- the error of a rule whose names are bound so, unless it is true
 unfoldable pub bound_verdict : Book → Bindings → List ℕ → Compiled → Option ErrorData
-bound_verdict b e path c = outcome_error path c.fields (failed_message c.fields (option_map (outcome_in b e) c.message_tree)) (outcome_in b e c.tree)
+bound_verdict b e path c =
+    outcome_error path c.fields
+    (failed_message c.fields (option_map (outcome_in b e) c.message_tree)) (outcome_in b e c.tree)
 
 -- the verdict of a compiled rule among such names: none where it isn't applicable or is true. Where there is no old counterpart and it is
 -- judged all the same, `oldSelf` is null
@@ -80,7 +84,8 @@ abbrev pub rule_bindings : Bindings → Option Json → schema.Fields → Bindin
 rule_bindings e old r = if is_old_null old r then (codes "oldSelf", null) ∷ e else e
 
 abbrev pub compiled_verdict : Book → Bindings → Option Json → List ℕ → Compiled → Option ErrorData
-compiled_verdict b e old path c = if is_applicable old c then bound_verdict b (rule_bindings e old c.fields) path c else None
+compiled_verdict b e old path c =
+    if is_applicable old c then bound_verdict b (rule_bindings e old c.fields) path c else None
 
 -- the verdict of one rule: at most one error. A malformed rule is an error wherever it stands
 unfoldable pub verdict : Book → Bindings → Option Json → List ℕ → Result Compiled Malformed → Option ErrorData

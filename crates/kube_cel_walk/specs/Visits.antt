@@ -8,4 +8,6 @@ use Rattle.std.specs.Prelude.{ℕ, List, option_map}
 
 -- the visit that a walk's state stands for, which is reached by this path, where its node is seen so
 abbrev pub visit_at : {N S : Type 0} → (N → S) → WalkState N → List ℕ → Visit S
-visit_at seen p path = visit (seen p.node) (view p.value.now) (option_map (λ v. view v.now) p.old) (option_map (λ r. root_view r.now) p.root) path p.depth
+visit_at seen p path =
+    visit (seen p.node) (view p.value.now) (option_map (λ v. view v.now) p.old)
+    (option_map (λ r. root_view r.now) p.root) path p.depth

@@ -7,9 +7,9 @@ use Rattle.std.specs.Prelude.{List, [], ◌∷◌, Bool, true, false, Result}
 
 pub record WalkAccessors (S : Type 0) : Type 0 where
   -- where steps lead
-  pub shape : StepAccessors S
+  pub steps : StepAccessors S
   -- how values are bound
-  pub accessors : ConversionAccessors S
+  pub conversion : ConversionAccessors S
   -- the rules of a node, in order, each compiled or malformed
   pub rules : S → List (Result Compiled Malformed)
 

@@ -133,7 +133,8 @@ impl IntoIterator for ValidationErrors {
     type IntoIter = vec::IntoIter<ValidationError>;
 
     ghost into_iter_gives = { λ v r. (into_iter_items r ≡ v.errors.items) × (into_iter_len r < 2 ^ 64)
-        × EveryRun (into_iter_steps {X = ValidationError} {Z = Global}) (λ p. ItemsAre p (into_iter_items p.from)) };
+        × EveryRun (into_iter_steps {X = ValidationError} {Z = Global})
+        (λ p. ItemsAre p (into_iter_items p.from)) };
 
     fn into_iter(self) -> vec::IntoIter<ValidationError> {
         self.errors.into_iter()

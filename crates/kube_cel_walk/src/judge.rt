@@ -38,9 +38,10 @@ fn bind_name<N: Node>(
     depth: usize,
     demand: &Option<Demand>,
 ) -> Result<(), Refused>
-    ensures bound { OnOk result ((read : List ℕ → Option Part) (f : Bindings) → option_map part_of demand.now ≡ read name.now
+    ensures bound { OnOk result ((read : List ℕ → Option Part) (f : Bindings)
+        → option_map part_of demand.now ≡ read name.now
         → NamesAlike read (bindings_of context.old) f → NamesAlike read (bindings_of context.new)
-        ((name.now, to_cel N.form.accessors (levels depth) (N.seen node.now) (view value.now)) ∷ f)) }
+        ((name.now, to_cel N.form.conversion (levels depth) (N.seen node.now) (view value.now)) ∷ f)) }
     ensures memory { IfErr result (λ e. e ≡ Refused.Memory) }
 {
     let Some(demand) = demand else {
@@ -60,7 +61,8 @@ fn bind_old<N: Node>(
 ) -> Result<(), Refused>
     ensures bound { OnOk result ((read : List ℕ → Option Part) (f : Bindings) (path : List ℕ)
         → option_map part_of demand.now ≡ read (codes "oldSelf") → NamesAlike read (bindings_of context.old) f
-        → NamesAlike read (bindings_of context.new) (with_old (option_map (bound_at N.form (visit_at N.seen state.now path))
+        → NamesAlike read (bindings_of context.new)
+        (with_old (option_map (bound_at N.form (visit_at N.seen state.now path))
         (option_map (λ v. view v.now) state.now.old)) f)) }
     ensures memory { IfErr result (λ e. e ≡ Refused.Memory) }
 {
@@ -75,7 +77,8 @@ fn bind_old<N: Node>(
 /// The names that all rules at a place have, each bound as far as a rule reads it: `self`, `oldSelf` where there is an old counterpart,
 /// and those of the whole object where it is known.
 fn context_at<'c, N: Node>(alloc: Global, state: &WalkState<'_, N>) -> Result<Context<'c>, Refused>
-    ensures bound { IfOk result (λ c. (path : List ℕ) → NamesAlike (λ x. rules_read x (N.form.rules (N.seen state.now.node)))
+    ensures bound { IfOk result (λ c. (path : List ℕ)
+        → NamesAlike (λ x. rules_read x (N.form.rules (N.seen state.now.node)))
         (bindings_of c) (place_bindings N.form (visit_at N.seen state.now path))) }
     ensures memory { IfErr result (λ e. e ≡ Refused.Memory) }
 {

@@ -21,14 +21,16 @@ pub fn equal_by_five_fields(a: &ValidationError, b: &ValidationError) -> bool
 
 /// The verdict of a rule depends only on what the rule and its messageExpression read of the values at a place.
 pub fn verdict_depends_on_what_is_read()
-    ensures { (b : Book) (e f : Bindings) (old : Option Json) (path : List ℕ) (rule : Result Compiled Malformed)
+    ensures { (b : Book) (e f : Bindings) (old : Option Json)
+        (path : List ℕ) (rule : Result Compiled Malformed)
         → NamesAlike (λ x. rule_read x rule) e f
         → verdict b e old path rule ≡ verdict b f old path rule }
 {}
 
 /// The errors of two validations are equal exactly where they are as many, and those at each place are equal.
 pub fn equal_lists(a: &ValidationErrors, b: &ValidationErrors) -> bool
-    ensures { IsTrue result ↔ SameErrors (map error_view (errors_in a.now)) (map error_view (errors_in b.now)) }
+    ensures { IsTrue result ↔ SameErrors (map error_view (errors_in a.now))
+        (map error_view (errors_in b.now)) }
 {
     a == b
 }

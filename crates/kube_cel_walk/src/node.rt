@@ -36,27 +36,28 @@ pub trait Node: Copy {
 
     /// The node of a declared name.
     fn property(&self, name: &str) -> Option<Self>
-        ensures { option_map seen result ≡ form.shape.property name.now (seen self.now) };
+        ensures { option_map seen result ≡ form.steps.property name.now (seen self.now) };
 
     /// The node of all items.
     fn items(&self) -> Option<Self>
-        ensures { option_map seen result ≡ form.shape.items (seen self.now) };
+        ensures { option_map seen result ≡ form.steps.items (seen self.now) };
 
     /// The node of all members whose names aren't declared.
     fn additional_property(&self) -> Option<Self>
-        ensures { option_map seen result ≡ form.shape.additional_property (seen self.now) };
+        ensures { option_map seen result ≡ form.steps.additional_property (seen self.now) };
 
     /// The number of branches of a keyword.
     fn branch_count(&self, kind: BranchKind) -> usize
-        ensures { result ≡ form.shape.branch_count kind (seen self.now) };
+        ensures { result ≡ form.steps.branch_count kind (seen self.now) };
 
     /// A branch of a keyword.
     fn branch(&self, kind: BranchKind, index: usize) -> Option<Self>
-        ensures { option_map seen result ≡ form.shape.branch kind index (seen self.now) };
+        ensures { option_map seen result ≡ form.steps.branch kind index (seen self.now) };
 
     /// How much of the values at a place the node's rules read.
     fn demands(&self, alloc: Global) -> Result<NodeDemands<'_>, Refused>
-        ensures demands { IfOk result (λ d. AreDemands (demands_in d) (λ x. rules_read x (form.rules (seen self.now)))) }
+        ensures demands { IfOk result
+            (λ d. AreDemands (demands_in d) (λ x. rules_read x (form.rules (seen self.now)))) }
         ensures memory { IfErr result (λ e. e ≡ Refused.Memory) };
 
     /// As much as is demanded of the CEL value of a value at a node that stands `depth` steps from the root.
@@ -68,7 +69,7 @@ pub trait Node: Copy {
         demand: &Demand,
     ) -> Result<CelValue, Refused>
         ensures value { IfOk result (λ v. Alike (part_of demand.now) (cel_view v)
-            (to_cel form.accessors (levels depth) (seen self.now) (view value.now))) }
+            (to_cel form.conversion (levels depth) (seen self.now) (view value.now))) }
         ensures memory { IfErr result (λ e. e ≡ Refused.Memory) };
 
     /// Whether the node has no rules.
@@ -86,6 +87,8 @@ pub trait Node: Copy {
     ) -> Result<(), Refused>
         ensures keeps { (b : Book) → Extends b (entries_of book.new) → Extends b (entries_of book.old) }
         ensures found { OnOk result (AreAdded (entries_of book.new) errors.old.items errors.new.items
-            (λ b. flat_map (λ r. list_of_option (verdict b (bindings_of context.now) (option_map (λ v. view v.now) old.entry) path.now r)) (form.rules (seen self.now)))) }
+            (λ b. flat_map (λ r. list_of_option
+            (verdict b (bindings_of context.now) (option_map (λ v. view v.now) old.entry) path.now r))
+            (form.rules (seen self.now)))) }
         ensures memory { IfErr result (λ e. e ≡ Refused.Memory) };
 }

@@ -1,4 +1,4 @@
-//! The text of a place's path, which a walk lengthens and cuts back, and the paths that errors have.
+//! The text of a path, which a walk lengthens and cuts back, and the paths that errors have.
 ghost use Rattle.kube_cel_walk.specs.RuleErrors.{joined_path, rule_path};
 ghost use Rattle.kube_schema_rules.specs.Visit.{item_path, member_path};
 ghost use Rattle.kube_schema_rules.specs.Rules.{rule_view};
@@ -32,16 +32,16 @@ pub fn push_item(path: &mut String, index: usize) -> Result<(), AllocError>
     Ok(())
 }
 
-/// The path that the error of a rule has: its place, and behind it the rule's own path, if it has one.
-pub fn error_path(alloc: Global, place: &str, rule: &Rule) -> Result<String, AllocError>
-    ensures { IfOk result (λ s. string_bytes s ≡ rule_path place.now (rule_view rule.now).field_path) }
+/// The path that the error of a rule has: that of the value, and behind it the rule's own path, if it has one.
+pub fn error_path(alloc: Global, path: &str, rule: &Rule) -> Result<String, AllocError>
+    ensures { IfOk result (λ s. string_bytes s ≡ rule_path path.now (rule_view rule.now).field_path) }
 {
-    let mut path = String::from_str(alloc, place)?;
+    let mut joined = String::from_str(alloc, path)?;
     let Some(own) = &rule.field_path else {
-        return Ok(path);
+        return Ok(joined);
     };
-    push_own(&mut path, own.as_str())?;
-    Ok(path)
+    push_own(&mut joined, own.as_str())?;
+    Ok(joined)
 }
 
 /// Adds the own path of a rule: one that begins with a dot as it stands, another as a key.

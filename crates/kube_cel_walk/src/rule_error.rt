@@ -82,8 +82,8 @@ pub fn malformed_error(
         }
         CompilationError::InvalidRule(fault) => {
             let message = format!(in alloc; "invalid rule definition: {fault}")?;
-            let place = String::from_str(alloc, path)?;
-            rule_error(alloc, ErrorKind::InvalidRule, "", message, place, None)
+            let field_path = String::from_str(alloc, path)?;
+            rule_error(alloc, ErrorKind::InvalidRule, "", message, field_path, None)
         }
         CompilationError::SchemaTooDeep { depth: _ } => deep_error(alloc, path),
     }
@@ -98,9 +98,9 @@ fn unread_error(
 ) -> Result<ValidationError, AllocError>
     ensures { IfOk result (λ e. error_view e ≡ not_compiled path.now rule.now (string_bytes message)) }
 {
-    let place = String::from_str(alloc, path)?;
+    let field_path = String::from_str(alloc, path)?;
     let kind = ErrorKind::CompilationFailure;
-    rule_error(alloc, kind, rule, message, place, None)
+    rule_error(alloc, kind, rule, message, field_path, None)
 }
 
 /// The error of a rule that is false, with what is reported of it.
@@ -110,7 +110,8 @@ pub fn failed_rule_error(
     message: String,
     path: &str,
 ) -> Result<ValidationError, AllocError>
-    ensures { IfOk result (λ e. error_view e ≡ failed_rule path.now (rule_view rule.now) (string_bytes message)) }
+    ensures { IfOk result (λ e. error_view e
+        ≡ failed_rule path.now (rule_view rule.now) (string_bytes message)) }
 {
     Ok(ValidationError {
         rule: String::from_str(alloc, rule.rule.as_str())?,
@@ -139,8 +140,15 @@ pub fn no_bool_error(alloc: Global, rule: &Rule, path: &str) -> Result<Validatio
 {
     let text = rule.rule.as_str();
     let message = format!(in alloc; "rule \"{text}\" did not evaluate to bool")?;
-    let place = error_path(alloc, path, rule)?;
-    rule_error(alloc, ErrorKind::InvalidResult, text, message, place, None)
+    let field_path = error_path(alloc, path, rule)?;
+    rule_error(
+        alloc,
+        ErrorKind::InvalidResult,
+        text,
+        message,
+        field_path,
+        None,
+    )
 }
 
 /// The name that nothing declares, where that is the fault.
@@ -172,10 +180,11 @@ pub fn fault_error(
     fault: ExecutionError,
     path: &str,
 ) -> Result<ValidationError, AllocError>
-    ensures { IfOk result (λ e. error_view e ≡ fault_error path.now (rule_view rule.now) (fault_view fault) (undeclared_name (fault_view fault))) }
+    ensures { IfOk result (λ e. error_view e
+        ≡ fault_error path.now (rule_view rule.now) (fault_view fault) (undeclared_name (fault_view fault))) }
 {
     let text = rule.rule.as_str();
-    let place = error_path(alloc, path, rule)?;
+    let field_path = error_path(alloc, path, rule)?;
     let Some(name) = undeclared_name(&fault) else {
         let message = format!(in alloc; "rule evaluation error: {fault}")?;
         return rule_error(
@@ -183,7 +192,7 @@ pub fn fault_error(
             ErrorKind::EvaluationError,
             text,
             message,
-            place,
+            field_path,
             Some(fault),
         );
     };
@@ -195,7 +204,7 @@ pub fn fault_error(
         ErrorKind::UnsupportedReference,
         text,
         message,
-        place,
+        field_path,
         Some(fault),
     )
 }

@@ -23,14 +23,16 @@ pub struct WalkState<'a, N> {
 
 /// The member of a part of the old object.
 pub(crate) fn old_member<'a>(old: Option<&'a Value>, key: &str) -> Option<&'a Value>
-    ensures { option_map (λ v. view v.now) result ≡ option_and_then (get key.now) (option_map (λ v. view v.now) old.entry) }
+    ensures { option_map (λ v. view v.now) result
+        ≡ option_and_then (get key.now) (option_map (λ v. view v.now) old.entry) }
 {
     old?.get(key)
 }
 
 /// The item of a part of the old object.
 pub(crate) fn old_item(old: Option<&Value>, index: usize) -> Option<&Value>
-    ensures { option_map (λ v. view v.now) result ≡ option_and_then (at index) (option_map (λ v. view v.now) old.entry) }
+    ensures { option_map (λ v. view v.now) result
+        ≡ option_and_then (at index) (option_map (λ v. view v.now) old.entry) }
 {
     old?.get(index)
 }

@@ -111,7 +111,9 @@ fn failed_message(
     book: &mut PatternBook,
 ) -> Result<String, Refused>
     ensures keeps { (b : Book) → Extends b (entries_of book.new) → Extends b (entries_of book.old) }
-    ensures reported { IfOk result (λ s. HoldsForExtensions (entries_of book.new) (string_bytes s) (λ b. failed_message (rule_view rule.now.rule)
+    ensures reported { IfOk result
+        (λ s. HoldsForExtensions (entries_of book.new) (string_bytes s)
+        (λ b. failed_message (rule_view rule.now.rule)
         (option_map (outcome_in b (bindings_of context.now)) (result_view rule.now).message_tree))) }
     ensures memory { IfErr result (λ e. e ≡ Refused.Memory) }
 {
@@ -135,8 +137,10 @@ fn verdict_of_value(
     book: &mut PatternBook,
 ) -> Result<Option<ValidationError>, Refused>
     ensures keeps { (b : Book) → Extends b (entries_of book.new) → Extends b (entries_of book.old) }
-    ensures found { IfOk result (λ o. IsVerdict (entries_of book.new) o (λ b. value_error path.now (rule_view rule.now.rule)
-        (failed_message (rule_view rule.now.rule) (option_map (outcome_in b (bindings_of context.now)) (result_view rule.now).message_tree))
+    ensures found { IfOk result
+        (λ o. IsVerdict (entries_of book.new) o (λ b. value_error path.now (rule_view rule.now.rule)
+        (failed_message (rule_view rule.now.rule)
+        (option_map (outcome_in b (bindings_of context.now)) (result_view rule.now).message_tree))
         (bool_in (cel_view value.now)))) }
     ensures memory { IfErr result (λ e. e ≡ Refused.Memory) }
 {
@@ -184,7 +188,8 @@ fn verdict_of_compiled(
 ) -> Result<Option<ValidationError>, Refused>
     ensures keeps { (b : Book) → Extends b (entries_of book.new) → Extends b (entries_of book.old) }
     ensures found { IfOk result (λ o. IsVerdict (entries_of book.new) o
-        (λ b. compiled_verdict b (bindings_of context.now) (option_map (λ v. view v.now) old.entry) path.now (result_view rule.now))) }
+        (λ b. compiled_verdict b (bindings_of context.now)
+        (option_map (λ v. view v.now) old.entry) path.now (result_view rule.now))) }
     ensures memory { IfErr result (λ e. e ≡ Refused.Memory) }
 {
     if !is_applicable(rule, old) {
@@ -211,7 +216,8 @@ fn verdict_of_rule(
 ) -> Result<Option<ValidationError>, Refused>
     ensures keeps { (b : Book) → Extends b (entries_of book.new) → Extends b (entries_of book.old) }
     ensures found { IfOk result (λ o. IsVerdict (entries_of book.new) o
-        (λ b. verdict b (bindings_of context.now) (option_map (λ v. view v.now) old.entry) path.now (compiled_seen rule.now))) }
+        (λ b. verdict b (bindings_of context.now)
+        (option_map (λ v. view v.now) old.entry) path.now (compiled_seen rule.now))) }
     ensures memory { IfErr result (λ e. e ≡ Refused.Memory) }
 {
     match rule {
@@ -228,7 +234,8 @@ fn push_listed(
     error: Option<ValidationError>,
     errors: &mut Vec<ValidationError>,
 ) -> Result<(), AllocError>
-    ensures { OnOk result (map error_view errors.new.items ≡ map error_view errors.old.items ++ list_of_option (option_map error_view error)) }
+    ensures { OnOk result (map error_view errors.new.items
+        ≡ map error_view errors.old.items ++ list_of_option (option_map error_view error)) }
 {
     let Some(error) = error else {
         return Ok(());
@@ -252,7 +259,8 @@ pub fn add_verdict(
 ) -> Result<(), Refused>
     ensures keeps { (b : Book) → Extends b (entries_of book.new) → Extends b (entries_of book.old) }
     ensures found { OnOk result (AreAdded (entries_of book.new) errors.old.items errors.new.items
-        (λ b. list_of_option (verdict b (bindings_of context.now) (option_map (λ v. view v.now) old.entry) path.now (compiled_seen rule.now)))) }
+        (λ b. list_of_option (verdict b (bindings_of context.now)
+        (option_map (λ v. view v.now) old.entry) path.now (compiled_seen rule.now)))) }
     ensures memory { IfErr result (λ e. e ≡ Refused.Memory) }
 {
     let error = verdict_of_rule(*errors.allocator(), rule, context, old, path, book)?;

@@ -58,7 +58,8 @@ fn walk_properties<N: Node>(
 ) -> Result<(), Refused>
     requires { state.now.depth ≤ 64 }
     ensures found { OnOk result (AreAdded (entries_of book.new) errors.old.items errors.new.items
-        (λ b. found_by N.form (property_steps N.form.shape) b (64 - state.now.depth) (visit_at N.seen state.now (string_bytes path.old)))) }
+        (λ b. found_by N.form (property_steps N.form.steps) b (64 - state.now.depth)
+        (visit_at N.seen state.now (string_bytes path.old)))) }
     ensures path { OnOk result (string_bytes path.new ≡ string_bytes path.old) }
     ensures keeps { (b : Book) → Extends b (entries_of book.new) → Extends b (entries_of book.old) }
     ensures memory { IfErr result (λ e. e ≡ Refused.Memory) }
@@ -84,7 +85,8 @@ fn walk_extras<N: Node>(
 ) -> Result<(), Refused>
     requires { state.now.depth ≤ 64 }
     ensures found { OnOk result (AreAdded (entries_of book.new) errors.old.items errors.new.items
-        (λ b. found_by N.form (additional_steps N.form.shape) b (64 - state.now.depth) (visit_at N.seen state.now (string_bytes path.old)))) }
+        (λ b. found_by N.form (additional_steps N.form.steps) b (64 - state.now.depth)
+        (visit_at N.seen state.now (string_bytes path.old)))) }
     ensures path { OnOk result (string_bytes path.new ≡ string_bytes path.old) }
     ensures keeps { (b : Book) → Extends b (entries_of book.new) → Extends b (entries_of book.old) }
     ensures memory { IfErr result (λ e. e ≡ Refused.Memory) }
@@ -115,7 +117,8 @@ fn walk_member<N: Node>(
 ) -> Result<(), Refused>
     requires { state.now.depth ≤ 64 }
     ensures found { OnOk result (AreAdded (entries_of book.new) errors.old.items errors.new.items
-        (λ b. answer_if_reached N.form b (64 - state.now.depth) (further None state.now.depth (member_path (string_bytes path.old) key.now)
+        (λ b. answer_if_reached N.form b (64 - state.now.depth)
+        (further None state.now.depth (member_path (string_bytes path.old) key.now)
         (option_map N.seen node) (get key.now (view state.now.value.now))
         (option_and_then (get key.now) (option_map (λ v. view v.now) state.now.old))))) }
     ensures path { OnOk result (string_bytes path.new ≡ string_bytes path.old) }
@@ -152,7 +155,8 @@ fn walk_items<N: Node>(
 ) -> Result<(), Refused>
     requires { state.now.depth ≤ 64 }
     ensures found { OnOk result (AreAdded (entries_of book.new) errors.old.items errors.new.items
-        (λ b. found_by N.form (item_steps N.form.shape) b (64 - state.now.depth) (visit_at N.seen state.now (string_bytes path.old)))) }
+        (λ b. found_by N.form (item_steps N.form.steps) b (64 - state.now.depth)
+        (visit_at N.seen state.now (string_bytes path.old)))) }
     ensures path { OnOk result (string_bytes path.new ≡ string_bytes path.old) }
     ensures keeps { (b : Book) → Extends b (entries_of book.new) → Extends b (entries_of book.old) }
     ensures memory { IfErr result (λ e. e ≡ Refused.Memory) }
@@ -182,7 +186,8 @@ fn walk_item<'a, N: Node>(
 ) -> Result<(), Refused>
     requires { state.now.depth ≤ 64 }
     ensures found { OnOk result (AreAdded (entries_of book.new) errors.old.items errors.new.items
-        (λ b. answer_if_reached N.form b (64 - state.now.depth) (further None state.now.depth (item_path (string_bytes path.old) index)
+        (λ b. answer_if_reached N.form b (64 - state.now.depth)
+        (further None state.now.depth (item_path (string_bytes path.old) index)
         (Some (N.seen node)) (Some (view value.now))
         (option_and_then (at index) (option_map (λ v. view v.now) state.now.old))))) }
     ensures path { OnOk result (string_bytes path.new ≡ string_bytes path.old) }
@@ -214,7 +219,8 @@ fn walk_branches<N: Node>(
 ) -> Result<(), Refused>
     requires { state.now.depth ≤ 64 }
     ensures found { OnOk result (AreAdded (entries_of book.new) errors.old.items errors.new.items
-        (λ b. found_by N.form (branch_steps N.form.shape kind) b (64 - state.now.depth) (visit_at N.seen state.now (string_bytes path.old)))) }
+        (λ b. found_by N.form (branch_steps N.form.steps kind) b
+        (64 - state.now.depth) (visit_at N.seen state.now (string_bytes path.old)))) }
     ensures path { OnOk result (string_bytes path.new ≡ string_bytes path.old) }
     ensures keeps { (b : Book) → Extends b (entries_of book.new) → Extends b (entries_of book.old) }
     ensures memory { IfErr result (λ e. e ≡ Refused.Memory) }
@@ -237,7 +243,8 @@ fn walk_branch<N: Node>(
 ) -> Result<(), Refused>
     requires { state.now.depth ≤ 64 }
     ensures found { OnOk result (AreAdded (entries_of book.new) errors.old.items errors.new.items
-        (λ b. answer_if_reached N.form b (64 - state.now.depth) (goes N.form.shape (branch kind index) (visit_at N.seen state.now (string_bytes path.old))))) }
+        (λ b. answer_if_reached N.form b (64 - state.now.depth)
+        (goes N.form.steps (branch kind index) (visit_at N.seen state.now (string_bytes path.old))))) }
     ensures path { OnOk result (string_bytes path.new ≡ string_bytes path.old) }
     ensures keeps { (b : Book) → Extends b (entries_of book.new) → Extends b (entries_of book.old) }
     ensures memory { IfErr result (λ e. e ≡ Refused.Memory) }
@@ -258,7 +265,8 @@ fn walk_branch<N: Node>(
 
 /// The node of other names, where this name isn't declared.
 fn unless_declared<N: Node>(node: &N, key: &str, other: N) -> Option<N>
-    ensures { option_map N.seen result ≡ unless_there (N.form.shape.property key.now (N.seen node.now)) (Some (N.seen other)) }
+    ensures { option_map N.seen result
+        ≡ unless_there (N.form.steps.property key.now (N.seen node.now)) (Some (N.seen other)) }
 {
     match node.property(key) {
         Some(_) => None,

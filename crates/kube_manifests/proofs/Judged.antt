@@ -1,7 +1,7 @@
 -- What the code's own version answers is what the version of the documents answers.
 use Rattle.std.proofs.Common.{◌≡◌, ℕ, List, [], map, Option, Some, Result, Ok, Err, refl, sym, ap, ◌∙◌, subst, string_bytes}
 use Rattle.kube_cel.specs.Answers.{IsReportOf}
-use Rattle.kube_cel.specs.Raw.{raw_form}
+use Rattle.kube_cel.specs.Raw.{raw_accessors}
 use Rattle.kube_cel.specs.Starts.{defaulted_start}
 use Rattle.kube_cel_walk.specs.declared.error.ValidationErrors.{ValidationErrors}
 use Rattle.kube_cel_walk.specs.Roots.{root_view}
@@ -39,14 +39,14 @@ module _ (set : List (Version Node)) (versions : List (Version Data)) (same : se
   not_judged x e = err_before with_tree (chosen_version versions value) x (chosen_is ∙ sym e)
 
   pub judged : (v : CrdVersion) (answer : Result (Unit {0}) ValidationErrors) → Ok (version_view v) ≡ chosen_version set value
-      → ((s : Data) → whole v.schema ≡ view_of 65 s → IsReportOf raw_form (defaulted_start s value old (Some (root_view v.root))) answer)
+      → ((s : Data) → whole v.schema ≡ view_of 65 s → IsReportOf raw_accessors (defaulted_start s value old (Some (root_view v.root))) answer)
       → IsJudgement versions value old (judgement.Judged answer)
   judged v answer e the_report =
       let before = ok_before with_tree (chosen_version versions value) (version_view v) (chosen_is ∙ sym e) in
       let w = before.0 in
       let root : root_view v.root ≡ root_of w = root_is v ∙ ap root_of (sym before.2) in
       let tree : whole v.schema ≡ view_of 65 w.schema = ap (λ (x : Version Node). x.schema) (sym before.2) in
-      (w, before.1, subst (λ r. IsReportOf raw_form (defaulted_start w.schema value old (Some r)) answer) root (the_report w.schema tree))
+      (w, before.1, subst (λ r. IsReportOf raw_accessors (defaulted_start w.schema value old (Some r)) answer) root (the_report w.schema tree))
 
 -- ---- documents
 

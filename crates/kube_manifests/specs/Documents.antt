@@ -48,7 +48,7 @@ abbrev pub version_pointer : Option ℕ → List ℕ
 version_pointer None = []
 version_pointer (Some i) = codes "/spec/versions/" ++ decimal i
 
--- a fault of the definition at a place, or of one of its versions
+-- a fault of the definition at a location, or of one of its versions
 abbrev pub fault_at : Location → Option ℕ → CrdFault → Fault
 fault_at location version f = record {
   document = location.document;
@@ -71,11 +71,15 @@ has_text key text d = option_map_or (λ t. bytes_eq t text) (text_at key d) fals
 
 -- whether a value says that it is a definition
 unfoldable pub is_crd : Data → Bool
-is_crd d = has_text (codes "apiVersion") (codes "apiextensions.k8s.io/v1") d && has_text (codes "kind") (codes "CustomResourceDefinition") d
+is_crd d =
+    has_text (codes "apiVersion") (codes "apiextensions.k8s.io/v1") d
+    && has_text (codes "kind") (codes "CustomResourceDefinition") d
 
 -- the items of a list, which has a kind that ends in `List`
 unfoldable pub list_of : Data → Option Items
-list_of d = if option_map_or (λ t. ends_with nat_eq t (codes "List")) (text_at (codes "kind") d) false then option_and_then as_array (get (codes "items") d) else None
+list_of d =
+    if option_map_or (λ t. ends_with nat_eq t (codes "List")) (text_at (codes "kind") d) false
+    then option_and_then as_array (get (codes "items") d) else None
 
 abbrev pub unless_none : Items → Option Items
 unless_none no_items = None
@@ -89,10 +93,14 @@ unfoldable pub group_of : Data → Option (List ℕ)
 group_of d = option_and_then (full_text_at (codes "group")) (get (codes "spec") d)
 
 unfoldable pub kind_of : Data → Option (List ℕ)
-kind_of d = option_and_then (full_text_at (codes "kind")) (option_and_then (get (codes "names")) (get (codes "spec") d))
+kind_of d =
+    option_and_then (full_text_at (codes "kind"))
+    (option_and_then (get (codes "names")) (get (codes "spec") d))
 
 unfoldable pub entries_of : Data → Option Items
-entries_of d = option_and_then unless_none (option_and_then as_array (option_and_then (get (codes "versions")) (get (codes "spec") d)))
+entries_of d =
+    option_and_then unless_none
+    (option_and_then as_array (option_and_then (get (codes "versions")) (get (codes "spec") d)))
 
 -- what a definition says of all its versions, and these
 pub record Crd : Type 0 where
@@ -145,14 +153,22 @@ is_defined group kind v = bytes_eq v.group group && bytes_eq v.kind kind
 module _ {S : Type 0} (form : Data → S) where
   -- the version that an entry of a definition is, with its schema in a form
   abbrev pub version_of : Crd → Entry → Version S
-  version_of crd e = record { group = crd.group; kind = crd.kind; name = e.name; served = e.served; schema = form e.schema }
+  version_of crd e = record {
+    group = crd.group;
+    kind = crd.kind;
+    name = e.name;
+    served = e.served;
+    schema = form e.schema;
+  }
 
   -- with one version more, unless another one has its apiVersion and kind: two of one definition must not have one name
   abbrev pub with_version : Location → ℕ → List (Version S) → Version S → Result (List (Version S)) Fault
   with_version location i had v =
-      if list_any (is_of_version (api_version v) v.kind) had then Err (fault_at location (Some i) fault.RepeatedVersion) else Ok (had ++ v ∷ [])
+      if list_any (is_of_version (api_version v) v.kind) had
+      then Err (fault_at location (Some i) fault.RepeatedVersion) else Ok (had ++ v ∷ [])
 
-  abbrev pub with_entry : Location → Crd → ℕ → List (Version S) → Result Entry CrdFault → Result (List (Version S)) Fault
+  abbrev pub with_entry : Location → Crd → ℕ → List (Version S)
+      → Result Entry CrdFault → Result (List (Version S)) Fault
   with_entry location crd i had (Err f) = Err (fault_at location (Some i) f)
   with_entry location crd i had (Ok e) = with_version location i had (version_of crd e)
 
@@ -163,7 +179,8 @@ module _ {S : Type 0} (form : Data → S) where
   abbrev pub with_crd : Location → List (Version S) → Result Crd CrdFault → Result (List (Version S)) Fault
   with_crd location had (Err f) = Err (fault_at location None f)
   with_crd location had (Ok crd) =
-      if list_any (is_defined crd.group crd.kind) had then Err (fault_at location None fault.RepeatedKind) else each (add_version location crd) 0 crd.versions had
+      if list_any (is_defined crd.group crd.kind) had then Err (fault_at location None fault.RepeatedKind)
+      else each (add_version location crd) 0 crd.versions had
 
   unfoldable pub add_crd : Location → Data → List (Version S) → Result (List (Version S)) Fault
   add_crd location d had = with_crd location had (crd_of d)

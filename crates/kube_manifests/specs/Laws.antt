@@ -3,7 +3,7 @@
 use Rattle.std.specs.List.{Contains}
 use Rattle.std.specs.Prelude.{◌≡◌, List, [], true, Option, Some, codes}
 use Rattle.cel_patterns.specs.Book.{Book, IsBook}
-use Rattle.kube_cel.specs.Raw.{raw_form}
+use Rattle.kube_cel.specs.Raw.{raw_accessors}
 use Rattle.kube_cel.specs.Starts.{defaulted_start}
 use Rattle.kube_cel_walk.specs.Answers.{answer}
 use Rattle.kube_manifests.specs.Versions.{Version, api_version, root_of, text_at}
@@ -11,9 +11,12 @@ use Rattle.serde_json.specs.Data.{Data}
 
 -- under some book the schema of the version finds no error in the object
 abbrev pub FindsNothing : Version Data → Data → Option Data → Type 0
-FindsNothing v value old = (b : Book) × IsBook b × (answer raw_form b 65 (defaulted_start v.schema value old (Some (root_of v))) ≡ [])
+FindsNothing v value old =
+    (b : Book) × IsBook b
+    × (answer raw_accessors b 65 (defaulted_start v.schema value old (Some (root_of v))) ≡ [])
 
 -- the version is one of these, it is served, and the object says its apiVersion and kind
 abbrev pub IsOwn : {S : Type 0} → List (Version S) → Data → Version S → Type 0
 IsOwn versions value v = Contains versions v × (v.served ≡ true)
-    × (text_at (codes "apiVersion") value ≡ Some (api_version v)) × (text_at (codes "kind") value ≡ Some v.kind)
+    × (text_at (codes "apiVersion") value ≡ Some (api_version v))
+    × (text_at (codes "kind") value ≡ Some v.kind)

@@ -7,7 +7,9 @@ unfoldable mutual
   -- those of a node and of all nodes within it; a node past the greatest depth has one error in place of its rules, which counts as one
   pub rules_in : Node → ℕ
   rules_in (node o ps it ad xs ys zs) =
-      length o.validations + (rules_in_named ps + (rules_in_maybe it + (rules_in_maybe ad + (rules_in_nodes xs + (rules_in_nodes ys + rules_in_nodes zs)))))
+      length o.validations + (rules_in_named ps
+      + (rules_in_maybe it + (rules_in_maybe ad
+      + (rules_in_nodes xs + (rules_in_nodes ys + rules_in_nodes zs)))))
 
   pub rules_in_maybe : Maybe → ℕ
   rules_in_maybe nothing = 0

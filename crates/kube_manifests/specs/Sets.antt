@@ -4,7 +4,7 @@
 use Rattle.std.specs.Prelude.{◌≡◌, ℕ, List, map, Option, Some, None, Result, Ok, Err, string_bytes}
 use Rattle.serde_json.specs.Data.{Data, Items}
 use Rattle.kube_cel.specs.Answers.{IsReportOf}
-use Rattle.kube_cel.specs.Raw.{raw_form}
+use Rattle.kube_cel.specs.Raw.{raw_accessors}
 use Rattle.kube_cel.specs.Starts.{defaulted_start}
 use Rattle.kube_schema.specs.Shown.{whole}
 use Rattle.kube_schema.specs.Tree.{Node}
@@ -55,7 +55,13 @@ versions_of = versions_in (λ schema. schema)
 
 -- the version with the tree of its schema
 abbrev pub with_tree : Version Data → Version Node
-with_tree v = record { group = v.group; kind = v.kind; name = v.name; served = v.served; schema = view_of 65 v.schema }
+with_tree v = record {
+  group = v.group;
+  kind = v.kind;
+  name = v.name;
+  served = v.served;
+  schema = view_of 65 v.schema;
+}
 
 abbrev pub all_compiled : Result (List (Version Data)) Fault → Result (List (Version Node)) Fault
 all_compiled (Ok vs) = Ok (map with_tree vs)
@@ -67,7 +73,8 @@ all_compiled (Err f) = Err f
 -- apiVersion, group and kind; else the reason is reported
 abbrev pub IsJudgement : List (Version Data) → Data → Option Data → Judgement → Type 0
 IsJudgement versions value old (Judged answer) =
-    (v : Version Data) × (chosen_version versions value ≡ Ok v) × IsReportOf raw_form (defaulted_start v.schema value old (Some (root_of v))) answer
+    (v : Version Data) × (chosen_version versions value ≡ Ok v)
+    × IsReportOf raw_accessors (defaulted_start v.schema value old (Some (root_of v))) answer
 IsJudgement versions value old (NotJudged r) = chosen_version versions value ≡ Err r
 
 -- why it isn't judged, if it isn't

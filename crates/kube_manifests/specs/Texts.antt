@@ -16,7 +16,8 @@ reason_text reason.NoSuchVersion = codes "its CustomResourceDefinition doesn't h
 reason_text reason.NotServed = codes "its version isn't served"
 
 abbrev pub fault_text : CrdFault → List ℕ
-fault_text fault.NotACrd = codes "a document must be a CustomResourceDefinition of apiextensions.k8s.io/v1, or a list of them"
+fault_text fault.NotACrd =
+    codes "a document must be a CustomResourceDefinition of apiextensions.k8s.io/v1, or a list of them"
 fault_text fault.NoName = codes "field `name` must be a string that isn't empty"
 fault_text fault.NoGroup = codes "field `group` must be a string that isn't empty"
 fault_text fault.NoKind = codes "field `kind` must be a string that isn't empty"

@@ -45,7 +45,8 @@ if_served known None = Err (if known then reason.NoSuchVersion else reason.NoSuc
 if_served known (Some v) = if v.served then Ok v else Err reason.NotServed
 
 abbrev pub chosen_by : {S : Type 0} → List (Version S) → List ℕ → List ℕ → Result (Version S) NotJudged
-chosen_by versions text kind = if_served (list_any (is_of_kind text kind) versions) (find (is_of_version text kind) versions)
+chosen_by versions text kind =
+    if_served (list_any (is_of_kind text kind) versions) (find (is_of_version text kind) versions)
 
 -- what must be there, or the reason
 abbrev pub or_reason : {A E : Type 0} → E → Option A → Result A E

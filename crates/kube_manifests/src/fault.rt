@@ -118,7 +118,7 @@ impl CrdFault {
     }
 }
 
-/// The error of a fault of the definition at a place, or of one of its versions.
+/// The error of a fault of the definition at a location, or of one of its versions.
 pub(crate) fn error_at(
     alloc: Global,
     location: Location,

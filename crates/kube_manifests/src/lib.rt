@@ -1,5 +1,5 @@
 //! CustomResourceDefinitions, and the objects that they define: an object is judged by the schema of its own apiVersion and kind, and where
-//! there is none it is said why, never passed.
+//! there is none the answer says why; it never passes.
 //!
 //! In go documents as JSON: definitions, or lists of them. Each version's schema is compiled once. Then objects are judged, each with its old
 //! state where there is one.

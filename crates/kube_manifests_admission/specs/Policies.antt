@@ -89,7 +89,8 @@ object_of p (Some _) = Err (record { pointer = p; kind = NotObject })
 
 -- one of these texts
 abbrev pub one_of : List ℕ → List (List ℕ) → List ℕ → Result (List ℕ) FaultData
-one_of p known s = if list_any (bytes_eq s) known then Ok s else Err (record { pointer = p; kind = Unsupported })
+one_of p known s =
+    if list_any (bytes_eq s) known then Ok s else Err (record { pointer = p; kind = Unsupported })
 
 abbrev pub required_one : List ℕ → List (List ℕ) → Option Data → Result (List ℕ) FaultData
 required_one p known o = required_text p o >>= one_of p known
@@ -110,7 +111,12 @@ entry_of l i d = do
   expression ← required_entry_text l i d (expression_key l)
   message ← entry_text l i d (codes "message")
   message_expression ← entry_text l i d (codes "messageExpression")
-  Ok (record { label = label; expression = expression; message = message; message_expression = message_expression })
+  Ok (record {
+    label = label;
+    expression = expression;
+    message = message;
+    message_expression = message_expression;
+  })
 
 -- an entry, unless one before it has its name
 abbrev pub unless_repeated : PolicyList → List ItemData → ℕ → ItemData → Result ItemData FaultData
@@ -125,7 +131,8 @@ next_entry l done i d = if is_some (as_object d) then entry_of l i d >>= unless_
 -- the entries of a list, where these were read before
 unfoldable pub entries_after : PolicyList → List ItemData → Items → Result (List ItemData) FaultData
 entries_after l done no_items = Ok done
-entries_after l done (item d ds) = next_entry l done (length done) d >>= (λ x. entries_after l (done ++ x ∷ []) ds)
+entries_after l done (item d ds) =
+    next_entry l done (length done) d >>= (λ x. entries_after l (done ++ x ∷ []) ds)
 
 abbrev pub list_of : PolicyList → Option Data → Result (List ItemData) FaultData
 list_of l None = Ok []
@@ -139,14 +146,18 @@ entries_of l spec = list_of l (get (keyword l) spec)
 -- ---- the document
 
 abbrev pub versions : List (List ℕ)
-versions = codes "admissionregistration.k8s.io/v1" ∷ codes "admissionregistration.k8s.io/v1beta1" ∷ codes "admissionregistration.k8s.io/v1alpha1" ∷ []
+versions =
+    codes "admissionregistration.k8s.io/v1" ∷ codes "admissionregistration.k8s.io/v1beta1"
+    ∷ codes "admissionregistration.k8s.io/v1alpha1" ∷ []
 
 abbrev pub kinds : List (List ℕ)
 kinds = codes "ValidatingAdmissionPolicy" ∷ []
 
 -- the fields of `spec`
 abbrev pub spec_fields : List (List ℕ)
-spec_fields = codes "paramKind" ∷ codes "matchConstraints" ∷ codes "matchConditions" ∷ codes "validations" ∷ codes "failurePolicy" ∷ codes "auditAnnotations"
+spec_fields =
+    codes "paramKind" ∷ codes "matchConstraints" ∷ codes "matchConditions"
+    ∷ codes "validations" ∷ codes "failurePolicy" ∷ codes "auditAnnotations"
     ∷ codes "variables" ∷ []
 
 -- the first field that isn't one of these
@@ -178,7 +189,10 @@ ignores_in spec = text_of failure_pointer (get (codes "failurePolicy") spec) >>=
 -- a policy has to check something
 abbrev pub unless_empty : PolicyData → Result PolicyData FaultData
 unless_empty p = elim p.validations as (λ _. Result PolicyData FaultData) [
-  | [] ↦ elim p.annotations as (λ _. Result PolicyData FaultData) [ [] ↦ Err (record { pointer = field [] (codes "spec"); kind = NothingToCheck }) | a ∷ as_ ↦ Ok p ]
+  | [] ↦ elim p.annotations as (λ _. Result PolicyData FaultData) [
+    | [] ↦ Err (record { pointer = field [] (codes "spec"); kind = NothingToCheck })
+    | a ∷ as_ ↦ Ok p
+  ]
   | v ∷ vs ↦ Ok p
 ]
 

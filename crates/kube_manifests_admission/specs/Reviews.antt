@@ -110,7 +110,9 @@ abbrev pub kind_in : Data → Result ServedData FaultData
 kind_in d = object_in request_pointer d (codes "kind") >>= served_of (codes "/request/kind") (codes "kind")
 
 abbrev pub resource_in : Data → Result ServedData FaultData
-resource_in d = object_in request_pointer d (codes "resource") >>= served_of (codes "/request/resource") (codes "resource")
+resource_in d =
+    object_in request_pointer d (codes "resource")
+    >>= served_of (codes "/request/resource") (codes "resource")
 
 unfoldable pub parts_of : Data → Result PartsData FaultData
 parts_of d = do

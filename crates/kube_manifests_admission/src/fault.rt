@@ -7,7 +7,7 @@ use kube_types_refused::Refused;
 use std::alloc::{AllocError, Global};
 use std::fmt;
 
-/// What is wrong at a place of a document.
+/// What is wrong at a location in a document.
 #[derive(Clone, Copy, Debug, PartialEq, Eq)]
 pub enum FaultKind {
     /// What has to be there is missing, or null.

@@ -1,10 +1,10 @@
-//! Places of a document, and their JSON Pointers (RFC 6901).
+//! Locations in a document, and their JSON Pointers (RFC 6901).
 ghost use Rattle.kube_manifests_admission.specs.Faults.{escaped_character, field, pointer_at, token};
 ghost use Rattle.std.specs.Prelude.{◌≡◌, ◌++◌, IfOk, OnOk, string_bytes};
 
 use std::alloc::{AllocError, Global};
 
-/// A place of a document.
+/// A location in a document.
 #[derive(Clone, Copy, Drop)]
 pub(crate) enum Location<'v> {
     /// A field of the object at this pointer.
@@ -45,7 +45,7 @@ fn field_pointer(alloc: Global, base: &str, name: &str) -> Result<String, AllocE
     Ok(pointer)
 }
 
-/// The pointer of a place.
+/// The pointer of a location.
 pub(crate) fn pointer_of(alloc: Global, location: Location<'_>) -> Result<String, AllocError>
     ensures { IfOk result (λ s. string_bytes s ≡ pointer_at location.entry) }
 {

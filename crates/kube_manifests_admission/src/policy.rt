@@ -61,7 +61,7 @@ fn is_spec_field(name: &str) -> bool
         || name == "variables"
 }
 
-/// The object at a place.
+/// The object at a location.
 pub(crate) fn object_at<'v>(
     value: &'v Value,
     name: &'static str,

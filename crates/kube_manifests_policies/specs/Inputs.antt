@@ -68,7 +68,9 @@ unless false i = i ∷ []
 
 -- what isn't given
 unfoldable pub absent_in : Variables → List Input
-absent_in v = unless (is_some v.object) Object ++ unless (is_some v.old_object) OldObject ++ unless (is_some v.request) Request
+absent_in v =
+    unless (is_some v.object) Object ++ unless (is_some v.old_object) OldObject
+    ++ unless (is_some v.request) Request
     ++ unless (is_some v.params) Params ++ unless (is_some v.namespace_object) NamespaceObject
 
 -- a match condition is given no `namespaceObject`

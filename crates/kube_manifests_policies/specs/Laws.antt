@@ -15,16 +15,27 @@ use Rattle.std.specs.Prelude.{◌≡◌, ◌⊎◌, ℕ, List, [], ◌∷◌, �
 
 -- the policy that has these validations and nothing else
 abbrev pub of_validations : Bool → List ItemData → PolicyData
-of_validations ignores xs = record { ignores = ignores; conditions = []; variables = []; validations = xs; annotations = [] }
+of_validations ignores xs = record {
+  ignores = ignores;
+  conditions = [];
+  variables = [];
+  validations = xs;
+  annotations = [];
+}
 
 abbrev pub expression_of : ItemData → ExpressionData
-expression_of x = record { expression = x.expression; message = x.message; message_expression = x.message_expression }
+expression_of x = record {
+  expression = x.expression;
+  message = x.message;
+  message_expression = x.message_expression;
+}
 
 -- nothing keeps the texts of a validation from being evaluated
 pub record IsJudgedIn (s : ScopeData) (x : ItemData) : Type 0 where
   pub label : x.label ≡ x.expression
   pub tree : (t : Term) → tree_of x.expression ≡ Some t → why_not s t ≡ None
-  pub message : (m : List ℕ) (t : Term) → x.message_expression ≡ Some m → tree_of m ≡ Some t → why_not s t ≡ None
+  pub message : (m : List ℕ) (t : Term) → x.message_expression ≡ Some m
+      → tree_of m ≡ Some t → why_not s t ≡ None
 
 abbrev pub message_report : ItemReportData → Option (List ℕ)
 message_report holds = None
@@ -32,7 +43,11 @@ message_report reported = Some (report_text reported)
 
 -- what is reported of a validation, as the result of an expression
 abbrev pub vap_result : Labelled → ResultData
-vap_result r = record { expression = r.label; passed = is_none (message_report r.reported); message = message_report r.reported }
+vap_result r = record {
+  expression = r.label;
+  passed = is_none (message_report r.reported);
+  message = message_report r.reported;
+}
 
 -- nothing asks for what isn't given, and no validation is false
 pub record IsJudged (v : VerdictData) : Type 0 where
@@ -51,11 +66,15 @@ pub record HasVariables (s : ScopeData) : Type 0 where
 
 -- the expression of x doesn't ask for the variable y
 abbrev pub IsApartFrom : ItemData → ItemData → Type 0
-IsApartFrom y x = (t : Term) (selects : Bool) → tree_of x.expression ≡ Some t → asks (codes "variables") y.label selects t ≡ false
+IsApartFrom y x =
+    (t : Term) (selects : Bool) → tree_of x.expression ≡ Some t
+    → asks (codes "variables") y.label selects t ≡ false
 
 -- the last two in the other order
 abbrev pub AreTurned : List Labelled → List Labelled → Type 0
-AreTurned rs qs = (before : List Labelled) × (p : Labelled) × (q : Labelled) × (rs ≡ before ++ p ∷ q ∷ []) × (qs ≡ before ++ q ∷ p ∷ [])
+AreTurned rs qs =
+    (before : List Labelled) × (p : Labelled) × (q : Labelled)
+    × (rs ≡ before ++ p ∷ q ∷ []) × (qs ≡ before ++ q ∷ p ∷ [])
 
 -- each variable has the same value, or none; those without one stand in the same order, but for the last two
 pub record SameVariables (s t : ScopeData) : Type 0 where

@@ -62,13 +62,15 @@ condition_report r x = final_report (do
 
 -- the validation's own message, else its text
 abbrev pub own_message : ItemData → List ℕ
-own_message x = unwrap_or x.message (codes "validation expression '" ++ (x.expression ++ codes "' evaluated to false"))
+own_message x =
+    unwrap_or x.message (codes "validation expression '" ++ (x.expression ++ codes "' evaluated to false"))
 
 -- The string that a messageExpression comes to, else the validation's own message. Where the messageExpression can't be judged, that is reported
 -- with it.
 abbrev pub message_from : ItemData → Result Outcome ItemReportData → List ℕ
 message_from x (Ok o) = unwrap_or (results.message_text o) (own_message x)
-message_from x (Err reported) = own_message x ++ (codes " (messageExpression: " ++ (report_text reported ++ codes ")"))
+message_from x (Err reported) =
+    own_message x ++ (codes " (messageExpression: " ++ (report_text reported ++ codes ")"))
 
 abbrev pub false_message : ItemData → Option (Result Outcome ItemReportData) → List ℕ
 false_message x None = own_message x
@@ -101,7 +103,9 @@ is_null _ = false
 
 abbrev pub text_report : Option (List ℕ) → Kind → ItemReportData
 text_report (Some s) k = text_or_nothing s
-text_report None k = if is_null k then nothing else erred (codes "expression returned neither a string nor null: " ++ kind_name k)
+text_report None k =
+    if is_null k then nothing
+    else erred (codes "expression returned neither a string nor null: " ++ kind_name k)
 
 -- a string is published, unless it is empty; null is left out
 abbrev pub annotation_value : Data → ItemReportData
@@ -132,7 +136,13 @@ results_as subject r xs = map (result_as subject r) xs
 
 -- the verdict that match conditions give alone
 abbrev pub verdict_of_conditions : List Labelled → PolicyDecision → VerdictData
-verdict_of_conditions conditions d = record { decision = d; conditions = conditions; variables = []; validations = []; annotations = [] }
+verdict_of_conditions conditions d = record {
+  decision = d;
+  conditions = conditions;
+  variables = [];
+  validations = [];
+  annotations = [];
+}
 
 -- the verdict where the match conditions let the policy be evaluated, among its variables
 unfoldable pub verdict_in : Reach → List Labelled → PolicyData → List Labelled → VerdictData
@@ -150,12 +160,14 @@ verdict_in r missing p conditions =
 abbrev pub verdict_after : Book → Variables → PolicyData → List Labelled → Option PolicyDecision → VerdictData
 verdict_after b v p conditions (Some d) = verdict_of_conditions conditions d
 verdict_after b v p conditions None =
-    let s = variables_after b (scope_for v p.variables) p.variables in verdict_in (outcome_or_reason b s) s.missing p conditions
+    let s = variables_after b (scope_for v p.variables) p.variables in
+    verdict_in (outcome_or_reason b s) s.missing p conditions
 
 -- the verdict of a policy
 unfoldable pub policy_verdict : Book → Variables → PolicyData → VerdictData
 policy_verdict b v p =
-    let conditions = results_as Condition (outcome_or_reason b (first_scope (without_namespace v))) p.conditions in
+    let conditions =
+    results_as Condition (outcome_or_reason b (first_scope (without_namespace v))) p.conditions in
     verdict_after b v p conditions (after_conditions p.ignores conditions)
 
 -- the verdict of the policy that a document is, or its first fault

@@ -37,7 +37,12 @@ pub record ScopeData : Type 0 where
 
 -- where no variable was evaluated
 abbrev pub first_scope : Variables → ScopeData
-first_scope v = record { bindings = policy_bindings v; absent = absent_in v; values = map_of no_entries; missing = [] }
+first_scope v = record {
+  bindings = policy_bindings v;
+  absent = absent_in v;
+  values = map_of no_entries;
+  missing = [];
+}
 
 -- `variables` are those evaluated so far that came to a value
 abbrev pub with_values : ScopeData → Data → ScopeData
@@ -125,7 +130,12 @@ variables_after b s (x ∷ xs) = variables_after b (variable_step b s x) xs
 -- ---- what the code's values stand for
 
 abbrev pub scope_view : Scope → ScopeData
-scope_view s = record { bindings = bindings_of s.context; absent = s.absent.items; values = view s.values; missing = map result_view s.missing.items }
+scope_view s = record {
+  bindings = bindings_of s.context;
+  absent = s.absent.items;
+  values = view s.values;
+  missing = map result_view s.missing.items;
+}
 
 -- the same names are bound, and the rest is equal
 pub record Alike (a b : ScopeData) : Type 0 where

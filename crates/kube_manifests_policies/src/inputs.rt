@@ -153,7 +153,8 @@ pub(crate) fn absent_inputs(
     namespace: &Option<Value>,
 ) -> Result<Vec<Input>, Refused>
     ensures absent { IfOk result (λ v. v.items
-        ≡ absent_in (record (inputs_view inputs.now) { namespace_object = option_map json_view namespace.now })) }
+        ≡ absent_in
+        (record (inputs_view inputs.now) { namespace_object = option_map json_view namespace.now })) }
     ensures memory { IfErr result (λ e. e ≡ Refused.Memory) }
 {
     let mut absent = Vec::new(alloc);

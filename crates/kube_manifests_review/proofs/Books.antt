@@ -1,16 +1,16 @@
--- What is said by a book of patterns.
+-- What is found by a book of patterns.
 use Rattle.std.proofs.Common.{◌≡◌, ℕ, List, [], ◌∷◌, ◌++◌, Bool, Option, Some, None, is_none, is_err, option_map, Result, Ok, Err, refl, ap, ◌∙◌}
 use Rattle.std.proofs.lemmas.List.{flat_map_more}
 use Rattle.cel_patterns.specs.Book.{Book, matched_by, pattern_in}
 use Rattle.cel_semantics.specs.Outcome.{outcome_view}
 use Rattle.cel_value.specs.declared.error.ExecutionError.{ExecutionError}
 use Rattle.cel_value.specs.declared.value.Value.{Value}
-use Rattle.kube_manifests_review.specs.Doubts.{Doubt, due, is_refused, said_by}
+use Rattle.kube_manifests_review.specs.Candidates.{Candidate, due, is_refused, due_finding}
 
--- one more doubt
-pub due_more : (ds : List Doubt) (d : Doubt) (b : Book) → due ds b ++ said_by b d ≡ due (ds ++ d ∷ []) b
+-- one more candidate
+pub due_more : (ds : List Candidate) (d : Candidate) (b : Book) → due ds b ++ due_finding b d ≡ due (ds ++ d ∷ []) b
 unfolding due
-due_more ds d b = flat_map_more (said_by b) [] ds d
+due_more ds d b = flat_map_more (due_finding b) [] ds d
 
 none_mapped : {A B : Type 0} (f : A → B) (o : Option A) → is_none (option_map f o) ≡ is_none o
 none_mapped f None = refl

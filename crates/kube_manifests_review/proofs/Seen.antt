@@ -6,10 +6,10 @@ use Rattle.cel_syntax_ast.specs.declared.expr.Expr.{Expr, Expr-F, fold-roll-Expr
 use Rattle.cel_syntax_ast.specs.declared.expr.Expr.TheVariants as expr
 use Rattle.cel_value.specs.Data.{Data}
 use Rattle.cel_value.specs.Same.{has_double}
-use Rattle.kube_manifests_review.specs.Calls.{Text, call_doubts, double_text, literal_doubts, node_doubts, doubt_about, terms_in}
-use Rattle.kube_manifests_review.specs.Doubts.{always}
+use Rattle.kube_manifests_review.specs.Calls.{Text, call_candidates, double_text, literal_candidates, node_candidates, text_candidate, terms_in}
+use Rattle.kube_manifests_review.specs.Candidates.{always}
 use Rattle.kube_manifests_review.specs.Messages.{is_no_string}
-use Rattle.kube_manifests_review.specs.Rules.{kind_doubts}
+use Rattle.kube_manifests_review.specs.Rules.{kind_candidates}
 use Rattle.kube_manifests_review.specs.declared.finding.ReviewKind.TheVariants as kind
 
 terms_back : (ts : List Term) → terms_in (terms_of ts) ≡ ts
@@ -23,20 +23,20 @@ one_called : (b : Box Expr Global) (x : _) (es : _) → term (expr.Call (Some b)
 one_called b x es = ap term (sym (expr.rolls-Call (Some b) x es)) ∙ fold-roll-Expr Term term_step (Expr-F.Call (Some b) x es)
 
 pub call_seen : (t : Text) (o : Option (Box Expr Global)) (x : _) (es : _)
-    → node_doubts t (term (expr.Call o x es)) ≡ call_doubts t (option_map (λ r. term r.value) o) (string_bytes x.value) (map term es.items)
-call_seen t None x es = ap (node_doubts t) (none_called x es) ∙ ap (call_doubts t None (string_bytes x.value)) (terms_back (map term es.items))
-call_seen t (Some b) x es = ap (node_doubts t) (one_called b x es) ∙ ap (call_doubts t (Some (term b.value)) (string_bytes x.value)) (terms_back (map term es.items))
+    → node_candidates t (term (expr.Call o x es)) ≡ call_candidates t (option_map (λ r. term r.value) o) (string_bytes x.value) (map term es.items)
+call_seen t None x es = ap (node_candidates t) (none_called x es) ∙ ap (call_candidates t None (string_bytes x.value)) (terms_back (map term es.items))
+call_seen t (Some b) x es = ap (node_candidates t) (one_called b x es) ∙ ap (call_candidates t (Some (term b.value)) (string_bytes x.value)) (terms_back (map term es.items))
 
 qualified_is : (x : _) (es : _) → term (expr.Qualified x es) ≡ qualified (string_bytes x.value) (terms_of (map term es.items))
 qualified_is x es = ap term (sym (expr.rolls-Qualified x es)) ∙ fold-roll-Expr Term term_step (Expr-F.Qualified x es)
 
-pub qualified_seen : (t : Text) (x : _) (es : _) → node_doubts t (term (expr.Qualified x es)) ≡ call_doubts t None (string_bytes x.value) (map term es.items)
-qualified_seen t x es = ap (node_doubts t) (qualified_is x es) ∙ ap (call_doubts t None (string_bytes x.value)) (terms_back (map term es.items))
+pub qualified_seen : (t : Text) (x : _) (es : _) → node_candidates t (term (expr.Qualified x es)) ≡ call_candidates t None (string_bytes x.value) (map term es.items)
+qualified_seen t x es = ap (node_candidates t) (qualified_is x es) ∙ ap (call_candidates t None (string_bytes x.value)) (terms_back (map term es.items))
 
-pub double_said : (t : Text) (v : Data) (m : List ℕ) → has_double v ≡ true → m ≡ double_text → doubt_about t kind.Double m always ∷ [] ≡ literal_doubts t v
-double_said t v m e f =
-    ap (λ x. doubt_about t kind.Double x always ∷ []) f ∙ ap (λ b. cond b (doubt_about t kind.Double double_text always ∷ []) []) (sym e)
+pub double_candidate : (t : Text) (v : Data) (m : List ℕ) → has_double v ≡ true → m ≡ double_text → text_candidate t kind.Double m always ∷ [] ≡ literal_candidates t v
+double_candidate t v m e f =
+    ap (λ x. text_candidate t kind.Double x always ∷ []) f ∙ ap (λ b. cond b (text_candidate t kind.Double double_text always ∷ []) []) (sym e)
 
-pub kind_said : (t : Text) (e : Term) (m : List ℕ) → is_no_string e ≡ true → m ≡ codes "messageExpression gives no string" → doubt_about t kind.Message m always ∷ [] ≡ kind_doubts t e
-kind_said t e m n f =
-    ap (λ x. doubt_about t kind.Message x always ∷ []) f ∙ ap (λ b. cond b (doubt_about t kind.Message (codes "messageExpression gives no string") always ∷ []) []) (sym n)
+pub kind_candidate : (t : Text) (e : Term) (m : List ℕ) → is_no_string e ≡ true → m ≡ codes "messageExpression gives no string" → text_candidate t kind.Message m always ∷ [] ≡ kind_candidates t e
+kind_candidate t e m n f =
+    ap (λ x. text_candidate t kind.Message x always ∷ []) f ∙ ap (λ b. cond b (text_candidate t kind.Message (codes "messageExpression gives no string") always ∷ []) []) (sym n)

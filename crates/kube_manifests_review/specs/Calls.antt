@@ -1,5 +1,5 @@
 -- Trusted by the clauses of manifests.
--- What is said of one node of a rule's tree: which call can't work, and which literal. Source: Kubernetes documentation, "CEL in Kubernetes"; the
+-- The candidate findings of one node of a rule's tree: which call can't work, and which literal. Source: Kubernetes documentation, "CEL in Kubernetes"; the
 -- functions are those of `kube_functions`; that doubles have no values is this project's own.
 use Rattle.std.specs.Prelude.{ℕ, List, [], ◌∷◌, ◌++◌, length, Bool, true, false, Option, Some, None, is_some, if◌then◌else◌, codes, decimal}
 use Rattle.std.specs.List.{list_any, slice_get}
@@ -12,7 +12,7 @@ use Rattle.cel_value.specs.Data.{Data}
 use Rattle.cel_value.specs.Parts.{text_in}
 use Rattle.cel_value.specs.Same.{has_double}
 use Rattle.kube_functions.specs.Kube.{all_library}
-use Rattle.kube_manifests_review.specs.Doubts.{Doubt, When, always, refused, fails}
+use Rattle.kube_manifests_review.specs.Candidates.{Candidate, When, always, refused, fails}
 use Rattle.kube_manifests_review.specs.declared.finding.ReviewKind.{ReviewKind}
 use Rattle.kube_manifests_review.specs.declared.finding.ReviewKind.TheVariants as kind
 use Rattle.kube_manifests_review.specs.declared.text.Text as code
@@ -26,9 +26,12 @@ pub record Text : Type 0 where
 abbrev pub text_view : code.Text → Text
 text_view t = record { pointer = t.pointer.now; rule = t.rule.now; is_message = t.is_message }
 
--- what is said of a text of a rule
-abbrev pub doubt_about : Text → ReviewKind → List ℕ → When → Doubt
-doubt_about t k m w = record { finding = record { pointer = t.pointer; rule = t.rule; kind = k; message = m }; when = w }
+-- a candidate finding of a text of a rule
+abbrev pub text_candidate : Text → ReviewKind → List ℕ → When → Candidate
+text_candidate t k m w = record {
+  finding = record { pointer = t.pointer; rule = t.rule; kind = k; message = m };
+  when = w;
+}
 
 -- ---- what stands in a call
 
@@ -72,14 +75,18 @@ takes_pattern name = list_any (bytes_eq name) (codes "matches" ∷ codes "find" 
 unfoldable pub asks_optional : List ℕ → Bool
 asks_optional name = list_any (bytes_eq name) (codes "hasValue" ∷ codes "value" ∷ [])
 
--- ---- what is said of a call
+-- ---- the candidate findings of a call
 
 abbrev pub unknown_text : List ℕ → List ℕ
 unknown_text name = codes "function '" ++ (name ++ codes "' is unknown")
 
 abbrev pub wrong_text : List ℕ → Bool → ℕ → List ℕ
-wrong_text name true n = codes "function '" ++ (name ++ (codes "' can't be called with a receiver and this number of arguments: " ++ decimal n))
-wrong_text name false n = codes "function '" ++ (name ++ (codes "' can't be called without a receiver and with this number of arguments: " ++ decimal n))
+wrong_text name true n =
+    codes "function '" ++ (name
+    ++ (codes "' can't be called with a receiver and this number of arguments: " ++ decimal n))
+wrong_text name false n =
+    codes "function '" ++ (name
+    ++ (codes "' can't be called without a receiver and with this number of arguments: " ++ decimal n))
 
 abbrev pub old_self_text : List ℕ → List ℕ
 old_self_text name = codes "'oldSelf' is no optional: " ++ (name ++ codes "() always fails")
@@ -90,40 +97,47 @@ fails_text name s = name ++ (codes "('" ++ (s ++ codes "') always fails"))
 abbrev pub pattern_text : List ℕ → List ℕ
 pattern_text p = codes "pattern '" ++ (p ++ codes "' is refused")
 
-abbrev pub old_self_doubts : Text → Option Term → List ℕ → List Doubt
-old_self_doubts t r name = if asks_optional name then (if is_old_self r then doubt_about t kind.OldSelf (old_self_text name) always ∷ [] else []) else []
+abbrev pub old_self_candidates : Text → Option Term → List ℕ → List Candidate
+old_self_candidates t r name =
+    if asks_optional name
+    then (if is_old_self r then text_candidate t kind.OldSelf (old_self_text name) always ∷ [] else [])
+    else []
 
-abbrev pub fails_doubts : Text → List ℕ → Option (List ℕ) → List Doubt
-fails_doubts t name None = []
-fails_doubts t name (Some s) = doubt_about t kind.Literal (fails_text name s) (fails name s) ∷ []
+abbrev pub fails_candidates : Text → List ℕ → Option (List ℕ) → List Candidate
+fails_candidates t name None = []
+fails_candidates t name (Some s) = text_candidate t kind.Literal (fails_text name s) (fails name s) ∷ []
 
-abbrev pub refused_doubts : Text → Option (List ℕ) → List Doubt
-refused_doubts t None = []
-refused_doubts t (Some p) = doubt_about t kind.Pattern (pattern_text p) (refused p) ∷ []
+abbrev pub refused_candidates : Text → Option (List ℕ) → List Candidate
+refused_candidates t None = []
+refused_candidates t (Some p) = text_candidate t kind.Pattern (pattern_text p) (refused p) ∷ []
 
-abbrev pub pattern_doubts : Text → Option Term → List ℕ → List Term → List Doubt
-pattern_doubts t r name ts = if takes_pattern name then refused_doubts t (second_text r ts) else []
+abbrev pub pattern_candidates : Text → Option Term → List ℕ → List Term → List Candidate
+pattern_candidates t r name ts = if takes_pattern name then refused_candidates t (second_text r ts) else []
 
 -- of a call in a form that there is
-abbrev pub known_doubts : Text → Option Term → List ℕ → List Term → List Doubt
-known_doubts t r name ts = old_self_doubts t r name ++ (fails_doubts t name (only_text r ts) ++ pattern_doubts t r name ts)
+abbrev pub known_candidates : Text → Option Term → List ℕ → List Term → List Candidate
+known_candidates t r name ts =
+    old_self_candidates t r name
+    ++ (fails_candidates t name (only_text r ts) ++ pattern_candidates t r name ts)
 
 -- an unknown function is reported by a linter, but not where a messageExpression calls it
-abbrev pub form_doubts : Form → Text → Option Term → List ℕ → List Term → List Doubt
-form_doubts Unknown t r name ts = if t.is_message then doubt_about t kind.Call (unknown_text name) always ∷ [] else []
-form_doubts Wrong t r name ts = doubt_about t kind.Call (wrong_text name (is_some r) (length ts)) always ∷ []
-form_doubts Known t r name ts = known_doubts t r name ts
+abbrev pub form_candidates : Form → Text → Option Term → List ℕ → List Term → List Candidate
+form_candidates Unknown t r name ts =
+    if t.is_message then text_candidate t kind.Call (unknown_text name) always ∷ [] else []
+form_candidates Wrong t r name ts =
+    text_candidate t kind.Call (wrong_text name (is_some r) (length ts)) always ∷ []
+form_candidates Known t r name ts = known_candidates t r name ts
 
-abbrev pub call_doubts : Text → Option Term → List ℕ → List Term → List Doubt
-call_doubts t r name ts = form_doubts (all_library.form_of name (is_some r) (length ts)) t r name ts
+abbrev pub call_candidates : Text → Option Term → List ℕ → List Term → List Candidate
+call_candidates t r name ts = form_candidates (all_library.form_of name (is_some r) (length ts)) t r name ts
 
--- ---- what is said of a node
+-- ---- the candidate findings of a node
 
 abbrev pub double_text : List ℕ
 double_text = codes "numbers of kind double are not supported"
 
-abbrev pub literal_doubts : Text → Data → List Doubt
-literal_doubts t v = if has_double v then doubt_about t kind.Double double_text always ∷ [] else []
+abbrev pub literal_candidates : Text → Data → List Candidate
+literal_candidates t v = if has_double v then text_candidate t kind.Double double_text always ∷ [] else []
 
 abbrev pub first_term : Terms → Option Term
 first_term no_terms = None
@@ -133,17 +147,17 @@ abbrev pub terms_in : Terms → List Term
 terms_in no_terms = []
 terms_in (term_and t ts) = t ∷ terms_in ts
 
-abbrev pub node_doubts : Text → Term → List Doubt
-node_doubts t (literal v) = literal_doubts t v
-node_doubts t (ident x) = []
-node_doubts t (select a x) = []
-node_doubts t (has a x) = []
-node_doubts t (index a b) = []
-node_doubts t (unary o a) = []
-node_doubts t (binary o a b) = []
-node_doubts t (conditional a b c) = []
-node_doubts t (list_of ts) = []
-node_doubts t (map_with ps) = []
-node_doubts t (call r x ts) = call_doubts t (first_term r) x (terms_in ts)
-node_doubts t (qualified x ts) = call_doubts t None x (terms_in ts)
-node_doubts t (macro k r x f b) = []
+abbrev pub node_candidates : Text → Term → List Candidate
+node_candidates t (literal v) = literal_candidates t v
+node_candidates t (ident x) = []
+node_candidates t (select a x) = []
+node_candidates t (has a x) = []
+node_candidates t (index a b) = []
+node_candidates t (unary o a) = []
+node_candidates t (binary o a b) = []
+node_candidates t (conditional a b c) = []
+node_candidates t (list_of ts) = []
+node_candidates t (map_with ps) = []
+node_candidates t (call r x ts) = call_candidates t (first_term r) x (terms_in ts)
+node_candidates t (qualified x ts) = call_candidates t None x (terms_in ts)
+node_candidates t (macro k r x f b) = []

@@ -17,11 +17,14 @@ pub record IsOneEdit (key word : List ℕ) : Type 0 where
 
 unfoldable pub schema_keywords : List (List ℕ)
 schema_keywords =
-    codes "$ref" ∷ codes "$schema" ∷ codes "additionalItems" ∷ codes "additionalProperties" ∷ codes "allOf" ∷ codes "anyOf" ∷ codes "default"
-    ∷ codes "definitions" ∷ codes "dependencies" ∷ codes "description" ∷ codes "enum" ∷ codes "example" ∷ codes "exclusiveMaximum"
-    ∷ codes "exclusiveMinimum" ∷ codes "externalDocs" ∷ codes "format" ∷ codes "id" ∷ codes "items" ∷ codes "maxItems" ∷ codes "maxLength"
-    ∷ codes "maxProperties" ∷ codes "maximum" ∷ codes "minItems" ∷ codes "minLength" ∷ codes "minProperties" ∷ codes "minimum" ∷ codes "multipleOf"
-    ∷ codes "not" ∷ codes "nullable" ∷ codes "oneOf" ∷ codes "pattern" ∷ codes "patternProperties" ∷ codes "properties" ∷ codes "required"
-    ∷ codes "title" ∷ codes "type" ∷ codes "uniqueItems" ∷ codes "x-kubernetes-embedded-resource" ∷ codes "x-kubernetes-int-or-string"
-    ∷ codes "x-kubernetes-list-map-keys" ∷ codes "x-kubernetes-list-type" ∷ codes "x-kubernetes-map-type"
-    ∷ codes "x-kubernetes-preserve-unknown-fields" ∷ codes "x-kubernetes-validations" ∷ []
+    codes "$ref" ∷ codes "$schema" ∷ codes "additionalItems" ∷ codes "additionalProperties" ∷ codes "allOf"
+    ∷ codes "anyOf" ∷ codes "default" ∷ codes "definitions" ∷ codes "dependencies" ∷ codes "description"
+    ∷ codes "enum" ∷ codes "example" ∷ codes "exclusiveMaximum" ∷ codes "exclusiveMinimum"
+    ∷ codes "externalDocs" ∷ codes "format" ∷ codes "id" ∷ codes "items" ∷ codes "maxItems"
+    ∷ codes "maxLength" ∷ codes "maxProperties" ∷ codes "maximum" ∷ codes "minItems" ∷ codes "minLength"
+    ∷ codes "minProperties" ∷ codes "minimum" ∷ codes "multipleOf" ∷ codes "not" ∷ codes "nullable"
+    ∷ codes "oneOf" ∷ codes "pattern" ∷ codes "patternProperties" ∷ codes "properties" ∷ codes "required"
+    ∷ codes "title" ∷ codes "type" ∷ codes "uniqueItems" ∷ codes "x-kubernetes-embedded-resource"
+    ∷ codes "x-kubernetes-int-or-string" ∷ codes "x-kubernetes-list-map-keys" ∷ codes "x-kubernetes-list-type"
+    ∷ codes "x-kubernetes-map-type" ∷ codes "x-kubernetes-preserve-unknown-fields"
+    ∷ codes "x-kubernetes-validations" ∷ []

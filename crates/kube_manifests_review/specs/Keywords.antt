@@ -5,7 +5,7 @@
 use Rattle.std.specs.Prelude.{ℕ, List, [], ◌∷◌, ◌++◌, ◌==◌, ◌||◌, Bool, true, false, Option, Some, None, if◌then◌else◌, codes}
 use Rattle.std.specs.List.{flat_map}
 use Rattle.std.specs.Str.{bytes_eq, chars}
-use Rattle.kube_manifests_review.specs.Doubts.{Doubt, always}
+use Rattle.kube_manifests_review.specs.Candidates.{Candidate, always}
 use Rattle.kube_manifests_review.specs.Pointers.{key_pointer}
 use Rattle.kube_manifests_review.specs.declared.finding.ReviewKind.TheVariants.{Keyword}
 use Rattle.kube_schema_values.specs.DefaultsAccessors.{keys_in}
@@ -21,7 +21,9 @@ abbrev pub one_letter_off : List ℕ → List ℕ → Bool
 one_letter_off [] [] = false
 one_letter_off [] (w ∷ ws) = is_end ws
 one_letter_off (k ∷ ks) [] = is_end ks
-one_letter_off (k ∷ ks) (w ∷ ws) = if k == w then one_letter_off ks ws else (bytes_eq ks ws || (bytes_eq (k ∷ ks) ws || bytes_eq ks (w ∷ ws)))
+one_letter_off (k ∷ ks) (w ∷ ws) =
+    if k == w then one_letter_off ks ws
+    else (bytes_eq ks ws || (bytes_eq (k ∷ ks) ws || bytes_eq ks (w ∷ ws)))
 
 -- the first of these words that the key is one letter off
 abbrev pub near : List (List ℕ) → List ℕ → Option (List ℕ)
@@ -51,19 +53,25 @@ keywords =
 -- the fields of a rule
 unfoldable pub rule_fields : List (List ℕ)
 rule_fields =
-    codes "rule" ∷ codes "message" ∷ codes "messageExpression" ∷ codes "reason" ∷ codes "fieldPath" ∷ codes "optionalOldSelf" ∷ []
+    codes "rule" ∷ codes "message" ∷ codes "messageExpression"
+    ∷ codes "reason" ∷ codes "fieldPath" ∷ codes "optionalOldSelf" ∷ []
 
 -- of a key in the object at this pointer, of this rule or none
-abbrev pub near_doubts : List ℕ → List ℕ → List ℕ → Option (List ℕ) → List Doubt
-near_doubts p rule k None = []
-near_doubts p rule k (Some w) = record {
-  finding = record { pointer = key_pointer p k; rule = rule; kind = Keyword; message = codes "'" ++ (k ++ (codes "' is one letter off '" ++ (w ++ codes "'"))) };
+abbrev pub near_candidates : List ℕ → List ℕ → List ℕ → Option (List ℕ) → List Candidate
+near_candidates p rule k None = []
+near_candidates p rule k (Some w) = record {
+  finding = record {
+    pointer = key_pointer p k;
+    rule = rule;
+    kind = Keyword;
+    message = codes "'" ++ (k ++ (codes "' is one letter off '" ++ (w ++ codes "'")));
+  };
   when = always;
 } ∷ []
 
-abbrev pub key_doubts : List (List ℕ) → List ℕ → List ℕ → List ℕ → List Doubt
-key_doubts words p rule k = near_doubts p rule k (near words k)
+abbrev pub key_candidates : List (List ℕ) → List ℕ → List ℕ → List ℕ → List Candidate
+key_candidates words p rule k = near_candidates p rule k (near words k)
 
 -- of its keys, in their order
-abbrev pub keys_doubts : List (List ℕ) → List ℕ → List ℕ → Members → List Doubt
-keys_doubts words p rule ms = flat_map (key_doubts words p rule) (keys_in ms)
+abbrev pub keys_candidates : List (List ℕ) → List ℕ → List ℕ → Members → List Candidate
+keys_candidates words p rule ms = flat_map (key_candidates words p rule) (keys_in ms)

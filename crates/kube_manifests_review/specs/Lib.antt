@@ -1,4 +1,4 @@
-pub mod Doubts
+pub mod Candidates
 pub mod Pointers
 pub mod Keywords
 pub mod Edits

@@ -17,11 +17,11 @@ pub record SchemaLocation : Type 0 where
 abbrev pub location_view : code.SchemaLocation → SchemaLocation
 location_view p = record { pointer = string_bytes p.pointer; schema = view p.schema.now }
 
--- the places afterwards: those before, and these behind them
+-- the locations afterwards: those before, and these behind them
 abbrev pub AddsLocations : List code.SchemaLocation → List code.SchemaLocation → List SchemaLocation → Type 0
 AddsLocations before after ps = map location_view after ≡ map location_view before ++ ps
 
--- ---- the places of schemas within one, where f says which places a schema at a pointer has
+-- ---- the locations of schemas within one, where f says which locations a schema at a pointer has
 
 abbrev pub named_locations : (List ℕ → Data → List SchemaLocation) → List ℕ → Members → List SchemaLocation
 named_locations f p no_members = []
@@ -32,12 +32,15 @@ abbrev pub item_locations : (List ℕ → Data → List SchemaLocation) → List
 item_locations f p i no_items = []
 item_locations f p i (item d ds) = f (index_pointer p i) d ++ item_locations f p (suc i) ds
 
-abbrev pub maybe_locations : (List ℕ → Data → List SchemaLocation) → List ℕ → Option Data → List SchemaLocation
+abbrev pub maybe_locations : (List ℕ → Data → List SchemaLocation)
+    → List ℕ → Option Data → List SchemaLocation
 maybe_locations f p None = []
 maybe_locations f p (Some d) = f p d
 
-abbrev pub branch_locations : (List ℕ → Data → List SchemaLocation) → List ℕ → List ℕ → Data → List SchemaLocation
-branch_locations f p keyword s = item_locations f (keyword_pointer p keyword) 0 (items_or_none (branches keyword s))
+abbrev pub branch_locations : (List ℕ → Data → List SchemaLocation)
+    → List ℕ → List ℕ → Data → List SchemaLocation
+branch_locations f p keyword s =
+    item_locations f (keyword_pointer p keyword) 0 (items_or_none (branches keyword s))
 
 unfoldable pub locations_within : (List ℕ → Data → List SchemaLocation) → List ℕ → Data → List SchemaLocation
 locations_within f p s =
@@ -48,7 +51,7 @@ locations_within f p s =
     ++ (branch_locations f p (codes "oneOf") s
     ++ branch_locations f p (codes "anyOf") s))))
 
--- the places of a schema at this pointer, to this depth
+-- the locations of a schema at this pointer, to this depth
 unfoldable pub locations_of : ℕ → List ℕ → Data → List SchemaLocation
 locations_of zero p s = []
 locations_of (suc n) p s = record { pointer = p; schema = s } ∷ locations_within (locations_of n) p s

@@ -1,5 +1,5 @@
 -- Trusted by the clauses of manifests.
--- What is said of a CustomResourceDefinition: of each version in its order what a linter finds, then what a review says of its schema. Source:
+-- The findings of a CustomResourceDefinition: of each version in its order what a linter finds, then what a review finds of its schema. Source:
 -- Kubernetes API reference, `CustomResourceDefinitionSpec`, `CustomResourceDefinitionVersion`, `CustomResourceValidation`.
 use Rattle.std.specs.Prelude.{ℕ, suc, List, [], ◌∷◌, ◌++◌, map, Bool, true, false, Option, Some, None, if◌then◌else◌, is_some, codes}
 use Rattle.std.specs.List.{flat_map, list_any}
@@ -12,17 +12,25 @@ use Rattle.kube_cel_analysis.specs.Findings as linter
 use Rattle.kube_cel_analysis.specs.Lint.{findings}
 use Rattle.kube_schema_rules.specs.Rules.{rule_items}
 use Rattle.kube_schema.specs.View.{items_or_none, view_of}
-use Rattle.kube_manifests_review.specs.Doubts.{Doubt, Finding, always, due, plainly}
+use Rattle.kube_manifests_review.specs.Candidates.{Candidate, Finding, always, due, unconditional}
 use Rattle.kube_manifests_review.specs.Locations.{SchemaLocation, locations_of}
 use Rattle.kube_manifests_review.specs.Pointers.{index_pointer}
-use Rattle.kube_manifests_review.specs.Rules.{place_doubts}
+use Rattle.kube_manifests_review.specs.Rules.{location_candidates}
 use Rattle.kube_manifests_review.specs.declared.finding.ReviewKind.TheVariants as kind
 
 -- ---- of the schema at this pointer
 
 -- what a linter finds, with its pointer in the document
-abbrev pub doubt_of_finding : List ℕ → linter.Finding → Doubt
-doubt_of_finding base f = record { finding = record { pointer = base ++ f.pointer; rule = f.rule; kind = kind.Lint f.kind; message = f.message }; when = always }
+abbrev pub candidate_of_finding : List ℕ → linter.Finding → Candidate
+candidate_of_finding base f = record {
+  finding = record {
+    pointer = base ++ f.pointer;
+    rule = f.rule;
+    kind = kind.Lint f.kind;
+    message = f.message;
+  };
+  when = always;
+}
 
 abbrev pub any_item : Items → Bool
 any_item no_items = false
@@ -31,43 +39,55 @@ any_item (item d ds) = true
 abbrev pub has_rules : SchemaLocation → Bool
 has_rules p = any_item (rule_items p.schema)
 
-abbrev pub no_rule_doubts : List ℕ → List SchemaLocation → List Doubt
-no_rule_doubts base ps = if list_any has_rules ps then [] else plainly base kind.NoRules (codes "the schema has no rule") ∷ []
+abbrev pub no_rule_candidates : List ℕ → List SchemaLocation → List Candidate
+no_rule_candidates base ps =
+    if list_any has_rules ps then []
+    else unconditional base kind.NoRules (codes "the schema has no rule") ∷ []
 
-unfoldable pub own_doubts : List ℕ → List SchemaLocation → List Doubt
-own_doubts base ps = no_rule_doubts base ps ++ flat_map place_doubts ps
+unfoldable pub own_candidates : List ℕ → List SchemaLocation → List Candidate
+own_candidates base ps = no_rule_candidates base ps ++ flat_map location_candidates ps
 
-unfoldable pub schema_doubts : Naming → List ℕ → Data → List Doubt
-schema_doubts names base s = map (doubt_of_finding base) (findings names [] (view_of 65 s)) ++ own_doubts base (locations_of 65 base s)
+unfoldable pub schema_candidates : Naming → List ℕ → Data → List Candidate
+schema_candidates names base s =
+    map (candidate_of_finding base) (findings names [] (view_of 65 s))
+    ++ own_candidates base (locations_of 65 base s)
 
 -- ---- of a document
 
 -- the schema of a version, where it is an object
 unfoldable pub version_schema : Data → Option Data
-version_schema d = option_and_then (λ s. if is_some (as_object s) then Some s else None) (option_and_then (get (codes "openAPIV3Schema")) (get (codes "schema") d))
+version_schema d =
+    option_and_then (λ s. if is_some (as_object s) then Some s else None)
+    (option_and_then (get (codes "openAPIV3Schema")) (get (codes "schema") d))
 
 abbrev pub version_pointer : ℕ → List ℕ
 version_pointer i = index_pointer (codes "/spec/versions") i ++ codes "/schema/openAPIV3Schema"
 
-abbrev pub version_doubts : Naming → List ℕ → Option Data → List Doubt
-version_doubts names base None = plainly base kind.Document (codes "the version has no schema") ∷ []
-version_doubts names base (Some s) = schema_doubts names base s
+abbrev pub version_candidates : Naming → List ℕ → Option Data → List Candidate
+version_candidates names base None = unconditional base kind.Document (codes "the version has no schema") ∷ []
+version_candidates names base (Some s) = schema_candidates names base s
 
 -- of the versions from the i-th on
-abbrev pub versions_doubts : Naming → ℕ → Items → List Doubt
-versions_doubts names i no_items = []
-versions_doubts names i (item d ds) = version_doubts names (version_pointer i) (version_schema d) ++ versions_doubts names (suc i) ds
+abbrev pub versions_candidates : Naming → ℕ → Items → List Candidate
+versions_candidates names i no_items = []
+versions_candidates names i (item d ds) =
+    version_candidates names (version_pointer i) (version_schema d) ++ versions_candidates names (suc i) ds
 
 -- the versions of a document, none where there is no list of them
 unfoldable pub versions_of : Data → Items
-versions_of crd = items_or_none (option_and_then as_array (option_and_then (get (codes "versions")) (get (codes "spec") crd)))
+versions_of crd =
+    items_or_none (option_and_then as_array
+    (option_and_then (get (codes "versions")) (get (codes "spec") crd)))
 
-abbrev pub no_version_doubts : Items → List Doubt
-no_version_doubts ds = if any_item ds then [] else plainly (codes "/spec/versions") kind.Document (codes "the document has no versions") ∷ []
+abbrev pub no_version_candidates : Items → List Candidate
+no_version_candidates ds =
+    if any_item ds then []
+    else unconditional (codes "/spec/versions") kind.Document (codes "the document has no versions") ∷ []
 
-unfoldable pub crd_doubts : Naming → Data → List Doubt
-crd_doubts names crd = no_version_doubts (versions_of crd) ++ versions_doubts names 0 (versions_of crd)
+unfoldable pub crd_candidates : Naming → Data → List Candidate
+crd_candidates names crd =
+    no_version_candidates (versions_of crd) ++ versions_candidates names 0 (versions_of crd)
 
--- what is said of it by a book of patterns
+-- its findings by a book of patterns
 abbrev pub crd_findings : Naming → Data → Book → List Finding
-crd_findings names crd book = due (crd_doubts names crd) book
+crd_findings names crd book = due (crd_candidates names crd) book

@@ -1,14 +1,14 @@
-//! What is said of a call.
+//! The candidate findings of a call.
 ghost use Rattle.std.specs.Prelude.{◌≡◌, [], ◌∷◌, OnOk, if◌then◌else◌, map, option_map};
 ghost use Rattle.cel_syntax_ast.specs.Term.{term};
 ghost use Rattle.kube_manifests_review.specs.Calls as spec;
 ghost use Rattle.kube_manifests_review.specs.Calls.{text_view};
-ghost use Rattle.kube_manifests_review.specs.Doubts.{AddsDoubts, always};
+ghost use Rattle.kube_manifests_review.specs.Candidates.{AddsCandidates, always};
 
-use crate::doubt::{Condition, Doubt};
+use crate::candidate::{Candidate, Condition};
 use crate::finding::ReviewKind;
 use crate::messages::{fails_text, old_self_text, pattern_text, unknown_text, wrong_text};
-use crate::text::{Text, add_said};
+use crate::text::{Text, add_candidate};
 use cel_semantics::{Form, Functions};
 use cel_syntax_ast::Expr;
 use kube_functions::AllFunctions;
@@ -95,10 +95,10 @@ fn add_old_self(
     text: Text<'_>,
     receiver: Option<&Expr>,
     name: &str,
-    doubts: &mut Vec<Doubt>,
+    candidates: &mut Vec<Candidate>,
 ) -> Result<(), AllocError>
-    ensures { OnOk result (AddsDoubts doubts.old.items doubts.new.items
-        (spec.old_self_doubts (text_view text.entry) (option_map (λ r. term r.now) receiver.entry)
+    ensures { OnOk result (AddsCandidates candidates.old.items candidates.new.items
+        (spec.old_self_candidates (text_view text.entry) (option_map (λ r. term r.now) receiver.entry)
         name.now)) }
 {
     if !asks_optional(name) {
@@ -108,13 +108,13 @@ fn add_old_self(
         return Ok(());
     }
     let message = old_self_text(alloc, name)?;
-    add_said(
+    add_candidate(
         alloc,
         text,
         ReviewKind::OldSelf,
         message,
         Condition::Always,
-        doubts,
+        candidates,
     )?;
     Ok(())
 }
@@ -125,10 +125,10 @@ fn add_fails(
     text: Text<'_>,
     name: &str,
     string: Option<&str>,
-    doubts: &mut Vec<Doubt>,
+    candidates: &mut Vec<Candidate>,
 ) -> Result<(), AllocError>
-    ensures { OnOk result (AddsDoubts doubts.old.items doubts.new.items
-        (spec.fails_doubts (text_view text.entry) name.now (option_map (λ s. s.now) string.entry))) }
+    ensures { OnOk result (AddsCandidates candidates.old.items candidates.new.items
+        (spec.fails_candidates (text_view text.entry) name.now (option_map (λ s. s.now) string.entry))) }
 {
     let Some(string) = string else {
         return Ok(());
@@ -138,7 +138,14 @@ fn add_fails(
         name: String::from_str(alloc, name)?,
         text: String::from_str(alloc, string)?,
     };
-    add_said(alloc, text, ReviewKind::Literal, message, condition, doubts)?;
+    add_candidate(
+        alloc,
+        text,
+        ReviewKind::Literal,
+        message,
+        condition,
+        candidates,
+    )?;
     Ok(())
 }
 
@@ -147,17 +154,24 @@ fn add_refused(
     alloc: Global,
     text: Text<'_>,
     pattern: Option<&str>,
-    doubts: &mut Vec<Doubt>,
+    candidates: &mut Vec<Candidate>,
 ) -> Result<(), AllocError>
-    ensures { OnOk result (AddsDoubts doubts.old.items doubts.new.items
-        (spec.refused_doubts (text_view text.entry) (option_map (λ s. s.now) pattern.entry))) }
+    ensures { OnOk result (AddsCandidates candidates.old.items candidates.new.items
+        (spec.refused_candidates (text_view text.entry) (option_map (λ s. s.now) pattern.entry))) }
 {
     let Some(pattern) = pattern else {
         return Ok(());
     };
     let message = pattern_text(alloc, pattern)?;
     let condition = Condition::Refused(String::from_str(alloc, pattern)?);
-    add_said(alloc, text, ReviewKind::Pattern, message, condition, doubts)?;
+    add_candidate(
+        alloc,
+        text,
+        ReviewKind::Pattern,
+        message,
+        condition,
+        candidates,
+    )?;
     Ok(())
 }
 
@@ -168,34 +182,34 @@ fn add_pattern(
     receiver: Option<&Expr>,
     name: &str,
     args: &[Expr],
-    doubts: &mut Vec<Doubt>,
+    candidates: &mut Vec<Candidate>,
 ) -> Result<(), AllocError>
-    ensures { OnOk result (AddsDoubts doubts.old.items doubts.new.items
-        (spec.pattern_doubts (text_view text.entry) (option_map (λ r. term r.now) receiver.entry) name.now
+    ensures { OnOk result (AddsCandidates candidates.old.items candidates.new.items
+        (spec.pattern_candidates (text_view text.entry) (option_map (λ r. term r.now) receiver.entry) name.now
         (map term args.now))) }
 {
     if !takes_pattern(name) {
         return Ok(());
     }
-    add_refused(alloc, text, second_text(receiver, args), doubts)
+    add_refused(alloc, text, second_text(receiver, args), candidates)
 }
 
-/// Adds the doubts about a call in a form that there is.
+/// Adds the candidate findings of a call in a form that there is.
 fn add_known(
     alloc: Global,
     text: Text<'_>,
     receiver: Option<&Expr>,
     name: &str,
     args: &[Expr],
-    doubts: &mut Vec<Doubt>,
+    candidates: &mut Vec<Candidate>,
 ) -> Result<(), AllocError>
-    ensures { OnOk result (AddsDoubts doubts.old.items doubts.new.items
-        (spec.known_doubts (text_view text.entry) (option_map (λ r. term r.now) receiver.entry) name.now
+    ensures { OnOk result (AddsCandidates candidates.old.items candidates.new.items
+        (spec.known_candidates (text_view text.entry) (option_map (λ r. term r.now) receiver.entry) name.now
         (map term args.now))) }
 {
-    add_old_self(alloc, text, receiver, name, doubts)?;
-    add_fails(alloc, text, name, only_text(receiver, args), doubts)?;
-    add_pattern(alloc, text, receiver, name, args, doubts)?;
+    add_old_self(alloc, text, receiver, name, candidates)?;
+    add_fails(alloc, text, name, only_text(receiver, args), candidates)?;
+    add_pattern(alloc, text, receiver, name, args, candidates)?;
     Ok(())
 }
 
@@ -206,20 +220,20 @@ fn add_wrong(
     has_receiver: bool,
     name: &str,
     count: usize,
-    doubts: &mut Vec<Doubt>,
+    candidates: &mut Vec<Candidate>,
 ) -> Result<(), AllocError>
-    ensures { OnOk result (AddsDoubts doubts.old.items doubts.new.items
-        (spec.doubt_about (text_view text.entry) ReviewKind.Call
+    ensures { OnOk result (AddsCandidates candidates.old.items candidates.new.items
+        (spec.text_candidate (text_view text.entry) ReviewKind.Call
         (spec.wrong_text name.now has_receiver count) always ∷ [])) }
 {
     let message = wrong_text(alloc, name, has_receiver, count)?;
-    add_said(
+    add_candidate(
         alloc,
         text,
         ReviewKind::Call,
         message,
         Condition::Always,
-        doubts,
+        candidates,
     )?;
     Ok(())
 }
@@ -229,45 +243,45 @@ fn add_unknown(
     alloc: Global,
     text: Text<'_>,
     name: &str,
-    doubts: &mut Vec<Doubt>,
+    candidates: &mut Vec<Candidate>,
 ) -> Result<(), AllocError>
-    ensures { OnOk result (AddsDoubts doubts.old.items doubts.new.items
-        (if (text_view text.entry).is_message then spec.doubt_about (text_view text.entry) ReviewKind.Call
+    ensures { OnOk result (AddsCandidates candidates.old.items candidates.new.items
+        (if (text_view text.entry).is_message then spec.text_candidate (text_view text.entry) ReviewKind.Call
         (spec.unknown_text name.now) always ∷ [] else [])) }
 {
     if !text.is_message {
         return Ok(());
     }
     let message = unknown_text(alloc, name)?;
-    add_said(
+    add_candidate(
         alloc,
         text,
         ReviewKind::Call,
         message,
         Condition::Always,
-        doubts,
+        candidates,
     )?;
     Ok(())
 }
 
-/// Adds the doubts about a call.
+/// Adds the candidate findings of a call.
 pub(crate) fn add_call(
     alloc: Global,
     text: Text<'_>,
     receiver: Option<&Expr>,
     name: &str,
     args: &[Expr],
-    doubts: &mut Vec<Doubt>,
+    candidates: &mut Vec<Candidate>,
 ) -> Result<(), AllocError>
-    ensures { OnOk result (AddsDoubts doubts.old.items doubts.new.items
-        (spec.call_doubts (text_view text.entry) (option_map (λ r. term r.now) receiver.entry) name.now
+    ensures { OnOk result (AddsCandidates candidates.old.items candidates.new.items
+        (spec.call_candidates (text_view text.entry) (option_map (λ r. term r.now) receiver.entry) name.now
         (map term args.now))) }
 {
     let has_receiver = receiver.is_some();
     match AllFunctions.form(name, has_receiver, args.len()) {
-        Form::Unknown => add_unknown(alloc, text, name, doubts)?,
-        Form::Wrong => add_wrong(alloc, text, has_receiver, name, args.len(), doubts)?,
-        Form::Known => add_known(alloc, text, receiver, name, args, doubts)?,
+        Form::Unknown => add_unknown(alloc, text, name, candidates)?,
+        Form::Wrong => add_wrong(alloc, text, has_receiver, name, args.len(), candidates)?,
+        Form::Known => add_known(alloc, text, receiver, name, args, candidates)?,
     }
     Ok(())
 }

@@ -1,14 +1,14 @@
-//! What is said of a document.
+//! The candidate findings of a document.
 ghost use Rattle.std.specs.Prelude.{◌≡◌, IfErr, IfOk, OnOk, map, option_map, string_bytes};
 ghost use Rattle.kube_cel_analysis.specs.Findings.{Naming};
-ghost use Rattle.kube_manifests_review.specs.Doubts.{AddsDoubts, doubt_view};
+ghost use Rattle.kube_manifests_review.specs.Candidates.{AddsCandidates, candidate_view};
 ghost use Rattle.kube_manifests_review.specs.Reviewed as spec;
 ghost use Rattle.serde_json.specs.View.{items_view, view};
 
-use crate::doubt::Doubt;
+use crate::candidate::Candidate;
 use crate::finding::ReviewKind;
 use crate::schema::{add_schema, has_item};
-use crate::text::add_plainly;
+use crate::text::add_unconditional;
 use kube_types_refused::Refused;
 use serde_json::Value;
 use std::alloc::{AllocError, Global};
@@ -48,39 +48,45 @@ fn version_pointer(alloc: Global, index: usize) -> Result<String, AllocError>
     format!(in alloc; "/spec/versions/{index}/schema/openAPIV3Schema")
 }
 
-/// Adds the doubts about a version, by its schema.
+/// Adds the candidate findings of a version, by its schema.
 fn add_version(
     alloc: Global,
     base: &str,
     schema: Option<&Value>,
-    doubts: &mut Vec<Doubt>,
+    candidates: &mut Vec<Candidate>,
 ) -> Result<(), Refused>
-    ensures doubts { OnOk result ((names : Naming) → AddsDoubts doubts.old.items doubts.new.items
-        (spec.version_doubts names base.now (option_map (λ s. view s.now) schema.entry))) }
+    ensures candidates { OnOk result ((names : Naming)
+        → AddsCandidates candidates.old.items candidates.new.items
+        (spec.version_candidates names base.now (option_map (λ s. view s.now) schema.entry))) }
     ensures memory { IfErr result (λ e. e ≡ Refused.Memory) }
 {
     match schema {
-        Some(schema) => add_schema(alloc, base, schema, doubts)?,
-        None => add_plainly(
+        Some(schema) => add_schema(alloc, base, schema, candidates)?,
+        None => add_unconditional(
             alloc,
             base,
             ReviewKind::Document,
             "the version has no schema",
-            doubts,
+            candidates,
         )?,
     }
     Ok(())
 }
 
-/// Adds the doubts about versions, in their order.
-fn add_versions(alloc: Global, versions: &[Value], doubts: &mut Vec<Doubt>) -> Result<(), Refused>
-    ensures doubts { OnOk result ((names : Naming) → AddsDoubts doubts.old.items doubts.new.items
-        (spec.versions_doubts names 0 (items_view versions.now))) }
+/// Adds the candidate findings of versions, in their order.
+fn add_versions(
+    alloc: Global,
+    versions: &[Value],
+    candidates: &mut Vec<Candidate>,
+) -> Result<(), Refused>
+    ensures candidates { OnOk result ((names : Naming)
+        → AddsCandidates candidates.old.items candidates.new.items
+        (spec.versions_candidates names 0 (items_view versions.now))) }
     ensures memory { IfErr result (λ e. e ≡ Refused.Memory) }
 {
     for (index, version) in versions.iter().enumerate() {
         let base = version_pointer(alloc, index)?;
-        add_version(alloc, base.as_str(), version_schema(version), doubts)?;
+        add_version(alloc, base.as_str(), version_schema(version), candidates)?;
     }
     Ok(())
 }
@@ -89,33 +95,33 @@ fn add_versions(alloc: Global, versions: &[Value], doubts: &mut Vec<Doubt>) -> R
 fn add_no_version(
     alloc: Global,
     versions: &[Value],
-    doubts: &mut Vec<Doubt>,
+    candidates: &mut Vec<Candidate>,
 ) -> Result<(), AllocError>
-    ensures { OnOk result (AddsDoubts doubts.old.items doubts.new.items
-        (spec.no_version_doubts (items_view versions.now))) }
+    ensures { OnOk result (AddsCandidates candidates.old.items candidates.new.items
+        (spec.no_version_candidates (items_view versions.now))) }
 {
     if has_item(versions) {
         return Ok(());
     }
-    add_plainly(
+    add_unconditional(
         alloc,
         "/spec/versions",
         ReviewKind::Document,
         "the document has no versions",
-        doubts,
+        candidates,
     )?;
     Ok(())
 }
 
-/// The doubts about a document.
-pub(crate) fn doubts_of(alloc: Global, crd: &Value) -> Result<Vec<Doubt>, Refused>
-    ensures doubts { IfOk result (λ v. (names : Naming) → map doubt_view v.items
-        ≡ spec.crd_doubts names (view crd.now)) }
+/// The candidate findings of a document.
+pub(crate) fn candidates_of(alloc: Global, crd: &Value) -> Result<Vec<Candidate>, Refused>
+    ensures candidates { IfOk result (λ v. (names : Naming) → map candidate_view v.items
+        ≡ spec.crd_candidates names (view crd.now)) }
     ensures memory { IfErr result (λ e. e ≡ Refused.Memory) }
 {
     let versions = versions_of(crd);
-    let mut doubts = Vec::new(alloc);
-    add_no_version(alloc, versions, &mut doubts)?;
-    add_versions(alloc, versions, &mut doubts)?;
-    Ok(doubts)
+    let mut candidates = Vec::new(alloc);
+    add_no_version(alloc, versions, &mut candidates)?;
+    add_versions(alloc, versions, &mut candidates)?;
+    Ok(candidates)
 }

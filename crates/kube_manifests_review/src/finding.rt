@@ -33,7 +33,7 @@ pub enum ReviewKind {
 
 impl fmt::Display for ReviewKind {
     ghost use Rattle.std.specs.Prelude.{Some};
-    ghost use Rattle.kube_manifests_review.specs.Doubts.{kind_text};
+    ghost use Rattle.kube_manifests_review.specs.Candidates.{kind_text};
 
     ghost output = { λ k. Some (kind_text k) };
 
@@ -42,10 +42,10 @@ impl fmt::Display for ReviewKind {
     }
 }
 
-/// What a person should look at, at one place of a document.
+/// What a person should look at, at one pointer in a document.
 #[derive(Debug, Drop, PartialEq)]
 pub struct ReviewFinding {
-    /// The place: its JSON Pointer in the document (RFC 6901).
+    /// The JSON Pointer in the document (RFC 6901).
     pub pointer: String,
     /// The text of the rule, empty where it is of no rule.
     pub rule: String,

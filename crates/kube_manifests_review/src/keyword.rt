@@ -1,11 +1,11 @@
 //! Keys that are one letter off a keyword.
 ghost use Rattle.std.specs.Prelude.{◌≡◌, IfOk, List, OnOk, map, option_map};
 ghost use Rattle.std.specs.Str.{chars};
-ghost use Rattle.kube_manifests_review.specs.Doubts.{AddsDoubts};
-ghost use Rattle.kube_manifests_review.specs.Keywords.{key_doubts, keys_doubts, near, near_doubts, one_letter_off};
+ghost use Rattle.kube_manifests_review.specs.Candidates.{AddsCandidates};
+ghost use Rattle.kube_manifests_review.specs.Keywords.{key_candidates, keys_candidates, near, near_candidates, one_letter_off};
 ghost use Rattle.serde_json.specs.View.{members_view};
 
-use crate::doubt::{Condition, Doubt};
+use crate::candidate::{Candidate, Condition};
 use crate::finding::{ReviewFinding, ReviewKind};
 use crate::pointer::key_pointer;
 use serde_json::{Map, Value};
@@ -86,15 +86,15 @@ fn add_key(
     pointer: &str,
     rule: &str,
     key: &str,
-    doubts: &mut Vec<Doubt>,
+    candidates: &mut Vec<Candidate>,
 ) -> Result<(), AllocError>
-    ensures { OnOk result (AddsDoubts doubts.old.items doubts.new.items
-        (key_doubts (map (λ w. w.now) words.now) pointer.now rule.now key.now)) }
+    ensures { OnOk result (AddsCandidates candidates.old.items candidates.new.items
+        (key_candidates (map (λ w. w.now) words.now) pointer.now rule.now key.now)) }
 {
     let Some(word) = near(alloc, words, key)? else {
         return Ok(());
     };
-    doubts.push(Doubt {
+    candidates.push(Candidate {
         finding: ReviewFinding {
             pointer: key_pointer(alloc, pointer, key)?,
             rule: String::from_str(alloc, rule)?,
@@ -113,13 +113,14 @@ pub(crate) fn add_keys(
     pointer: &str,
     rule: &str,
     members: &Map<String, Value>,
-    doubts: &mut Vec<Doubt>,
+    candidates: &mut Vec<Candidate>,
 ) -> Result<(), AllocError>
-    ensures { OnOk result (AddsDoubts doubts.old.items doubts.new.items
-        (keys_doubts (map (λ w. w.now) words.now) pointer.now rule.now (members_view members.now.entries))) }
+    ensures { OnOk result (AddsCandidates candidates.old.items candidates.new.items
+        (keys_candidates (map (λ w. w.now) words.now) pointer.now rule.now
+        (members_view members.now.entries))) }
 {
     for (key, _value) in members.iter() {
-        add_key(alloc, words, pointer, rule, key.as_str(), doubts)?;
+        add_key(alloc, words, pointer, rule, key.as_str(), candidates)?;
     }
     Ok(())
 }

@@ -2,7 +2,7 @@
 //!
 //! [`review_crd`] reports, version by version, what the linter finds, and then what is wrong with the schema besides: calls that can't work, literals
 //! and patterns that aren't read, messages that are no strings, keys one letter off a keyword, rules that are no list, a schema without rules.
-//! Each finding has the JSON Pointer of its place in the document.
+//! Each finding has its JSON Pointer in the document.
 //!
 //! ```rust
 //! use kube_manifests_review::review_crd;
@@ -23,8 +23,8 @@
 #![tactic(auto)]
 
 mod call;
+mod candidate;
 mod document;
-mod doubt;
 pub mod finding;
 mod keyword;
 pub mod laws;

@@ -43,51 +43,58 @@ fn branches<'s>(schema: &'s Value, keyword: &str) -> Option<&'s Vec<Value>>
 }
 
 /// Adds a schema and those within it, to this depth.
-#[cycle(places)]
+#[cycle(locations)]
 pub(crate) fn add_locations<'a>(
     alloc: Global,
     pointer: &str,
     schema: &'a Value,
     levels: usize,
-    places: &mut Vec<SchemaLocation<'a>>,
+    locations: &mut Vec<SchemaLocation<'a>>,
 ) -> Result<(), AllocError>
-    ensures { OnOk result (AddsLocations places.old.items places.new.items
+    ensures { OnOk result (AddsLocations locations.old.items locations.new.items
         (locations_of levels pointer.now (view schema.now))) }
 {
     if levels == 0 {
         return Ok(());
     }
-    places.push(SchemaLocation {
+    locations.push(SchemaLocation {
         pointer: String::from_str(alloc, pointer)?,
         schema,
     })?;
     let left = levels - 1;
-    add_properties(alloc, pointer, schema, left, places)?;
-    add_maybe(alloc, pointer, "items", schema.get("items"), left, places)?;
+    add_properties(alloc, pointer, schema, left, locations)?;
+    add_maybe(
+        alloc,
+        pointer,
+        "items",
+        schema.get("items"),
+        left,
+        locations,
+    )?;
     add_maybe(
         alloc,
         pointer,
         "additionalProperties",
         additional(schema),
         left,
-        places,
+        locations,
     )?;
-    add_branches(alloc, pointer, "allOf", schema, left, places)?;
-    add_branches(alloc, pointer, "oneOf", schema, left, places)?;
-    add_branches(alloc, pointer, "anyOf", schema, left, places)?;
+    add_branches(alloc, pointer, "allOf", schema, left, locations)?;
+    add_branches(alloc, pointer, "oneOf", schema, left, locations)?;
+    add_branches(alloc, pointer, "anyOf", schema, left, locations)?;
     Ok(())
 }
 
 /// Adds the schemas of the properties and those within them, in the order of names.
-#[cycle(places)]
+#[cycle(locations)]
 fn add_properties<'a>(
     alloc: Global,
     pointer: &str,
     schema: &'a Value,
     levels: usize,
-    places: &mut Vec<SchemaLocation<'a>>,
+    locations: &mut Vec<SchemaLocation<'a>>,
 ) -> Result<(), AllocError>
-    ensures { OnOk result (AddsLocations places.old.items places.new.items
+    ensures { OnOk result (AddsLocations locations.old.items locations.new.items
         (named_locations (locations_of levels) (keyword_pointer pointer.now (codes "properties"))
         (members_or_none (declared_properties (view schema.now))))) }
 {
@@ -97,22 +104,22 @@ fn add_properties<'a>(
     let inner = keyword_pointer(alloc, pointer, "properties")?;
     for (key, member) in members.iter() {
         let named = key_pointer(alloc, inner.as_str(), key.as_str())?;
-        add_locations(alloc, named.as_str(), member, levels, places)?;
+        add_locations(alloc, named.as_str(), member, levels, locations)?;
     }
     Ok(())
 }
 
 /// Adds a schema that may be there, of this keyword.
-#[cycle(places)]
+#[cycle(locations)]
 fn add_maybe<'a>(
     alloc: Global,
     pointer: &str,
     keyword: &str,
     schema: Option<&'a Value>,
     levels: usize,
-    places: &mut Vec<SchemaLocation<'a>>,
+    locations: &mut Vec<SchemaLocation<'a>>,
 ) -> Result<(), AllocError>
-    ensures { OnOk result (AddsLocations places.old.items places.new.items
+    ensures { OnOk result (AddsLocations locations.old.items locations.new.items
         (maybe_locations (locations_of levels) (keyword_pointer pointer.now keyword.now)
         (option_map (λ s. view s.now) schema.entry))) }
 {
@@ -120,21 +127,21 @@ fn add_maybe<'a>(
         return Ok(());
     };
     let inner = keyword_pointer(alloc, pointer, keyword)?;
-    add_locations(alloc, inner.as_str(), schema, levels, places)?;
+    add_locations(alloc, inner.as_str(), schema, levels, locations)?;
     Ok(())
 }
 
 /// Adds the branches of a keyword and the schemas within them, in their order.
-#[cycle(places)]
+#[cycle(locations)]
 fn add_branches<'a>(
     alloc: Global,
     pointer: &str,
     keyword: &str,
     schema: &'a Value,
     levels: usize,
-    places: &mut Vec<SchemaLocation<'a>>,
+    locations: &mut Vec<SchemaLocation<'a>>,
 ) -> Result<(), AllocError>
-    ensures { OnOk result (AddsLocations places.old.items places.new.items
+    ensures { OnOk result (AddsLocations locations.old.items locations.new.items
         (branch_locations (locations_of levels) pointer.now keyword.now (view schema.now))) }
 {
     let Some(items) = branches(schema, keyword) else {
@@ -143,7 +150,7 @@ fn add_branches<'a>(
     let inner = keyword_pointer(alloc, pointer, keyword)?;
     for (index, item) in items.iter().enumerate() {
         let branch = index_pointer(alloc, inner.as_str(), index)?;
-        add_locations(alloc, branch.as_str(), item, levels, places)?;
+        add_locations(alloc, branch.as_str(), item, levels, locations)?;
     }
     Ok(())
 }

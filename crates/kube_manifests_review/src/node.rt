@@ -1,16 +1,16 @@
-//! What is said of the nodes of a rule's tree.
+//! The candidate findings of the nodes of a rule's tree.
 ghost use Rattle.std.specs.Prelude.{OnOk, map, option_map};
 ghost use Rattle.cel_syntax_ast.specs.Term.{term};
 ghost use Rattle.cel_value.specs.View.{view};
-ghost use Rattle.kube_manifests_review.specs.Calls.{call_doubts, literal_doubts, node_doubts, text_view};
-ghost use Rattle.kube_manifests_review.specs.Doubts.{AddsDoubts};
-ghost use Rattle.kube_manifests_review.specs.Rules.{tree_doubts};
+ghost use Rattle.kube_manifests_review.specs.Calls.{call_candidates, literal_candidates, node_candidates, text_view};
+ghost use Rattle.kube_manifests_review.specs.Candidates.{AddsCandidates};
+ghost use Rattle.kube_manifests_review.specs.Rules.{tree_candidates};
 
 use crate::call::add_call;
-use crate::doubt::{Condition, Doubt};
+use crate::candidate::{Candidate, Condition};
 use crate::finding::ReviewKind;
 use crate::nodes::add_nodes;
-use crate::text::{Text, add_said};
+use crate::text::{Text, add_candidate};
 use cel_syntax_ast::Expr;
 use cel_value::Value;
 use std::alloc::{AllocError, Global};
@@ -20,58 +20,58 @@ fn add_literal(
     alloc: Global,
     text: Text<'_>,
     value: &Value,
-    doubts: &mut Vec<Doubt>,
+    candidates: &mut Vec<Candidate>,
 ) -> Result<(), AllocError>
-    ensures { OnOk result (AddsDoubts doubts.old.items doubts.new.items
-        (literal_doubts (text_view text.entry) (view value.now))) }
+    ensures { OnOk result (AddsCandidates candidates.old.items candidates.new.items
+        (literal_candidates (text_view text.entry) (view value.now))) }
 {
     if !value.holds_double() {
         return Ok(());
     }
     let message = String::from_str(alloc, "numbers of kind double are not supported")?;
-    add_said(
+    add_candidate(
         alloc,
         text,
         ReviewKind::Double,
         message,
         Condition::Always,
-        doubts,
+        candidates,
     )?;
     Ok(())
 }
 
-/// Adds the doubts about a call whose receiver may be there.
+/// Adds the candidate findings of a call whose receiver may be there.
 fn add_method(
     alloc: Global,
     text: Text<'_>,
     receiver: &Option<Box<Expr>>,
     name: &str,
     args: &[Expr],
-    doubts: &mut Vec<Doubt>,
+    candidates: &mut Vec<Candidate>,
 ) -> Result<(), AllocError>
-    ensures { OnOk result (AddsDoubts doubts.old.items doubts.new.items
-        (call_doubts (text_view text.entry) (option_map (λ r. term r.value) receiver.now) name.now
+    ensures { OnOk result (AddsCandidates candidates.old.items candidates.new.items
+        (call_candidates (text_view text.entry) (option_map (λ r. term r.value) receiver.now) name.now
         (map term args.now))) }
 {
     match receiver {
-        Some(receiver) => add_call(alloc, text, Some(&**receiver), name, args, doubts)?,
-        None => add_call(alloc, text, None, name, args, doubts)?,
+        Some(receiver) => add_call(alloc, text, Some(&**receiver), name, args, candidates)?,
+        None => add_call(alloc, text, None, name, args, candidates)?,
     }
     Ok(())
 }
 
-/// Adds the doubts about a node.
+/// Adds the candidate findings of a node.
 fn add_node(
     alloc: Global,
     text: Text<'_>,
     node: &Expr,
-    doubts: &mut Vec<Doubt>,
+    candidates: &mut Vec<Candidate>,
 ) -> Result<(), AllocError>
-    ensures { OnOk result (AddsDoubts doubts.old.items doubts.new.items
-        (node_doubts (text_view text.entry) (term node.now))) }
+    ensures { OnOk result (AddsCandidates candidates.old.items candidates.new.items
+        (node_candidates (text_view text.entry) (term node.now))) }
 {
     match node {
-        Expr::Literal(value) => add_literal(alloc, text, value, doubts)?,
+        Expr::Literal(value) => add_literal(alloc, text, value, candidates)?,
         Expr::Ident(_) => {}
         Expr::Select(_, _) => {}
         Expr::Has(_, _) => {}
@@ -82,30 +82,44 @@ fn add_node(
         Expr::List(_) => {}
         Expr::Map(_) => {}
         Expr::Call { target, name, args } => {
-            add_method(alloc, text, target, name.as_str(), args.as_slice(), doubts)?;
+            add_method(
+                alloc,
+                text,
+                target,
+                name.as_str(),
+                args.as_slice(),
+                candidates,
+            )?;
         }
         Expr::Qualified { name, args } => {
-            add_call(alloc, text, None, name.as_str(), args.as_slice(), doubts)?;
+            add_call(
+                alloc,
+                text,
+                None,
+                name.as_str(),
+                args.as_slice(),
+                candidates,
+            )?;
         }
         Expr::Macro { .. } => {}
     }
     Ok(())
 }
 
-/// Adds the doubts about the nodes of a tree, in their order.
+/// Adds the candidate findings of the nodes of a tree, in their order.
 pub(crate) fn add_tree(
     alloc: Global,
     text: Text<'_>,
     tree: &Expr,
-    doubts: &mut Vec<Doubt>,
+    candidates: &mut Vec<Candidate>,
 ) -> Result<(), AllocError>
-    ensures { OnOk result (AddsDoubts doubts.old.items doubts.new.items
-        (tree_doubts (text_view text.entry) (term tree.now))) }
+    ensures { OnOk result (AddsCandidates candidates.old.items candidates.new.items
+        (tree_candidates (text_view text.entry) (term tree.now))) }
 {
     let mut nodes = Vec::new(alloc);
     add_nodes(tree, &mut nodes)?;
     for node in &nodes {
-        add_node(alloc, text, *node, doubts)?;
+        add_node(alloc, text, *node, candidates)?;
     }
     Ok(())
 }

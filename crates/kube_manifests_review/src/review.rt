@@ -4,13 +4,13 @@ ghost use Rattle.cel_patterns.specs.Book.{Extends, Book, IsBook};
 ghost use Rattle.cel_patterns.specs.Entries.{entries_of};
 ghost use Rattle.cel_patterns.specs.Extensions.{HoldsForExtensions};
 ghost use Rattle.kube_cel_analysis.specs.Findings.{Naming};
-ghost use Rattle.kube_manifests_review.specs.Doubts.{doubt_view, finding_view, when_view};
-ghost use Rattle.kube_manifests_review.specs.Doubts as spec;
+ghost use Rattle.kube_manifests_review.specs.Candidates.{candidate_view, finding_view, when_view};
+ghost use Rattle.kube_manifests_review.specs.Candidates as spec;
 ghost use Rattle.kube_manifests_review.specs.Reviewed.{crd_findings};
 ghost use Rattle.serde_json.specs.View.{view};
 
-use crate::document::doubts_of;
-use crate::doubt::{Condition, Doubt};
+use crate::candidate::{Candidate, Condition};
+use crate::document::candidates_of;
 use crate::finding::ReviewFinding;
 use cel_patterns::PatternBook;
 use cel_semantics::{Form, Functions};
@@ -21,7 +21,7 @@ use serde_json::Value;
 use std::alloc::Global;
 
 /// Whether the call of a function with a string alone has no value.
-#[tactic(auto, unfolding(crate::specs::Doubts::fails_at))]
+#[tactic(auto, unfolding(crate::specs::Candidates::fails_at))]
 fn fails_at(alloc: Global, name: &str, text: &str, book: &mut PatternBook) -> Result<bool, Refused>
     ensures keeps { Extends (entries_of book.new) (entries_of book.old) }
     ensures value { IfOk result (λ r. HoldsForExtensions (entries_of book.new) r
@@ -41,7 +41,7 @@ fn fails_at(alloc: Global, name: &str, text: &str, book: &mut PatternBook) -> Re
 }
 
 /// Whether a pattern is refused.
-#[tactic(auto, unfolding(crate::specs::Doubts::is_refused))]
+#[tactic(auto, unfolding(crate::specs::Candidates::is_refused))]
 fn is_refused(pattern: &str, book: &mut PatternBook) -> Result<bool, Refused>
     ensures keeps { Extends (entries_of book.new) (entries_of book.old) }
     ensures value { IfOk result (λ r. HoldsForExtensions (entries_of book.new) r
@@ -66,19 +66,19 @@ fn is_due(alloc: Global, condition: Condition, book: &mut PatternBook) -> Result
     }
 }
 
-/// Adds the finding of a doubt, if its condition holds.
+/// Adds the finding of a candidate, if its condition holds.
 fn add_due(
     alloc: Global,
-    doubt: Doubt,
+    candidate: Candidate,
     book: &mut PatternBook,
     found: &mut Vec<ReviewFinding>,
 ) -> Result<(), Refused>
     ensures keeps { Extends (entries_of book.new) (entries_of book.old) }
     ensures value { OnOk result (HoldsForExtensions (entries_of book.new) (map finding_view found.new.items)
-        (λ b. map finding_view found.old.items ++ spec.said_by b (doubt_view doubt))) }
+        (λ b. map finding_view found.old.items ++ spec.due_finding b (candidate_view candidate))) }
     ensures memory { IfErr result (λ e. e ≡ Refused.Memory) }
 {
-    let Doubt { finding, condition } = doubt;
+    let Candidate { finding, condition } = candidate;
     if !is_due(alloc, condition, book)? {
         return Ok(());
     }
@@ -86,20 +86,20 @@ fn add_due(
     Ok(())
 }
 
-/// The findings of those doubts whose condition holds, in order.
+/// The findings of those candidates whose condition holds, in order.
 fn due(
     alloc: Global,
-    doubts: Vec<Doubt>,
+    candidates: Vec<Candidate>,
     book: &mut PatternBook,
 ) -> Result<Vec<ReviewFinding>, Refused>
     ensures keeps { Extends (entries_of book.new) (entries_of book.old) }
     ensures value { IfOk result (λ v. HoldsForExtensions (entries_of book.new) (map finding_view v.items)
-        (spec.due (map doubt_view doubts.items))) }
+        (spec.due (map candidate_view candidates.items))) }
     ensures memory { IfErr result (λ e. e ≡ Refused.Memory) }
 {
     let mut found = Vec::new(alloc);
-    for doubt in doubts {
-        add_due(alloc, doubt, book, &mut found)?;
+    for candidate in candidates {
+        add_due(alloc, candidate, book, &mut found)?;
     }
     Ok(found)
 }
@@ -121,8 +121,8 @@ pub fn review_crd_with(
         (map finding_view v.items) (crd_findings names (view crd.now))) }
     ensures memory { IfErr result (λ e. e ≡ Refused.Memory) }
 {
-    let doubts = doubts_of(alloc, crd)?;
-    let found = due(alloc, doubts, book)?;
+    let candidates = candidates_of(alloc, crd)?;
+    let found = due(alloc, candidates, book)?;
     Ok(found)
 }
 

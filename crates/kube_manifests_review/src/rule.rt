@@ -1,23 +1,23 @@
-//! What is said of the rules of a schema.
+//! The candidate findings of the rules of a schema.
 ghost use Rattle.std.specs.Prelude.{◌≡◌, [], IfErr, OnOk, codes, map, option_map};
 ghost use Rattle.cel.specs.Program.{program_term};
 ghost use Rattle.cel_syntax_ast.specs.Term.{term};
 ghost use Rattle.kube_manifests_review.specs.Calls.{text_view};
-ghost use Rattle.kube_manifests_review.specs.Doubts.{AddsDoubts};
-ghost use Rattle.kube_manifests_review.specs.Keywords.{keys_doubts};
+ghost use Rattle.kube_manifests_review.specs.Candidates.{AddsCandidates};
+ghost use Rattle.kube_manifests_review.specs.Keywords.{keys_candidates};
 ghost use Rattle.kube_manifests_review.specs.Pointers.{index_pointer};
 ghost use Rattle.kube_manifests_review.specs.Rules as spec;
-ghost use Rattle.kube_manifests_review.specs.Rules.{tree_doubts};
+ghost use Rattle.kube_manifests_review.specs.Rules.{tree_candidates};
 ghost use Rattle.kube_schema_rules.specs.Compilation.{compiled_seen, result_view};
 ghost use Rattle.serde_json.specs.View.{items_view, view};
 
-use crate::doubt::{Condition, Doubt};
+use crate::candidate::{Candidate, Condition};
 use crate::finding::ReviewKind;
 use crate::keyword::{RULE_FIELDS, add_keys};
 use crate::message::is_no_string;
 use crate::node::add_tree;
 use crate::pointer::{index_pointer, keyword_pointer};
-use crate::text::{Text, add_plainly, add_said};
+use crate::text::{Text, add_candidate, add_unconditional};
 use cel::Program;
 use cel_syntax_ast::Expr;
 use kube_schema_rules::{CompilationError, CompilationResult, compile_rule};
@@ -30,55 +30,55 @@ fn add_kind(
     alloc: Global,
     text: Text<'_>,
     tree: &Expr,
-    doubts: &mut Vec<Doubt>,
+    candidates: &mut Vec<Candidate>,
 ) -> Result<(), AllocError>
-    ensures { OnOk result (AddsDoubts doubts.old.items doubts.new.items
-        (spec.kind_doubts (text_view text.entry) (term tree.now))) }
+    ensures { OnOk result (AddsCandidates candidates.old.items candidates.new.items
+        (spec.kind_candidates (text_view text.entry) (term tree.now))) }
 {
     if !is_no_string(tree) {
         return Ok(());
     }
     let message = String::from_str(alloc, "messageExpression gives no string")?;
-    add_said(
+    add_candidate(
         alloc,
         text,
         ReviewKind::Message,
         message,
         Condition::Always,
-        doubts,
+        candidates,
     )?;
     Ok(())
 }
 
-/// Adds the doubts about a messageExpression, where there is one.
+/// Adds the candidate findings of a messageExpression, where there is one.
 fn add_message(
     alloc: Global,
     text: Text<'_>,
     program: &Option<Program>,
-    doubts: &mut Vec<Doubt>,
+    candidates: &mut Vec<Candidate>,
 ) -> Result<(), AllocError>
-    ensures { OnOk result (AddsDoubts doubts.old.items doubts.new.items
-        (spec.message_doubts (text_view text.entry) (option_map program_term program.now))) }
+    ensures { OnOk result (AddsCandidates candidates.old.items candidates.new.items
+        (spec.message_candidates (text_view text.entry) (option_map program_term program.now))) }
 {
     let Some(program) = program else {
         return Ok(());
     };
     let tree = program.expression();
-    add_tree(alloc, text, tree, doubts)?;
-    add_kind(alloc, text, tree, doubts)?;
+    add_tree(alloc, text, tree, candidates)?;
+    add_kind(alloc, text, tree, candidates)?;
     Ok(())
 }
 
-/// Adds the doubts about the text of a rule.
+/// Adds the candidate findings of the text of a rule.
 fn add_text(
     alloc: Global,
     pointer: &str,
     rule: &str,
     tree: &Expr,
-    doubts: &mut Vec<Doubt>,
+    candidates: &mut Vec<Candidate>,
 ) -> Result<(), AllocError>
-    ensures { OnOk result (AddsDoubts doubts.old.items doubts.new.items
-        (tree_doubts (spec.rule_text_at pointer.now rule.now) (term tree.now))) }
+    ensures { OnOk result (AddsCandidates candidates.old.items candidates.new.items
+        (tree_candidates (spec.rule_text_at pointer.now rule.now) (term tree.now))) }
 {
     let location = keyword_pointer(alloc, pointer, "rule")?;
     let text = Text {
@@ -86,20 +86,20 @@ fn add_text(
         rule,
         is_message: false,
     };
-    add_tree(alloc, text, tree, doubts)?;
+    add_tree(alloc, text, tree, candidates)?;
     Ok(())
 }
 
-/// Adds the doubts about the messageExpression of a rule, where it has one.
+/// Adds the candidate findings of the messageExpression of a rule, where it has one.
 fn add_message_text(
     alloc: Global,
     pointer: &str,
     rule: &str,
     program: &Option<Program>,
-    doubts: &mut Vec<Doubt>,
+    candidates: &mut Vec<Candidate>,
 ) -> Result<(), AllocError>
-    ensures { OnOk result (AddsDoubts doubts.old.items doubts.new.items
-        (spec.message_doubts (spec.message_text_at pointer.now rule.now)
+    ensures { OnOk result (AddsCandidates candidates.old.items candidates.new.items
+        (spec.message_candidates (spec.message_text_at pointer.now rule.now)
         (option_map program_term program.now))) }
 {
     let location = keyword_pointer(alloc, pointer, "messageExpression")?;
@@ -108,38 +108,44 @@ fn add_message_text(
         rule,
         is_message: true,
     };
-    add_message(alloc, text, program, doubts)?;
+    add_message(alloc, text, program, candidates)?;
     Ok(())
 }
 
-/// Adds the doubts about a compiled rule.
+/// Adds the candidate findings of a compiled rule.
 fn add_compiled(
     alloc: Global,
     pointer: &str,
     compiled: &CompilationResult,
-    doubts: &mut Vec<Doubt>,
+    candidates: &mut Vec<Candidate>,
 ) -> Result<(), AllocError>
-    ensures { OnOk result (AddsDoubts doubts.old.items doubts.new.items
-        (spec.compiled_doubts pointer.now (Ok (result_view compiled.now)))) }
+    ensures { OnOk result (AddsCandidates candidates.old.items candidates.new.items
+        (spec.compiled_candidates pointer.now (Ok (result_view compiled.now)))) }
 {
     let rule = compiled.rule.rule.as_str();
-    add_text(alloc, pointer, rule, compiled.program.expression(), doubts)?;
-    add_message_text(alloc, pointer, rule, &compiled.message_program, doubts)?;
+    add_text(
+        alloc,
+        pointer,
+        rule,
+        compiled.program.expression(),
+        candidates,
+    )?;
+    add_message_text(alloc, pointer, rule, &compiled.message_program, candidates)?;
     Ok(())
 }
 
-/// Adds the doubts about a rule that may be compiled.
+/// Adds the candidate findings of a rule that may be compiled.
 fn add_result(
     alloc: Global,
     pointer: &str,
     outcome: &Result<CompilationResult, CompilationError>,
-    doubts: &mut Vec<Doubt>,
+    candidates: &mut Vec<Candidate>,
 ) -> Result<(), AllocError>
-    ensures { OnOk result (AddsDoubts doubts.old.items doubts.new.items
-        (spec.compiled_doubts pointer.now (compiled_seen outcome.now))) }
+    ensures { OnOk result (AddsCandidates candidates.old.items candidates.new.items
+        (spec.compiled_candidates pointer.now (compiled_seen outcome.now))) }
 {
     match outcome {
-        Ok(compiled) => add_compiled(alloc, pointer, compiled, doubts)?,
+        Ok(compiled) => add_compiled(alloc, pointer, compiled, candidates)?,
         Err(_) => {}
     }
     Ok(())
@@ -162,27 +168,28 @@ pub(crate) fn add_keys_of(
     pointer: &str,
     rule: &str,
     value: &Value,
-    doubts: &mut Vec<Doubt>,
+    candidates: &mut Vec<Candidate>,
 ) -> Result<(), AllocError>
-    ensures { OnOk result (AddsDoubts doubts.old.items doubts.new.items
-        (keys_doubts (map (λ w. w.now) words.now) pointer.now rule.now (spec.members_of (view value.now)))) }
+    ensures { OnOk result (AddsCandidates candidates.old.items candidates.new.items
+        (keys_candidates (map (λ w. w.now) words.now) pointer.now rule.now
+        (spec.members_of (view value.now)))) }
 {
     match value.as_object() {
-        Some(members) => add_keys(alloc, words, pointer, rule, members, doubts)?,
+        Some(members) => add_keys(alloc, words, pointer, rule, members, candidates)?,
         None => {}
     }
     Ok(())
 }
 
-/// Adds the doubts about a rule.
+/// Adds the candidate findings of a rule.
 fn add_rule(
     alloc: Global,
     pointer: &str,
     rule: &Value,
-    doubts: &mut Vec<Doubt>,
+    candidates: &mut Vec<Candidate>,
 ) -> Result<(), Refused>
-    ensures doubts { OnOk result (AddsDoubts doubts.old.items doubts.new.items
-        (spec.rule_doubts pointer.now (view rule.now))) }
+    ensures candidates { OnOk result (AddsCandidates candidates.old.items candidates.new.items
+        (spec.rule_candidates pointer.now (view rule.now))) }
     ensures memory { IfErr result (λ e. e ≡ Refused.Memory) }
 {
     add_keys_of(
@@ -191,53 +198,53 @@ fn add_rule(
         pointer,
         text_of_rule(rule),
         rule,
-        doubts,
+        candidates,
     )?;
     let compiled = compile_rule(alloc, rule)?;
-    add_result(alloc, pointer, &compiled, doubts)?;
+    add_result(alloc, pointer, &compiled, candidates)?;
     Ok(())
 }
 
-/// Adds the doubts about rules, in their order.
+/// Adds the candidate findings of rules, in their order.
 fn add_rules(
     alloc: Global,
     pointer: &str,
     rules: &[Value],
-    doubts: &mut Vec<Doubt>,
+    candidates: &mut Vec<Candidate>,
 ) -> Result<(), Refused>
-    ensures doubts { OnOk result (AddsDoubts doubts.old.items doubts.new.items
-        (spec.rules_doubts pointer.now 0 (items_view rules.now))) }
+    ensures candidates { OnOk result (AddsCandidates candidates.old.items candidates.new.items
+        (spec.rules_candidates pointer.now 0 (items_view rules.now))) }
     ensures memory { IfErr result (λ e. e ≡ Refused.Memory) }
 {
     for (index, rule) in rules.iter().enumerate() {
         let inner = index_pointer(alloc, pointer, index)?;
-        add_rule(alloc, inner.as_str(), rule, doubts)?;
+        add_rule(alloc, inner.as_str(), rule, candidates)?;
     }
     Ok(())
 }
 
-/// Adds the doubts about the rules of a schema, where it has any.
+/// Adds the candidate findings of the rules of a schema, where it has any.
 pub(crate) fn add_validations(
     alloc: Global,
     pointer: &str,
     rules: Option<&Value>,
-    doubts: &mut Vec<Doubt>,
+    candidates: &mut Vec<Candidate>,
 ) -> Result<(), Refused>
-    ensures doubts { OnOk result (AddsDoubts doubts.old.items doubts.new.items
-        (spec.validations_doubts pointer.now (option_map (λ v. view v.now) rules.entry))) }
+    ensures candidates { OnOk result (AddsCandidates candidates.old.items candidates.new.items
+        (spec.validations_candidates pointer.now (option_map (λ v. view v.now) rules.entry))) }
     ensures memory { IfErr result (λ e. e ≡ Refused.Memory) }
 {
     let Some(rules) = rules else {
         return Ok(());
     };
     match rules.as_array() {
-        Some(rules) => add_rules(alloc, pointer, rules.as_slice(), doubts)?,
-        None => add_plainly(
+        Some(rules) => add_rules(alloc, pointer, rules.as_slice(), candidates)?,
+        None => add_unconditional(
             alloc,
             pointer,
             ReviewKind::Rules,
             "x-kubernetes-validations is no list",
-            doubts,
+            candidates,
         )?,
     }
     Ok(())

@@ -1,22 +1,22 @@
-//! What is said of a schema.
+//! The candidate findings of a schema.
 ghost use Rattle.std.specs.Prelude.{◌≡◌, [], IfErr, IfOk, OnOk, map};
 ghost use Rattle.std.specs.List.{flat_map, list_any};
 ghost use Rattle.kube_cel_analysis.specs.Findings.{Naming};
 ghost use Rattle.kube_cel_analysis.specs.Findings as linter;
-ghost use Rattle.kube_manifests_review.specs.Doubts.{AddsDoubts, doubt_view};
+ghost use Rattle.kube_manifests_review.specs.Candidates.{AddsCandidates, candidate_view};
 ghost use Rattle.kube_manifests_review.specs.Locations.{location_view};
 ghost use Rattle.kube_manifests_review.specs.Reviewed as spec;
-ghost use Rattle.kube_manifests_review.specs.Rules.{place_doubts};
+ghost use Rattle.kube_manifests_review.specs.Rules.{location_candidates};
 ghost use Rattle.kube_schema_rules.specs.Rules.{rule_items};
 ghost use Rattle.serde_json.specs.View.{items_view, view};
 
-use crate::doubt::{Condition, Doubt};
+use crate::candidate::{Candidate, Condition};
 use crate::finding::{ReviewFinding, ReviewKind};
 use crate::keyword::KEYWORDS;
 use crate::locations::{SchemaLocation, add_locations};
 use crate::pointer::keyword_pointer;
 use crate::rule::{add_keys_of, add_validations};
-use crate::text::add_plainly;
+use crate::text::add_unconditional;
 use kube_cel_analysis::{LintFinding, lint_schema};
 use kube_schema::compile_schema;
 use kube_schema_rules::rule_values;
@@ -28,8 +28,13 @@ use std::alloc::{AllocError, Global};
 const LEVELS: usize = 65;
 
 /// What a linter finds, with its pointer in the document.
-fn moved(alloc: Global, base: &str, finding: LintFinding) -> Result<Doubt, AllocError>
-    ensures { IfOk result (λ d. doubt_view d ≡ spec.doubt_of_finding base.now (linter.finding_view finding)) }
+fn candidate_of_finding(
+    alloc: Global,
+    base: &str,
+    finding: LintFinding,
+) -> Result<Candidate, AllocError>
+    ensures { IfOk result (λ d. candidate_view d
+        ≡ spec.candidate_of_finding base.now (linter.finding_view finding)) }
 {
     let LintFinding {
         pointer,
@@ -37,7 +42,7 @@ fn moved(alloc: Global, base: &str, finding: LintFinding) -> Result<Doubt, Alloc
         kind,
         message,
     } = finding;
-    Ok(Doubt {
+    Ok(Candidate {
         finding: ReviewFinding {
             pointer: format!(in alloc; "{base}{pointer}")?,
             rule,
@@ -53,13 +58,13 @@ fn add_lint(
     alloc: Global,
     base: &str,
     findings: Vec<LintFinding>,
-    doubts: &mut Vec<Doubt>,
+    candidates: &mut Vec<Candidate>,
 ) -> Result<(), AllocError>
-    ensures { OnOk result (AddsDoubts doubts.old.items doubts.new.items
-        (map (spec.doubt_of_finding base.now) (map linter.finding_view findings.items))) }
+    ensures { OnOk result (AddsCandidates candidates.old.items candidates.new.items
+        (map (spec.candidate_of_finding base.now) (map linter.finding_view findings.items))) }
 {
     for finding in findings {
-        doubts.push(moved(alloc, base, finding)?)?;
+        candidates.push(candidate_of_finding(alloc, base, finding)?)?;
     }
     Ok(())
 }
@@ -82,10 +87,10 @@ fn has_rule(schema: &Value) -> bool
 }
 
 /// Whether one of the schemas has a rule.
-fn has_rules(places: &[SchemaLocation<'_>]) -> bool
-    ensures { result ≡ list_any spec.has_rules (map location_view places.now) }
+fn has_rules(locations: &[SchemaLocation<'_>]) -> bool
+    ensures { result ≡ list_any spec.has_rules (map location_view locations.now) }
 {
-    for location in places {
+    for location in locations {
         if has_rule(location.schema) {
             return true;
         }
@@ -97,91 +102,92 @@ fn has_rules(places: &[SchemaLocation<'_>]) -> bool
 fn add_no_rule(
     alloc: Global,
     base: &str,
-    places: &[SchemaLocation<'_>],
-    doubts: &mut Vec<Doubt>,
+    locations: &[SchemaLocation<'_>],
+    candidates: &mut Vec<Candidate>,
 ) -> Result<(), AllocError>
-    ensures { OnOk result (AddsDoubts doubts.old.items doubts.new.items
-        (spec.no_rule_doubts base.now (map location_view places.now))) }
+    ensures { OnOk result (AddsCandidates candidates.old.items candidates.new.items
+        (spec.no_rule_candidates base.now (map location_view locations.now))) }
 {
-    if has_rules(places) {
+    if has_rules(locations) {
         return Ok(());
     }
-    add_plainly(
+    add_unconditional(
         alloc,
         base,
         ReviewKind::NoRules,
         "the schema has no rule",
-        doubts,
+        candidates,
     )?;
     Ok(())
 }
 
-/// Adds the doubts about one schema.
+/// Adds the candidate findings of one schema.
 fn add_location(
     alloc: Global,
     location: &SchemaLocation<'_>,
-    doubts: &mut Vec<Doubt>,
+    candidates: &mut Vec<Candidate>,
 ) -> Result<(), Refused>
-    ensures doubts { OnOk result (AddsDoubts doubts.old.items doubts.new.items
-        (place_doubts (location_view location.now))) }
+    ensures candidates { OnOk result (AddsCandidates candidates.old.items candidates.new.items
+        (location_candidates (location_view location.now))) }
     ensures memory { IfErr result (λ e. e ≡ Refused.Memory) }
 {
     let pointer = location.pointer.as_str();
-    add_keys_of(alloc, &KEYWORDS, pointer, "", location.schema, doubts)?;
+    add_keys_of(alloc, &KEYWORDS, pointer, "", location.schema, candidates)?;
     let inner = keyword_pointer(alloc, pointer, "x-kubernetes-validations")?;
     let rules = location.schema.get("x-kubernetes-validations");
-    add_validations(alloc, inner.as_str(), rules, doubts)?;
+    add_validations(alloc, inner.as_str(), rules, candidates)?;
     Ok(())
 }
 
-/// Adds the doubts about schemas, in their order.
+/// Adds the candidate findings of schemas, in their order.
 fn add_each(
     alloc: Global,
-    places: &[SchemaLocation<'_>],
-    doubts: &mut Vec<Doubt>,
+    locations: &[SchemaLocation<'_>],
+    candidates: &mut Vec<Candidate>,
 ) -> Result<(), Refused>
-    ensures doubts { OnOk result (AddsDoubts doubts.old.items doubts.new.items
-        (flat_map place_doubts (map location_view places.now))) }
+    ensures candidates { OnOk result (AddsCandidates candidates.old.items candidates.new.items
+        (flat_map location_candidates (map location_view locations.now))) }
     ensures memory { IfErr result (λ e. e ≡ Refused.Memory) }
 {
-    for location in places {
-        add_location(alloc, location, doubts)?;
+    for location in locations {
+        add_location(alloc, location, candidates)?;
     }
     Ok(())
 }
 
-/// Adds the doubts about a schema and those within it, those about all together first.
+/// Adds the candidate findings of a schema and those within it, those of all together first.
 fn add_own(
     alloc: Global,
     base: &str,
-    places: &[SchemaLocation<'_>],
-    doubts: &mut Vec<Doubt>,
+    locations: &[SchemaLocation<'_>],
+    candidates: &mut Vec<Candidate>,
 ) -> Result<(), Refused>
-    ensures doubts { OnOk result (AddsDoubts doubts.old.items doubts.new.items
-        (spec.own_doubts base.now (map location_view places.now))) }
+    ensures candidates { OnOk result (AddsCandidates candidates.old.items candidates.new.items
+        (spec.own_candidates base.now (map location_view locations.now))) }
     ensures memory { IfErr result (λ e. e ≡ Refused.Memory) }
 {
-    add_no_rule(alloc, base, places, doubts)?;
-    add_each(alloc, places, doubts)?;
+    add_no_rule(alloc, base, locations, candidates)?;
+    add_each(alloc, locations, candidates)?;
     Ok(())
 }
 
-/// Adds the doubts about a schema: what a linter finds, then the rest.
+/// Adds the candidate findings of a schema: what a linter finds, then the rest.
 pub(crate) fn add_schema(
     alloc: Global,
     base: &str,
     schema: &Value,
-    doubts: &mut Vec<Doubt>,
+    candidates: &mut Vec<Candidate>,
 ) -> Result<(), Refused>
-    ensures doubts { OnOk result ((names : Naming) → AddsDoubts doubts.old.items doubts.new.items
-        (spec.schema_doubts names base.now (view schema.now))) }
+    ensures candidates { OnOk result ((names : Naming)
+        → AddsCandidates candidates.old.items candidates.new.items
+        (spec.schema_candidates names base.now (view schema.now))) }
     ensures memory { IfErr result (λ e. e ≡ Refused.Memory) }
 {
     let compiled = compile_schema(alloc, schema)?;
     let findings = lint_schema(alloc, &compiled)?;
-    add_lint(alloc, base, findings, doubts)?;
-    let mut places = Vec::new(alloc);
-    add_locations(alloc, base, schema, LEVELS, &mut places)?;
-    add_own(alloc, base, places.as_slice(), doubts)?;
+    add_lint(alloc, base, findings, candidates)?;
+    let mut locations = Vec::new(alloc);
+    add_locations(alloc, base, schema, LEVELS, &mut locations)?;
+    add_own(alloc, base, locations.as_slice(), candidates)?;
     Ok(())
 }

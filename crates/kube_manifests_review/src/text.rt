@@ -1,9 +1,9 @@
-//! A text of a rule, and what is said of it.
+//! A text of a rule, and the candidate findings of it.
 ghost use Rattle.std.specs.Prelude.{[], ◌∷◌, OnOk, string_bytes};
-ghost use Rattle.kube_manifests_review.specs.Calls.{doubt_about, text_view};
-ghost use Rattle.kube_manifests_review.specs.Doubts.{AddsDoubts, plainly, when_view};
+ghost use Rattle.kube_manifests_review.specs.Calls.{text_candidate, text_view};
+ghost use Rattle.kube_manifests_review.specs.Candidates.{AddsCandidates, unconditional, when_view};
 
-use crate::doubt::{Condition, Doubt};
+use crate::candidate::{Candidate, Condition};
 use crate::finding::{ReviewFinding, ReviewKind};
 use std::alloc::{AllocError, Global};
 
@@ -18,19 +18,19 @@ pub(crate) struct Text<'a> {
     pub(crate) is_message: bool,
 }
 
-/// Adds the doubts about a text.
-pub(crate) fn add_said(
+/// Adds a candidate finding of a text.
+pub(crate) fn add_candidate(
     alloc: Global,
     text: Text<'_>,
     kind: ReviewKind,
     message: String,
     condition: Condition,
-    doubts: &mut Vec<Doubt>,
+    candidates: &mut Vec<Candidate>,
 ) -> Result<(), AllocError>
-    ensures { OnOk result (AddsDoubts doubts.old.items doubts.new.items
-        (doubt_about (text_view text.entry) kind (string_bytes message) (when_view condition) ∷ [])) }
+    ensures { OnOk result (AddsCandidates candidates.old.items candidates.new.items
+        (text_candidate (text_view text.entry) kind (string_bytes message) (when_view condition) ∷ [])) }
 {
-    doubts.push(Doubt {
+    candidates.push(Candidate {
         finding: ReviewFinding {
             pointer: String::from_str(alloc, text.pointer)?,
             rule: String::from_str(alloc, text.rule)?,
@@ -42,18 +42,18 @@ pub(crate) fn add_said(
     Ok(())
 }
 
-/// Adds a doubt that holds in any case, and is of no rule.
-pub(crate) fn add_plainly(
+/// Adds a finding that is reported in any case, and is of no rule.
+pub(crate) fn add_unconditional(
     alloc: Global,
     pointer: &str,
     kind: ReviewKind,
     message: &str,
-    doubts: &mut Vec<Doubt>,
+    candidates: &mut Vec<Candidate>,
 ) -> Result<(), AllocError>
-    ensures { OnOk result (AddsDoubts doubts.old.items doubts.new.items
-        (plainly pointer.now kind message.now ∷ [])) }
+    ensures { OnOk result (AddsCandidates candidates.old.items candidates.new.items
+        (unconditional pointer.now kind message.now ∷ [])) }
 {
-    doubts.push(Doubt {
+    candidates.push(Candidate {
         finding: ReviewFinding {
             pointer: String::from_str(alloc, pointer)?,
             rule: String::new(alloc),

@@ -1,6 +1,6 @@
 //! Kinds of findings as words.
 ghost use Rattle.std.specs.Prelude.{◌≡◌};
-ghost use Rattle.kube_manifests_review.specs.Doubts.{kind_text, lint_text};
+ghost use Rattle.kube_manifests_review.specs.Candidates.{kind_text, lint_text};
 
 use crate::finding::ReviewKind;
 use kube_cel_analysis::LintKind;

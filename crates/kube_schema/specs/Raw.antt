@@ -45,7 +45,8 @@ nodes_at f (n ∷ ns) = more (f n.0) (nodes_at f ns)
 
 unfoldable pub with_children : (ℕ → Node) → Children → Own → Node
 with_children f c o =
-    node o (named_at f c.properties.items) (maybe_at f c.items) (maybe_at f c.additional) (nodes_at f c.all_of.items) (nodes_at f c.one_of.items) (nodes_at f c.any_of.items)
+    node o (named_at f c.properties.items) (maybe_at f c.items) (maybe_at f c.additional)
+    (nodes_at f c.all_of.items) (nodes_at f c.one_of.items) (nodes_at f c.any_of.items)
 
 unfoldable pub assemble : (ℕ → Node) → TableNode → Node
 assemble f r = with_children f r.children (keywords_view r.keywords)
@@ -104,7 +105,10 @@ NumbersWithin low high (n ∷ ns) = (low ≤ n.0) × (n.0 < high) × NumbersWith
 
 -- all numbers are from low on and below high
 abbrev pub IsWithin : ℕ → ℕ → Children → Type 0
-IsWithin low high c = LinksWithin low high c.properties.items × MaybeWithin low high c.items × MaybeWithin low high c.additional × NumbersWithin low high c.all_of.items × NumbersWithin low high c.one_of.items × NumbersWithin low high c.any_of.items
+IsWithin low high c =
+    LinksWithin low high c.properties.items × MaybeWithin low high c.items × MaybeWithin low high c.additional
+    × NumbersWithin low high c.all_of.items × NumbersWithin low high c.one_of.items
+    × NumbersWithin low high c.any_of.items
 
 -- each node's numbers stand in the table, behind it
 abbrev pub Closed : List TableNode → Type 0

@@ -105,7 +105,9 @@ malformed_in (Err m ∷ rs) = m ∷ malformed_in rs
 -- the number of nodes
 abbrev mutual
   pub count : Node → ℕ
-  count (node o ps it ad xs ys zs) = suc (named_count ps + (maybe_count it + (maybe_count ad + (nodes_count xs + (nodes_count ys + nodes_count zs)))))
+  count (node o ps it ad xs ys zs) =
+      suc (named_count ps + (maybe_count it
+      + (maybe_count ad + (nodes_count xs + (nodes_count ys + nodes_count zs)))))
 
   pub maybe_count : Maybe → ℕ
   maybe_count nothing = 0

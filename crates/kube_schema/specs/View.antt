@@ -71,7 +71,8 @@ branch_view f k s = nodes_view f (items_or_none (branches k s))
 -- a node of these keywords with the schema's children
 unfoldable pub children_view : (Data → Node) → Data → Own → Node
 children_view f s o =
-    node o (named_view f (members_or_none (declared_properties s))) (maybe_view f (get (codes "items") s)) (maybe_view f (additional s))
+    node o (named_view f (members_or_none (declared_properties s)))
+    (maybe_view f (get (codes "items") s)) (maybe_view f (additional s))
     (branch_view f (codes "allOf") s) (branch_view f (codes "oneOf") s) (branch_view f (codes "anyOf") s)
 
 -- the tree of a schema, with a marker in place of what lies deeper than this many levels

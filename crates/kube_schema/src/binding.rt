@@ -75,7 +75,8 @@ pub fn bind_node(
     value: &Json,
     depth: usize,
 ) -> Result<Value, Refused>
-    ensures value { IfOk result (λ v. view v ≡ to_cel tree_accessors (levels depth) (node_tree node.now) (json_view value.now)) }
+    ensures value { IfOk result (λ v. view v
+        ≡ to_cel tree_accessors (levels depth) (node_tree node.now) (json_view value.now)) }
     ensures memory { IfErr result (λ e. e ≡ Refused.Memory) }
 {
     bind_at(alloc, CompiledNode { node: *node }, value, depth)

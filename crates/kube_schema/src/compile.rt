@@ -40,7 +40,8 @@ fn add_node(
     schema: &Value,
     levels: usize,
 ) -> Result<NodeId, Refused>
-    ensures adds { IfOk result (λ n. Adds table.old.nodes.items table.new.nodes.items n (view_of levels (view schema.now))) }
+    ensures adds { IfOk result
+        (λ n. Adds table.old.nodes.items table.new.nodes.items n (view_of levels (view schema.now))) }
     ensures memory { IfErr result (λ e. e ≡ Refused.Memory) }
 {
     if levels == 0 {
@@ -62,7 +63,9 @@ fn add_children(
     schema: &Value,
     levels: usize,
 ) -> Result<Children, Refused>
-    ensures adds { IfOk result (λ c. AddsChildren table.old.nodes.items table.new.nodes.items c (children_view (view_of levels) (view schema.now))) }
+    ensures adds { IfOk result
+        (λ c. AddsChildren table.old.nodes.items table.new.nodes.items c
+        (children_view (view_of levels) (view schema.now))) }
     ensures memory { IfErr result (λ e. e ≡ Refused.Memory) }
 {
     let properties = add_properties(table, alloc, schema, levels)?;
@@ -88,7 +91,9 @@ fn add_properties(
     schema: &Value,
     levels: usize,
 ) -> Result<Vec<PropertyLink>, Refused>
-    ensures adds { IfOk result (λ ls. AddsProperties table.old.nodes.items table.new.nodes.items ls.items (named_view (view_of levels) (members_or_none (declared_properties (view schema.now))))) }
+    ensures adds { IfOk result
+        (λ ls. AddsProperties table.old.nodes.items table.new.nodes.items ls.items
+        (named_view (view_of levels) (members_or_none (declared_properties (view schema.now))))) }
     ensures memory { IfErr result (λ e. e ≡ Refused.Memory) }
 {
     match declared(schema) {
@@ -104,7 +109,9 @@ fn add_members(
     members: &Map<String, Value>,
     levels: usize,
 ) -> Result<Vec<PropertyLink>, Refused>
-    ensures adds { IfOk result (λ ls. AddsProperties table.old.nodes.items table.new.nodes.items ls.items (named_view (view_of levels) (members_view members.now.entries))) }
+    ensures adds { IfOk result
+        (λ ls. AddsProperties table.old.nodes.items table.new.nodes.items ls.items
+        (named_view (view_of levels) (members_view members.now.entries))) }
     ensures memory { IfErr result (λ e. e ≡ Refused.Memory) }
 {
     let mut links = Vec::new(alloc);
@@ -123,7 +130,9 @@ fn add_maybe(
     schema: Option<&Value>,
     levels: usize,
 ) -> Result<Option<NodeId>, Refused>
-    ensures adds { IfOk result (λ o. AddsMaybe table.old.nodes.items table.new.nodes.items o (maybe_view (view_of levels) (option_map (λ s. view s.now) schema.entry))) }
+    ensures adds { IfOk result
+        (λ o. AddsMaybe table.old.nodes.items table.new.nodes.items o
+        (maybe_view (view_of levels) (option_map (λ s. view s.now) schema.entry))) }
     ensures memory { IfErr result (λ e. e ≡ Refused.Memory) }
 {
     let Some(schema) = schema else {
@@ -142,7 +151,9 @@ fn add_branches(
     keyword: &str,
     levels: usize,
 ) -> Result<Vec<NodeId>, Refused>
-    ensures adds { IfOk result (λ ns. AddsNodes table.old.nodes.items table.new.nodes.items ns.items (branch_view (view_of levels) keyword.now (view schema.now))) }
+    ensures adds { IfOk result
+        (λ ns. AddsNodes table.old.nodes.items table.new.nodes.items ns.items
+        (branch_view (view_of levels) keyword.now (view schema.now))) }
     ensures memory { IfErr result (λ e. e ≡ Refused.Memory) }
 {
     match branches(schema, keyword) {
@@ -158,7 +169,9 @@ fn add_items(
     items: &Vec<Value>,
     levels: usize,
 ) -> Result<Vec<NodeId>, Refused>
-    ensures adds { IfOk result (λ ns. AddsNodes table.old.nodes.items table.new.nodes.items ns.items (nodes_view (view_of levels) (items_view items.now.items))) }
+    ensures adds { IfOk result
+        (λ ns. AddsNodes table.old.nodes.items table.new.nodes.items ns.items
+        (nodes_view (view_of levels) (items_view items.now.items))) }
     ensures memory { IfErr result (λ e. e ≡ Refused.Memory) }
 {
     let mut numbers = Vec::with_capacity(alloc, items.len())?;

@@ -123,7 +123,8 @@ fn add_defaults(
     levels: usize,
 ) -> Result<(), AllocError>
     ensures { OnOk result (members_view target.new.entries
-        ≡ with_defaults (default_by tree_accessors (defaulted_value tree_accessors levels) (node_tree node.now)) (names (named_of (node_tree node.now))) (members_view target.old.entries)) }
+        ≡ with_defaults (default_by tree_accessors (defaulted_value tree_accessors levels)
+        (node_tree node.now)) (names (named_of (node_tree node.now))) (members_view target.old.entries)) }
 {
     for index in 0..node.property_count() {
         let Some((key, property)) = node.property(index) else {
@@ -143,7 +144,8 @@ fn add_default(
     levels: usize,
 ) -> Result<(), AllocError>
     ensures { OnOk result (members_view target.new.entries
-        ≡ put_new key.now (option_map (defaulted_value tree_accessors levels (node_tree property.now)) (default_of (node_tree property.now))) (members_view target.old.entries)) }
+        ≡ put_new key.now (option_map (defaulted_value tree_accessors levels (node_tree property.now))
+        (default_of (node_tree property.now))) (members_view target.old.entries)) }
 {
     let Some(default) = property.default() else {
         return Ok(());

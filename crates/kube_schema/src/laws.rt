@@ -19,7 +19,9 @@ pub fn the_tree_binds_alike()
 /// holds the default of its property, filled by that property; where there is neither, nothing stands. The tree of a schema fills so, too.
 pub fn objects_are_filled_key_by_key()
     ensures schema { (levels : ℕ) (schema value : Data)
-        → FillsMembers schema_defaults.raw levels schema value (defaulted_value schema_defaults.raw (suc levels) schema value) }
-    ensures tree { (levels : ℕ) (node : Node) (value : Data) → FillsMembers tree_defaults.tree_accessors levels node value
+        → FillsMembers schema_defaults.raw levels schema value
+        (defaulted_value schema_defaults.raw (suc levels) schema value) }
+    ensures tree { (levels : ℕ) (node : Node) (value : Data)
+        → FillsMembers tree_defaults.tree_accessors levels node value
         (defaulted_value tree_defaults.tree_accessors (suc levels) node value) }
 {}

@@ -124,7 +124,8 @@ impl CompiledSchema {
     ///
     /// [`Refused`] where memory is refused.
     pub fn compilation_errors(&self, alloc: Global) -> Result<Vec<&CompilationError>, Refused>
-        ensures errors { IfOk result (λ v. map (λ e. error_view e.now) v.items ≡ malformed_in (own (whole self.now)).validations) }
+        ensures errors { IfOk result (λ v. map (λ e. error_view e.now) v.items
+            ≡ malformed_in (own (whole self.now)).validations) }
         ensures memory { IfErr result (λ e. e ≡ Refused.Memory) }
     {
         self.root().compilation_errors(alloc)
@@ -188,7 +189,8 @@ impl CompiledSchema {
 
     /// A property with its name, in name order.
     pub fn property(&self, i: usize) -> Option<(&str, SchemaNode<'_>)>
-        ensures pair { option_map (λ p. (p.0.now, node_tree p.1)) result ≡ nth_named i (named_of (whole self.now)) }
+        ensures pair { option_map (λ p. (p.0.now, node_tree p.1)) result
+            ≡ nth_named i (named_of (whole self.now)) }
         ensures named { IfSome result (λ p. property_of p.0.now (whole self.now) ≡ Some (node_tree p.1)) }
     {
         self.root().property(i)
@@ -213,7 +215,8 @@ impl<'a> SchemaNode<'a> {
     // The node as it lies in the table.
     fn raw(&self) -> &'a TableNode
         ensures is { node_tree self.now ≡ assemble (tree self.now.schema.now.table.nodes.items) result.now }
-        ensures within { IsWithin (suc self.now.number.0) (length self.now.schema.now.table.nodes.items) result.now.children }
+        ensures within { IsWithin (suc self.now.number.0)
+            (length self.now.schema.now.table.nodes.items) result.now.children }
         ensures ordered { LinksOrdered result.now.children.properties.items }
     {
         &self.schema.table.nodes[self.number.0]
@@ -231,8 +234,10 @@ impl<'a> SchemaNode<'a> {
 
     // The node at a place of a list of numbers.
     fn nth(&self, numbers: &'a Vec<NodeId>, i: usize) -> Option<SchemaNode<'a>>
-        requires { NumbersWithin (suc self.now.number.0) (length self.now.schema.now.table.nodes.items) numbers.now.items }
-        ensures { option_map node_tree result ≡ nth_node i (nodes_at (tree self.now.schema.now.table.nodes.items) numbers.now.items) }
+        requires { NumbersWithin (suc self.now.number.0)
+            (length self.now.schema.now.table.nodes.items) numbers.now.items }
+        ensures { option_map node_tree result
+            ≡ nth_node i (nodes_at (tree self.now.schema.now.table.nodes.items) numbers.now.items) }
     {
         if i >= numbers.len() {
             return None;
@@ -315,7 +320,8 @@ impl<'a> SchemaNode<'a> {
 
     /// A property with its name, in name order.
     pub fn property(&self, i: usize) -> Option<(&'a str, SchemaNode<'a>)>
-        ensures pair { option_map (λ p. (p.0.now, node_tree p.1)) result ≡ nth_named i (named_of (node_tree self.now)) }
+        ensures pair { option_map (λ p. (p.0.now, node_tree p.1)) result
+            ≡ nth_named i (named_of (node_tree self.now)) }
         ensures named { IfSome result (λ p. property_of p.0.now (node_tree self.now) ≡ Some (node_tree p.1)) }
     {
         let raw = self.raw();
@@ -370,7 +376,8 @@ impl<'a> SchemaNode<'a> {
     ///
     /// [`Refused`] where memory is refused.
     pub fn compilation_errors(&self, alloc: Global) -> Result<Vec<&'a CompilationError>, Refused>
-        ensures errors { IfOk result (λ v. map (λ e. error_view e.now) v.items ≡ malformed_in (own (node_tree self.now)).validations) }
+        ensures errors { IfOk result (λ v. map (λ e. error_view e.now) v.items
+            ≡ malformed_in (own (node_tree self.now)).validations) }
         ensures memory { IfErr result (λ e. e ≡ Refused.Memory) }
     {
         let mut errors = Vec::new(alloc);
@@ -449,7 +456,8 @@ impl<'a> SchemaNode<'a> {
 // The link of a name, among links in name order.
 fn link_of<'a>(links: &'a [PropertyLink], name: &str) -> Option<&'a PropertyLink>
     requires { LinksOrdered links.now }
-    ensures leads { (f : ℕ → Node) → option_map (λ l. f l.now.node.0) result ≡ find name.now (named_at f links.now) }
+    ensures leads { (f : ℕ → Node)
+        → option_map (λ l. f l.now.node.0) result ≡ find name.now (named_at f links.now) }
     ensures stands { IfSome result (λ l. (i : ℕ) × (slice_get links.now i ≡ Some l.now)) }
 {
     match links.binary_search_by(|link| link.name.as_str().cmp(name)) {

@@ -27,7 +27,8 @@ pub fn filled_by_node<'v>(
     node: &SchemaNode<'_>,
     value: &'v Value,
 ) -> Result<Cow<'v, Value>, Refused>
-    ensures filled { IfOk result (λ v. view (cow_value v) ≡ defaulted_value tree_accessors 65 (node_tree node.now) (view value.now)) }
+    ensures filled { IfOk result (λ v. view (cow_value v)
+        ≡ defaulted_value tree_accessors 65 (node_tree node.now) (view value.now)) }
     ensures memory { IfErr result (λ e. e ≡ Refused.Memory) }
 {
     if is_filled(node, value) {
@@ -72,7 +73,8 @@ fn has_defaults(node: &SchemaNode<'_>, value: &Value, levels: usize) -> bool
 #[cycle(has)]
 fn items_have_defaults(node: &SchemaNode<'_>, items: &Vec<Value>, levels: usize) -> bool
     ensures { IsTrue result
-        → map_items (defaulted_value tree_accessors levels (node_tree node.now)) (items_view items.now.items) ≡ items_view items.now.items }
+        → map_items (defaulted_value tree_accessors levels (node_tree node.now)) (items_view items.now.items)
+        ≡ items_view items.now.items }
 {
     for item in items {
         if !has_defaults(node, item, levels) {
@@ -85,7 +87,8 @@ fn items_have_defaults(node: &SchemaNode<'_>, items: &Vec<Value>, levels: usize)
 #[cycle(has)]
 fn members_have_defaults(node: &SchemaNode<'_>, members: &Map<String, Value>, levels: usize) -> bool
     ensures { IsTrue result
-        → map_members (member_by tree_accessors (defaulted_value tree_accessors levels) (node_tree node.now)) (members_view members.now.entries) ≡ members_view members.now.entries }
+        → map_members (member_by tree_accessors (defaulted_value tree_accessors levels) (node_tree node.now))
+        (members_view members.now.entries) ≡ members_view members.now.entries }
 {
     for (key, member) in members.iter() {
         if !member_has_defaults(node, key.as_str(), member, levels) {
@@ -98,7 +101,8 @@ fn members_have_defaults(node: &SchemaNode<'_>, members: &Map<String, Value>, le
 #[cycle(has)]
 fn member_has_defaults(node: &SchemaNode<'_>, key: &str, member: &Value, levels: usize) -> bool
     ensures { IsTrue result
-        → member_by tree_accessors (defaulted_value tree_accessors levels) (node_tree node.now) key.now (view member.now) ≡ view member.now }
+        → member_by tree_accessors (defaulted_value tree_accessors levels)
+        (node_tree node.now) key.now (view member.now) ≡ view member.now }
 {
     match node_of_member(node, key) {
         Some(inner) => has_defaults(&inner, member, levels),
@@ -109,7 +113,8 @@ fn member_has_defaults(node: &SchemaNode<'_>, key: &str, member: &Value, levels:
 // Whether each key that has a default is there.
 fn lacks_no_key(node: &SchemaNode<'_>, members: &Map<String, Value>) -> bool
     ensures { IsTrue result → (f : Node → Data → Data)
-        → with_defaults (default_by tree_accessors f (node_tree node.now)) (names (named_of (node_tree node.now))) (members_view members.now.entries)
+        → with_defaults (default_by tree_accessors f (node_tree node.now))
+        (names (named_of (node_tree node.now))) (members_view members.now.entries)
         ≡ members_view members.now.entries }
 {
     for index in 0..node.property_count() {
@@ -126,7 +131,9 @@ fn lacks_no_key(node: &SchemaNode<'_>, members: &Map<String, Value>) -> bool
 // Whether a key is there, or has no default.
 fn lacks_no_default(key: &str, property: &SchemaNode<'_>, members: &Map<String, Value>) -> bool
     ensures { IsTrue result → (f : Data → Data)
-        → members_view members.now.entries ≡ put_new key.now (option_map f (default_of (node_tree property.now))) (members_view members.now.entries) }
+        → members_view members.now.entries
+        ≡ put_new key.now (option_map f (default_of (node_tree property.now)))
+        (members_view members.now.entries) }
 {
     match property.default() {
         Some(_) => members.contains_key(key),

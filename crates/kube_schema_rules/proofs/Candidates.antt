@@ -63,55 +63,55 @@ value_there r d t None b c h = cc
 value_there r d t (Some n) None c h = h
 value_there r d t (Some n) (Some v) c h = refl
 
--- a shape whose counts leave no branch out
-pub record CountsAll {S : Type 0} (shape : StepAccessors S) : Type 0 where
-  pub branches : (kind : BranchKind) (j : ℕ) (node : S) → IsSome (shape.branch kind j node) → j < shape.branch_count kind node
+-- accessors whose counts leave no branch out
+pub record CountsAll {S : Type 0} (steps : StepAccessors S) : Type 0 where
+  pub branches : (kind : BranchKind) (j : ℕ) (node : S) → IsSome (steps.branch kind j node) → j < steps.branch_count kind node
 
-module _ {S : Type 0} (shape : StepAccessors S) where
-  pub candidates_sorted : (s : Visit S) → IsStrictlySortedBy step_cmp (candidates shape s)
+module _ {S : Type 0} (steps : StepAccessors S) where
+  pub candidates_sorted : (s : Visit S) → IsStrictlySortedBy step_cmp (candidates steps s)
   unfolding candidates property_steps item_steps additional_steps branch_steps
   candidates_sorted s =
-      (kind_before 0 (property_steps shape s) _ (properties_in_order (keys_at (Some s.value)))
-      (kind_before 1 (item_steps shape s) _ (items_in_order (count_at (Some s.value)))
-      (kind_before 2 (additional_steps shape s) _ (extras_in_order (keys_at (Some s.value)))
-      (kind_before 3 (branch_steps shape AllOf s) _ (branches_in_order AllOf (shape.branch_count AllOf s.node))
-      (kind_before 4 (branch_steps shape OneOf s) _ (branches_in_order OneOf (shape.branch_count OneOf s.node))
-      (last_kind 5 (branch_steps shape AnyOf s) (branches_in_order AnyOf (shape.branch_count AnyOf s.node)))))))).sorted
+      (kind_before 0 (property_steps steps s) _ (properties_in_order (keys_at (Some s.value)))
+      (kind_before 1 (item_steps steps s) _ (items_in_order (count_at (Some s.value)))
+      (kind_before 2 (additional_steps steps s) _ (extras_in_order (keys_at (Some s.value)))
+      (kind_before 3 (branch_steps steps AllOf s) _ (branches_in_order AllOf (steps.branch_count AllOf s.node))
+      (kind_before 4 (branch_steps steps OneOf s) _ (branches_in_order OneOf (steps.branch_count OneOf s.node))
+      (last_kind 5 (branch_steps steps AnyOf s) (branches_in_order AnyOf (steps.branch_count AnyOf s.node)))))))).sorted
 
   -- ---- all of them
 
-  in_branches : (kind : BranchKind) (j : ℕ) (s : Visit S) → j < shape.branch_count kind s.node → IsIn (branch kind j) (branch_steps shape kind s)
+  in_branches : (kind : BranchKind) (j : ℕ) (s : Visit S) → j < steps.branch_count kind s.node → IsIn (branch kind j) (branch_steps steps kind s)
   unfolding branch_steps
-  in_branches kind j s h = in_map (branch kind) j (up_to (shape.branch_count kind s.node)) (in_up j (shape.branch_count kind s.node) h)
+  in_branches kind j s h = in_map (branch kind) j (up_to (steps.branch_count kind s.node)) (in_up j (steps.branch_count kind s.node) h)
 
   in_rest : (p : Step) (xs ys zs ws : List Step) → IsIn p ws → IsIn p (xs ++ (ys ++ (zs ++ ws)))
   in_rest p xs ys zs ws h = in_right p xs (ys ++ (zs ++ ws)) (in_right p ys (zs ++ ws) (in_right p zs ws h))
 
-  branch_named : (kind : BranchKind) (p : Step) (s : Visit S) → IsIn p (branch_steps shape kind s) → IsIn p (branch_steps shape AllOf s ++ (branch_steps shape OneOf s ++ branch_steps shape AnyOf s))
-  branch_named AllOf p s h = in_left p (branch_steps shape AllOf s) _ h
-  branch_named OneOf p s h = in_right p (branch_steps shape AllOf s) _ (in_left p (branch_steps shape OneOf s) (branch_steps shape AnyOf s) h)
-  branch_named AnyOf p s h = in_right p (branch_steps shape AllOf s) _ (in_right p (branch_steps shape OneOf s) (branch_steps shape AnyOf s) h)
+  branch_named : (kind : BranchKind) (p : Step) (s : Visit S) → IsIn p (branch_steps steps kind s) → IsIn p (branch_steps steps AllOf s ++ (branch_steps steps OneOf s ++ branch_steps steps AnyOf s))
+  branch_named AllOf p s h = in_left p (branch_steps steps AllOf s) _ h
+  branch_named OneOf p s h = in_right p (branch_steps steps AllOf s) _ (in_left p (branch_steps steps OneOf s) (branch_steps steps AnyOf s) h)
+  branch_named AnyOf p s h = in_right p (branch_steps steps AllOf s) _ (in_right p (branch_steps steps OneOf s) (branch_steps steps AnyOf s) h)
 
-  pub candidates_all : CountsAll shape → (p : Step) (s : Visit S) → IsSome (goes shape p s) → IsIn p (candidates shape s)
+  pub candidates_all : CountsAll steps → (p : Step) (s : Visit S) → IsSome (goes steps p s) → IsIn p (candidates steps s)
   unfolding candidates property_steps item_steps additional_steps goes
   candidates_all all (property k) s h =
-      in_left (property k) (property_steps shape s) _ (in_map property k (in_order (keys_at (Some s.value)))
-      (in_ordered k (keys_at (Some s.value)) (named k (Some s.value) (value_there None s.depth (member_path s.path k) (shape.property k s.node) _ _ h))))
+      in_left (property k) (property_steps steps s) _ (in_map property k (in_order (keys_at (Some s.value)))
+      (in_ordered k (keys_at (Some s.value)) (named k (Some s.value) (value_there None s.depth (member_path s.path k) (steps.property k s.node) _ _ h))))
   candidates_all all (item i) s h =
-      in_right (item i) (property_steps shape s) _ (in_left (item i) (item_steps shape s) _ (in_map item i (up_to (count_at (Some s.value)))
-      (in_up i (count_at (Some s.value)) (counted i (Some s.value) (value_there None s.depth (item_path s.path i) (shape.items s.node) _ _ h)))))
+      in_right (item i) (property_steps steps s) _ (in_left (item i) (item_steps steps s) _ (in_map item i (up_to (count_at (Some s.value)))
+      (in_up i (count_at (Some s.value)) (counted i (Some s.value) (value_there None s.depth (item_path s.path i) (steps.items s.node) _ _ h)))))
   candidates_all all (additional_property k) s h =
-      in_right (additional_property k) (property_steps shape s) _ (in_right (additional_property k) (item_steps shape s) _ (in_left (additional_property k) (additional_steps shape s) _ (in_map additional_property k (in_order (keys_at (Some s.value)))
-      (in_ordered k (keys_at (Some s.value)) (named k (Some s.value) (value_there None s.depth (member_path s.path k) (unless_there (shape.property k s.node) (shape.additional_property s.node)) _ _ h))))))
+      in_right (additional_property k) (property_steps steps s) _ (in_right (additional_property k) (item_steps steps s) _ (in_left (additional_property k) (additional_steps steps s) _ (in_map additional_property k (in_order (keys_at (Some s.value)))
+      (in_ordered k (keys_at (Some s.value)) (named k (Some s.value) (value_there None s.depth (member_path s.path k) (unless_there (steps.property k s.node) (steps.additional_property s.node)) _ _ h))))))
   candidates_all all (branch kind j) s h =
-      in_rest (branch kind j) (property_steps shape s) (item_steps shape s) (additional_steps shape s) _
-      (branch_named kind (branch kind j) s (in_branches kind j s (all.branches kind j s.node (node_there s.root s.depth s.path (shape.branch kind j s.node) (Some s.value) s.old h))))
+      in_rest (branch kind j) (property_steps steps s) (item_steps steps s) (additional_steps steps s) _
+      (branch_named kind (branch kind j) s (in_branches kind j s (all.branches kind j s.node (node_there s.root s.depth s.path (steps.branch kind j s.node) (Some s.value) s.old h))))
 
   -- the computed places are the places
-  pub visit_places : CountsAll shape → (n : ℕ) (s : Visit S) → ArePlaces (goes shape) n s (places (goes shape) (candidates shape) n s)
-  visit_places all n s = are_places (goes shape) (candidates shape) candidates_sorted (candidates_all all) n s
+  pub visit_places : CountsAll steps → (n : ℕ) (s : Visit S) → ArePlaces (goes steps) n s (places (goes steps) (candidates steps) n s)
+  visit_places all n s = are_places (goes steps) (candidates steps) candidates_sorted (candidates_all all) n s
 
   -- the computed answers are what stands at the places
-  pub visit_answers : CountsAll shape → {E : Type 0} (found_at : Visit S → List E) (n : ℕ) (s : Visit S) → AreFoundAtPlaces (goes shape) found_at n s (answers (goes shape) (candidates shape) found_at n s)
+  pub visit_answers : CountsAll steps → {E : Type 0} (found_at : Visit S → List E) (n : ℕ) (s : Visit S) → AreFoundAtPlaces (goes steps) found_at n s (answers (goes steps) (candidates steps) found_at n s)
   unfolding answers
-  visit_answers all found_at n s = record { all_places = places (goes shape) (candidates shape) n s; are_all = visit_places all n s; joined = refl }
+  visit_answers all found_at n s = record { all_places = places (goes steps) (candidates steps) n s; are_all = visit_places all n s; joined = refl }

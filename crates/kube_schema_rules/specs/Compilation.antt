@@ -42,7 +42,12 @@ message_tree_of rule (Some m) = do
   Ok (Some tree)
 
 abbrev pub with_trees : Fields → Term → Option Term → Compiled
-with_trees fields tree message_tree = record { fields = fields; tree = tree; is_transition = is_free (codes "oldSelf") tree; message_tree = message_tree }
+with_trees fields tree message_tree = record {
+  fields = fields;
+  tree = tree;
+  is_transition = is_free (codes "oldSelf") tree;
+  message_tree = message_tree;
+}
 
 -- a rule whose text has this tree
 abbrev pub with_tree : Fields → Term → Result Compiled Malformed
@@ -70,8 +75,11 @@ compiled_rules no_items = []
 compiled_rules (item d ds) = compiled_rule d ∷ compiled_rules ds
 
 abbrev pub error_text : Malformed → List ℕ
-error_text (unread rule) = codes "failed to compile CEL rule \"" ++ (rule ++ codes "\": invalid CEL expression")
-error_text (unread_message rule m) = codes "failed to compile messageExpression \"" ++ (m ++ (codes "\" for rule \"" ++ (rule ++ codes "\": invalid CEL expression")))
+error_text (unread rule) =
+    codes "failed to compile CEL rule \"" ++ (rule ++ codes "\": invalid CEL expression")
+error_text (unread_message rule m) =
+    codes "failed to compile messageExpression \""
+    ++ (m ++ (codes "\" for rule \"" ++ (rule ++ codes "\": invalid CEL expression")))
 error_text (invalid f) = codes "invalid rule definition: " ++ fault_text f
 error_text (past_depth n) = codes "schema nesting depth " ++ (decimal n ++ codes " exceeds the maximum of 64")
 
@@ -84,7 +92,12 @@ error_view (error.InvalidRule f) = invalid (fault_view f)
 error_view (error.SchemaTooDeep n) = past_depth n
 
 abbrev pub result_view : CompilationResult → Compiled
-result_view r = record { fields = rule_view r.rule; tree = program_term r.program; is_transition = r.is_transition_rule; message_tree = option_map program_term r.message_program }
+result_view r = record {
+  fields = rule_view r.rule;
+  tree = program_term r.program;
+  is_transition = r.is_transition_rule;
+  message_tree = option_map program_term r.message_program;
+}
 
 abbrev pub compiled_seen : Result CompilationResult CompilationError → Result Compiled Malformed
 compiled_seen (Ok r) = Ok (result_view r)

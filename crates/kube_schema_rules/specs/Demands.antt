@@ -21,4 +21,5 @@ rules_read x (r ∷ rs) = both_read (rule_read x r) (rules_read x rs)
 
 -- they are what this reads of `self` and of `oldSelf`
 abbrev pub AreDemands : Demands → (List ℕ → Option Part) → Type 0
-AreDemands d read = (option_map part_of d.value ≡ read (codes "self")) × (option_map part_of d.old ≡ read (codes "oldSelf"))
+AreDemands d read =
+    (option_map part_of d.value ≡ read (codes "self")) × (option_map part_of d.old ≡ read (codes "oldSelf"))

@@ -14,11 +14,13 @@ declared_property key node = option_and_then (get key) (get (codes "properties")
 -- the schema of names that aren't declared: `additionalProperties` where it is an object, unless unknown fields are kept as they are
 unfoldable pub undeclared_property : Data → Option Data
 undeclared_property node =
-    if unwrap_or (option_and_then as_bool (get (codes "x-kubernetes-preserve-unknown-fields") node)) false then None
-    else option_and_then (λ schema. if is_some (as_object schema) then Some schema else None) (get (codes "additionalProperties") node)
+    if unwrap_or (option_and_then as_bool (get (codes "x-kubernetes-preserve-unknown-fields") node)) false
+    then None
+    else option_and_then (λ schema. if is_some (as_object schema) then Some schema else None)
+    (get (codes "additionalProperties") node)
 
-unfoldable pub raw_shape : StepAccessors Data
-raw_shape = record {
+unfoldable pub raw_steps : StepAccessors Data
+raw_steps = record {
   property = declared_property;
   items = get (codes "items");
   additional_property = undeclared_property;

@@ -90,7 +90,8 @@ rule_of d = if is_some (as_object d) then fields_of d else Err not_object
 
 -- the rules of a node
 unfoldable pub rule_items : Data → Items
-rule_items schema = unwrap_or (option_and_then as_array (get (codes "x-kubernetes-validations") schema)) no_items
+rule_items schema =
+    unwrap_or (option_and_then as_array (get (codes "x-kubernetes-validations") schema)) no_items
 
 -- ---- what the code's values stand for
 

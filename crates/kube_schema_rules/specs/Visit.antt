@@ -32,7 +32,14 @@ pub record Visit (S : Type 0) : Type 0 where
   pub depth : ℕ
 
 abbrev pub visit : {S : Type 0} → S → Data → Option Data → Option Root → List ℕ → ℕ → Visit S
-visit node value old root path depth = record { node = node; value = value; old = old; root = root; path = path; depth = depth }
+visit node value old root path depth = record {
+  node = node;
+  value = value;
+  old = old;
+  root = root;
+  path = path;
+  depth = depth;
+}
 
 -- where every walk begins
 abbrev pub root_visit : {S : Type 0} → S → Data → Option Data → Option Root → Visit S
@@ -48,22 +55,30 @@ unfoldable pub item_path : List ℕ → ℕ → List ℕ
 item_path path index = path ++ 91 ∷ (decimal index ++ 93 ∷ [])
 
 -- one step further, where node and value are both there
-abbrev pub further : {S : Type 0} → Option Root → ℕ → List ℕ → Option S → Option Data → Option Data → Option (Visit S)
-further root depth path node value old = option_and_then (λ n. option_map (λ v. visit n v old root path (depth + 1)) value) node
+abbrev pub further : {S : Type 0} → Option Root → ℕ → List ℕ
+    → Option S → Option Data → Option Data → Option (Visit S)
+further root depth path node value old =
+    option_and_then (λ n. option_map (λ v. visit n v old root path (depth + 1)) value) node
 
 -- the second, where the first isn't there
 abbrev pub unless_there : {S : Type 0} → Option S → Option S → Option S
 unless_there None o = o
 unless_there (Some s) o = None
 
-module _ {S : Type 0} (shape : StepAccessors S) where
+module _ {S : Type 0} (steps : StepAccessors S) where
   -- where a step leads, if it is allowed: to a declared member, to an item, to a member that isn't declared, to a branch
   unfoldable pub goes : Step → Visit S → Option (Visit S)
-  goes (property k) s = further None s.depth (member_path s.path k) (shape.property k s.node) (get k s.value) (option_and_then (get k) s.old)
-  goes (item i) s = further None s.depth (item_path s.path i) (shape.items s.node) (at i s.value) (option_and_then (at i) s.old)
+  goes (property k) s =
+      further None s.depth (member_path s.path k) (steps.property k s.node)
+      (get k s.value) (option_and_then (get k) s.old)
+  goes (item i) s =
+      further None s.depth (item_path s.path i) (steps.items s.node)
+      (at i s.value) (option_and_then (at i) s.old)
   goes (additional_property k) s =
-      further None s.depth (member_path s.path k) (unless_there (shape.property k s.node) (shape.additional_property s.node)) (get k s.value) (option_and_then (get k) s.old)
-  goes (branch kind j) s = further s.root s.depth s.path (shape.branch kind j s.node) (Some s.value) s.old
+      further None s.depth (member_path s.path k)
+      (unless_there (steps.property k s.node) (steps.additional_property s.node))
+      (get k s.value) (option_and_then (get k) s.old)
+  goes (branch kind j) s = further s.root s.depth s.path (steps.branch kind j s.node) (Some s.value) s.old
 
   -- all steps that may be allowed, kind by kind: no member is reached but by a key of the value
   unfoldable pub property_steps : Visit S → List Step
@@ -76,8 +91,10 @@ module _ {S : Type 0} (shape : StepAccessors S) where
   additional_steps s = map additional_property (in_order (keys_at (Some s.value)))
 
   unfoldable pub branch_steps : BranchKind → Visit S → List Step
-  branch_steps kind s = map (branch kind) (up_to (shape.branch_count kind s.node))
+  branch_steps kind s = map (branch kind) (up_to (steps.branch_count kind s.node))
 
   -- and in order
   unfoldable pub candidates : Visit S → List Step
-  candidates s = property_steps s ++ (item_steps s ++ (additional_steps s ++ (branch_steps AllOf s ++ (branch_steps OneOf s ++ branch_steps AnyOf s))))
+  candidates s =
+      property_steps s ++ (item_steps s
+      ++ (additional_steps s ++ (branch_steps AllOf s ++ (branch_steps OneOf s ++ branch_steps AnyOf s))))

@@ -28,7 +28,8 @@ module _ {S : Type 0} (goes : Step → S → Option S) where
     pub complete : (p : List Step) → IsPlace n s p → Contains ps p
 
   -- all places of at most n steps, in order, each replaced by what is found there, all joined
-  pub record AreFoundAtPlaces {E : Type 0} (found_at : S → List E) (n : ℕ) (s : S) (found : List E) : Type 0 where
+  pub record AreFoundAtPlaces {E : Type 0} (found_at : S → List E)
+      (n : ℕ) (s : S) (found : List E) : Type 0 where
     pub all_places : List (List Step)
     pub are_all : ArePlaces n s all_places
     pub joined : found ≡ flat_map (λ p. if_some found_at (leads p s)) all_places
@@ -37,7 +38,8 @@ module _ {S : Type 0} (goes : Step → S → Option S) where
   module _ (candidates : S → List Step) where
     unfoldable pub places : ℕ → S → List (List Step)
     places zero s = [] ∷ []
-    places (suc n) s = [] ∷ flat_map (λ p. if_some (λ t. map (λ ps. p ∷ ps) (places n t)) (goes p s)) (candidates s)
+    places (suc n) s =
+        [] ∷ flat_map (λ p. if_some (λ t. map (λ ps. p ∷ ps) (places n t)) (goes p s)) (candidates s)
 
     module _ {E : Type 0} (found_at : S → List E) where
       unfoldable pub answers : ℕ → S → List E

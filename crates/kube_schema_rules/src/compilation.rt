@@ -101,7 +101,8 @@ pub fn rules_of(
     alloc: Global,
     schema: &Value,
 ) -> Result<Vec<Result<CompilationResult, CompilationError>>, Refused>
-    ensures rules { IfOk result (λ v. map compiled_seen v.items ≡ compiled_rules (rule_items (view schema.now))) }
+    ensures rules { IfOk result (λ v. map compiled_seen v.items
+        ≡ compiled_rules (rule_items (view schema.now))) }
     ensures memory { IfErr result (λ e. e ≡ Refused.Memory) }
 {
     let values = rule_values(schema);

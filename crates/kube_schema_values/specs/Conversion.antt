@@ -79,7 +79,8 @@ module _ {S : Type 0} (accessors : ConversionAccessors S) where
     to_cel_by (json.boolean b) = bool b
     to_cel_by (json.number n) = plain_number n
     to_cel_by (json.string t) = value_by_format (accessors.format s) t
-    to_cel_by (json.array ds) = option_map_or (λ p. list (items_by (f p) ds)) (accessors.items s) (plain (json.array ds))
+    to_cel_by (json.array ds) =
+        option_map_or (λ p. list (items_by (f p) ds)) (accessors.items s) (plain (json.array ds))
     to_cel_by (json.object ms) = map_of (object_by ms)
 
 -- the value, by the nodes of this number of levels, and plainly below them

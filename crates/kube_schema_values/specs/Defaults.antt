@@ -47,7 +47,8 @@ module _ {S : Type 0} (accessors : DefaultsAccessors S) (f : S → Data → Data
   defaulted_by (boolean b) = boolean b
   defaulted_by (number n) = number n
   defaulted_by (string t) = string t
-  defaulted_by (array ds) = unwrap_or (option_map (λ p. array (map_items (f p) ds)) (accessors.items s)) (array ds)
+  defaulted_by (array ds) =
+      unwrap_or (option_map (λ p. array (map_items (f p) ds)) (accessors.items s)) (array ds)
   defaulted_by (object ms) = object (object_by ms)
 
 -- the value with the defaults of the schema, to this depth
@@ -59,5 +60,8 @@ defaulted_value accessors (suc n) s d = defaulted_by accessors (defaulted_value 
 
 -- Of an object whose schema has n levels below it: a key that it had holds its member, filled by the member's schema; another key holds its
 -- default, filled likewise; where there is no default, nothing.
-pub record FillsMembers {S : Type 0} (accessors : DefaultsAccessors S) (n : ℕ) (s : S) (value out : Data) : Type 0 where
-  pub members : (ms : Members) (k : List ℕ) → Some ms ≡ as_object value → get k out ≡ option_or (option_map (member_by accessors (defaulted_value accessors n) s k) (get_member k ms)) (default_by accessors (defaulted_value accessors n) s k)
+pub record FillsMembers {S : Type 0} (accessors : DefaultsAccessors S)
+    (n : ℕ) (s : S) (value out : Data) : Type 0 where
+  pub members : (ms : Members) (k : List ℕ) → Some ms ≡ as_object value
+      → get k out ≡ option_or (option_map (member_by accessors (defaulted_value accessors n) s k)
+      (get_member k ms)) (default_by accessors (defaulted_value accessors n) s k)

@@ -36,10 +36,13 @@ property k schema = option_and_then (get k) (get (codes "properties") schema)
 
 -- the schema of other keys, where it is an object
 unfoldable pub additional : Data → Option Data
-additional schema = option_and_then (λ d. if is_some (as_object d) then Some d else None) (get (codes "additionalProperties") schema)
+additional schema =
+    option_and_then (λ d. if is_some (as_object d) then Some d else None)
+    (get (codes "additionalProperties") schema)
 
 unfoldable pub preserves : Data → Bool
-preserves schema = unwrap_or (option_and_then as_bool (get (codes "x-kubernetes-preserve-unknown-fields") schema)) false
+preserves schema =
+    unwrap_or (option_and_then as_bool (get (codes "x-kubernetes-preserve-unknown-fields") schema)) false
 
 unfoldable pub default_in : Data → Option Data
 default_in schema = get (codes "default") schema

@@ -27,7 +27,8 @@ const MAX_DEPTH: usize = 64;
 ///
 /// [`Refused`] where memory is refused.
 pub fn bind(alloc: Global, schema: &Json, value: &Json, depth: usize) -> Result<Value, Refused>
-    ensures value { IfOk result (λ v. view v ≡ to_cel raw (levels depth) (json_view schema.now) (json_view value.now)) }
+    ensures value { IfOk result (λ v. view v
+        ≡ to_cel raw (levels depth) (json_view schema.now) (json_view value.now)) }
     ensures memory { IfErr result (λ e. e ≡ Refused.Memory) }
 {
     bind_at(alloc, JsonNode { schema }, value, depth)
@@ -44,7 +45,8 @@ pub fn bind_at<N: Node>(
     value: &Json,
     depth: usize,
 ) -> Result<Value, Refused>
-    ensures value { IfOk result (λ v. view v ≡ to_cel N.accessors (levels depth) (N.seen node) (json_view value.now)) }
+    ensures value { IfOk result (λ v. view v
+        ≡ to_cel N.accessors (levels depth) (N.seen node) (json_view value.now)) }
     ensures memory { IfErr result (λ e. e ≡ Refused.Memory) }
 {
     let mut keys = MemberKeys::new(alloc);
@@ -61,7 +63,8 @@ fn bind_with<N: Node>(
     depth: usize,
     keys: &mut MemberKeys,
 ) -> Result<Value, Refused>
-    ensures value { IfOk result (λ v. view v ≡ to_cel N.accessors (levels depth) (N.seen node) (json_view value.now)) }
+    ensures value { IfOk result (λ v. view v
+        ≡ to_cel N.accessors (levels depth) (N.seen node) (json_view value.now)) }
     ensures memory { IfErr result (λ e. e ≡ Refused.Memory) }
 {
     if depth > MAX_DEPTH {
@@ -163,7 +166,9 @@ fn bind_members<N: Node>(
 ) -> Result<Entries, Refused>
     requires { depth ≤ 64 }
     ensures entries { IfOk result (λ m. entries_view m.entries
-        ≡ entries_by (member_key N.accessors (N.seen node)) (member_by N.accessors (to_cel N.accessors (64 - depth)) (N.seen node)) (members_view members.now.entries)) }
+        ≡ entries_by (member_key N.accessors (N.seen node))
+        (member_by N.accessors (to_cel N.accessors (64 - depth)) (N.seen node))
+        (members_view members.now.entries)) }
     ensures memory { IfErr result (λ e. e ≡ Refused.Memory) }
 {
     let keeps_keys = node.is_map();

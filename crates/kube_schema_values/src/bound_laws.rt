@@ -17,7 +17,8 @@ use crate::format::SchemaFormat;
 
 /// At a depth of 65 and more, what the schema says counts for nothing.
 pub fn deep_values_are_plain()
-    ensures { (depth : ℕ) (schema value : Json) → 65 ≤ depth → to_cel raw (levels depth) schema value ≡ plain value }
+    ensures { (depth : ℕ) (schema value : Json) → 65 ≤ depth
+        → to_cel raw (levels depth) schema value ≡ plain value }
 {}
 
 /// At the key of each member of an object stands that member, bound, and at the key of no other name is anything, whether the
@@ -33,7 +34,8 @@ pub fn members_are_found()
 pub fn fields_are_found()
     ensures { (left : ℕ) (schema : Json) (members : Members) (name : List ℕ)
         → find (text_key (member_key raw schema name)) (object_by raw (to_cel raw left) schema members)
-        ≡ or_else (option_map (member_by raw (to_cel raw left) schema name) (get_member name members)) (field_besides (is_embedded schema) name) }
+        ≡ or_else (option_map (member_by raw (to_cel raw left) schema name) (get_member name members))
+        (field_besides (is_embedded schema) name) }
 {}
 
 /// A text of format `byte` becomes exactly the bytes whose padded encoding it is.

@@ -119,7 +119,9 @@ fn add_defaults(
     levels: usize,
 ) -> Result<(), AllocError>
     ensures { OnOk result (members_view target.new.entries
-        ≡ with_defaults (default_by raw (defaulted_value raw levels) (view schema.now)) (keys_in (members_or_none (declared_properties (view schema.now)))) (members_view target.old.entries)) }
+        ≡ with_defaults (default_by raw (defaulted_value raw levels) (view schema.now))
+        (keys_in (members_or_none (declared_properties (view schema.now))))
+        (members_view target.old.entries)) }
 {
     let Some(properties) = declared(schema) else {
         return Ok(());
@@ -139,7 +141,8 @@ fn add_default(
     levels: usize,
 ) -> Result<(), AllocError>
     ensures { OnOk result (members_view target.new.entries
-        ≡ put_new key.now (option_map (defaulted_value raw levels (view property.now)) (default_in (view property.now))) (members_view target.old.entries)) }
+        ≡ put_new key.now (option_map (defaulted_value raw levels (view property.now))
+        (default_in (view property.now))) (members_view target.old.entries)) }
 {
     let Some(default) = default_of(property) else {
         return Ok(());

@@ -49,9 +49,9 @@ pub fn escape_field_name(alloc: Global, name: &str) -> Result<String, Refused>
     Ok(escaped)
 }
 
-// Whether a name is surely its own escaped text.
+/// Whether a name is surely its own escaped text. A name with an underscore isn't, even where [`escape_field_name`] leaves it as it is.
 #[tactic(auto, unfolding(crate::specs::Escape::escape))]
-pub(crate) fn is_its_own_escape(name: &str) -> bool
+pub fn is_its_own_escape(name: &str) -> bool
     ensures { result ≡ true → escape name.now ≡ name.now }
 {
     !is_reserved(name) && stays(name)

@@ -20,5 +20,6 @@ pub fn what_is_there_stays()
 
 /// Where no default lies within a schema, each value stays as it is.
 pub fn without_defaults_all_stays()
-    ensures { (levels : ℕ) (schema value : Data) → HasNoDefaults raw levels schema → defaulted_value raw levels schema value ≡ value }
+    ensures { (levels : ℕ) (schema value : Data) → HasNoDefaults raw levels schema
+        → defaulted_value raw levels schema value ≡ value }
 {}

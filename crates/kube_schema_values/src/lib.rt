@@ -17,7 +17,7 @@ pub mod values;
 
 pub use binding::{bind, bind_at};
 pub use defaults::apply_defaults;
-pub use escaping::escape_field_name;
+pub use escaping::{escape_field_name, is_its_own_escape};
 pub use format::SchemaFormat;
 pub use kube_types_refused::Refused;
 pub use names::MemberKeys;

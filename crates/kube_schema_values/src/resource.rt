@@ -40,7 +40,8 @@ fn put_absent_text(
     entries: &mut Entries,
 ) -> Result<(), Refused>
     ensures field { OnOk result (entries_view entries.new.entries
-        ≡ put_absent (members_view members.now.entries) name.now (text []) (entries_view entries.old.entries)) }
+        ≡ put_absent (members_view members.now.entries) name.now
+        (text []) (entries_view entries.old.entries)) }
     ensures memory { IfErr result (λ e. e ≡ Refused.Memory) }
 {
     if members.contains_key(name) {
@@ -60,7 +61,8 @@ fn put_absent_map(
     entries: &mut Entries,
 ) -> Result<(), Refused>
     ensures field { OnOk result (entries_view entries.new.entries
-        ≡ put_absent (members_view members.now.entries) name.now (map_of no_entries) (entries_view entries.old.entries)) }
+        ≡ put_absent (members_view members.now.entries) name.now
+        (map_of no_entries) (entries_view entries.old.entries)) }
     ensures memory { IfErr result (λ e. e ≡ Refused.Memory) }
 {
     if members.contains_key(name) {

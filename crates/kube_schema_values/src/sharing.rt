@@ -23,7 +23,8 @@ pub fn filled_value<'v>(
     schema: &Value,
     value: &'v Value,
 ) -> Result<Cow<'v, Value>, Refused>
-    ensures filled { IfOk result (λ v. view (cow_value v) ≡ defaulted_value raw 65 (view schema.now) (view value.now)) }
+    ensures filled { IfOk result (λ v. view (cow_value v)
+        ≡ defaulted_value raw 65 (view schema.now) (view value.now)) }
     ensures memory { IfErr result (λ e. e ≡ Refused.Memory) }
 {
     if has_defaults(schema, value, LEVELS) {
@@ -55,7 +56,8 @@ fn has_defaults(schema: &Value, value: &Value, levels: usize) -> bool
 
 #[cycle(has)]
 fn items_have_defaults(schema: &Value, items: &Vec<Value>, levels: usize) -> bool
-    ensures { IsTrue result → map_items (defaulted_value raw levels (view schema.now)) (items_view items.now.items) ≡ items_view items.now.items }
+    ensures { IsTrue result → map_items (defaulted_value raw levels (view schema.now))
+        (items_view items.now.items) ≡ items_view items.now.items }
 {
     for item in items {
         if !has_defaults(schema, item, levels) {
@@ -68,7 +70,8 @@ fn items_have_defaults(schema: &Value, items: &Vec<Value>, levels: usize) -> boo
 #[cycle(has)]
 fn members_have_defaults(schema: &Value, members: &Map<String, Value>, levels: usize) -> bool
     ensures { IsTrue result
-        → map_members (member_by raw (defaulted_value raw levels) (view schema.now)) (members_view members.now.entries) ≡ members_view members.now.entries }
+        → map_members (member_by raw (defaulted_value raw levels) (view schema.now))
+        (members_view members.now.entries) ≡ members_view members.now.entries }
 {
     for (key, member) in members.iter() {
         if !member_has_defaults(schema, key.as_str(), member, levels) {
@@ -80,7 +83,8 @@ fn members_have_defaults(schema: &Value, members: &Map<String, Value>, levels: u
 
 #[cycle(has)]
 fn member_has_defaults(schema: &Value, key: &str, member: &Value, levels: usize) -> bool
-    ensures { IsTrue result → member_by raw (defaulted_value raw levels) (view schema.now) key.now (view member.now) ≡ view member.now }
+    ensures { IsTrue result → member_by raw (defaulted_value raw levels)
+        (view schema.now) key.now (view member.now) ≡ view member.now }
 {
     match schema_of_member(schema, key) {
         Some(inner) => has_defaults(inner, member, levels),
@@ -91,7 +95,8 @@ fn member_has_defaults(schema: &Value, key: &str, member: &Value, levels: usize)
 // Whether each key that has a default is there.
 fn lacks_no_key(schema: &Value, members: &Map<String, Value>) -> bool
     ensures { IsTrue result → (f : Data → Data → Data)
-        → with_defaults (default_by raw f (view schema.now)) (keys_in (members_or_none (declared_properties (view schema.now)))) (members_view members.now.entries)
+        → with_defaults (default_by raw f (view schema.now))
+        (keys_in (members_or_none (declared_properties (view schema.now)))) (members_view members.now.entries)
         ≡ members_view members.now.entries }
 {
     let Some(properties) = declared(schema) else {
@@ -108,7 +113,8 @@ fn lacks_no_key(schema: &Value, members: &Map<String, Value>) -> bool
 // Whether a key is there, or has no default.
 fn lacks_no_default(key: &str, property: &Value, members: &Map<String, Value>) -> bool
     ensures { IsTrue result → (f : Data → Data)
-        → members_view members.now.entries ≡ put_new key.now (option_map f (default_in (view property.now))) (members_view members.now.entries) }
+        → members_view members.now.entries
+        ≡ put_new key.now (option_map f (default_in (view property.now))) (members_view members.now.entries) }
 {
     match default_of(property) {
         Some(_) => members.contains_key(key),

@@ -71,7 +71,8 @@ fn unescaped(alloc: Global, text: &str) -> Result<String, AllocError>
 fn push_first<'t>(text: &'t str, name: &mut String) -> Result<Option<&'t str>, AllocError>
     ensures { IfOk result (λ found. MatchOption found
         ((string_bytes name.new ≡ string_bytes name.old) × (text.now ≡ []))
-        (λ rest. (string_bytes name.new ++ unescaped_text 0 rest.now ≡ string_bytes name.old ++ unescaped_text 0 text.now)
+        (λ rest. (string_bytes name.new ++ unescaped_text 0 rest.now
+        ≡ string_bytes name.old ++ unescaped_text 0 text.now)
         × (length rest.now < length text.now))) }
 {
     if let Some((characters, rest)) = first_escaped(text) {
@@ -89,7 +90,8 @@ fn push_first<'t>(text: &'t str, name: &mut String) -> Result<Option<&'t str>, A
 // What the escaped character at the front of a text stands for, and the rest of the text.
 fn first_escaped(text: &str) -> Option<(&'static str, &str)>
     ensures { MatchOption result
-        ((byte : ℕ) (rest : List ℕ) → text.now ≡ byte ∷ rest → unescaped_text 0 text.now ≡ byte ∷ unescaped_text 0 rest)
+        ((byte : ℕ) (rest : List ℕ) → text.now ≡ byte ∷ rest
+        → unescaped_text 0 text.now ≡ byte ∷ unescaped_text 0 rest)
         (λ found. (unescaped_text 0 text.now ≡ found.0.now ++ unescaped_text 0 found.1.now)
         × (length found.1.now < length text.now)) }
 {

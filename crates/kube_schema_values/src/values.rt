@@ -99,7 +99,8 @@ fn bind_members(
     members: &Members<String, Json>,
     keys: &mut MemberKeys,
 ) -> Result<Entries, Refused>
-    ensures entries { IfOk result (λ m. entries_view m.entries ≡ plain_entries (members_view members.now.entries)) }
+    ensures entries { IfOk result (λ m. entries_view m.entries
+        ≡ plain_entries (members_view members.now.entries)) }
     ensures memory { IfErr result (λ e. e ≡ Refused.Memory) }
 {
     let mut bound = Entries::new(alloc);

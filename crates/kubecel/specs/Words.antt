@@ -62,7 +62,8 @@ command forms name = with_rule (with_rule (new_app name) (output forms)) (files 
 
 unfoldable pub check_words : Texts → App
 check_words forms =
-    with_rule (with_rule (with_rule (command forms (codes "check")) (required (files (codes "crds")))) (files (codes "old"))) objects
+    with_rule (with_rule (with_rule (command forms (codes "check")) (required (files (codes "crds"))))
+    (files (codes "old"))) objects
 
 unfoldable pub review_words : Texts → App
 review_words forms = with_rule (command forms (codes "review")) (required (files (codes "crds")))
@@ -70,16 +71,19 @@ review_words forms = with_rule (command forms (codes "review")) (required (files
 unfoldable pub admit_words : Texts → App
 admit_words forms =
     with_rule (with_rule (with_rule (with_rule (with_rule (with_rule (command forms (codes "admit")) policy)
-    (file (codes "request"))) (file (codes "object"))) (file (codes "old"))) (file (codes "params"))) (file (codes "namespace"))
+    (file (codes "request"))) (file (codes "object"))) (file (codes "old"))) (file (codes "params")))
+    (file (codes "namespace"))
 
 -- the program's own words: its name, `--version`, and a command, without which its help is shown
 abbrev pub program_words : App
 program_words =
-    on_top (λ s. record s { has_version = true; subcommand_required = true; arg_required_else_help = true }) (new_app (codes "kubecel"))
+    on_top (λ s. record s { has_version = true; subcommand_required = true; arg_required_else_help = true })
+    (new_app (codes "kubecel"))
 
 unfoldable pub words : Texts → App
 words forms =
-    with_subcommand (with_subcommand (with_subcommand program_words (check_words forms).top) (review_words forms).top) (admit_words forms).top
+    with_subcommand (with_subcommand (with_subcommand program_words (check_words forms).top)
+    (review_words forms).top) (admit_words forms).top
 
 -- ---- what is asked for, by what `clap` found
 
@@ -88,7 +92,11 @@ abbrev pub all_of : Found → List ℕ → List (List ℕ)
 all_of f name = unwrap_or (option_map raw_values (matched_of f name)) []
 
 abbrev pub check_asked : Found → CheckData
-check_asked f = record { crds = all_of f (codes "crds"); olds = all_of f (codes "old"); objects = all_of f (codes "objects") }
+check_asked f = record {
+  crds = all_of f (codes "crds");
+  olds = all_of f (codes "old");
+  objects = all_of f (codes "objects");
+}
 
 abbrev pub admit_asked : Found → AdmitData
 admit_asked f = record {
@@ -116,7 +124,9 @@ form_named name is_terminal = if bytes_eq name (codes "json") then form.Json els
 
 -- the form of output that is named, else text
 abbrev pub output_of : Found → Bool → Output
-output_of f is_terminal = option_map_or (λ name. form_named name is_terminal) (first_value f (codes "output")) (text_form is_terminal)
+output_of f is_terminal =
+    option_map_or (λ name. form_named name is_terminal)
+    (first_value f (codes "output")) (text_form is_terminal)
 
 -- ---- what the code's values stand for
 

@@ -29,7 +29,7 @@ judged_so base inputs object old params namespace d v o p q r s judged =
     subst (λ i. IsVerdictOf i d (Ok v)) (rw (o, p, q, r, s) refl) judged
 
 -- what is reported of the policy of a file
-pub told_of : (items : List ItemData) (path : List ℕ) (d : Document) (v : PolicyVerdict) → string_bytes d.file ≡ path → d.index ≡ 0
+pub reported_of_file : (items : List ItemData) (path : List ℕ) (d : Document) (v : PolicyVerdict) → string_bytes d.file ≡ path → d.index ≡ 0
     → items ≡ policy_item (document_view d) (verdict_view v) ∷ []
     → items ≡ policy_item (record { file = path; index = 0; value = view d.value }) (verdict_view v) ∷ []
-told_of items path d v file index reported = reported ∙ rw (file, index) refl
+reported_of_file items path d v file index reported = reported ∙ rw (file, index) refl

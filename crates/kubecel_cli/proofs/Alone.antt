@@ -13,16 +13,16 @@ the_first path f [] rest none e = absurd cc
 the_first path f (v ∷ vs) rest none e = (ap (λ fs. (get_or fs 0 f).file) e, ap (λ fs. (get_or fs 0 f).index) e)
 
 -- one document that was read at a path is the first of the file at the path
-pub one_place : {S : Type 0} (reads : S → List ℕ → Option (List ℕ) → S → Type 0) (a : S) (path : List ℕ) (d : Document) (b : S)
+pub first_of_file : {S : Type 0} (reads : S → List ℕ → Option (List ℕ) → S → Type 0) (a : S) (path : List ℕ) (d : Document) (b : S)
     → AreRead reads a (path ∷ []) (document_view d ∷ []) b → (string_bytes d.file ≡ path) × (d.index ≡ 0)
 unfolding AreRead
-one_place reads a path d b are = the_first path (document_view d) are.1 are.2 are.4.0 are.5
+first_of_file reads a path d b are = the_first path (document_view d) are.1 are.2 are.4.0 are.5
 
 -- and the file holds it alone
 pub one_read : {S : Type 0} (reads : S → List ℕ → Option (List ℕ) → S → Type 0) (a : S) (path : List ℕ) (d : Document) (b : S)
     → AreRead reads a (path ∷ []) (document_view d ∷ []) b → IsOneRead reads a path (view d.value) b
 one_read reads a path d b are =
-    let location = one_place reads a path d b are in
+    let location = first_of_file reads a path d b are in
     let same : document_view d ≡ record { file = path; index = 0; value = view d.value } = rw (location.0, location.1) refl in
     subst (λ f. AreRead reads a (path ∷ []) (f ∷ []) b) same are
 

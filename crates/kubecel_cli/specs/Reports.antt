@@ -10,7 +10,7 @@ use Rattle.kube_manifests.specs.declared.judgement.NotJudged as reason
 use Rattle.kube_manifests_policies.specs.Verdicts.{Labelled, ItemReportData, VerdictData, holds, fails, says, nothing, erred, not_given, report_text}
 use Rattle.kube_manifests_policies.specs.declared.verdict.PolicyDecision.{PolicyDecision}
 use Rattle.kube_manifests_policies.specs.declared.verdict.PolicyDecision.TheVariants as decision
-use Rattle.kube_manifests_review.specs.Doubts.{Finding, kind_text}
+use Rattle.kube_manifests_review.specs.Candidates.{Finding, kind_text}
 use Rattle.kube_manifests_review.specs.declared.finding.ReviewKind.{ReviewKind}
 use Rattle.kube_manifests_review.specs.declared.finding.ReviewKind.TheVariants as kind
 use Rattle.kubecel_io.specs.Objects.{identity_of}
@@ -43,7 +43,7 @@ remark message = record { location = []; rule = []; message = message } ∷ []
 abbrev pub error_finding : ErrorData → FindingData
 error_finding e = record { location = e.field_path; rule = e.rule; message = e.message }
 
--- why an object isn't judged; of a definition it is said where it belongs
+-- why an object isn't judged; of a definition also where it belongs
 abbrev pub why_not : Data → reason.NotJudged → List ℕ
 why_not d r =
     reason_text r ++ (if is_crd d then codes " (a CustomResourceDefinition stands behind --crds)" else [])
@@ -123,11 +123,15 @@ is_quiet nothing = true
 is_quiet (erred m) = false
 is_quiet (not_given i) = false
 
--- what is said of an expression, after what it is and its name
+-- the findings of an expression, located by what it is and its name
 abbrev pub result_findings : List ℕ → Labelled → List FindingData
 result_findings what r =
     if is_quiet r.reported then []
-    else record { location = what ++ (codes " " ++ r.label); rule = []; message = report_text r.reported } ∷ []
+    else record {
+      location = what ++ (codes " " ++ r.label);
+      rule = [];
+      message = report_text r.reported;
+    } ∷ []
 
 abbrev pub verdict_findings : VerdictData → List FindingData
 verdict_findings v =

@@ -154,7 +154,8 @@ module _ {S : Type 0} (reads : S → List ℕ → Option (List ℕ) → S → Ty
   AreFound before (admit asked) after items = AreAdmitted before asked after items
 
 -- the status stands for what was found, and that was written
-pub record IsReported (Are : List ItemData → Type 0) (status : ℕ) (Writes : List ItemData → Type 0) : Type 0 where
+pub record IsReported (Are : List ItemData → Type 0) (status : ℕ)
+    (Writes : List ItemData → Type 0) : Type 0 where
   pub items : List ItemData
   pub are : Are items
   pub status_is : status ≡ items_status items

@@ -177,7 +177,7 @@ fn verdict_findings(alloc: Global, verdict: &PolicyVerdict) -> Result<Vec<Findin
     Ok(findings)
 }
 
-/// Puts what there is to say of these expressions behind what was said.
+/// Adds the findings of these expressions.
 fn add_results(
     alloc: Global,
     what: &str,

@@ -70,7 +70,7 @@ fn set_of(alloc: Global, documents: &[Document]) -> Result<CrdSet, Stop>
     match CrdSet::from_documents(alloc, values.as_slice())? {
         Ok(set) => Ok(set),
         Err(error) => {
-            let location = place_of(alloc, documents, error.document)?;
+            let location = location_of(alloc, documents, error.document)?;
             let (pointer, fault) = (&error.pointer, error.fault);
             Err(Stop::Said(if pointer.is_empty() {
                 format!(in alloc; "{location}: {fault}")?
@@ -93,7 +93,7 @@ fn values_of(alloc: Global, documents: &[Document]) -> Result<Vec<Value>, AllocE
 }
 
 /// Where a document stands.
-fn place_of(alloc: Global, documents: &[Document], at: usize) -> Result<String, AllocError> {
+fn location_of(alloc: Global, documents: &[Document], at: usize) -> Result<String, AllocError> {
     match documents.get(at) {
         Some(document) if document.index == 0 => document.file.clone(),
         Some(document) => format!(in alloc; "{}[{}]", document.file, document.index),
@@ -188,7 +188,7 @@ fn judge(
     Ok(judged_item(alloc, subject, &judgement)?)
 }
 
-/// An object by what was said of it.
+/// An object by the errors that were found.
 fn judged_item(
     alloc: Global,
     subject: &Subject<'_>,

@@ -1,6 +1,6 @@
 //! `review`: what a person should look at in CustomResourceDefinitions.
 ghost use Rattle.cel_patterns.specs.Book.{Book, IsBook};
-ghost use Rattle.kube_manifests_review.specs.Doubts as doubts;
+ghost use Rattle.kube_manifests_review.specs.Candidates as candidates;
 ghost use Rattle.kubecel_io.specs.Subjects.{subject_view};
 ghost use Rattle.kubecel_io.specs.Items.{finding_view, item_view};
 ghost use Rattle.kubecel_cli.specs.Runs.{AreItems, AreReviewed, IsReviewed};
@@ -80,7 +80,7 @@ fn pass_unless(findings: &[Finding]) -> Verdict
 /// Findings as they are reported.
 fn review_findings(alloc: Global, found: &[ReviewFinding]) -> Result<Vec<Finding>, AllocError>
     ensures { IfOk result (λ v. map finding_view v.items
-        ≡ map review_finding (map doubts.finding_view found.now)) }
+        ≡ map review_finding (map candidates.finding_view found.now)) }
 {
     let mut findings = Vec::with_capacity(alloc, found.len())?;
     for finding in found {
@@ -91,7 +91,7 @@ fn review_findings(alloc: Global, found: &[ReviewFinding]) -> Result<Vec<Finding
 
 /// A finding as it is reported.
 pub(crate) fn review_finding(alloc: Global, found: &ReviewFinding) -> Result<Finding, AllocError>
-    ensures { IfOk result (λ f. finding_view f ≡ review_finding (doubts.finding_view found.now)) }
+    ensures { IfOk result (λ f. finding_view f ≡ review_finding (candidates.finding_view found.now)) }
 {
     let kind = found.kind;
     Ok(Finding {

@@ -1,6 +1,6 @@
 //! Definitions of which something isn't read: no object is judged by them.
 ghost use Rattle.cel_patterns.specs.Book.{Book, IsBook};
-ghost use Rattle.kube_manifests_review.specs.Doubts as doubts;
+ghost use Rattle.kube_manifests_review.specs.Candidates as candidates;
 ghost use Rattle.kubecel_io.specs.Subjects.{subject_view};
 ghost use Rattle.kubecel_io.specs.Items.{finding_view, item_view};
 ghost use Rattle.kubecel_cli.specs.Runs.{AreUnread, IsUnread};
@@ -36,7 +36,7 @@ fn unread_of(alloc: Global, definition: &Subject<'_>) -> Result<Vec<Finding>, Re
 /// Those findings that say that something isn't read, as they are reported.
 fn unread_findings(alloc: Global, found: &[ReviewFinding]) -> Result<Vec<Finding>, AllocError>
     ensures { IfOk result (λ v. map finding_view v.items
-        ≡ unread_findings (map doubts.finding_view found.now)) }
+        ≡ unread_findings (map candidates.finding_view found.now)) }
 {
     let mut findings = Vec::new(alloc);
     for finding in found {
@@ -51,7 +51,7 @@ fn add_unread(
     findings: &mut Vec<Finding>,
 ) -> Result<(), AllocError>
     ensures { OnOk result (map finding_view findings.new.items
-        ≡ map finding_view findings.old.items ++ unread_finding (doubts.finding_view finding.now)) }
+        ≡ map finding_view findings.old.items ++ unread_finding (candidates.finding_view finding.now)) }
 {
     if !is_unread(finding.kind) {
         return Ok(());

@@ -9,7 +9,8 @@ use Rattle.serde_json.specs.Data.{Data}
 use Rattle.serde_json.specs.Read.{read}
 use Rattle.serde_json.specs.View.{view}
 use Rattle.std.specs.List.{list_all}
-use Rattle.std.specs.Prelude.{ℕ, ◌+◌, ◌-◌, ◌==◌, ◌&&◌, ◌||◌, List, [], ◌∷◌, ◌++◌, Bool, false, if◌then◌else◌, Option, Some, option_map, option_and_then, map}
+use Rattle.std.specs.Prelude.{◌≡◌, ℕ, ◌+◌, ◌-◌, ◌==◌, ◌&&◌, ◌||◌, List, [], ◌∷◌, ◌++◌, Bool, false, if◌then◌else◌, Option, Some, None, IsSome, option_map, option_and_then, map}
+use Rattle.std.specs.Str.{IsUtf8}
 
 -- blank, tab, line feed, carriage return
 abbrev pub is_space : ℕ → Bool
@@ -64,12 +65,23 @@ all_read (p ∷ ps) = before (read p) (all_read ps)
 abbrev pub documents : List ℕ → Option (List Data)
 documents text = all_read (pieces Outside 0 [] text)
 
+-- `document` is the first of a text's documents that is no JSON, with `before` and `behind` around it
+pub record IsFirstRefused (text before document behind : List ℕ) : Type 0 where
+  pub whole : text ≡ before ++ (document ++ behind)
+  pub cut : pieces Outside 0 [] text ≡ pieces Outside 0 [] before ++ document ∷ pieces Outside 0 [] behind
+  pub read_before : IsSome (documents before)
+  pub refused : read document ≡ None
+
 -- ---- for private clauses
 
 -- these, and then the others, if there are any
 abbrev pub with_documents : List Data → Option (List Data) → Option (List Data)
 with_documents xs ys = option_map (λ zs. xs ++ zs) ys
 
--- all documents of a text of which this is left
-abbrev pub documents_left : Reading → List ℕ → Option (List Data)
-documents_left r xs = with_documents (map view r.found.items) (all_read (pieces r.mode r.depth r.piece.items xs))
+-- a reader that has this left of a text has read the documents before the one that has begun
+pub record IsAt (text : List ℕ) (r : Reading) (rest : List ℕ) : Type 0 where
+  pub before : List ℕ
+  pub whole : text ≡ before ++ (r.piece.items ++ rest)
+  pub cut : (xs : List ℕ) → pieces Outside 0 [] (before ++ (r.piece.items ++ xs)) ≡ pieces Outside 0 [] before ++ pieces r.mode r.depth r.piece.items xs
+  pub values : documents before ≡ Some (map view r.found.items)
+  pub characters : IsUtf8 (r.piece.items ++ rest)

@@ -12,14 +12,20 @@ is_control x = nat_lt x 32 && not (x == 9 || (x == 10 || x == 13))
 
 abbrev pub xml_escape : ℕ → Option (List ℕ)
 xml_escape x =
-    if x == 38 then Some (codes "&amp;") else (if x == 60 then Some (codes "&lt;") else (if x == 62 then Some (codes "&gt;") else
-    (if x == 34 then Some (codes "&quot;") else (if is_control x then Some (codes "?") else None))))
+    if x == 38 then Some (codes "&amp;")
+    else (if x == 60 then Some (codes "&lt;")
+    else (if x == 62 then Some (codes "&gt;")
+    else (if x == 34 then Some (codes "&quot;")
+    else (if is_control x then Some (codes "?") else None))))
 
 abbrev pub data_escape : ℕ → Option (List ℕ)
-data_escape x = if x == 37 then Some (codes "%25") else (if x == 13 then Some (codes "%0D") else (if x == 10 then Some (codes "%0A") else None))
+data_escape x =
+    if x == 37 then Some (codes "%25")
+    else (if x == 13 then Some (codes "%0D") else (if x == 10 then Some (codes "%0A") else None))
 
 abbrev pub property_escape : ℕ → Option (List ℕ)
-property_escape x = if x == 58 then Some (codes "%3A") else (if x == 44 then Some (codes "%2C") else data_escape x)
+property_escape x =
+    if x == 58 then Some (codes "%3A") else (if x == 44 then Some (codes "%2C") else data_escape x)
 
 -- what a byte is replaced by, if by anything
 abbrev pub escape_of : Escape → ℕ → Option (List ℕ)

@@ -6,7 +6,7 @@ use Rattle.kubecel_io.specs.declared.item.Verdict.{Verdict}
 use Rattle.kubecel_io.specs.declared.item.Verdict.TheVariants.{Pass, Skip, Fail, NotJudged}
 use Rattle.std.specs.Prelude.{ℕ, List, [], ◌∷◌, ◌++◌, map, codes, max, string_bytes}
 
--- what was found at one place
+-- one thing that was found
 pub record FindingData : Type 0 where
   pub location : List ℕ
   pub rule : List ℕ
@@ -63,7 +63,11 @@ finding_text f = prefixed_text f.location (codes ": ") f.message
 -- ---- what the code's values stand for
 
 abbrev pub finding_view : Finding → FindingData
-finding_view f = record { location = string_bytes f.location; rule = string_bytes f.rule; message = string_bytes f.message }
+finding_view f = record {
+  location = string_bytes f.location;
+  rule = string_bytes f.rule;
+  message = string_bytes f.message;
+}
 
 abbrev pub item_view : Item → ItemData
 item_view i = record {

@@ -17,7 +17,9 @@ text_member head text = head ++ json_string text
 
 unfoldable pub json_finding : FindingData → List ℕ
 json_finding f =
-    text_member (codes "{\"place\":") f.location ++ (text_member (codes ",\"rule\":") f.rule ++ (text_member (codes ",\"message\":") f.message ++ codes "}"))
+    text_member (codes "{\"place\":") f.location
+    ++ (text_member (codes ",\"rule\":") f.rule
+    ++ (text_member (codes ",\"message\":") f.message ++ codes "}"))
 
 -- with a comma between two
 abbrev pub later_finding : FindingData → List ℕ
@@ -30,8 +32,10 @@ json_findings (f ∷ fs) = json_finding f ++ flat_map later_finding fs
 -- what an object says before its findings
 unfoldable pub json_head : ItemData → List ℕ
 json_head i =
-    text_member (codes "{\"file\":") i.file ++ (number_member (codes ",\"index\":") i.index ++ (text_member (codes ",\"kind\":") i.kind
-    ++ (text_member (codes ",\"namespace\":") i.namespace ++ (text_member (codes ",\"name\":") i.name ++ (codes ",\"verdict\":\"" ++ verdict_word i.verdict)))))
+    text_member (codes "{\"file\":") i.file
+    ++ (number_member (codes ",\"index\":") i.index ++ (text_member (codes ",\"kind\":") i.kind
+    ++ (text_member (codes ",\"namespace\":") i.namespace
+    ++ (text_member (codes ",\"name\":") i.name ++ (codes ",\"verdict\":\"" ++ verdict_word i.verdict)))))
 
 unfoldable pub json_item : ItemData → List ℕ
 json_item i = json_head i ++ (codes "\",\"findings\":[" ++ (json_findings i.findings ++ codes "]}"))

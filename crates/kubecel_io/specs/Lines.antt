@@ -43,7 +43,9 @@ text_finding f = codes "  " ++ (finding_text f ++ codes "\n")
 
 unfoldable pub text_item : Bool → ItemData → List ℕ
 text_item colours i =
-    coloured_word colours i.verdict ++ (codes " " ++ (title i ++ (codes " (" ++ (location i.file i.index ++ (codes ")\n" ++ flat_map text_finding i.findings)))))
+    coloured_word colours i.verdict
+    ++ (codes " " ++ (title i
+    ++ (codes " (" ++ (location i.file i.index ++ (codes ")\n" ++ flat_map text_finding i.findings)))))
 
 -- ---- GitHub
 
@@ -56,7 +58,9 @@ level NotJudged = codes "error"
 -- an annotation of the file
 unfoldable pub github_finding : ItemData → FindingData → List ℕ
 github_finding i f =
-    codes "::" ++ (level i.verdict ++ (codes " file=" ++ (escaped_text escape.Property i.file ++ (codes ",title=" ++ (escaped_text escape.Property (title i)
+    codes "::" ++ (level i.verdict
+    ++ (codes " file=" ++ (escaped_text escape.Property i.file
+    ++ (codes ",title=" ++ (escaped_text escape.Property (title i)
     ++ (codes "::" ++ (escaped_text escape.Data (finding_text f) ++ codes "\n")))))))
 
 unfoldable pub github_item : ItemData → List ℕ
@@ -80,7 +84,9 @@ xml_member head text = head ++ escaped_text escape.Xml text
 
 -- a test case before what was found, and behind it
 unfoldable pub junit_open : ItemData → List ℕ
-junit_open i = xml_member (codes "<testcase classname=\"") i.file ++ (xml_member (codes "\" name=\"") (title i) ++ (codes "\"><" ++ (element i.verdict ++ codes ">")))
+junit_open i =
+    xml_member (codes "<testcase classname=\"") i.file
+    ++ (xml_member (codes "\" name=\"") (title i) ++ (codes "\"><" ++ (element i.verdict ++ codes ">")))
 
 abbrev pub junit_close : ItemData → List ℕ
 junit_close i = codes "</" ++ (element i.verdict ++ codes "></testcase>\n")

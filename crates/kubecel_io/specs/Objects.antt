@@ -16,13 +16,16 @@ text_at key d = unwrap_or (option_and_then as_str (get key d)) []
 
 -- one in a member of `metadata`
 abbrev pub metadata_at : List ℕ → Data → List ℕ
-metadata_at key d = unwrap_or (option_and_then as_str (option_and_then (get key) (get (codes "metadata") d))) []
+metadata_at key d =
+    unwrap_or (option_and_then as_str (option_and_then (get key) (get (codes "metadata") d))) []
 
 -- ---- lists
 
 -- the items of a list: of an object whose kind ends in `List`, with an array in `items`
 abbrev pub list_items : Data → Option Items
-list_items d = if ends_with nat_eq (text_at (codes "kind") d) (codes "List") then option_and_then as_array (get (codes "items") d) else None
+list_items d =
+    if ends_with nat_eq (text_at (codes "kind") d) (codes "List")
+    then option_and_then as_array (get (codes "items") d) else None
 
 abbrev pub each_item : Items → List Data
 each_item no_items = []
@@ -47,7 +50,9 @@ all_objects fs = flat_map objects_of fs
 
 -- the group in an apiVersion, `GROUP/VERSION` or `VERSION`
 abbrev pub group_in : List ℕ → List ℕ
-group_in text = if nat_lt (position_or_len (λ b. b == 47) text) (length text) then before_first (λ b. b == 47) text else []
+group_in text =
+    if nat_lt (position_or_len (λ b. b == 47) text) (length text)
+    then before_first (λ b. b == 47) text else []
 
 pub record IdentityData : Type 0 where
   pub group : List ℕ
@@ -64,7 +69,9 @@ identity_of d = record {
 }
 
 abbrev pub is_same : IdentityData → IdentityData → Bool
-is_same a b = bytes_eq a.name b.name && (bytes_eq a.namespace b.namespace && (bytes_eq a.kind b.kind && bytes_eq a.group b.group))
+is_same a b =
+    bytes_eq a.name b.name && (bytes_eq a.namespace b.namespace
+    && (bytes_eq a.kind b.kind && bytes_eq a.group b.group))
 
 -- the first of these objects that has the identity of that one
 abbrev pub old_of : List Data → Data → Option Data
@@ -73,4 +80,9 @@ old_of olds d = find (λ o. is_same (identity_of o) (identity_of d)) olds
 -- ---- what the code's values stand for
 
 abbrev pub identity_view : Identity → IdentityData
-identity_view i = record { group = i.group.now; kind = i.kind.now; namespace = i.namespace.now; name = i.name.now }
+identity_view i = record {
+  group = i.group.now;
+  kind = i.kind.now;
+  namespace = i.namespace.now;
+  name = i.name.now;
+}

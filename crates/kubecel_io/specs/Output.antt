@@ -14,8 +14,10 @@ count_of status is = count_by (λ i. verdict_status i.verdict == status) is
 
 unfoldable pub junit_head : List ItemData → List ℕ
 junit_head is =
-    number_member (codes "<?xml version=\"1.0\" encoding=\"UTF-8\"?>\n<testsuite name=\"kubecel\" tests=\"") (length is)
-    ++ (number_member (codes "\" failures=\"") (count_of 1 is) ++ (number_member (codes "\" errors=\"") (count_of 2 is) ++ codes "\">\n"))
+    number_member (codes "<?xml version=\"1.0\" encoding=\"UTF-8\"?>\n<testsuite name=\"kubecel\" tests=\"")
+    (length is)
+    ++ (number_member (codes "\" failures=\"") (count_of 1 is)
+    ++ (number_member (codes "\" errors=\"") (count_of 2 is) ++ codes "\">\n"))
 
 -- all of these things
 abbrev pub output_text : Output → List ItemData → List ℕ

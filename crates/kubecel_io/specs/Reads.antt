@@ -35,7 +35,8 @@ module _ {S : Type 0} (reads : S → List ℕ → Option (List ℕ) → S → Ty
   unfoldable pub AreRead : S → List (List ℕ) → List Found → S → Type 0
   AreRead before [] found after = (found ≡ []) × (before ≡ after)
   AreRead before (path ∷ paths) found after =
-      (between : S) × (values : List Data) × (rest : List Found) × IsRead before path values between × AreRead between paths rest after
+      (between : S) × (values : List Data) × (rest : List Found)
+      × IsRead before path values between × AreRead between paths rest after
       × (found ≡ with_indices path 0 values ++ rest)
 
 -- ---- what the code's values stand for

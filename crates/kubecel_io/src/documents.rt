@@ -1,12 +1,15 @@
 //! The documents of a text.
-ghost use Rattle.kubecel_io.specs.Documents.{all_read, documents, is_space, with_documents, with_piece, documents_left};
+ghost use Rattle.kubecel_io.specs.Documents.{IsAt, IsFirstRefused, all_read, documents, is_space, with_documents, with_piece};
+ghost use Rattle.kubecel_io.specs.Faults.{IsFault};
 ghost use Rattle.kubecel_io.specs.declared.cut.Mode.TheVariants.{Outside};
 ghost use Rattle.serde_json.specs.View.{view};
 ghost use Rattle.std.specs.List.{list_all};
-ghost use Rattle.std.specs.Prelude.{◌≡◌, ◌∷◌, [], ℕ, List, Some, IfOk, OnOk, map};
+ghost use Rattle.serde_json.specs.Read.{read};
+ghost use Rattle.std.specs.Prelude.{◌≡◌, ◌∷◌, ◌++◌, [], ℕ, List, Some, None, false, IfErr, IfOk, OnErr, OnOk, map};
+ghost use Rattle.std.specs.Str.{IsUtf8};
 
 use crate::cut::{Mode, is_space};
-use crate::place::{Fault, fault_at};
+use crate::fault::{Fault, fault_in};
 use kube_types_refused::Refused;
 use serde_json::{Error, Value};
 use std::alloc::Global;
@@ -36,8 +39,10 @@ impl Reading {
     /// # Errors
     /// Why the document that ended here is no JSON.
     fn take(&mut self, alloc: Global, byte: u8) -> Result<Result<(), Error>, Refused>
-        ensures { IfOk result (λ r. OnOk r ((xs : List ℕ) → documents_left self.old (byte ∷ xs)
-            ≡ documents_left self.new xs)) }
+        ensures read { IfOk result (λ r. OnOk r ((text rest : List ℕ)
+            → IsAt text self.old (byte ∷ rest) → IsAt text self.new rest)) }
+        ensures refused { IfOk result (λ r. OnErr r ((text rest : List ℕ) → IsAt text self.old (byte ∷ rest)
+            → (before : List ℕ) × IsFirstRefused text before self.new.piece.items rest)) }
     {
         let depth = self
             .mode
@@ -63,6 +68,9 @@ impl Reading {
             ≡ with_documents (map view self.new.found.items) (all_read rest))) }
         ensures begun { IfOk result (λ r. OnOk r ((self.new.mode ≡ Outside) × (self.new.depth ≡ 0)
             × (self.new.piece.items ≡ []))) }
+        ensures refused { IfOk result (λ r. OnErr r ((list_all is_space self.old.piece.items ≡ false)
+            × (IsUtf8 self.old.piece.items → read self.old.piece.items ≡ None))) }
+        ensures kept { IfOk result (λ r. OnErr r (self.new.piece.items ≡ self.old.piece.items)) }
     {
         if !is_blank(self.piece.as_slice()) {
             match Value::from_slice(alloc, self.piece.as_slice()) {
@@ -81,9 +89,11 @@ impl Reading {
 /// The JSON documents that stand in a text one after another.
 ///
 /// # Errors
-/// The place where a document is no JSON.
+/// Where a document is no JSON.
 pub fn documents_of(alloc: Global, text: &str) -> Result<Result<Vec<Value>, Fault>, Refused>
-    ensures { IfOk result (λ r. IfOk r (λ v. documents text.now ≡ Some (map view v.items))) }
+    ensures read { IfOk result (λ r. IfOk r (λ v. documents text.now ≡ Some (map view v.items))) }
+    ensures refused { IfOk result (λ r. OnErr r (documents text.now ≡ None)) }
+    ensures fault { IfOk result (λ r. IfErr r (λ f. IsFault text.now f)) }
 {
     let bytes = text.as_bytes();
     let mut reading = Reading {
@@ -94,13 +104,13 @@ pub fn documents_of(alloc: Global, text: &str) -> Result<Result<Vec<Value>, Faul
     };
     for (i, byte) in bytes.iter().enumerate() {
         if let Err(error) = reading.take(alloc, *byte)? {
-            let begin = i.saturating_add(1).saturating_sub(reading.piece.len());
-            return Ok(Err(fault_at(bytes, begin, &error)));
+            let fault = fault_in(bytes, reading.piece.as_slice(), i + 1, &error);
+            return Ok(Err(fault));
         }
     }
     if let Err(error) = reading.end(alloc)? {
-        let begin = bytes.len().saturating_sub(reading.piece.len());
-        return Ok(Err(fault_at(bytes, begin, &error)));
+        let fault = fault_in(bytes, reading.piece.as_slice(), bytes.len(), &error);
+        return Ok(Err(fault));
     }
     Ok(Ok(reading.found))
 }

@@ -18,7 +18,7 @@ pub enum Verdict {
     NotJudged,
 }
 
-/// What was found at one place.
+/// One thing that was found.
 #[derive(Drop)]
 pub struct Finding {
     /// Where in the thing, empty at its root.

@@ -5,22 +5,22 @@
 mod cut;
 mod documents;
 mod escape;
+mod fault;
 mod item;
 mod json;
 mod lines;
 mod objects;
 mod output;
-mod place;
 mod sources;
 mod subject;
 mod subjects;
 
 pub use documents::documents_of;
+pub use fault::Fault;
 pub use item::{Finding, Item, Verdict, status_of};
 pub use kube_types_refused::Refused;
 pub use objects::{Identity, objects_in};
 pub use output::{Output, write_items};
-pub use place::Fault;
 pub use sources::{Document, Sources, Stop, read_documents};
 pub use subject::Subject;
 pub use subjects::{objects_of, old_of};

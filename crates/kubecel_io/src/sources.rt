@@ -14,7 +14,7 @@ use std::io;
 /// The files that a command names.
 pub trait Sources {
     // That a read at a path, from the first state on, may give this text, or none where it can't be read, and leave the second
-    // state. Of real files nothing is said.
+    // state. Of real files nothing is promised.
     ghost reads: { Self → List ℕ → Option (List ℕ) → Self → Type 0 } = { λ _ _ _ _. ⊤ };
 
     /// The text of a file, or why it can't be read.
@@ -60,7 +60,7 @@ pub struct Document {
 /// The documents of the files at these paths, which are read in order.
 ///
 /// # Errors
-/// A file that can't be read, or the place in a file where a document is no JSON.
+/// A file that can't be read, or the line and column of a file where a document is no JSON.
 pub fn read_documents<S: Sources>(
     alloc: Global,
     paths: &[&str],

@@ -12,7 +12,7 @@ pub returns-in_default-clause-bound : goal.returns-in_default-clause-bound
 returns-in_default-clause-bound g c = λ read f is h.
     let name = c.args.name.now in
     let e = bindings_of c.args.context.now in
-    let d = to_cel g.N.Node.form.accessors (levels c.args.depth) (g.N.Node.seen c.args.node.now) (view c.args.value.now) in
+    let d = to_cel g.N.Node.form.conversion (levels c.args.depth) (g.N.Node.seen c.args.node.now) (view c.args.value.now) in
     let none : c.args.demand.now ≡ None = search rules in
     let nothing_read = sym is ∙ ap (option_map part_of) none in
     names_named read name d e e f h (subst (λ p. ReadAlike p (binding name e) (Some d)) (sym nothing_read) tt) (λ x other. refl)
@@ -22,7 +22,7 @@ returns-clause-bound g c = λ read f is h.
     let name = c.args.name.now in
     let e = bindings_of c.args.context.now in
     let v = cel_view c.in_ok-part.part in
-    let d = to_cel g.N.Node.form.accessors (levels c.args.depth) (g.N.Node.seen c.args.node.now) (view c.args.value.now) in
+    let d = to_cel g.N.Node.form.conversion (levels c.args.depth) (g.N.Node.seen c.args.node.now) (view c.args.value.now) in
     let some_read = sym is ∙ ap (option_map part_of) c.in-Some.is in
     let here = named_new name v e (bindings_of c.add_variable.new.self) c.in_ok-add_variable.ensures.variables in
     names_named read name d (bindings_of c.add_variable.new.self) e f h

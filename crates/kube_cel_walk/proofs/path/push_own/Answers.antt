@@ -5,11 +5,11 @@ use Rattle.std.proofs.Common.{◌≡◌, ◌==◌, ◌++◌, true, false, if◌t
 pub returns-then-starts_with : goal.returns-then-starts_with
 returns-then-starts_with c =
     let dot : (slice_index c.args.own.now 0 == 46) ≡ true = sym (c.starts_with.ensures.byte (lit< tt) (lit< tt) (λ w o x. x)) ∙ c.if-starts_with.true in
-    let place = string_bytes c.args.path.now in
-    c.in_ok-push_str.ensures.bytes ∙ sym (ap (λ t. if t then place ++ c.args.own.now else member_path place c.args.own.now) dot)
+    let path = string_bytes c.args.path.now in
+    c.in_ok-push_str.ensures.bytes ∙ sym (ap (λ t. if t then path ++ c.args.own.now else member_path path c.args.own.now) dot)
 
 pub returns : goal.returns
 returns c =
     let dot : (slice_index c.args.own.now 0 == 46) ≡ false = sym (c.starts_with.ensures.byte (lit< tt) (lit< tt) (λ w o x. x)) ∙ c.if-starts_with.false in
-    let place = string_bytes c.args.path.now in
-    c.in_ok-push_member.ensures ∙ sym (ap (λ t. if t then place ++ c.args.own.now else member_path place c.args.own.now) dot)
+    let path = string_bytes c.args.path.now in
+    c.in_ok-push_member.ensures ∙ sym (ap (λ t. if t then path ++ c.args.own.now else member_path path c.args.own.now) dot)

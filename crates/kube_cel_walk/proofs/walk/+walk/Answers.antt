@@ -54,18 +54,18 @@ walk_node-returns-clause-found g t c = λ b h.
     gathered g.N.Node.form b (65 - c.args.state.now.depth) n (visit_at g.N.Node.seen state (string_bytes c.args.path.now)) e0 e1 e2 e3 e4 e5 e6 e7 full
     (c.in_ok-validate_at.ensures.found b h1 ∙ ap (λ p. e0 ++ verdicts g.N.Node.form b (visit_at g.N.Node.seen state p)) c.as_str.ensures.value)
     (c.in_ok-walk_properties.ensures.found b h2)
-    (c.in_ok-walk_items.ensures.found b h3 ∙ ap (λ p. e2 ++ found_by g.N.Node.form (item_steps g.N.Node.form.shape) b n (visit_at g.N.Node.seen state p)) p2)
-    (c.in_ok-walk_extras.ensures.found b h4 ∙ ap (λ p. e3 ++ found_by g.N.Node.form (additional_steps g.N.Node.form.shape) b n (visit_at g.N.Node.seen state p)) p3)
-    (c.in_ok-walk_branches.ensures.found b h5 ∙ ap (λ p. e4 ++ found_by g.N.Node.form (branch_steps g.N.Node.form.shape AllOf) b n (visit_at g.N.Node.seen state p)) p4)
-    (c.in_ok-walk_branches-2.ensures.found b h6 ∙ ap (λ p. e5 ++ found_by g.N.Node.form (branch_steps g.N.Node.form.shape OneOf) b n (visit_at g.N.Node.seen state p)) p5)
-    (c.in_ok-walk_branches-3.ensures.found b h ∙ ap (λ p. e6 ++ found_by g.N.Node.form (branch_steps g.N.Node.form.shape AnyOf) b n (visit_at g.N.Node.seen state p)) p6)
+    (c.in_ok-walk_items.ensures.found b h3 ∙ ap (λ p. e2 ++ found_by g.N.Node.form (item_steps g.N.Node.form.steps) b n (visit_at g.N.Node.seen state p)) p2)
+    (c.in_ok-walk_extras.ensures.found b h4 ∙ ap (λ p. e3 ++ found_by g.N.Node.form (additional_steps g.N.Node.form.steps) b n (visit_at g.N.Node.seen state p)) p3)
+    (c.in_ok-walk_branches.ensures.found b h5 ∙ ap (λ p. e4 ++ found_by g.N.Node.form (branch_steps g.N.Node.form.steps AllOf) b n (visit_at g.N.Node.seen state p)) p4)
+    (c.in_ok-walk_branches-2.ensures.found b h6 ∙ ap (λ p. e5 ++ found_by g.N.Node.form (branch_steps g.N.Node.form.steps OneOf) b n (visit_at g.N.Node.seen state p)) p5)
+    (c.in_ok-walk_branches-3.ensures.found b h ∙ ap (λ p. e6 ++ found_by g.N.Node.form (branch_steps g.N.Node.form.steps AnyOf) b n (visit_at g.N.Node.seen state p)) p6)
 
 -- ---- declared members
 
 pub walk_properties-returns-in_default-clause-found : goal.walk_properties-returns-in_default-clause-found
 walk_properties-returns-in_default-clause-found g t c = λ b h.
     let s = visit_at g.N.Node.seen c.args.state.now (string_bytes c.args.path.now) in
-    through_none g.N.Node.form b (64 - c.args.state.now.depth) s (map error_view c.args.errors.now.items) (property_steps g.N.Node.form.shape s) (property_steps_none g.N.Node.form.shape s c.in_default.ensures)
+    through_none g.N.Node.form b (64 - c.args.state.now.depth) s (map error_view c.args.errors.now.items) (property_steps g.N.Node.form.steps s) (property_steps_none g.N.Node.form.steps s c.in_default.ensures)
 
 pub walk_properties-loop-key-init : goal.walk_properties-loop-key-init
 walk_properties-loop-key-init g t c = record {
@@ -94,7 +94,7 @@ walk_properties-loop-key-preserved g t c =
     let moved : done ++ l.key-iterator ≡ (done ++ e ∷ []) ++ left = joined ∙ sym (append_assoc done (e ∷ []) left) in
     let form = g.N.Node.form in
     let node = g.N.Node.seen c.args.state.now.node in
-    let goes_there = property_goes form.shape s k (form.shape.property k node) refl in
+    let goes_there = property_goes form.steps s k (form.steps.property k node) refl in
     record {
       done = done ++ e ∷ [];
       all = ap (λ es. Some (members_view es)) (sym moved) ∙ l.invariant.all;
@@ -103,11 +103,11 @@ walk_properties-loop-key-preserved g t c =
       keeps = λ b h. l.invariant.keeps b (c.in_ok-walk_member.ensures.keeps b h);
       found = λ b h.
           let name = c.as_str-name.result.now in
-          let more : map error_view c.walk_member.new.errors.items ≡ had ++ answer_if_reached form b n (further None d (member_path (string_bytes c.args.path.now) k) (form.shape.property k node) (get k v) (option_and_then (get k) o)) =
+          let more : map error_view c.walk_member.new.errors.items ≡ had ++ answer_if_reached form b n (further None d (member_path (string_bytes c.args.path.now) k) (form.steps.property k node) (get k v) (option_and_then (get k) o)) =
           c.in_ok-walk_member.ensures.found b h
           ∙ ap (λ w. had ++ answer_if_reached form b n (further None d (member_path (string_bytes l.path) name) w (get name v) (option_and_then (get name) o))) c.property-node.ensures
-          ∙ ap (λ q. had ++ answer_if_reached form b n (further None d (member_path (string_bytes l.path) q) (form.shape.property q node) (get q v) (option_and_then (get q) o))) c.as_str-name.ensures.value
-          ∙ ap (λ q. had ++ answer_if_reached form b n (further None d (member_path q k) (form.shape.property k node) (get k v) (option_and_then (get k) o))) l.invariant.path in
+          ∙ ap (λ q. had ++ answer_if_reached form b n (further None d (member_path (string_bytes l.path) q) (form.steps.property q node) (get q v) (option_and_then (get q) o))) c.as_str-name.ensures.value
+          ∙ ap (λ q. had ++ answer_if_reached form b n (further None d (member_path q k) (form.steps.property k node) (get k v) (option_and_then (get k) o))) l.invariant.path in
           one_more form b n s property (names_of done) k (map error_view c.args.errors.now.items) had (map error_view c.walk_member.new.errors.items)
           (l.invariant.found b (c.in_ok-walk_member.ensures.keeps b h)) (more ∙ ap (λ r. had ++ answer_if_reached form b n r) (sym goes_there))
           ∙ ap (λ ks. map error_view c.args.errors.now.items ++ found_through form b n s (map property ks)) (sym (names_more done e));
@@ -118,7 +118,7 @@ walk_properties-returns-clause-found g t c = λ b h.
     let l = c.loop-key in
     let s = visit_at g.N.Node.seen c.args.state.now (string_bytes c.args.path.now) in
     let ended : l.invariant.done ++ l.key-iterator ≡ l.invariant.done = ap (λ es. l.invariant.done ++ es) c.in-None.ensures.steps.0 ∙ append-nil l.invariant.done in
-    let steps = property_steps_are g.N.Node.form.shape s l.invariant.done (ap (λ es. Some (members_view es)) (sym ended) ∙ l.invariant.all) (subst (λ es. IsStrictlySortedBy string_cmp (keys_of es)) ended l.invariant.ordered) in
+    let steps = property_steps_are g.N.Node.form.steps s l.invariant.done (ap (λ es. Some (members_view es)) (sym ended) ∙ l.invariant.all) (subst (λ es. IsStrictlySortedBy string_cmp (keys_of es)) ended l.invariant.ordered) in
     l.invariant.found b h ∙ ap (λ ps. map error_view c.args.errors.now.items ++ found_through g.N.Node.form b (64 - c.args.state.now.depth) s ps) (sym steps)
 
 -- ---- other members
@@ -130,7 +130,7 @@ walk_extras-returns-in_default-clause-found g t c = λ b h.
 pub walk_extras-returns-in_default-as_object-clause-found : goal.walk_extras-returns-in_default-as_object-clause-found
 walk_extras-returns-in_default-as_object-clause-found g t c = λ b h.
     let s = visit_at g.N.Node.seen c.args.state.now (string_bytes c.args.path.now) in
-    through_none g.N.Node.form b (64 - c.args.state.now.depth) s (map error_view c.args.errors.now.items) (additional_steps g.N.Node.form.shape s) (additional_steps_none g.N.Node.form.shape s c.in_default-as_object.ensures)
+    through_none g.N.Node.form b (64 - c.args.state.now.depth) s (map error_view c.args.errors.now.items) (additional_steps g.N.Node.form.steps s) (additional_steps_none g.N.Node.form.steps s c.in_default-as_object.ensures)
 
 pub walk_extras-loop-key-init : goal.walk_extras-loop-key-init
 walk_extras-loop-key-init g t c = record {
@@ -158,7 +158,7 @@ walk_extras-loop-key-preserved g t c =
     let had = map error_view l.errors.items in
     let joined : done ++ l.key-iterator ≡ done ++ e ∷ left = ap (λ es. done ++ es) c.in-Some-2.ensures.steps in
     let moved : done ++ l.key-iterator ≡ (done ++ e ∷ []) ++ left = joined ∙ sym (append_assoc done (e ∷ []) left) in
-    let goes_there = additional_goes g.N.Node.form.shape s k other c.in-Some.ensures in
+    let goes_there = additional_goes g.N.Node.form.steps s k other c.in-Some.ensures in
     record {
       done = done ++ e ∷ [];
       all = ap (λ es. Some (members_view es)) (sym moved) ∙ l.invariant.all;
@@ -168,11 +168,11 @@ walk_extras-loop-key-preserved g t c =
       found = λ b h.
           let name = c.as_str-name.result.now in
           let node = g.N.Node.seen c.args.state.now.node in
-          let more : map error_view c.walk_member.new.errors.items ≡ had ++ answer_if_reached g.N.Node.form b n (further None d (member_path (string_bytes c.args.path.now) k) (unless_there (g.N.Node.form.shape.property k node) (Some other)) (get k v) (option_and_then (get k) o)) =
+          let more : map error_view c.walk_member.new.errors.items ≡ had ++ answer_if_reached g.N.Node.form b n (further None d (member_path (string_bytes c.args.path.now) k) (unless_there (g.N.Node.form.steps.property k node) (Some other)) (get k v) (option_and_then (get k) o)) =
           c.in_ok-walk_member.ensures.found b h
           ∙ ap (λ w. had ++ answer_if_reached g.N.Node.form b n (further None d (member_path (string_bytes l.path) name) w (get name v) (option_and_then (get name) o))) c.unless_declared-node.ensures
-          ∙ ap (λ q. had ++ answer_if_reached g.N.Node.form b n (further None d (member_path (string_bytes l.path) q) (unless_there (g.N.Node.form.shape.property q node) (Some other)) (get q v) (option_and_then (get q) o))) c.as_str-name.ensures.value
-          ∙ ap (λ q. had ++ answer_if_reached g.N.Node.form b n (further None d (member_path q k) (unless_there (g.N.Node.form.shape.property k node) (Some other)) (get k v) (option_and_then (get k) o))) l.invariant.path in
+          ∙ ap (λ q. had ++ answer_if_reached g.N.Node.form b n (further None d (member_path (string_bytes l.path) q) (unless_there (g.N.Node.form.steps.property q node) (Some other)) (get q v) (option_and_then (get q) o))) c.as_str-name.ensures.value
+          ∙ ap (λ q. had ++ answer_if_reached g.N.Node.form b n (further None d (member_path q k) (unless_there (g.N.Node.form.steps.property k node) (Some other)) (get k v) (option_and_then (get k) o))) l.invariant.path in
           one_more g.N.Node.form b n s additional_property (names_of done) k (map error_view c.args.errors.now.items) had (map error_view c.walk_member.new.errors.items)
           (l.invariant.found b (c.in_ok-walk_member.ensures.keeps b h)) (more ∙ ap (λ r. had ++ answer_if_reached g.N.Node.form b n r) (sym goes_there))
           ∙ ap (λ ks. map error_view c.args.errors.now.items ++ found_through g.N.Node.form b n s (map additional_property ks)) (sym (names_more done e));
@@ -183,7 +183,7 @@ walk_extras-returns-clause-found g t c = λ b h.
     let l = c.loop-key in
     let s = visit_at g.N.Node.seen c.args.state.now (string_bytes c.args.path.now) in
     let ended : l.invariant.done ++ l.key-iterator ≡ l.invariant.done = ap (λ es. l.invariant.done ++ es) c.in-None.ensures.steps.0 ∙ append-nil l.invariant.done in
-    let steps = additional_steps_are g.N.Node.form.shape s l.invariant.done (ap (λ es. Some (members_view es)) (sym ended) ∙ l.invariant.all) (subst (λ es. IsStrictlySortedBy string_cmp (keys_of es)) ended l.invariant.ordered) in
+    let steps = additional_steps_are g.N.Node.form.steps s l.invariant.done (ap (λ es. Some (members_view es)) (sym ended) ∙ l.invariant.all) (subst (λ es. IsStrictlySortedBy string_cmp (keys_of es)) ended l.invariant.ordered) in
     l.invariant.found b h ∙ ap (λ ps. map error_view c.args.errors.now.items ++ found_through g.N.Node.form b (64 - c.args.state.now.depth) s ps) (sym steps)
 
 -- ---- one member
@@ -245,7 +245,7 @@ walk_items-returns-in_default-clause-found g t c = λ b h.
 pub walk_items-returns-in_default-as_array-clause-found : goal.walk_items-returns-in_default-as_array-clause-found
 walk_items-returns-in_default-as_array-clause-found g t c = λ b h.
     let s = visit_at g.N.Node.seen c.args.state.now (string_bytes c.args.path.now) in
-    through_none g.N.Node.form b (64 - c.args.state.now.depth) s (map error_view c.args.errors.now.items) (item_steps g.N.Node.form.shape s) (item_steps_none g.N.Node.form.shape s c.in_default-as_array.ensures)
+    through_none g.N.Node.form b (64 - c.args.state.now.depth) s (map error_view c.args.errors.now.items) (item_steps g.N.Node.form.steps s) (item_steps_none g.N.Node.form.steps s c.in_default-as_array.ensures)
 
 pub walk_items-loop-index-init : goal.walk_items-loop-index-init
 walk_items-loop-index-init g t c = record {
@@ -265,7 +265,7 @@ walk_items-loop-index-preserved g t c =
     let v = view c.index.result.now in
     let within : l.index < length c.in-Some-as_array.items.now.items = omega arith in
     let here = ap (λ v. Some (view v)) c.index.ensures ∙ get_item_within vs l.index c.index.result.now within in
-    let there = item_goes g.N.Node.form.shape s l.index node v (items_view vs) c.in-Some.ensures c.in-Some-as_array.ensures here in
+    let there = item_goes g.N.Node.form.steps s l.index node v (items_view vs) c.in-Some.ensures c.in-Some-as_array.ensures here in
     record {
       path = c.in_ok-walk_item.ensures.path ∙ l.invariant.path;
       keeps = λ b h. l.invariant.keeps b (c.in_ok-walk_item.ensures.keeps b h);
@@ -284,7 +284,7 @@ walk_items-returns-clause-found g t c = λ b h.
     let ended : c.loop-index.index ≡ length c.in-Some-as_array.items.now.items = omega arith in
     c.loop-index.invariant.found b h
     ∙ ap (λ m. old ++ found_through g.N.Node.form b n s (map item (up_to m))) ended
-    ∙ ap (λ ps. old ++ found_through g.N.Node.form b n s ps) (sym (item_steps_are g.N.Node.form.shape s c.in-Some-as_array.items.now.items c.in-Some-as_array.ensures))
+    ∙ ap (λ ps. old ++ found_through g.N.Node.form b n s ps) (sym (item_steps_are g.N.Node.form.steps s c.in-Some-as_array.items.now.items c.in-Some-as_array.ensures))
 
 pub walk_item-truncate-requires : goal.walk_item-truncate-requires
 walk_item-truncate-requires g t c = λ _.
@@ -333,7 +333,7 @@ walk_branches-loop-index-preserved g t c =
       found = λ b h. one_more_up g.N.Node.form b n s (branch c.args.kind) l.index (map error_view c.args.errors.now.items) had (map error_view c.walk_branch.new.errors.items)
           (l.invariant.found b (c.in_ok-walk_branch.ensures.keeps b h))
           (c.in_ok-walk_branch.ensures.found b h
-          ∙ ap (λ q. had ++ answer_if_reached g.N.Node.form b n (goes g.N.Node.form.shape (branch c.args.kind l.index) (visit_at g.N.Node.seen c.args.state.now q))) l.invariant.path);
+          ∙ ap (λ q. had ++ answer_if_reached g.N.Node.form b n (goes g.N.Node.form.steps (branch c.args.kind l.index) (visit_at g.N.Node.seen c.args.state.now q))) l.invariant.path);
     }
 
 pub walk_branches-returns-clause-found : goal.walk_branches-returns-clause-found
@@ -344,14 +344,14 @@ walk_branches-returns-clause-found g t c = λ b h.
     let ended : c.loop-index.index ≡ c.branch_count-index-end.result = omega arith in
     c.loop-index.invariant.found b h
     ∙ ap (λ m. old ++ found_through g.N.Node.form b n s (map (branch c.args.kind) (up_to m))) (ended ∙ c.branch_count-index-end.ensures)
-    ∙ ap (λ ps. old ++ found_through g.N.Node.form b n s ps) (sym (branch_steps_are g.N.Node.form.shape c.args.kind s))
+    ∙ ap (λ ps. old ++ found_through g.N.Node.form b n s ps) (sym (branch_steps_are g.N.Node.form.steps c.args.kind s))
 
 pub walk_branch-returns-in_default-node-clause-found : goal.walk_branch-returns-in_default-node-clause-found
 unfolding answer_if_reached
 walk_branch-returns-in_default-node-clause-found g t c = λ b h.
     let s = visit_at g.N.Node.seen c.args.state.now (string_bytes c.args.path.now) in
     let old = map error_view c.args.errors.now.items in
-    sym (ap (λ o. old ++ answer_if_reached g.N.Node.form b (64 - c.args.state.now.depth) o) (branch_goes g.N.Node.form.shape c.args.kind s c.args.index None c.in_default-node.ensures) ∙ append-nil old)
+    sym (ap (λ o. old ++ answer_if_reached g.N.Node.form b (64 - c.args.state.now.depth) o) (branch_goes g.N.Node.form.steps c.args.kind s c.args.index None c.in_default-node.ensures) ∙ append-nil old)
 
 pub walk_branch-returns-clause-found : goal.walk_branch-returns-clause-found
 unfolding answer_if_reached
@@ -366,4 +366,4 @@ walk_branch-returns-clause-found g t c = λ b h.
     let r = option_map (λ x. root_view x.now) c.args.state.now.root in
     c.in_ok-walk_node.ensures.found b h
     ∙ ap (λ m. old ++ answer g.N.Node.form b m (visit p v o r (string_bytes c.args.path.now) (d + 1))) full
-    ∙ ap (λ x. old ++ answer_if_reached g.N.Node.form b (64 - d) x) (sym (branch_goes g.N.Node.form.shape c.args.kind s c.args.index (Some p) c.in_Some-node.ensures))
+    ∙ ap (λ x. old ++ answer_if_reached g.N.Node.form b (64 - d) x) (sym (branch_goes g.N.Node.form.steps c.args.kind s c.args.index (Some p) c.in_Some-node.ensures))

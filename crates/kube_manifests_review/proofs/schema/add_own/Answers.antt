@@ -1,10 +1,10 @@
 use Rattle.std.proofs.Common.{map}
 use Rattle.kube_manifests_review.proofs.Steps.{two_steps}
 use Rattle.kube_manifests_review.proofs.schema.add_own.Goals as goal
-use Rattle.kube_manifests_review.specs.Doubts.{doubt_view}
-use Rattle.kube_manifests_review.specs.Reviewed.{own_doubts}
+use Rattle.kube_manifests_review.specs.Candidates.{candidate_view}
+use Rattle.kube_manifests_review.specs.Reviewed.{own_candidates}
 
-pub returns-clause-doubts : goal.returns-clause-doubts
-unfolding own_doubts
-returns-clause-doubts c =
-    two_steps (map doubt_view c.args.doubts.now.items) (map doubt_view c.add_no_rule.new.doubts.items) _ _ _ c.in_ok-add_no_rule.ensures c.in_ok-add_each.ensures.doubts
+pub returns-clause-candidates : goal.returns-clause-candidates
+unfolding own_candidates
+returns-clause-candidates c =
+    two_steps (map candidate_view c.args.candidates.now.items) (map candidate_view c.add_no_rule.new.candidates.items) _ _ _ c.in_ok-add_no_rule.ensures c.in_ok-add_each.ensures.candidates

@@ -5,4 +5,4 @@ use Rattle.kube_manifests_review.specs.Reviewed.{has_rules}
 use Rattle.kube_manifests_review.proofs.schema.has_rules.Given as goal
 
 abbrev pub invariant-loop-location : goal.invariant-loop-location
-invariant-loop-location l = list_any has_rules (map location_view l.places) ≡ list_any has_rules (map location_view (drop l.location-index l.places))
+invariant-loop-location l = list_any has_rules (map location_view l.locations) ≡ list_any has_rules (map location_view (drop l.location-index l.locations))

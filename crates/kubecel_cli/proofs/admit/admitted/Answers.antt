@@ -1,6 +1,6 @@
 use Rattle.kube_manifests_admission.specs.Inputs.{inputs_view}
 use Rattle.kubecel_io.specs.Items.{item_view}
-use Rattle.kubecel_cli.proofs.Admitting.{judged_so, told_of}
+use Rattle.kubecel_cli.proofs.Admitting.{judged_so, reported_of_file}
 use Rattle.kubecel_cli.proofs.admit.admitted.Goals as goal
 use Rattle.serde_json.specs.View.{view}
 use Rattle.std.proofs.Common.{map, option_map, refl}
@@ -39,5 +39,5 @@ returns g c =
           (record { object = c.instead.result; old_object = c.instead-2.result; params = c.instead-3.result; namespace_object = c.instead-4.result; request = base.request })
           object old params namespace (view policy.value) c.in_ok-verdict.verdict c.instead.ensures c.instead-2.ensures c.instead-3.ensures c.instead-4.ensures refl
           c.in_ok-verdict.ensures;
-      reported = told_of (map item_view c.in_ok-report_of.field-0.items.items) c.args.admit.policy.now policy c.in_ok-verdict.verdict location.0 location.1 c.in_ok-report_of.ensures;
+      reported = reported_of_file (map item_view c.in_ok-report_of.field-0.items.items) c.args.admit.policy.now policy c.in_ok-verdict.verdict location.0 location.1 c.in_ok-report_of.ensures;
     }

@@ -1,6 +1,6 @@
 use Rattle.kubecel_io.proofs.documents.documents_of.Given as goal
-use Rattle.kubecel_io.specs.Documents.{documents, documents_left}
-use Rattle.std.proofs.Common.{◌≡◌, drop}
+use Rattle.kubecel_io.specs.Documents.{IsAt}
+use Rattle.std.proofs.Common.{drop}
 
 abbrev pub invariant-loop-i : goal.invariant-loop-i
-invariant-loop-i l = documents l.fn.text ≡ documents_left l.reading (drop l.i l.bytes)
+invariant-loop-i l = IsAt l.fn.text l.reading (drop l.i l.bytes)

@@ -1,23 +1,38 @@
-use Rattle.kubecel_io.proofs.Cuts.{if_both, left_ended, left_goes}
+use Rattle.kubecel_io.proofs.Cuts.{at_ended, at_goes, at_refused, if_both, if_refused}
 use Rattle.kubecel_io.proofs.documents.Reading.take.Goals as goal
-use Rattle.kubecel_io.specs.Documents.{all_read, with_documents, with_piece, documents_left}
+use Rattle.kubecel_io.specs.Documents.{IsAt, IsFirstRefused, all_read, is_space, with_documents, with_piece}
 use Rattle.kubecel_io.specs.declared.cut.Mode.TheVariants.{Outside}
+use Rattle.serde_json.specs.Read.{read}
 use Rattle.serde_json.specs.View.{view}
-use Rattle.std.proofs.Common.{◌≡◌, ◌∷◌, [], List, ℕ, map, refl, sym, arith}
+use Rattle.std.proofs.Common.{◌≡◌, ◌∷◌, [], List, ℕ, None, false, map, refl, subst, sym, arith, ◌∙◌}
+use Rattle.std.specs.List.{list_all}
+use Rattle.std.specs.Str.{IsUtf8}
 
-pub returns-then-ends : goal.returns-then-ends
-returns-then-ends c =
+pub returns-then-ends-clause-read : goal.returns-then-ends-clause-read
+returns-then-ends-clause-read c =
     let r = c.args.self.now in
     let s = c.end.new.self in
     let p = c.push.new.self.items in
-    if_both
-    ((rest : List (List ℕ)) → with_documents (map view r.found.items) (all_read (with_piece p rest)) ≡ with_documents (map view s.found.items) (all_read rest))
+    let x = c.args.byte in
+    if_both ((rest : List (List ℕ)) → with_documents (map view r.found.items) (all_read (with_piece p rest)) ≡ with_documents (map view s.found.items) (all_read rest))
     ((s.mode ≡ Outside) × (s.depth ≡ 0) × (s.piece.items ≡ []))
-    ((xs : List ℕ) → documents_left r (c.args.byte ∷ xs) ≡ documents_left s xs)
+    ((text rest : List ℕ) → IsAt text r (x ∷ rest) → IsAt text s rest)
     c.end.result
-    (λ read begun xs. left_ended r s p c.args.byte xs (sym (c.if-ends.ensures)) c.in_ok-push.ensures.items read begun)
+    (λ read begun text rest at. at_ended text r s p x rest (sym (c.if-ends.ensures)) c.in_ok-push.ensures.items read begun at)
     c.end.ensures.read c.end.ensures.begun
 
-pub returns : goal.returns
-returns c = λ xs.
-    left_goes c.args.self.now (record { mode = c.after-self.result; depth = c.in_ok-depth.depth; piece = c.push.new.self; found = c.args.self.now.found }) c.args.byte xs (sym c.if-ends.ensures) c.after-self.ensures (grind arith) c.in_ok-push.ensures.items refl
+pub returns-then-ends-clause-refused : goal.returns-then-ends-clause-refused
+returns-then-ends-clause-refused c =
+    let r = c.args.self.now in
+    let s = c.end.new.self in
+    let p = c.push.new.self.items in
+    let x = c.args.byte in
+    if_refused ((list_all is_space p ≡ false) × (IsUtf8 p → read p ≡ None)) (s.piece.items ≡ p)
+    ((text rest : List ℕ) → IsAt text r (x ∷ rest) → (before : List ℕ) × IsFirstRefused text before s.piece.items rest) c.end.result
+    (λ refused kept text rest at. subst (λ q. (before : List ℕ) × IsFirstRefused text before q rest) (sym kept)
+    (at_refused text r p x rest (sym (c.if-ends.ensures)) c.in_ok-push.ensures.items refused at))
+    c.end.ensures.refused c.end.ensures.kept
+
+pub returns-clause-read : goal.returns-clause-read
+returns-clause-read c = λ text rest at.
+    at_goes text c.args.self.now (record { mode = c.after-self.result; depth = c.in_ok-depth.depth; piece = c.push.new.self; found = c.args.self.now.found }) c.args.byte rest (sym c.if-ends.ensures) c.after-self.ensures (grind arith) c.in_ok-push.ensures.items refl at

@@ -1,5 +1,5 @@
 -- Trusted by the clauses of manifests.
--- What a review says of a document, and under which condition it says it. Source: this project's own statement.
+-- The findings that a review may have of a document, each with the condition under which it is reported. Source: this project's own statement.
 use Rattle.std.specs.Prelude.{◌≡◌, ℕ, List, [], ◌∷◌, ◌++◌, map, Bool, true, false, ◌&&◌, None, is_none, is_err, if◌then◌else◌, codes, string_bytes}
 use Rattle.std.specs.List.{flat_map}
 use Rattle.cel_patterns.specs.Book.{Book, pattern_in}
@@ -12,13 +12,13 @@ use Rattle.kube_functions.specs.Kube.{all_library}
 use Rattle.kube_manifests_review.specs.declared.finding.ReviewFinding.{ReviewFinding}
 use Rattle.kube_manifests_review.specs.declared.finding.ReviewKind.{ReviewKind}
 use Rattle.kube_manifests_review.specs.declared.finding.ReviewKind.TheVariants as kind
-use Rattle.kube_manifests_review.specs.declared.doubt.Condition.{Condition}
-use Rattle.kube_manifests_review.specs.declared.doubt.Condition.TheVariants as condition
-use Rattle.kube_manifests_review.specs.declared.doubt.Doubt as declared
+use Rattle.kube_manifests_review.specs.declared.candidate.Condition.{Condition}
+use Rattle.kube_manifests_review.specs.declared.candidate.Condition.TheVariants as condition
+use Rattle.kube_manifests_review.specs.declared.candidate.Candidate as declared
 
--- what is said of one place
+-- what was found at one pointer
 pub record Finding : Type 0 where
-  -- the JSON Pointer of the place in the document (RFC 6901)
+  -- a JSON Pointer in the document (RFC 6901)
   pub pointer : List ℕ
   -- the text of the rule, empty where it is of no rule
   pub rule : List ℕ
@@ -26,7 +26,12 @@ pub record Finding : Type 0 where
   pub message : List ℕ
 
 abbrev pub finding_view : ReviewFinding → Finding
-finding_view f = record { pointer = string_bytes f.pointer; rule = string_bytes f.rule; kind = f.kind; message = string_bytes f.message }
+finding_view f = record {
+  pointer = string_bytes f.pointer;
+  rule = string_bytes f.rule;
+  kind = f.kind;
+  message = string_bytes f.message;
+}
 
 abbrev pub lint_text : LintKind → List ℕ
 lint_text lint.Compile = codes "compile"
@@ -50,7 +55,7 @@ kind_text kind.Keyword = codes "keyword"
 kind_text kind.Rules = codes "rules"
 kind_text kind.NoRules = codes "no-rules"
 
--- when something is said
+-- when a finding is reported
 pub data When : Type 0 where
   always : When
   -- where this pattern is refused
@@ -58,28 +63,31 @@ pub data When : Type 0 where
   -- where the call of this function with this string alone has no value
   fails : List ℕ → List ℕ → When
 
--- what may be said
-pub record Doubt : Type 0 where
+-- a finding, and when it is reported
+pub record Candidate : Type 0 where
   pub finding : Finding
   pub when : When
 
--- what is said in any case, and of no rule
-abbrev pub plainly : List ℕ → ReviewKind → List ℕ → Doubt
-plainly p k m = record { finding = record { pointer = p; rule = []; kind = k; message = m }; when = always }
+-- a finding that is reported in any case, and is of no rule
+abbrev pub unconditional : List ℕ → ReviewKind → List ℕ → Candidate
+unconditional p k m = record {
+  finding = record { pointer = p; rule = []; kind = k; message = m };
+  when = always;
+}
 
 abbrev pub when_view : Condition → When
 when_view condition.Always = always
 when_view (condition.Refused p) = refused (string_bytes p)
 when_view (condition.Fails name s) = fails (string_bytes name) (string_bytes s)
 
-abbrev pub doubt_view : declared.Doubt → Doubt
-doubt_view d = record { finding = finding_view d.finding; when = when_view d.condition }
+abbrev pub candidate_view : declared.Candidate → Candidate
+candidate_view d = record { finding = finding_view d.finding; when = when_view d.condition }
 
--- what may be said afterwards: what might be said before, and these behind it
-abbrev pub AddsDoubts : List declared.Doubt → List declared.Doubt → List Doubt → Type 0
-AddsDoubts before after ds = map doubt_view after ≡ map doubt_view before ++ ds
+-- the candidates afterwards: those before, and these behind them
+abbrev pub AddsCandidates : List declared.Candidate → List declared.Candidate → List Candidate → Type 0
+AddsCandidates before after ds = map candidate_view after ≡ map candidate_view before ++ ds
 
--- ---- what is said by a book of patterns
+-- ---- what is found by a book of patterns
 
 abbrev pub is_known : Form → Bool
 is_known Unknown = false
@@ -88,7 +96,8 @@ is_known Known = true
 
 -- whether a function is called with one argument, and has no value at this string
 unfoldable pub fails_at : List ℕ → List ℕ → Book → Bool
-fails_at name s book = is_known (all_library.form_of name false 1) && is_err (all_library.answer_of name None (text s ∷ []) book)
+fails_at name s book =
+    is_known (all_library.form_of name false 1) && is_err (all_library.answer_of name None (text s ∷ []) book)
 
 unfoldable pub is_refused : List ℕ → Book → Bool
 is_refused p book = is_none (pattern_in book p)
@@ -98,9 +107,9 @@ is_due book always = true
 is_due book (refused p) = is_refused p book
 is_due book (fails name s) = fails_at name s book
 
-abbrev pub said_by : Book → Doubt → List Finding
-said_by book d = if is_due book d.when then d.finding ∷ [] else []
+abbrev pub due_finding : Book → Candidate → List Finding
+due_finding book d = if is_due book d.when then d.finding ∷ [] else []
 
--- of what may be said, what is said, in its order
-unfoldable pub due : List Doubt → Book → List Finding
-due ds book = flat_map (said_by book) ds
+-- the findings whose condition holds, in their order
+unfoldable pub due : List Candidate → Book → List Finding
+due ds book = flat_map (due_finding book) ds

@@ -20,7 +20,7 @@ pub(crate) enum Condition {
 
 /// A finding, and when it is reported.
 #[derive(Drop)]
-pub(crate) struct Doubt {
+pub(crate) struct Candidate {
     pub(crate) finding: ReviewFinding,
     pub(crate) condition: Condition,
 }

@@ -3,7 +3,7 @@ use Rattle.std.proofs.lemmas.List.{map-append}
 use Rattle.kube_manifests_review.proofs.Gathered.{gathered, no_levels}
 use Rattle.kube_manifests_review.proofs.Items.{last_item, next_item}
 use Rattle.kube_manifests_review.proofs.Steps.{no_more, one_more}
-use Rattle.kube_manifests_review.proofs.locations.+places.Goals as goal
+use Rattle.kube_manifests_review.proofs.locations.+locations.Goals as goal
 use Rattle.kube_manifests_review.specs.Locations.{SchemaLocation, item_locations, maybe_locations, named_locations, location_view, locations_of}
 use Rattle.kube_manifests_review.specs.Pointers.{index_pointer, key_pointer, keyword_pointer}
 use Rattle.kube_schema_values.specs.DefaultsAccessors.{members_or_none}
@@ -20,12 +20,12 @@ add_locations-returns t c =
     let n = c.args.levels - 1 in
     let more : c.args.levels ≡ suc n = let h = c.if-levels-eq0.false in omega arith in
     let this : SchemaLocation = record { pointer = p; schema = s } in
-    let e0 = map location_view c.args.places.now.items in
-    let e2 = map location_view c.add_properties.new.places.items in
-    let e3 = map location_view c.add_maybe.new.places.items in
-    gathered c.args.levels n p s e0 (map location_view c.push.new.self.items) e2 e3 (map location_view c.add_maybe-2.new.places.items)
-    (map location_view c.add_branches.new.places.items) (map location_view c.add_branches-2.new.places.items) (map location_view c.add_branches-3.new.places.items) more
-    (ap (map location_view) c.in_ok-push.ensures.items ∙ map-append location_view c.args.places.now.items _ ∙ ap (λ q. e0 ++ record { pointer = q; schema = s } ∷ []) c.in_ok-from_str.ensures.ok)
+    let e0 = map location_view c.args.locations.now.items in
+    let e2 = map location_view c.add_properties.new.locations.items in
+    let e3 = map location_view c.add_maybe.new.locations.items in
+    gathered c.args.levels n p s e0 (map location_view c.push.new.self.items) e2 e3 (map location_view c.add_maybe-2.new.locations.items)
+    (map location_view c.add_branches.new.locations.items) (map location_view c.add_branches-2.new.locations.items) (map location_view c.add_branches-3.new.locations.items) more
+    (ap (map location_view) c.in_ok-push.ensures.items ∙ map-append location_view c.args.locations.now.items _ ∙ ap (λ q. e0 ++ record { pointer = q; schema = s } ∷ []) c.in_ok-from_str.ensures.ok)
     c.in_ok-add_properties.ensures
     (c.in_ok-add_maybe.ensures ∙ ap (λ o. e2 ++ maybe_locations (locations_of n) (keyword_pointer p (codes "items")) o) c.get.ensures)
     (c.in_ok-add_maybe-2.ensures ∙ ap (λ o. e3 ++ maybe_locations (locations_of n) (keyword_pointer p (codes "additionalProperties")) o) c.additional.ensures)
@@ -40,7 +40,7 @@ add_properties-loop-key-preserved t c =
     let f = locations_of c.args.levels in
     let q = string_bytes c.in_ok-inner.inner in
     let v = view c.in-Some-2.member.now in
-    let had = map location_view l.places.items in
+    let had = map location_view l.locations.items in
     let named = c.as_str-in-loop-key-2.ensures.value ∙ c.in_ok-named.ensures ∙ ap (λ r. key_pointer r c.as_str-in-loop-key.result.now) c.as_str.ensures.value
     ∙ ap (key_pointer q) c.as_str-in-loop-key.ensures.value in
     one_more _ had (f (key_pointer q (string_bytes c.in-Some-2.key.now)) v) (named_locations f q (members_view c.next.new.self)) _
@@ -52,8 +52,8 @@ add_properties-returns t c =
     let l = c.loop-key in
     let f = locations_of c.args.levels in
     let q = string_bytes c.in_ok-inner.inner in
-    let all = map location_view c.args.places.now.items in
-    no_more (map location_view l.places.items) (named_locations f q (members_view l.key-iterator)) _ (ap (λ es. named_locations f q (members_view es)) c.in-None.ensures.steps.0) l.invariant
+    let all = map location_view c.args.locations.now.items in
+    no_more (map location_view l.locations.items) (named_locations f q (members_view l.key-iterator)) _ (ap (λ es. named_locations f q (members_view es)) c.in-None.ensures.steps.0) l.invariant
     ∙ ap (λ es. all ++ named_locations f q (members_view es)) (c.into_iter-key-iterator.ensures.into_iter_gives ∙ c.iter-key-items.ensures.rest)
     ∙ ap (λ r. all ++ named_locations f r (members_view c.in-Some.members.now.entries)) c.in_ok-inner.ensures
     ∙ ap (λ ms. all ++ named_locations f (keyword_pointer c.args.pointer.now (codes "properties")) (members_or_none ms)) c.in-Some.ensures
@@ -63,7 +63,7 @@ add_branches-loop-index-preserved t c =
     let l = c.loop-index in
     let f = locations_of c.args.levels in
     let q = string_bytes c.in_ok-inner.inner in
-    let had = map location_view l.places.items in
+    let had = map location_view l.locations.items in
     let named = c.as_str-in-loop-index.ensures.value ∙ c.in_ok-branch.ensures ∙ ap (λ r. index_pointer r l.index) c.as_str.ensures.value in
     next_item (item_locations f q) (λ i d. f (index_pointer q i) d) (λ i d ds. refl) c.deref-item-items.result.now l.index c.item-item.result _ had _ c.loop-index-test.true c.item-item.is
     (c.in_ok-add_locations.ensures ∙ ap (λ r. had ++ f r (view c.item-item.result)) named) l.invariant
@@ -73,8 +73,8 @@ add_branches-returns t c =
     let l = c.loop-index in
     let f = locations_of c.args.levels in
     let q = string_bytes c.in_ok-inner.inner in
-    let all = map location_view c.args.places.now.items in
-    last_item (item_locations f q) (λ i d. f (index_pointer q i) d) (λ i. refl) c.deref-item-items.result.now l.index (map location_view l.places.items) _ c.loop-index-test.false l.invariant
+    let all = map location_view c.args.locations.now.items in
+    last_item (item_locations f q) (λ i d. f (index_pointer q i) d) (λ i. refl) c.deref-item-items.result.now l.index (map location_view l.locations.items) _ c.loop-index-test.false l.invariant
     ∙ ap (λ vs. all ++ item_locations f q 0 (items_view vs)) c.deref-item-items.ensures.value
     ∙ ap (λ r. all ++ item_locations f r 0 (items_view c.in-Some.items.now.items)) c.in_ok-inner.ensures
     ∙ ap (λ o. all ++ item_locations f (keyword_pointer c.args.pointer.now c.args.keyword.now) 0 (items_or_none o)) c.in-Some.ensures

@@ -12,8 +12,8 @@ branches_of AllOf n = all_of n
 branches_of OneOf n = one_of n
 branches_of AnyOf n = any_of n
 
-unfoldable pub compiled_shape : StepAccessors Node
-compiled_shape = record {
+unfoldable pub compiled_steps : StepAccessors Node
+compiled_steps = record {
   property = property_of;
   items = items_of;
   additional_property = λ n. if (own n).preserves then None else additional_of n;

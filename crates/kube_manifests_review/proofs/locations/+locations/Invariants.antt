@@ -1,6 +1,6 @@
 use Rattle.std.proofs.Common.{◌≡◌, ◌+◌, ◌*◌, ◌++◌, map, drop, string_bytes}
 use Rattle.kube_manifests_review.specs.Locations.{item_locations, named_locations, location_view, locations_of}
-use Rattle.kube_manifests_review.proofs.locations.+places.Given as goal
+use Rattle.kube_manifests_review.proofs.locations.+locations.Given as goal
 use Rattle.serde_json.specs.View.{items_view, members_view}
 
 abbrev pub decreases-add_locations : goal.decreases-add_locations
@@ -18,11 +18,11 @@ decreases-add_branches l = 2 * l.levels + 1
 -- what was added, with what is within the properties that are left
 abbrev pub invariant-add_properties-loop-key : goal.invariant-add_properties-loop-key
 invariant-add_properties-loop-key l =
-    map location_view l.places.items ++ named_locations (locations_of l.levels) (string_bytes l.inner) (members_view l.key-iterator)
-    ≡ map location_view l.fn.places.items ++ named_locations (locations_of l.levels) (string_bytes l.inner) (members_view l.initial.key-iterator)
+    map location_view l.locations.items ++ named_locations (locations_of l.levels) (string_bytes l.inner) (members_view l.key-iterator)
+    ≡ map location_view l.fn.locations.items ++ named_locations (locations_of l.levels) (string_bytes l.inner) (members_view l.initial.key-iterator)
 
 -- what was added, with what is within the branches that are left
 abbrev pub invariant-add_branches-loop-index : goal.invariant-add_branches-loop-index
 invariant-add_branches-loop-index l =
-    map location_view l.places.items ++ item_locations (locations_of l.levels) (string_bytes l.inner) l.index (items_view (drop l.index l.item-items))
-    ≡ map location_view l.fn.places.items ++ item_locations (locations_of l.levels) (string_bytes l.inner) 0 (items_view l.item-items)
+    map location_view l.locations.items ++ item_locations (locations_of l.levels) (string_bytes l.inner) l.index (items_view (drop l.index l.item-items))
+    ≡ map location_view l.fn.locations.items ++ item_locations (locations_of l.levels) (string_bytes l.inner) 0 (items_view l.item-items)
