@@ -7,3 +7,4 @@ pub mod Rounds
 pub mod Sets
 pub mod Parts
 pub mod Missing
+pub mod Found

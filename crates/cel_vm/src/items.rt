@@ -33,7 +33,8 @@ pub fn top_item(loops: &Vec<LoopState>) -> Option<&Value>
 /// The item of the loop that is `outward` loops further out, if there is such a loop.
 pub fn outer_item(loops: &Vec<LoopState>, outward: usize) -> Option<&Value>
     ensures { MatchOption result (slice_get (loops_view loops.now.items) outward ≡ None)
-        (λ v. (l : Loop) × (slice_get (loops_view loops.now.items) outward ≡ Some l) × (view v.now ≡ l.item)) }
+        (λ v. (l : Loop)
+        × (slice_get (loops_view loops.now.items) outward ≡ Some l) × (view v.now ≡ l.item)) }
 {
     let count = loops.len();
     if outward < count {

@@ -2,6 +2,7 @@
 #![tactic(auto)]
 
 mod calls;
+mod forms;
 mod items;
 mod loops;
 mod operands;

@@ -45,7 +45,8 @@ fn leave(
 ) -> Result<LoopStep, AllocError>
     requires { pc < end }
     ensures { IfOk result (λ e. (size : ℕ) (ab : List (Option Fault)) (ls : List Loop) → limit size ls ≡ end
-        → Enters size end (go (pc + 1 + offset) (outcome_view answer ∷ outcomes values.old.items) ab ls) pc offset e (outcomes values.new.items) ab ls ls) }
+        → Enters size end (go (pc + 1 + offset) (outcome_view answer ∷ outcomes values.old.items) ab ls)
+        pc offset e (outcomes values.new.items) ab ls ls) }
 {
     push_answer(values, answer)?;
     if offset < end - pc {
@@ -82,8 +83,10 @@ fn enter(
 ) -> Result<LoopStep, Refused>
     requires { pc < end }
     ensures value { IfOk result (λ e. (size : ℕ) → limit size (loops_of stacks.old) ≡ end →
-        Enters size end (first_iteration size kind offset pc (Ok (range_list range)) (values_of stacks.old) (pending_of stacks.old) (loops_of stacks.old))
-        pc offset e (values_of stacks.new) (pending_of stacks.new) (loops_of stacks.old) (loops_of stacks.new)) }
+        Enters size end (first_iteration size kind offset pc
+        (Ok (range_list range)) (values_of stacks.old) (pending_of stacks.old) (loops_of stacks.old))
+        pc offset e
+        (values_of stacks.new) (pending_of stacks.new) (loops_of stacks.old) (loops_of stacks.new)) }
     ensures memory { IfErr result (λ e. e ≡ Refused.Memory) }
 {
     let count = range.as_slice().len();
@@ -126,8 +129,10 @@ pub(crate) fn begin(
 ) -> Result<LoopStep, Refused>
     requires { pc < end }
     ensures value { IfOk result (λ e. (size : ℕ) → limit size (loops_of stacks.old) ≡ end →
-        Enters size end (after_begin size kind offset pc (values_of stacks.old) (pending_of stacks.old) (loops_of stacks.old))
-        pc offset e (values_of stacks.new) (pending_of stacks.new) (loops_of stacks.old) (loops_of stacks.new)) }
+        Enters size end
+        (after_begin size kind offset pc (values_of stacks.old) (pending_of stacks.old) (loops_of stacks.old))
+        pc offset e
+        (values_of stacks.new) (pending_of stacks.new) (loops_of stacks.old) (loops_of stacks.new)) }
     ensures memory { IfErr result (λ e. e ≡ Refused.Memory) }
 {
     match pop_answer(&mut stacks.values) {
@@ -149,7 +154,8 @@ fn outcome_after(
     kept: Option<ExecutionError>,
     results: Vec<Value>,
 ) -> Result<Answer, Refused>
-    ensures value { IfOk result (λ r. outcome_view r ≡ at_end rule (option_map fault_view kept) (map view results.items)) }
+    ensures value { IfOk result
+        (λ r. outcome_view r ≡ at_end rule (option_map fault_view kept) (map view results.items)) }
     ensures memory { IfErr result (λ e. e ≡ Refused.Memory) }
 {
     match rule {
@@ -163,7 +169,8 @@ fn outcome_after(
 fn close(answer: Answer, stacks: &mut Stacks) -> Result<LoopStep, AllocError>
     ensures { IfOk result (λ e. (k : Option Fault) (ab : List (Option Fault)) (l : Loop) (ls : List Loop)
         → pending_of stacks.old ≡ k ∷ ab → loops_of stacks.old ≡ l ∷ ls
-        → (e ≡ AfterLoop) × (values_of stacks.new ≡ outcome_view answer ∷ values_of stacks.old) × (pending_of stacks.new ≡ ab) × (loops_of stacks.new ≡ ls)) }
+        → (e ≡ AfterLoop) × (values_of stacks.new ≡ outcome_view answer ∷ values_of stacks.old)
+        × (pending_of stacks.new ≡ ab) × (loops_of stacks.new ≡ ls)) }
 {
     let _ = pop_loop(&mut stacks.loops);
     let _ = pop_pending(&mut stacks.absorbed);
@@ -174,9 +181,11 @@ fn close(answer: Answer, stacks: &mut Stacks) -> Result<LoopStep, AllocError>
 /// Ends the innermost loop after its last item: pops it with its slot for a pending error, and pushes its outcome.
 #[inline(never)]
 fn end_loop(alloc: Global, rule: ResultRule, stacks: &mut Stacks) -> Result<LoopStep, Refused>
-    ensures value { IfOk result (λ e. (k : Option Fault) (ab : List (Option Fault)) (l : Loop) (ls : List Loop)
+    ensures value { IfOk result
+        (λ e. (k : Option Fault) (ab : List (Option Fault)) (l : Loop) (ls : List Loop)
         → pending_of stacks.old ≡ k ∷ ab → loops_of stacks.old ≡ l ∷ ls
-        → (e ≡ AfterLoop) × (values_of stacks.new ≡ at_end rule k l.results ∷ values_of stacks.old) × (pending_of stacks.new ≡ ab) × (loops_of stacks.new ≡ ls)) }
+        → (e ≡ AfterLoop) × (values_of stacks.new ≡ at_end rule k l.results ∷ values_of stacks.old)
+        × (pending_of stacks.new ≡ ab) × (loops_of stacks.new ≡ ls)) }
     ensures memory { IfErr result (λ e. e ≡ Refused.Memory) }
 {
     match pop_pending(&mut stacks.absorbed) {
@@ -200,7 +209,8 @@ fn next_item(
     pc: usize,
     stacks: &mut Stacks,
 ) -> Result<LoopStep, Refused>
-    ensures value { IfOk result (λ e. (body : ℕ) (k : Option Fault) (ab : List (Option Fault)) (l : Loop) (ls : List Loop)
+    ensures value { IfOk result
+        (λ e. (body : ℕ) (k : Option Fault) (ab : List (Option Fault)) (l : Loop) (ls : List Loop)
         → pending_of stacks.old ≡ k ∷ ab → loops_of stacks.old ≡ l ∷ ls → l.start ≡ body → l.finish ≡ pc →
         Advances (next_iteration (at_end rule k l.results) pc k l l.rest (values_of stacks.old) ab ls)
         body pc e (values_of stacks.new) (pending_of stacks.new) (l ∷ ls) (loops_of stacks.new)) }
@@ -223,7 +233,8 @@ fn take_outcome(
     answer: Answer,
     stacks: &mut Stacks,
 ) -> Result<LoopStep, Refused>
-    ensures value { IfOk result (λ e. (body : ℕ) (k : Option Fault) (ab : List (Option Fault)) (l : Loop) (ls : List Loop)
+    ensures value { IfOk result
+        (λ e. (body : ℕ) (k : Option Fault) (ab : List (Option Fault)) (l : Loop) (ls : List Loop)
         → pending_of stacks.old ≡ k ∷ ab → loops_of stacks.old ≡ l ∷ ls → l.start ≡ body → l.finish ≡ pc →
         Advances (after_deciding_item stop pc (outcome_view answer) (values_of stacks.old) k ab l ls)
         body pc e (values_of stacks.new) (pending_of stacks.new) (l ∷ ls) (loops_of stacks.new)) }
@@ -253,9 +264,11 @@ fn gather(
     iteration_result: Result<Option<Value>, ExecutionError>,
     stacks: &mut Stacks,
 ) -> Result<LoopStep, Refused>
-    ensures value { IfOk result (λ e. (body : ℕ) (k : Option Fault) (ab : List (Option Fault)) (l : Loop) (ls : List Loop)
+    ensures value { IfOk result
+        (λ e. (body : ℕ) (k : Option Fault) (ab : List (Option Fault)) (l : Loop) (ls : List Loop)
         → pending_of stacks.old ≡ k ∷ ab → loops_of stacks.old ≡ l ∷ ls → l.start ≡ body → l.finish ≡ pc →
-        Advances (after_collected_item kind pc (iteration_result_view iteration_result) (values_of stacks.old) k ab l ls)
+        Advances (after_collected_item kind pc
+        (iteration_result_view iteration_result) (values_of stacks.old) k ab l ls)
         body pc e (values_of stacks.new) (pending_of stacks.new) (l ∷ ls) (loops_of stacks.new)) }
     ensures memory { IfErr result (λ e. e ≡ Refused.Memory) }
 {
@@ -278,9 +291,11 @@ fn collect(
     answer: Answer,
     stacks: &mut Stacks,
 ) -> Result<LoopStep, Refused>
-    ensures value { IfOk result (λ e. (body : ℕ) (k : Option Fault) (ab : List (Option Fault)) (l : Loop) (ls : List Loop)
+    ensures value { IfOk result
+        (λ e. (body : ℕ) (k : Option Fault) (ab : List (Option Fault)) (l : Loop) (ls : List Loop)
         → pending_of stacks.old ≡ k ∷ ab → loops_of stacks.old ≡ l ∷ ls → l.start ≡ body → l.finish ≡ pc →
-        Advances (after_collected_item kind pc (iteration_result_of kind l.item [] (outcome_view answer)) (values_of stacks.old) k ab l ls)
+        Advances (after_collected_item kind pc
+        (iteration_result_of kind l.item [] (outcome_view answer)) (values_of stacks.old) k ab l ls)
         body pc e (values_of stacks.new) (pending_of stacks.new) (l ∷ ls) (loops_of stacks.new)) }
     ensures memory { IfErr result (λ e. e ≡ Refused.Memory) }
 {
@@ -301,7 +316,8 @@ fn take_filtered_value(
     kept: Option<bool>,
     stacks: &mut Stacks,
 ) -> Result<LoopStep, Refused>
-    ensures value { IfOk result (λ e. (body : ℕ) (k : Option Fault) (ab : List (Option Fault)) (l : Loop) (ls : List Loop)
+    ensures value { IfOk result
+        (λ e. (body : ℕ) (k : Option Fault) (ab : List (Option Fault)) (l : Loop) (ls : List Loop)
         → pending_of stacks.old ≡ k ∷ ab → loops_of stacks.old ≡ l ∷ ls → l.start ≡ body → l.finish ≡ pc →
         Advances (after_filter pc kept (values_of stacks.old) k ab l ls)
         body pc e (values_of stacks.new) (pending_of stacks.new) (l ∷ ls) (loops_of stacks.new)) }
@@ -325,7 +341,8 @@ fn take_filtered(
     answer: Answer,
     stacks: &mut Stacks,
 ) -> Result<LoopStep, Refused>
-    ensures value { IfOk result (λ e. (body : ℕ) (k : Option Fault) (ab : List (Option Fault)) (l : Loop) (ls : List Loop)
+    ensures value { IfOk result
+        (λ e. (body : ℕ) (k : Option Fault) (ab : List (Option Fault)) (l : Loop) (ls : List Loop)
         → pending_of stacks.old ≡ k ∷ ab → loops_of stacks.old ≡ l ∷ ls → l.start ≡ body → l.finish ≡ pc →
         Advances (after_filtered_item pc (outcome_view answer) (values_of stacks.old) k ab l ls)
         body pc e (values_of stacks.new) (pending_of stacks.new) (l ∷ ls) (loops_of stacks.new)) }
@@ -345,9 +362,11 @@ fn take_image(
     answer: Answer,
     stacks: &mut Stacks,
 ) -> Result<LoopStep, Refused>
-    ensures value { IfOk result (λ e. (body : ℕ) (k : Option Fault) (ab : List (Option Fault)) (l : Loop) (ls : List Loop)
+    ensures value { IfOk result
+        (λ e. (body : ℕ) (k : Option Fault) (ab : List (Option Fault)) (l : Loop) (ls : List Loop)
         → pending_of stacks.old ≡ k ∷ ab → loops_of stacks.old ≡ l ∷ ls → l.start ≡ body → l.finish ≡ pc →
-        Advances (after_collected_item MacroKind.Map pc (and_then (outcome_view answer) (λ v. Ok (Some v))) (values_of stacks.old) k ab l ls)
+        Advances (after_collected_item MacroKind.Map pc
+        (and_then (outcome_view answer) (λ v. Ok (Some v))) (values_of stacks.old) k ab l ls)
         body pc e (values_of stacks.new) (pending_of stacks.new) (l ∷ ls) (loops_of stacks.new)) }
     ensures memory { IfErr result (λ e. e ≡ Refused.Memory) }
 {
@@ -369,9 +388,11 @@ fn turn_back(
     answer: Answer,
     stacks: &mut Stacks,
 ) -> Result<LoopStep, Refused>
-    ensures value { IfOk result (λ e. (body : ℕ) (k : Option Fault) (ab : List (Option Fault)) (l : Loop) (ls : List Loop)
+    ensures value { IfOk result
+        (λ e. (body : ℕ) (k : Option Fault) (ab : List (Option Fault)) (l : Loop) (ls : List Loop)
         → pending_of stacks.old ≡ k ∷ ab → loops_of stacks.old ≡ l ∷ ls → l.start ≡ body → l.finish ≡ pc →
-        Advances (after_iteration end.kind end.filtered pc (outcome_view answer) (values_of stacks.old) k ab l ls)
+        Advances
+        (after_iteration end.kind end.filtered pc (outcome_view answer) (values_of stacks.old) k ab l ls)
         body pc e (values_of stacks.new) (pending_of stacks.new) (l ∷ ls) (loops_of stacks.new)) }
     ensures memory { IfErr result (λ e. e ≡ Refused.Memory) }
 {
@@ -405,8 +426,10 @@ fn passing_by(kind: MacroKind, outcome: bool) -> Option<ResultRule>
 /// How a loop comes to its outcome, where this bool at an item neither decides it nor gives anything to it.
 #[inline(always)]
 fn passing(end: End, outcome: bool) -> Option<ResultRule>
-    ensures { IfSome result (λ rule. (p : ℕ) (vs : List Outcome) (k : Option Fault) (ab : List (Option Fault)) (l : Loop) (ls : List Loop)
-        → after_iteration end.kind end.filtered p (Ok (bool outcome)) vs k ab l ls ≡ next_iteration (at_end rule k l.results) p k l l.rest vs ab ls) }
+    ensures { IfSome result (λ rule.
+        (p : ℕ) (vs : List Outcome) (k : Option Fault) (ab : List (Option Fault)) (l : Loop) (ls : List Loop)
+        → after_iteration end.kind end.filtered p (Ok (bool outcome)) vs k ab l ls
+        ≡ next_iteration (at_end rule k l.results) p k l l.rest vs ab ls) }
 {
     match end.kind {
         MacroKind::All => {
@@ -438,9 +461,11 @@ fn passing(end: End, outcome: bool) -> Option<ResultRule>
 /// How the loop comes to its outcome, where its end finds a bool that neither decides it nor gives anything to it.
 #[inline(always)]
 fn passing_on_top(end: End, stacks: &Stacks) -> Option<ResultRule>
-    ensures { IfSome result (λ rule. (pending_of stacks.now ≢ []) × (r : Outcome) × (vs : List Outcome) × (values_of stacks.now ≡ r ∷ vs)
+    ensures { IfSome result (λ rule. (pending_of stacks.now ≢ [])
+        × (r : Outcome) × (vs : List Outcome) × (values_of stacks.now ≡ r ∷ vs)
         × ((p : ℕ) (k : Option Fault) (ab : List (Option Fault)) (l : Loop) (ls : List Loop)
-        → after_iteration end.kind end.filtered p r vs k ab l ls ≡ next_iteration (at_end rule k l.results) p k l l.rest vs ab ls)) }
+        → after_iteration end.kind end.filtered p r vs k ab l ls
+        ≡ next_iteration (at_end rule k l.results) p k l l.rest vs ab ls)) }
 {
     match top(&stacks.values) {
         Some(Ok(Value::Bool(outcome))) => {
@@ -463,8 +488,10 @@ pub(crate) fn advance(
     stacks: &mut Stacks,
 ) -> Result<LoopStep, Refused>
     ensures value { IfOk result (λ e. (body : ℕ) → Top body pc (loops_of stacks.old) →
-        Advances (after_next end.kind end.filtered pc (values_of stacks.old) (pending_of stacks.old) (loops_of stacks.old))
-        body pc e (values_of stacks.new) (pending_of stacks.new) (loops_of stacks.old) (loops_of stacks.new)) }
+        Advances (after_next end.kind end.filtered pc
+        (values_of stacks.old) (pending_of stacks.old) (loops_of stacks.old))
+        body pc e
+        (values_of stacks.new) (pending_of stacks.new) (loops_of stacks.old) (loops_of stacks.new)) }
     ensures memory { IfErr result (λ e. e ≡ Refused.Memory) }
 {
     match passing_on_top(end, stacks) {
@@ -480,8 +507,10 @@ pub(crate) fn advance(
 #[inline(always)]
 fn take_item(alloc: Global, end: End, pc: usize, stacks: &mut Stacks) -> Result<LoopStep, Refused>
     ensures value { IfOk result (λ e. (body : ℕ) → Top body pc (loops_of stacks.old) →
-        Advances (after_next end.kind end.filtered pc (values_of stacks.old) (pending_of stacks.old) (loops_of stacks.old))
-        body pc e (values_of stacks.new) (pending_of stacks.new) (loops_of stacks.old) (loops_of stacks.new)) }
+        Advances (after_next end.kind end.filtered pc
+        (values_of stacks.old) (pending_of stacks.old) (loops_of stacks.old))
+        body pc e
+        (values_of stacks.new) (pending_of stacks.new) (loops_of stacks.old) (loops_of stacks.new)) }
     ensures memory { IfErr result (λ e. e ≡ Refused.Memory) }
 {
     match pop_answer(&mut stacks.values) {
@@ -498,7 +527,8 @@ fn take_item(alloc: Global, end: End, pc: usize, stacks: &mut Stacks) -> Result<
 
 /// Which loop's end an instruction is, if any.
 pub(crate) fn end_of(instr: &Instr) -> Option<End>
-    ensures { MatchOption result ((p m : ℕ) → may_lead_to (op instr.now) p m ≡ nat_lt p m) (λ end. op instr.now ≡ next end.kind end.filtered) }
+    ensures { MatchOption result ((p m : ℕ) → may_lead_to (op instr.now) p m ≡ nat_lt p m)
+        (λ end. op instr.now ≡ next end.kind end.filtered) }
 {
     match instr {
         Instr::Next { kind, filtered } => Some(End {

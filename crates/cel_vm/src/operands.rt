@@ -56,7 +56,8 @@ fn fail(
     values: &mut Vec<Answer>,
 ) -> Result<Option<usize>, AllocError>
     requires { pc < end }
-    ensures { IfOk result (λ q. TurnsValues pc end (after_guard depth offset pc (outcomes values.old.items)) q (outcomes values.new.items)) }
+    ensures { IfOk result (λ q. TurnsValues pc end
+        (after_guard depth offset pc (outcomes values.old.items)) q (outcomes values.new.items)) }
 {
     match pop_answer(values) {
         None => Ok(None),
@@ -83,7 +84,8 @@ pub(crate) fn guard(
     values: &mut Vec<Answer>,
 ) -> Result<Option<usize>, AllocError>
     requires { pc < end }
-    ensures { IfOk result (λ q. TurnsValues pc end (after_guard depth offset pc (outcomes values.old.items)) q (outcomes values.new.items)) }
+    ensures { IfOk result (λ q. TurnsValues pc end
+        (after_guard depth offset pc (outcomes values.old.items)) q (outcomes values.new.items)) }
 {
     match top(values) {
         None => Ok(None),
@@ -108,7 +110,8 @@ fn truth_of(
     test: Test,
     value: &Value,
 ) -> Result<Result<bool, ExecutionError>, Refused>
-    ensures value { IfOk result (λ r. MatchResult r (λ b. truth (test_name test) (Ok (view value.now)) ≡ Ok b) (λ e. truth (test_name test) (Ok (view value.now)) ≡ Err (fault_view e))) }
+    ensures value { IfOk result (λ r. MatchResult r (λ b. truth (test_name test) (Ok (view value.now)) ≡ Ok b)
+        (λ e. truth (test_name test) (Ok (view value.now)) ≡ Err (fault_view e))) }
     ensures memory { IfErr result (λ e. e ≡ Refused.Memory) }
 {
     match value {
@@ -129,7 +132,8 @@ fn branch_on_any(
     values: &mut Vec<Answer>,
 ) -> Result<Option<usize>, Refused>
     requires { pc < end }
-    ensures value { IfOk result (λ q. TurnsValues pc end (after_branch (test_name test) on_false offset pc (outcomes values.old.items)) q (outcomes values.new.items)) }
+    ensures value { IfOk result (λ q. TurnsValues pc end (after_branch (test_name test) on_false offset pc
+        (outcomes values.old.items)) q (outcomes values.new.items)) }
     ensures memory { IfErr result (λ e. e ≡ Refused.Memory) }
 {
     match pop_answer(values) {
@@ -163,7 +167,8 @@ pub(crate) fn branch(
     values: &mut Vec<Answer>,
 ) -> Result<Option<usize>, Refused>
     requires { pc < end }
-    ensures value { IfOk result (λ q. TurnsValues pc end (after_branch (test_name test) on_false offset pc (outcomes values.old.items)) q (outcomes values.new.items)) }
+    ensures value { IfOk result (λ q. TurnsValues pc end (after_branch (test_name test) on_false offset pc
+        (outcomes values.old.items)) q (outcomes values.new.items)) }
     ensures memory { IfErr result (λ e. e ≡ Refused.Memory) }
 {
     match top(values) {
@@ -191,7 +196,9 @@ fn absorb_left(
     kept: &mut Vec<Option<ExecutionError>>,
 ) -> Result<Option<usize>, Refused>
     requires { pc < end }
-    ensures value { IfOk result (λ q. Turns pc end (after_left_operand stop offset pc (outcomes values.old.items) (pending kept.old.items)) q (outcomes values.new.items) (pending kept.new.items)) }
+    ensures value { IfOk result
+        (λ q. Turns pc end (after_left_operand stop offset pc (outcomes values.old.items)
+        (pending kept.old.items)) q (outcomes values.new.items) (pending kept.new.items)) }
     ensures memory { IfErr result (λ e. e ≡ Refused.Memory) }
 {
     match pop_answer(values) {
@@ -221,7 +228,9 @@ pub(crate) fn take_left(
     kept: &mut Vec<Option<ExecutionError>>,
 ) -> Result<Option<usize>, Refused>
     requires { pc < end }
-    ensures value { IfOk result (λ q. Turns pc end (after_left_operand stop offset pc (outcomes values.old.items) (pending kept.old.items)) q (outcomes values.new.items) (pending kept.new.items)) }
+    ensures value { IfOk result
+        (λ q. Turns pc end (after_left_operand stop offset pc (outcomes values.old.items)
+        (pending kept.old.items)) q (outcomes values.new.items) (pending kept.new.items)) }
     ensures memory { IfErr result (λ e. e ≡ Refused.Memory) }
 {
     if is_on_top(values, !stop) {
@@ -243,7 +252,8 @@ fn absorb_right(
     kept: &mut Vec<Option<ExecutionError>>,
 ) -> Result<Option<usize>, Refused>
     requires { pc < end }
-    ensures value { IfOk result (λ q. Turns pc end (after_right_operand stop pc (outcomes values.old.items) (pending kept.old.items)) q (outcomes values.new.items) (pending kept.new.items)) }
+    ensures value { IfOk result (λ q. Turns pc end (after_right_operand stop pc (outcomes values.old.items)
+        (pending kept.old.items)) q (outcomes values.new.items) (pending kept.new.items)) }
     ensures memory { IfErr result (λ e. e ≡ Refused.Memory) }
 {
     match pop_answer(values) {
@@ -275,7 +285,8 @@ pub(crate) fn take_right(
     kept: &mut Vec<Option<ExecutionError>>,
 ) -> Result<Option<usize>, Refused>
     requires { pc < end }
-    ensures value { IfOk result (λ q. Turns pc end (after_right_operand stop pc (outcomes values.old.items) (pending kept.old.items)) q (outcomes values.new.items) (pending kept.new.items)) }
+    ensures value { IfOk result (λ q. Turns pc end (after_right_operand stop pc (outcomes values.old.items)
+        (pending kept.old.items)) q (outcomes values.new.items) (pending kept.new.items)) }
     ensures memory { IfErr result (λ e. e ≡ Refused.Memory) }
 {
     if is_on_top(values, !stop) && is_clear(kept) {
@@ -287,7 +298,8 @@ pub(crate) fn take_right(
 
 /// The topmost value, unless it is an error.
 pub(crate) fn pop_operand(values: &mut Vec<Answer>) -> Option<Value>
-    ensures { MatchOption result (Lacks (outcomes values.old.items)) (λ v. outcomes values.old.items ≡ Ok (view v) ∷ outcomes values.new.items) }
+    ensures { MatchOption result (Lacks (outcomes values.old.items))
+        (λ v. outcomes values.old.items ≡ Ok (view v) ∷ outcomes values.new.items) }
 {
     match pop_answer(values) {
         None => None,
@@ -327,7 +339,8 @@ pub(crate) fn top_value(values: &Vec<Answer>) -> Option<&Value>
 /// The two topmost values, the lower one first.
 pub(crate) fn top_two(values: &Vec<Answer>) -> Option<(&Value, &Value)>
     ensures { MatchOption result ((ds : List Data) → taken 2 (outcomes values.now.items) ds ≡ None)
-        (λ p. (vs : List Outcome) × (outcomes values.now.items ≡ Ok (view p.1.now) ∷ Ok (view p.0.now) ∷ vs)) }
+        (λ p. (vs : List Outcome)
+        × (outcomes values.now.items ≡ Ok (view p.1.now) ∷ Ok (view p.0.now) ∷ vs)) }
 {
     match values.as_slice().split_last() {
         None => None,
@@ -356,7 +369,8 @@ pub(crate) fn take_values(
     found: &mut Vec<Value>,
 ) -> Result<bool, AllocError>
     ensures { IfOk result (λ done. MatchBool done
-        ((length found.new.items ≡ count) × (taken count (outcomes values.old.items) [] ≡ Some (map view found.new.items, outcomes values.new.items)))
+        ((length found.new.items ≡ count) × (taken count (outcomes values.old.items) []
+        ≡ Some (map view found.new.items, outcomes values.new.items)))
         (taken count (outcomes values.old.items) [] ≡ None)) }
 {
     found.clear();

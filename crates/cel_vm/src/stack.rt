@@ -34,7 +34,8 @@ pub fn push_answer(values: &mut Vec<Answer>, answer: Answer) -> Result<(), Alloc
 /// A copy of a value, of any kind.
 #[inline(never)]
 fn push_any(values: &mut Vec<Answer>, value: &Value) -> Result<(), Refused>
-    ensures value { OnOk result (outcomes values.new.items ≡ Ok (view value.now) ∷ outcomes values.old.items) }
+    ensures value { OnOk result
+        (outcomes values.new.items ≡ Ok (view value.now) ∷ outcomes values.old.items) }
     ensures memory { IfErr result (λ e. e ≡ Refused.Memory) }
 {
     push_answer(values, Ok(value.try_clone()?))?;
@@ -44,7 +45,8 @@ fn push_any(values: &mut Vec<Answer>, value: &Value) -> Result<(), Refused>
 /// A copy of a value. Of an int, a bool, a string, a list or a map it takes a few steps, which are inlined.
 #[inline(always)]
 pub fn push_copy(values: &mut Vec<Answer>, value: &Value) -> Result<(), Refused>
-    ensures value { OnOk result (outcomes values.new.items ≡ Ok (view value.now) ∷ outcomes values.old.items) }
+    ensures value { OnOk result
+        (outcomes values.new.items ≡ Ok (view value.now) ∷ outcomes values.old.items) }
     ensures memory { IfErr result (λ e. e ≡ Refused.Memory) }
 {
     match value {
@@ -58,7 +60,8 @@ pub fn push_copy(values: &mut Vec<Answer>, value: &Value) -> Result<(), Refused>
 }
 
 pub fn pop_answer(values: &mut Vec<Answer>) -> Option<Answer>
-    ensures { MatchOption result (outcomes values.old.items ≡ []) (λ r. outcomes values.old.items ≡ outcome_view r ∷ outcomes values.new.items) }
+    ensures { MatchOption result (outcomes values.old.items ≡ [])
+        (λ r. outcomes values.old.items ≡ outcome_view r ∷ outcomes values.new.items) }
 {
     values.pop()
 }
@@ -66,7 +69,8 @@ pub fn pop_answer(values: &mut Vec<Answer>) -> Option<Answer>
 /// The topmost answer.
 #[inline(always)]
 pub fn top(values: &Vec<Answer>) -> Option<&Answer>
-    ensures { MatchOption result (outcomes values.now.items ≡ []) (λ r. (vs : List Outcome) × (outcomes values.now.items ≡ outcome_view r.now ∷ vs)) }
+    ensures { MatchOption result (outcomes values.now.items ≡ [])
+        (λ r. (vs : List Outcome) × (outcomes values.now.items ≡ outcome_view r.now ∷ vs)) }
 {
     match values.as_slice().split_last() {
         Some((answer, _)) => Some(answer),
@@ -88,7 +92,8 @@ pub fn is_on_top(values: &Vec<Answer>, sought: bool) -> bool
 /// Drops the topmost answer.
 #[inline(always)]
 pub fn drop_answer(values: &mut Vec<Answer>)
-    ensures { (r : Outcome) (vs : List Outcome) → outcomes values.old.items ≡ r ∷ vs → outcomes values.new.items ≡ vs }
+    ensures { (r : Outcome) (vs : List Outcome)
+        → outcomes values.old.items ≡ r ∷ vs → outcomes values.new.items ≡ vs }
 {
     let count = values.len();
     if 0 < count {
@@ -99,7 +104,8 @@ pub fn drop_answer(values: &mut Vec<Answer>)
 /// This answer in place of the topmost one.
 #[inline(always)]
 pub fn put_top(values: &mut Vec<Answer>, answer: Answer)
-    ensures { (r : Outcome) (vs : List Outcome) → outcomes values.old.items ≡ r ∷ vs → outcomes values.new.items ≡ outcome_view answer ∷ vs }
+    ensures { (r : Outcome) (vs : List Outcome)
+        → outcomes values.old.items ≡ r ∷ vs → outcomes values.new.items ≡ outcome_view answer ∷ vs }
 {
     let count = values.len();
     if 0 < count {
@@ -112,13 +118,15 @@ pub fn push_pending(
     absorbed: &mut Vec<Option<ExecutionError>>,
     fault: Option<ExecutionError>,
 ) -> Result<(), AllocError>
-    ensures { OnOk result (pending absorbed.new.items ≡ option_map fault_view fault ∷ pending absorbed.old.items) }
+    ensures { OnOk result
+        (pending absorbed.new.items ≡ option_map fault_view fault ∷ pending absorbed.old.items) }
 {
     push_last(absorbed, fault)
 }
 
 pub fn pop_pending(absorbed: &mut Vec<Option<ExecutionError>>) -> Option<Option<ExecutionError>>
-    ensures { MatchOption result (pending absorbed.old.items ≡ []) (λ k. pending absorbed.old.items ≡ option_map fault_view k ∷ pending absorbed.new.items) }
+    ensures { MatchOption result (pending absorbed.old.items ≡ [])
+        (λ k. pending absorbed.old.items ≡ option_map fault_view k ∷ pending absorbed.new.items) }
 {
     absorbed.pop()
 }
@@ -137,7 +145,8 @@ pub fn is_clear(absorbed: &Vec<Option<ExecutionError>>) -> bool
 /// Drops the topmost slot for an error.
 #[inline(always)]
 pub fn drop_pending(absorbed: &mut Vec<Option<ExecutionError>>)
-    ensures { (k : Option Fault) (ks : List (Option Fault)) → pending absorbed.old.items ≡ k ∷ ks → pending absorbed.new.items ≡ ks }
+    ensures { (k : Option Fault) (ks : List (Option Fault))
+        → pending absorbed.old.items ≡ k ∷ ks → pending absorbed.new.items ≡ ks }
 {
     let count = absorbed.len();
     if 0 < count {
@@ -160,7 +169,8 @@ pub fn push_loop(loops: &mut Vec<LoopState>, state: LoopState) -> Result<(), All
 }
 
 pub fn pop_loop(loops: &mut Vec<LoopState>) -> Option<LoopState>
-    ensures { MatchOption result (loops_view loops.old.items ≡ []) (λ l. loops_view loops.old.items ≡ loop_view l ∷ loops_view loops.new.items) }
+    ensures { MatchOption result (loops_view loops.old.items ≡ [])
+        (λ l. loops_view loops.old.items ≡ loop_view l ∷ loops_view loops.new.items) }
 {
     loops.pop()
 }

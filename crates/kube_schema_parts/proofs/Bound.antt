@@ -1,5 +1,5 @@
 -- What is demanded of a bound object or list is alike in the parts that were bound.
-use Rattle.std.proofs.Common.{◌≡◌, ℕ, suc, Box, ◌+◌, ◌<◌, List, [], ◌∷◌, ◌++◌, map, length, take, get_or, Bool, true, false, not, Bor, Option, Some, None, is_some, option_copied, option_map, refl, sym, ap, ◌∙◌, subst, inl, inr, true≢false}
+use Rattle.std.proofs.Common.{◌≡◌, ℕ, suc, Box, ◌+◌, ◌<◌, List, [], ◌∷◌, ◌++◌, map, length, take, get_or, Bool, true, false, not, Bor, Option, Some, None, is_some, option_copied, option_map, refl, sym, ap, ◌∙◌, subst, true≢false}
 use Rattle.std.proofs.lemmas.Map.Text.{is_eq-slice_cmp}
 use Rattle.std.proofs.lemmas.Slice.Eq.{bytes_eq-Decides}
 use Rattle.std.proofs.lemmas.List.{map-append, take_more}
@@ -11,7 +11,6 @@ use Rattle.serde_json.specs.Data as json
 use Rattle.serde_json.specs.Find.{get_member}
 use Rattle.serde_json.specs.View.{view as json_view, items_view as json_items_view}
 use Rattle.serde_json.specs.declared.value.Value.{Value as Json}
-use Rattle.cel_demand.proofs.Parts.{alike_equal}
 use Rattle.cel_demand.specs.Alike.{Alike, OptionsAlike, ListsAlike, MembersAlike}
 use Rattle.cel_demand.specs.Demand.{part_of, part_step, members_view}
 use Rattle.cel_demand.specs.declared.demand.Demand.{Demand, Demand-F, fold-roll-Demand}
@@ -25,11 +24,13 @@ use Rattle.cel_value.specs.View.{view, items_of}
 use Rattle.cel_value.specs.declared.value.Value.{Value}
 use Rattle.kube_schema_values.proofs.Bounds.{bound_within, items_by_is}
 use Rattle.kube_schema_values.proofs.Fields.{found_in_object}
-use Rattle.kube_schema_values.specs.Conversion.{ConversionAccessors, items_by, member_by, member_key, member_node, object_by, or_else, to_cel, to_cel_by}
+use Rattle.kube_schema_values.proofs.Found.{find-put, find-put_other, found_member}
+use Rattle.kube_schema_values.proofs.Plains.{plain_items_is}
+use Rattle.kube_schema_values.specs.Conversion.{ConversionAccessors, items_by, key_in, member_by, or_else, to_cel, to_cel_by}
+use Rattle.kube_schema_values.specs.Escape.{escape}
 use Rattle.kube_schema_values.specs.Fields.{field_besides}
-use Rattle.kube_schema_parts.specs.Parts.{AreParts}
-use Rattle.kube_schema_values.proofs.Found.{find-put, find-put_other}
 use Rattle.kube_schema_values.specs.Plain.{plain}
+use Rattle.kube_schema_parts.specs.Parts.{AreParts, entries_at, is_embedded_at, items_node, key_at, node_of_member, value_at}
 
 -- ---- what was found
 
@@ -108,15 +109,30 @@ neither p o q h k = subst (λ z. OptionsAlike (Alike p) z q) (sym h) (subst (λ 
 
 -- ---- what stands in a bound object
 
-module _ {S : Type 0} (accessors : ConversionAccessors S) (f : S → json.Data → Data) (s : S) (ms : json.Members) (n : List ℕ) (key : member_key accessors s n ≡ n) where
-  pub member_there : (d : json.Data) → Some d ≡ get_member n ms → find (text_key n) (object_by accessors f s ms) ≡ Some (member_by accessors f s n d)
-  member_there d e = ap (λ k. find (text_key k) (object_by accessors f s ms)) (sym key) ∙ found_in_object accessors f s ms n
-      ∙ ap (λ o. or_else (option_map (member_by accessors f s n) o) (field_besides (accessors.is_embedded s) n)) (sym e)
+or_else_none : (o : Option Data) → o ≡ or_else o None
+or_else_none None = refl
+or_else_none (Some x) = refl
 
-  pub member_absent : None ≡ get_member n ms → accessors.is_embedded s ≡ false → find (text_key n) (object_by accessors f s ms) ≡ None
-  unfolding field_besides
-  member_absent e alone = ap (λ k. find (text_key k) (object_by accessors f s ms)) (sym key) ∙ found_in_object accessors f s ms n
-      ∙ (λ i. or_else (option_map (member_by accessors f s n) (sym e i)) (field_besides (alone i) n))
+pub own_key : (keeps : Bool) (n : List ℕ) → escape n ≡ n → key_in keeps n ≡ n
+own_key true n own = refl
+own_key false n own = own
+
+module _ {S : Type 0} (accessors : ConversionAccessors S) (l : ℕ) (o : Option S) (ms : json.Members) (n : List ℕ) where
+  found_by : (o : Option S) → find (text_key (key_at accessors o n)) (entries_at accessors l o ms)
+      ≡ or_else (option_map (value_at accessors l (node_of_member accessors o n)) (get_member n ms)) (field_besides (is_embedded_at accessors o) n)
+  unfolding member_by field_besides
+  found_by None = found_member n ms ∙ or_else_none (option_map plain (get_member n ms))
+  found_by (Some s) = found_in_object accessors (to_cel accessors l) s ms n
+
+  module _ (key : key_at accessors o n ≡ n) where
+    pub member_there : (d : json.Data) → Some d ≡ get_member n ms → find (text_key n) (entries_at accessors l o ms) ≡ Some (value_at accessors l (node_of_member accessors o n) d)
+    member_there d e = ap (λ k. find (text_key k) (entries_at accessors l o ms)) (sym key) ∙ found_by o
+        ∙ ap (λ m. or_else (option_map (value_at accessors l (node_of_member accessors o n)) m) (field_besides (is_embedded_at accessors o) n)) (sym e)
+
+    pub member_absent : None ≡ get_member n ms → is_embedded_at accessors o ≡ false → find (text_key n) (entries_at accessors l o ms) ≡ None
+    unfolding field_besides
+    member_absent e alone = ap (λ k. find (text_key k) (entries_at accessors l o ms)) (sym key) ∙ found_by o
+        ∙ (λ i. or_else (option_map (value_at accessors l (node_of_member accessors o n)) (sym e i)) (field_besides (alone i) n))
 
 -- ---- one member more
 
@@ -154,23 +170,23 @@ items_more R parts part f items i x lt is h k =
 
 -- ---- what lists and objects are bound to
 
+plain_list : (vs : List Json) → plain (json.array (json_items_view vs)) ≡ list (items_of (map (λ v. plain (json_view v)) vs))
+unfolding plain
+plain_list vs = ap list (plain_items_is vs)
+
 module _ {S : Type 0} (accessors : ConversionAccessors S) where
-  pub list_bound : (k n : ℕ) (s p : S) (d : json.Data) (vs : List Json) → k ≡ suc n → d ≡ json.array (json_items_view vs) → accessors.items s ≡ Some p
-      → to_cel accessors k s d ≡ list (items_of (map (λ v. to_cel accessors n p (json_view v)) vs))
+  items_bound : (n : ℕ) (i : Option S) (vs : List Json) → option_map_or (λ p. list (items_by (to_cel accessors n p) (json_items_view vs))) i (plain (json.array (json_items_view vs)))
+      ≡ list (items_of (map (λ v. value_at accessors n i (json_view v)) vs))
+  items_bound n None vs = plain_list vs
+  items_bound n (Some p) vs = ap list (items_by_is (to_cel accessors n p) vs)
+
+  pub list_bound : (k n : ℕ) (o : Option S) (d : json.Data) (vs : List Json) → k ≡ suc n → d ≡ json.array (json_items_view vs)
+      → value_at accessors k o d ≡ list (items_of (map (λ v. value_at accessors n (items_node accessors o) (json_view v)) vs))
   unfolding to_cel_by
-  list_bound k n s p d vs e is inner =
-      bound_within accessors k n s d e ∙ ap (to_cel_by accessors (to_cel accessors n) s) is
-      ∙ ap (λ o. option_map_or (λ p. list (items_by (to_cel accessors n p) (json_items_view vs))) o (plain (json.array (json_items_view vs)))) inner
-      ∙ ap list (items_by_is (to_cel accessors n p) vs)
+  list_bound k n None d vs e is = ap plain is ∙ plain_list vs
+  list_bound k n (Some s) d vs e is = bound_within accessors k n s d e ∙ ap (to_cel_by accessors (to_cel accessors n) s) is ∙ items_bound n (accessors.items s) vs
 
-  pub object_bound : (k n : ℕ) (s : S) (d : json.Data) (ms : json.Members) → k ≡ suc n → d ≡ json.object ms → to_cel accessors k s d ≡ map_of (object_by accessors (to_cel accessors n) s ms)
-  unfolding to_cel_by
-  object_bound k n s d ms e is = bound_within accessors k n s d e ∙ ap (to_cel_by accessors (to_cel accessors n) s) is
-
-  pub member_inside : (f : S → json.Data → Data) (s p : S) (n : List ℕ) (d : json.Data) → Some p ≡ member_node accessors s n → f p d ≡ member_by accessors f s n d
-  unfolding member_by
-  member_inside f s p n d is = ap (λ o. option_map_or (λ p. f p d) o (plain d)) is
-
-  pub member_plain : (f : S → json.Data → Data) (s : S) (n : List ℕ) (d : json.Data) → None ≡ member_node accessors s n → plain d ≡ member_by accessors f s n d
-  unfolding member_by
-  member_plain f s n d is = ap (λ o. option_map_or (λ p. f p d) o (plain d)) is
+  pub object_bound : (k n : ℕ) (o : Option S) (d : json.Data) (ms : json.Members) → k ≡ suc n → d ≡ json.object ms → value_at accessors k o d ≡ map_of (entries_at accessors n o ms)
+  unfolding to_cel_by plain
+  object_bound k n None d ms e is = ap plain is
+  object_bound k n (Some s) d ms e is = bound_within accessors k n s d e ∙ ap (to_cel_by accessors (to_cel accessors n) s) is

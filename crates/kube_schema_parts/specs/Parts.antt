@@ -1,10 +1,43 @@
 -- Scaffolding: only proofs and private clauses cite it.
--- The parts of members that were bound so far.
-use Rattle.std.specs.Prelude.{◌≡◌, ℕ, List, None}
+-- Values by a node of a schema where there is one, and plainly elsewhere; the parts of members that
+-- were bound so far.
+use Rattle.std.specs.Prelude.{◌≡◌, ℕ, List, Bool, false, Option, None, option_and_then}
+use Rattle.std.specs.Option.{option_map_or}
+use Rattle.serde_json.specs.Data as json
 use Rattle.cel_demand.specs.Alike.{MembersAlike}
 use Rattle.cel_demand.specs.Part.{Members}
-use Rattle.cel_value.specs.Data.{Entries, text_key}
+use Rattle.cel_value.specs.Data.{Data, Entries, text_key}
 use Rattle.cel_value.specs.Find.{find}
+use Rattle.kube_schema_values.specs.Conversion.{ConversionAccessors, key_in, member_node, object_by, to_cel}
+use Rattle.kube_schema_values.specs.Plain.{plain, plain_entries}
+
+module _ {S : Type 0} (accessors : ConversionAccessors S) where
+  -- the node of the items of a list
+  abbrev pub items_node : Option S → Option S
+  items_node node = option_and_then accessors.items node
+
+  -- the node of a member
+  abbrev pub node_of_member : Option S → List ℕ → Option S
+  node_of_member node k = option_and_then (λ s. member_node accessors s k) node
+
+  abbrev pub is_map_at : Option S → Bool
+  is_map_at node = option_map_or accessors.is_map node false
+
+  abbrev pub is_embedded_at : Option S → Bool
+  is_embedded_at node = option_map_or accessors.is_embedded node false
+
+  -- the key of a member
+  abbrev pub key_at : Option S → List ℕ → List ℕ
+  key_at node k = key_in (is_map_at node) k
+
+  -- the value, by the nodes of this number of levels
+  abbrev pub value_at : ℕ → Option S → json.Data → Data
+  value_at n node d = option_map_or (λ s. to_cel accessors n s d) node (plain d)
+
+  -- the entries of an object, its members by the nodes of this number of levels
+  abbrev pub entries_at : ℕ → Option S → json.Members → Entries
+  entries_at n node ms =
+      option_map_or (λ s. object_by accessors (to_cel accessors n) s ms) node (plain_entries ms)
 
 -- the first entries are alike to the second in these members, and have no other
 abbrev pub AreParts : Members → Entries → Entries → Type 0

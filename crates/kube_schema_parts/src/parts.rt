@@ -12,17 +12,17 @@ ghost use Rattle.cel_value.specs.Data.{text_key};
 ghost use Rattle.cel_value.specs.Find.{find};
 ghost use Rattle.cel_value.specs.Keys.{put};
 ghost use Rattle.cel_value.specs.View.{view, entries_view};
-ghost use Rattle.kube_schema_values.specs.Conversion.{to_cel, levels, member_by, member_key, object_by};
-ghost use Rattle.kube_schema_parts.specs.Parts.{AreParts};
+ghost use Rattle.kube_schema_values.specs.Conversion.{to_cel, levels};
+ghost use Rattle.kube_schema_parts.specs.Parts.{AreParts, entries_at, is_embedded_at, is_map_at, items_node, key_at, node_of_member, value_at};
 
 use cel_demand::Demand;
 use cel_value::{Entries, Key, Refused, Value};
-use kube_schema_values::{MemberKeys, Node, bind_at, bind_plain_with};
+use kube_schema_values::{MemberKeys, Node, bind_at, bind_plain_with, is_its_own_escape};
 use serde_json::{Map as Members, Value as Json};
 use std::alloc::Global;
 use std::rc::Rc;
 
-/// The greatest depth at which a schema is looked at.
+/// The greatest depth at which a part is bound alone.
 const MAX_DEPTH: usize = 64;
 
 /// As much of the CEL value of a JSON value as is demanded of it, at a node of a schema that stands `depth` steps below the root. What
@@ -43,28 +43,28 @@ pub fn bind_part_at<N: Node>(
     ensures memory { IfErr result (λ e. e ≡ Refused.Memory) }
 {
     let mut keys = MemberKeys::new(alloc);
-    let part = part_with(alloc, node, value, depth, demand, &mut keys)?;
+    let part = part_with(alloc, Some(node), value, depth, demand, &mut keys)?;
     Ok(part)
 }
 
-// The same, sharing the keys that were made before.
+// The same where there may be no node, sharing the keys that were made before.
 #[cycle(part)]
 fn part_with<N: Node>(
     alloc: Global,
-    node: N,
+    node: Option<N>,
     value: &Json,
     depth: usize,
     demand: &Demand,
     keys: &mut MemberKeys,
 ) -> Result<Value, Refused>
     ensures value { IfOk result (λ v. Alike (part_of demand.now) (view v)
-        (to_cel N.accessors (levels depth) (N.seen node) (json_view value.now))) }
+        (value_at N.accessors (levels depth) (option_map N.seen node) (json_view value.now))) }
     ensures memory { IfErr result (λ e. e ≡ Refused.Memory) }
 {
     match demand {
         Demand::Nothing => Ok(Value::Null),
         Demand::Whole => {
-            let whole = bind_at(alloc, node, value, depth)?;
+            let whole = bind_whole(alloc, node, value, depth, keys)?;
             Ok(whole)
         }
         Demand::Items(item) => {
@@ -78,43 +78,42 @@ fn part_with<N: Node>(
     }
 }
 
-// A part of each item, where the value is a list whose items have a node and aren't demanded whole. Anything else is bound whole.
+// A part of each item, where the value is a list whose items aren't demanded whole. Anything else is bound whole.
 #[cycle(part)]
 fn list_part<N: Node>(
     alloc: Global,
-    node: N,
+    node: Option<N>,
     value: &Json,
     depth: usize,
     item: &Demand,
     keys: &mut MemberKeys,
 ) -> Result<Value, Refused>
     ensures value { IfOk result (λ v. Alike (each_item (part_of item.now)) (view v)
-        (to_cel N.accessors (levels depth) (N.seen node) (json_view value.now))) }
+        (value_at N.accessors (levels depth) (option_map N.seen node) (json_view value.now))) }
     ensures memory { IfErr result (λ e. e ≡ Refused.Memory) }
 {
     if let Some(items) = list_of(value, depth, item) {
-        if let Some(inner) = node.items() {
-            let parts = item_parts(alloc, inner, items, depth + 1, item, keys)?;
-            let list = Value::from_items(alloc, parts)?;
-            return Ok(list);
-        }
+        let parts = item_parts(alloc, node_of_items(node), items, depth + 1, item, keys)?;
+        let list = Value::from_items(alloc, parts)?;
+        return Ok(list);
     }
-    let whole = bind_at(alloc, node, value, depth)?;
+    let whole = bind_whole(alloc, node, value, depth, keys)?;
     Ok(whole)
 }
 
-// The parts of items, at one node.
+// The parts of items, all at one node or at none.
 #[cycle(part)]
 fn item_parts<N: Node>(
     alloc: Global,
-    node: N,
+    node: Option<N>,
     items: &Vec<Json>,
     depth: usize,
     item: &Demand,
     keys: &mut MemberKeys,
 ) -> Result<Vec<Value>, Refused>
     ensures items { IfOk result (λ parts. ListsAlike (Alike (part_of item.now)) (map view parts.items)
-        (map (λ v. to_cel N.accessors (levels depth) (N.seen node) (json_view v)) items.now.items)) }
+        (map (λ v. value_at N.accessors (levels depth) (option_map N.seen node) (json_view v))
+        items.now.items)) }
     ensures memory { IfErr result (λ e. e ≡ Refused.Memory) }
 {
     if items.len() > 1 {
@@ -132,14 +131,14 @@ fn item_parts<N: Node>(
 #[cycle(part)]
 fn map_part<N: Node>(
     alloc: Global,
-    node: N,
+    node: Option<N>,
     value: &Json,
     depth: usize,
     members: &Vec<(Rc<String>, Demand)>,
     keys: &mut MemberKeys,
 ) -> Result<Value, Refused>
     ensures value { IfOk result (λ v. Alike (some_members (demands_view members.now.items)) (view v)
-        (to_cel N.accessors (levels depth) (N.seen node) (json_view value.now))) }
+        (value_at N.accessors (levels depth) (option_map N.seen node) (json_view value.now))) }
     ensures memory { IfErr result (λ e. e ≡ Refused.Memory) }
 {
     if let Some(object) = object_of(value, depth) {
@@ -149,7 +148,7 @@ fn map_part<N: Node>(
             return Ok(map);
         }
     }
-    let whole = bind_at(alloc, node, value, depth)?;
+    let whole = bind_whole(alloc, node, value, depth, keys)?;
     Ok(whole)
 }
 
@@ -157,15 +156,16 @@ fn map_part<N: Node>(
 #[cycle(part)]
 fn member_parts<N: Node>(
     alloc: Global,
-    node: N,
+    node: Option<N>,
     object: &Members<String, Json>,
     depth: usize,
     members: &Vec<(Rc<String>, Demand)>,
     keys: &mut MemberKeys,
 ) -> Result<Option<Entries>, Refused>
     requires { depth ≤ 64 }
-    ensures members { IfOk result (λ found. IfSome found (λ parts. AreParts (demands_view members.now.items) (entries_view parts.entries)
-        (object_by N.accessors (to_cel N.accessors (64 - depth)) (N.seen node) (members_view object.now.entries)))) }
+    ensures members { IfOk result (λ found. IfSome found (λ parts. AreParts (demands_view members.now.items)
+        (entries_view parts.entries)
+        (entries_at N.accessors (64 - depth) (option_map N.seen node) (members_view object.now.entries)))) }
     ensures memory { IfErr result (λ e. e ≡ Refused.Memory) }
 {
     let mut parts = Entries::new(alloc);
@@ -182,7 +182,7 @@ fn member_parts<N: Node>(
 #[cycle(part)]
 fn add_part<N: Node>(
     alloc: Global,
-    node: N,
+    node: Option<N>,
     object: &Members<String, Json>,
     depth: usize,
     member: &(Rc<String>, Demand),
@@ -190,47 +190,77 @@ fn add_part<N: Node>(
     keys: &mut MemberKeys,
 ) -> Result<bool, Refused>
     requires { depth ≤ 64 }
-    ensures added { IfOk result (λ added. added ≡ true → (bound : bound_data.Entries) → bound ≡ object_by N.accessors (to_cel N.accessors (64 - depth)) (N.seen node)
-        (members_view object.now.entries) → (done : List Entry) → AreParts (demands_view done) (entries_view parts.old.entries) bound
+    ensures added { IfOk result (λ added. added ≡ true → (bound : bound_data.Entries)
+        → bound ≡ entries_at N.accessors (64 - depth) (option_map N.seen node)
+        (members_view object.now.entries)
+        → (done : List Entry) → AreParts (demands_view done) (entries_view parts.old.entries) bound
         → AreParts (demands_view (done ++ member.now ∷ [])) (entries_view parts.new.entries) bound) }
     ensures memory { IfErr result (λ e. e ≡ Refused.Memory) }
 {
     let name = member.0.as_str();
-    let is_found = is_found_by(&node, name, keys)?;
+    let is_found = is_found_by(node, name, keys)?;
     if !is_found {
         return Ok(false);
     }
     let Some(value) = member_of(object, name) else {
-        return Ok(!node.is_embedded());
+        return Ok(!is_embedded(node));
     };
-    let part = member_part(alloc, node, name, value, depth, &member.1, keys)?;
+    let inner = node_of_member(node, name);
+    let part = part_with(alloc, inner, value, depth + 1, &member.1, keys)?;
     let is_new = put_new(parts, member.0.clone()?, part)?;
     Ok(is_new)
 }
 
-// A part of a member at its node, or the whole of it, plainly.
-#[cycle(part)]
-#[tactic(auto, unfolding(kube_schema_values::specs::Conversion::member_by))]
-fn member_part<N: Node>(
+// The whole value, by the node where there is one, else plainly.
+fn bind_whole<N: Node>(
     alloc: Global,
-    node: N,
-    name: &str,
-    member: &Json,
+    node: Option<N>,
+    value: &Json,
     depth: usize,
-    demand: &Demand,
     keys: &mut MemberKeys,
 ) -> Result<Value, Refused>
-    requires { depth ≤ 64 }
-    ensures value { IfOk result (λ v. Alike (part_of demand.now) (view v)
-        (member_by N.accessors (to_cel N.accessors (64 - depth)) (N.seen node) name.now (json_view member.now))) }
+    ensures value { IfOk result (λ v. view v
+        ≡ value_at N.accessors (levels depth) (option_map N.seen node) (json_view value.now)) }
     ensures memory { IfErr result (λ e. e ≡ Refused.Memory) }
 {
-    let Some(inner) = node.member(name) else {
-        let plain = bind_plain_with(alloc, member, keys)?;
-        return Ok(plain);
-    };
-    let part = part_with(alloc, inner, member, depth + 1, demand, keys)?;
-    Ok(part)
+    match node {
+        Some(node) => bind_at(alloc, node, value, depth),
+        None => bind_plain_with(alloc, value, keys),
+    }
+}
+
+// The node of the items of a list.
+fn node_of_items<N: Node>(node: Option<N>) -> Option<N>
+    ensures { option_map N.seen result ≡ items_node N.accessors (option_map N.seen node) }
+{
+    node?.items()
+}
+
+// The node of a member.
+fn node_of_member<N: Node>(node: Option<N>, name: &str) -> Option<N>
+    ensures { option_map N.seen result ≡ node_of_member N.accessors (option_map N.seen node) name.now }
+{
+    node?.member(name)
+}
+
+// Whether the objects are maps with keys of their own.
+fn is_map<N: Node>(node: Option<N>) -> bool
+    ensures { result ≡ is_map_at N.accessors (option_map N.seen node) }
+{
+    match node {
+        Some(node) => node.is_map(),
+        None => false,
+    }
+}
+
+// Whether the objects are whole Kubernetes objects.
+fn is_embedded<N: Node>(node: Option<N>) -> bool
+    ensures { result ≡ is_embedded_at N.accessors (option_map N.seen node) }
+{
+    match node {
+        Some(node) => node.is_embedded(),
+        None => false,
+    }
 }
 
 // The items of a list, at a depth that counts and where less than the whole of each is demanded.
@@ -265,12 +295,12 @@ fn object_of(value: &Json, depth: usize) -> Option<&Members<String, Json>>
 }
 
 // Whether a name is the key of the member of that name.
-fn is_found_by<N: Node>(node: &N, name: &str, keys: &mut MemberKeys) -> Result<bool, Refused>
+fn is_found_by<N: Node>(node: Option<N>, name: &str, keys: &mut MemberKeys) -> Result<bool, Refused>
     ensures found { IfOk result (λ is_found. is_found ≡ true
-        → member_key N.accessors (N.seen node.now) name.now ≡ name.now) }
+        → key_at N.accessors (option_map N.seen node) name.now ≡ name.now) }
     ensures memory { IfErr result (λ e. e ≡ Refused.Memory) }
 {
-    if node.is_map() {
+    if is_map(node) || is_its_own_escape(name) {
         return Ok(true);
     }
     let key = keys.escaped(name)?;

@@ -1,11 +1,11 @@
 -- Files that are read one after another.
-use Rattle.kubecel_io.specs.Reads.{AreRead, Found, IsRead, document_view, with_indices}
+use Rattle.kubecel_io.specs.Reads.{AreRead, Found, IsRead, IsUnread, Stops, document_view, with_indices}
 use Rattle.kubecel_io.specs.declared.sources.Document.{Document}
 use Rattle.serde_json.specs.Data.{Data}
 use Rattle.serde_json.specs.View.{view}
 use Rattle.serde_json.specs.declared.value.Value.{Value}
-use Rattle.std.proofs.Common.{◌≡◌, ℕ, ◌+◌, List, [], ◌∷◌, ◌++◌, ◌<◌, get_or, take, map, length, string_bytes, Option, refl, arith, sym, ap, subst, ◌∙◌}
-use Rattle.std.proofs.lemmas.List.{append_assoc, append-nil, map-append, take_more}
+use Rattle.std.proofs.Common.{◌≡◌, ℕ, ◌+◌, List, [], ◌∷◌, ◌++◌, ◌<◌, get_or, take, map, length, string_bytes, Option, Some, None, IfSome, suc, drop, drop-cons, refl, arith, sym, ap, subst, ◌∙◌}
+use Rattle.std.proofs.lemmas.List.{append_assoc, append-nil, map-append, take-append-drop, take_more}
 use denote.Ref.{Bor}
 
 pub none_read : {S : Type 0} (reads : S → List ℕ → Option (List ℕ) → S → Type 0) (a : S) → AreRead reads a [] [] a
@@ -54,3 +54,27 @@ fewer_left xs ys v m n e one all = let longer : length xs ≡ length ys + 1 = rw
 pub one_more_path : (paths : List (Bor (List ℕ))) (i : ℕ) (d : Bor (List ℕ)) → i < length paths
     → map (λ p. p.now) (take i paths) ++ (get_or paths i d).now ∷ [] ≡ map (λ p. p.now) (take (i + 1) paths)
 one_more_path paths i d below = sym (ap (map (λ p. p.now)) (take_more paths i d below) ∙ map-append (λ p. p.now) (take i paths) (get_or paths i d ∷ []))
+
+-- the paths before one, this, and those behind it
+pub path_among : (paths : List (Bor (List ℕ))) (i : ℕ) (d : Bor (List ℕ)) → i < length paths
+    → map (λ p. p.now) paths ≡ map (λ p. p.now) (take i paths) ++ (get_or paths i d).now ∷ map (λ p. p.now) (drop (i + 1) paths)
+path_among paths i d below =
+    let one : suc i ≡ i + 1 = omega arith in
+    let behind : drop i paths ≡ get_or paths i d ∷ drop (i + 1) paths = drop-cons paths i d below ∙ ap (λ n. get_or paths i d ∷ drop n paths) one in
+    ap (map (λ p. p.now)) (sym (take-append-drop i paths) ∙ ap (λ ps. take i paths ++ ps) behind) ∙ map-append (λ p. p.now) (take i paths) (get_or paths i d ∷ drop (i + 1) paths)
+
+-- the file behind those that were read stops the run
+pub stops_behind : {S : Type 0} (reads : S → List ℕ → Option (List ℕ) → S → Type 0) (a b c : S) (paths first others : List (List ℕ)) (path : List ℕ) (found : List Found)
+    (said : Option (List ℕ)) → paths ≡ first ++ path ∷ others → AreRead reads a first found b → IfSome said (λ words. IsUnread reads b path words c)
+    → IfSome said (λ words. Stops reads a paths words c)
+stops_behind reads a b c paths first others path found None among are unread = tt
+stops_behind reads a b c paths first others path found (Some words) among are unread = record {
+  first = first;
+  path = path;
+  others = others;
+  among = among;
+  found = found;
+  between = b;
+  are_read = are;
+  unread = unread;
+}

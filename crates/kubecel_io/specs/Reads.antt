@@ -1,12 +1,17 @@
 -- Trusted by the clauses of kubecel.
--- What a run of `kubecel` reads: the files that it names, one after another, and the documents that stand in them.
+-- What a run of `kubecel` reads: the files that it names, one after another, and the documents that stand in them; or the first
+-- file that has none, and what is said of it.
 use Rattle.kubecel_io.specs.Documents.{documents}
+use Rattle.kubecel_io.specs.Faults.{IsFault, fault_text}
+use Rattle.kubecel_io.specs.declared.fault.Fault.{Fault}
 use Rattle.kubecel_io.specs.declared.sources.Document.{Document}
+use Rattle.kubecel_io.specs.declared.sources.Stop.{Stop}
+use Rattle.kubecel_io.specs.declared.sources.Stop.TheVariants as stop
 use Rattle.serde_json.specs.Data.{Data}
 use Rattle.serde_json.specs.View.{view}
 use Rattle.std.specs.declared.io.Error.{Error}
 use Rattle.std.specs.Global.{Global}
-use Rattle.std.specs.Prelude.{◌≡◌, ℕ, ◌+◌, List, [], ◌∷◌, ◌++◌, Option, Some, None, Result, Ok, Err, String, string_bytes}
+use Rattle.std.specs.Prelude.{◌≡◌, ◌⊎◌, ℕ, ◌+◌, List, [], ◌∷◌, ◌++◌, Option, Some, None, Result, Ok, Err, String, codes, string_bytes}
 
 -- what a read gave: a text, or none
 abbrev pub text_seen : Result (String Global) Error → Option (List ℕ)
@@ -39,7 +44,31 @@ module _ {S : Type 0} (reads : S → List ℕ → Option (List ℕ) → S → Ty
       × IsRead before path values between × AreRead between paths rest after
       × (found ≡ with_indices path 0 values ++ rest)
 
+  -- the file at the path has no documents, and these words say why: it can't be read, for a reason of which nothing is said, or where
+  -- it is no JSON
+  abbrev pub IsUnread : S → List ℕ → List ℕ → S → Type 0
+  IsUnread before path words after =
+      (reads before path None after × (reason : List ℕ) × (words ≡ path ++ (codes ": " ++ reason)))
+      ⊎ ((text : List ℕ) × (fault : Fault) × reads before path (Some text) after × IsFault text fault
+      × (words ≡ path ++ (codes ":" ++ fault_text fault)))
+
+  -- the files at the first of these paths were read in order, and the next one has no documents
+  pub record Stops (before : S) (paths : List (List ℕ)) (words : List ℕ) (after : S) : Type 0 where
+    pub first : List (List ℕ)
+    pub path : List ℕ
+    pub others : List (List ℕ)
+    pub among : paths ≡ first ++ path ∷ others
+    pub found : List Found
+    pub between : S
+    pub are_read : AreRead before first found between
+    pub unread : IsUnread between path words after
+
 -- ---- what the code's values stand for
+
+-- what is said where a run stops, if anything
+abbrev pub words_of : Stop → Option (List ℕ)
+words_of (stop.Refused refused) = None
+words_of (stop.Said words) = Some (string_bytes words)
 
 abbrev pub document_view : Document → Found
 document_view d = record { file = string_bytes d.file; index = d.index; value = view d.value }

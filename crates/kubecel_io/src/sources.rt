@@ -1,9 +1,9 @@
 //! The files that a command names.
-ghost use Rattle.kubecel_io.specs.Reads.{AreRead, IsRead, document_view, with_indices, text_seen};
+ghost use Rattle.kubecel_io.specs.Reads.{AreRead, IsRead, IsUnread, Stops, document_view, with_indices, text_seen, words_of};
 ghost use Rattle.kube_types_refused.specs.declared.Refused.TheVariants.{Memory};
 ghost use Rattle.kubecel_io.specs.declared.sources.Stop.TheVariants as variant;
 ghost use Rattle.serde_json.specs.View.{view};
-ghost use Rattle.std.specs.Prelude.{◌≡◌, ◌++◌, ⊤, ℕ, List, Option, IfOk, OnOk, map};
+ghost use Rattle.std.specs.Prelude.{◌≡◌, ◌++◌, ⊤, ℕ, List, Option, IfErr, IfOk, IfSome, OnOk, codes, map, string_bytes};
 
 use crate::documents::documents_of;
 use kube_types_refused::Refused;
@@ -60,14 +60,16 @@ pub struct Document {
 /// The documents of the files at these paths, which are read in order.
 ///
 /// # Errors
-/// A file that can't be read, or the line and column of a file where a document is no JSON.
+/// The first file that can't be read or isn't made of JSON documents, with the place in it where it is no JSON.
 pub fn read_documents<S: Sources>(
     alloc: Global,
     paths: &[&str],
     files: &mut S,
 ) -> Result<Vec<Document>, Stop>
-    ensures { IfOk result (λ v. AreRead S.reads files.old (map (λ s. s.now) paths.now)
+    ensures read { IfOk result (λ v. AreRead S.reads files.old (map (λ s. s.now) paths.now)
         (map document_view v.items) files.new) }
+    ensures stops { IfErr result (λ stop. IfSome (words_of stop) (λ words. Stops S.reads files.old
+        (map (λ s. s.now) paths.now) words files.new)) }
 {
     let mut found = Vec::new(alloc);
     for path in paths {
@@ -77,13 +79,23 @@ pub fn read_documents<S: Sources>(
     Ok(found)
 }
 
+/// What is said of a file that can't be read.
+fn unreadable(alloc: Global, path: &str, error: &io::Error) -> Result<String, AllocError>
+    ensures { IfOk result (λ words. (reason : List ℕ) × (string_bytes words ≡ path.now ++ (codes ": " ++ reason))) }
+{
+    let reason = format!(in alloc; "{error}")?;
+    format!(in alloc; "{path}: {reason}")
+}
+
 /// The documents of the file at the path.
 fn read_file<S: Sources>(alloc: Global, path: &str, files: &mut S) -> Result<Vec<Value>, Stop>
-    ensures { IfOk result (λ v. IsRead S.reads files.old path.now (map view v.items) files.new) }
+    ensures read { IfOk result (λ v. IsRead S.reads files.old path.now (map view v.items) files.new) }
+    ensures unread { IfErr result (λ stop. IfSome (words_of stop) (λ words. IsUnread S.reads files.old path.now
+        words files.new)) }
 {
     let text = match files.read(alloc, path)? {
         Ok(text) => text,
-        Err(error) => return Err(Stop::Said(format!(in alloc; "{path}: {error}")?)),
+        Err(error) => return Err(Stop::Said(unreadable(alloc, path, &error)?)),
     };
     match documents_of(alloc, text.as_str())? {
         Ok(values) => Ok(values),

@@ -1,4 +1,4 @@
-use Rattle.std.proofs.Common.{arith, ◌≡◌, [], ◌∷◌, ◌++◌, ◌+◌, ◌-◌, ◌<◌, ◌≤◌, suc, Some, length, take, take_all, map, string_bytes, refl, sym, ap, ◌∙◌, subst, inr}
+use Rattle.std.proofs.Common.{arith, ◌≡◌, [], ◌∷◌, ◌++◌, ◌+◌, ◌-◌, ◌<◌, ◌≤◌, suc, length, take, take_all, map, option_map, string_bytes, refl, sym, ap, ◌∙◌, subst, inr}
 use Rattle.std.proofs.lemmas.List.{take_more}
 use Rattle.std.specs.Prelude.{IfSome}
 use Rattle.serde_json.specs.Find.{get_member}
@@ -14,63 +14,65 @@ use Rattle.cel_value.specs.Data.{list, map_of, null, text_key}
 use Rattle.cel_value.specs.Find.{find}
 use Rattle.cel_value.specs.Keys.{put}
 use Rattle.cel_value.specs.View.{view, entries_view, items_of}
-use Rattle.kube_schema_values.specs.Conversion.{to_cel, levels, member_by, member_key, object_by}
-use Rattle.kube_schema_parts.specs.Parts.{AreParts}
-use Rattle.kube_schema_parts.proofs.Bound.{alike_by, items_more, items_part, list_bound, member_absent, member_inside, member_plain, member_there, members_part, no_parts, nothing_part, not_true, object_bound, part_missing, part_put, whole_part}
+use Rattle.kube_schema_values.specs.Conversion.{levels}
+use Rattle.kube_schema_parts.specs.Parts.{AreParts, entries_at, key_at, node_of_member, value_at}
+use Rattle.kube_schema_parts.proofs.Bound.{alike_by, items_more, items_part, list_bound, member_absent, member_there, members_part, no_parts, nothing_part, not_true, object_bound, part_missing, part_put, whole_part}
 use Rattle.kube_schema_parts.proofs.parts.+part.Goals as goal
 
 pub part_with-returns-in-Nothing-clause-value : goal.part_with-returns-in-Nothing-clause-value
 part_with-returns-in-Nothing-clause-value g t c =
-    let w = to_cel g.N.Node.accessors (levels c.args.depth) (g.N.Node.seen c.args.node) (json_view c.args.value.now) in
+    let w = value_at g.N.Node.accessors (levels c.args.depth) (option_map g.N.Node.seen c.args.node) (json_view c.args.value.now) in
     alike_by c.args.demand.now nothing null w (ap part_of c.in-Nothing.is ∙ nothing_part) tt
 
 pub part_with-returns-in_ok-whole-in-Whole-clause-value : goal.part_with-returns-in_ok-whole-in-Whole-clause-value
 part_with-returns-in_ok-whole-in-Whole-clause-value g t c =
-    let w = to_cel g.N.Node.accessors (levels c.args.depth) (g.N.Node.seen c.args.node) (json_view c.args.value.now) in
+    let w = value_at g.N.Node.accessors (levels c.args.depth) (option_map g.N.Node.seen c.args.node) (json_view c.args.value.now) in
     alike_by c.args.demand.now whole (view c.in_ok-whole-in-Whole.whole) w (ap part_of c.in-Whole.is ∙ whole_part) c.in_ok-whole-in-Whole.ensures.value
 
 pub part_with-returns-in_ok-list-in-Items-clause-value : goal.part_with-returns-in_ok-list-in-Items-clause-value
 part_with-returns-in_ok-list-in-Items-clause-value g t c =
-    let w = to_cel g.N.Node.accessors (levels c.args.depth) (g.N.Node.seen c.args.node) (json_view c.args.value.now) in
+    let w = value_at g.N.Node.accessors (levels c.args.depth) (option_map g.N.Node.seen c.args.node) (json_view c.args.value.now) in
     alike_by c.args.demand.now (each_item (part_of c.deref.result.now)) (view c.in_ok-list-in-Items.list) w
     (ap part_of c.in-Items.is ∙ items_part c.in-Items.item ∙ ap (λ d. each_item (part_of d)) (sym c.deref.ensures)) c.in_ok-list-in-Items.ensures.value
 
 pub part_with-returns-in_ok-map-in-Members-clause-value : goal.part_with-returns-in_ok-map-in-Members-clause-value
 part_with-returns-in_ok-map-in-Members-clause-value g t c =
-    let w = to_cel g.N.Node.accessors (levels c.args.depth) (g.N.Node.seen c.args.node) (json_view c.args.value.now) in
+    let w = value_at g.N.Node.accessors (levels c.args.depth) (option_map g.N.Node.seen c.args.node) (json_view c.args.value.now) in
     alike_by c.args.demand.now (some_members (demands_view c.in-Members.members.items)) (view c.in_ok-map-in-Members.map) w (ap part_of c.in-Members.is ∙ members_part c.in-Members.members)
     c.in_ok-map-in-Members.ensures.value
 
 pub list_part-returns-clause-value : goal.list_part-returns-clause-value
 list_part-returns-clause-value g t c = alike_equal (each_item (part_of c.args.item.now)) _ _ c.in_ok-whole.ensures.value
 
-pub list_part-returns-in-Some-items-clause-value : goal.list_part-returns-in-Some-items-clause-value
-list_part-returns-in-Some-items-clause-value g t c =
+pub list_part-returns-in-Some-clause-value : goal.list_part-returns-in-Some-clause-value
+list_part-returns-in-Some-clause-value g t c =
     let p = each_item (part_of c.args.item.now) in
     let d = c.args.depth in
-    let s = g.N.Node.seen c.args.node in
-    let inner = g.N.Node.seen c.in-Some-items.inner in
+    let o = option_map g.N.Node.seen c.args.node in
+    let inner = option_map g.N.Node.seen c.node_of_items.result in
     let vs = c.in-Some.items.now.items in
     let parts = map view c.in_ok-parts.parts.items in
-    let items = map (λ (v : Json). to_cel g.N.Node.accessors (65 - (d + 1)) inner (json_view v)) vs in
+    let items = map (λ (v : Json). value_at g.N.Node.accessors (65 - (d + 1)) inner (json_view v)) vs in
     let within : d ≤ 64 = c.in-Some.ensures.within in
     let next : 65 - d ≡ suc (65 - (d + 1)) = omega (arith, within) in
-    let bound = list_bound g.N.Node.accessors (65 - d) (65 - (d + 1)) s inner (json_view c.args.value.now) vs next c.in-Some.ensures.items (sym c.in-Some-items.ensures) in
-    subst (λ v. Alike p v (to_cel g.N.Node.accessors (65 - d) s (json_view c.args.value.now))) (sym c.in_ok-list.ensures.value)
+    let bound : value_at g.N.Node.accessors (65 - d) o (json_view c.args.value.now) ≡ list (items_of items) =
+    list_bound g.N.Node.accessors (65 - d) (65 - (d + 1)) o (json_view c.args.value.now) vs next c.in-Some.ensures.items
+    ∙ ap (λ i. list (items_of (map (λ (v : Json). value_at g.N.Node.accessors (65 - (d + 1)) i (json_view v)) vs))) (sym c.node_of_items.ensures) in
+    subst (λ v. Alike p v (value_at g.N.Node.accessors (65 - d) o (json_view c.args.value.now))) (sym c.in_ok-list.ensures.value)
     (subst (λ w. Alike p (list (items_of parts)) w) (sym bound) (list_alike p parts items c.in_ok-parts.ensures.items))
 
 pub item_parts-loop-value-preserved : goal.item_parts-loop-value-preserved
 item_parts-loop-value-preserved g t c =
     let items = c.deref-value-items.result.now in
     let i = c.loop-value.value-index in
-    let f = λ (v : Json). to_cel g.N.Node.accessors (levels c.args.depth) (g.N.Node.seen c.args.node) (json_view v) in
+    let f = λ (v : Json). value_at g.N.Node.accessors (levels c.args.depth) (option_map g.N.Node.seen c.args.node) (json_view v) in
     let lt : i < length items = omega (arith, c.loop-value-test.true) in
     subst (λ ps. ListsAlike (Alike (part_of c.args.item.now)) (map view ps) (map f (take (i + 1) items))) (sym c.in_ok-push.ensures.items)
     (items_more (Alike (part_of c.args.item.now)) c.loop-value.parts.items c.in_ok-part.part f items i c.value-item.result lt c.value-item.is c.loop-value.invariant c.in_ok-part.ensures.value)
 
 pub item_parts-returns-clause-items : goal.item_parts-returns-clause-items
 item_parts-returns-clause-items g t c =
-    let f = λ (v : Json). to_cel g.N.Node.accessors (levels c.args.depth) (g.N.Node.seen c.args.node) (json_view v) in
+    let f = λ (v : Json). value_at g.N.Node.accessors (levels c.args.depth) (option_map g.N.Node.seen c.args.node) (json_view v) in
     let all : take c.loop-value.value-index c.deref-value-items.result.now ≡ c.args.items.now.items = take_all c.loop-value.value-index c.deref-value-items.result.now c.loop-value-test.false ∙ c.deref-value-items.ensures.value in
     subst (λ vs. ListsAlike (Alike (part_of c.args.item.now)) (map view c.loop-value.parts.items) (map f vs)) all c.loop-value.invariant
 
@@ -78,15 +80,15 @@ pub map_part-returns-in-Some-found-clause-value : goal.map_part-returns-in-Some-
 map_part-returns-in-Some-found-clause-value g t c =
     let p = some_members (demands_view c.args.members.now.items) in
     let d = c.args.depth in
-    let s = g.N.Node.seen c.args.node in
+    let o = option_map g.N.Node.seen c.args.node in
     let object = members_view c.in-Some.object.now.entries in
     let parts = entries_view c.in-Some-found.parts.entries in
     let within : d ≤ 64 = c.in-Some.ensures.within in
     let next : 65 - d ≡ suc (64 - d) = omega (arith, within) in
-    let bound = object_bound g.N.Node.accessors (65 - d) (64 - d) s (json_view c.args.value.now) object next c.in-Some.ensures.members in
-    let whole = object_by g.N.Node.accessors (to_cel g.N.Node.accessors (64 - d)) s object in
+    let bound = object_bound g.N.Node.accessors (65 - d) (64 - d) o (json_view c.args.value.now) object next c.in-Some.ensures.members in
+    let whole = entries_at g.N.Node.accessors (64 - d) o object in
     let all : AreParts (demands_view c.args.members.now.items) parts whole = subst (λ o. IfSome o (λ r. AreParts (demands_view c.args.members.now.items) (entries_view r.entries) whole)) c.in-Some-found.is c.in_ok-found.ensures.members in
-    subst (λ v. Alike p v (to_cel g.N.Node.accessors (65 - d) s (json_view c.args.value.now))) (sym c.in_ok-map.ensures.value)
+    subst (λ v. Alike p v (value_at g.N.Node.accessors (65 - d) o (json_view c.args.value.now))) (sym c.in_ok-map.ensures.value)
     (subst (λ w. Alike p (map_of parts) w) (sym bound) (inr all.0))
 
 pub map_part-returns-clause-value : goal.map_part-returns-clause-value
@@ -94,7 +96,7 @@ map_part-returns-clause-value g t c = alike_equal (some_members (demands_view c.
 
 pub member_parts-loop-member-init : goal.member_parts-loop-member-init
 member_parts-loop-member-init g t c =
-    let bound = object_by g.N.Node.accessors (to_cel g.N.Node.accessors (64 - c.args.depth)) (g.N.Node.seen c.args.node) (members_view c.args.object.now.entries) in
+    let bound = entries_at g.N.Node.accessors (64 - c.args.depth) (option_map g.N.Node.seen c.args.node) (members_view c.args.object.now.entries) in
     no_parts (entries_view c.new-parts.result.entries) bound (ap entries_view c.new-parts.ensures.empty)
 
 pub member_parts-loop-member-preserved : goal.member_parts-loop-member-preserved
@@ -103,51 +105,43 @@ member_parts-loop-member-preserved g t c =
     let i = c.loop-member.member-index in
     let m : Entry = c.member-item.result in
     let lt : i < length items = omega (arith, c.loop-member-test.true) in
-    let bound = object_by g.N.Node.accessors (to_cel g.N.Node.accessors (64 - c.args.depth)) (g.N.Node.seen c.args.node) (members_view c.args.object.now.entries) in
+    let bound = entries_at g.N.Node.accessors (64 - c.args.depth) (option_map g.N.Node.seen c.args.node) (members_view c.args.object.now.entries) in
     let next = take_more items i m lt ∙ ap (λ y. take i items ++ y ∷ []) (sym c.member-item.is) in
     subst (λ es. AreParts (demands_view es) (entries_view c.add_part.new.parts.entries) bound) (sym next)
     (c.in_ok-add_part.ensures.added c.if-not-branch.false bound refl (take i items) c.loop-member.invariant)
 
 pub member_parts-returns-clause-members : goal.member_parts-returns-clause-members
 member_parts-returns-clause-members g t c =
-    let bound = object_by g.N.Node.accessors (to_cel g.N.Node.accessors (64 - c.args.depth)) (g.N.Node.seen c.args.node) (members_view c.args.object.now.entries) in
+    let bound = entries_at g.N.Node.accessors (64 - c.args.depth) (option_map g.N.Node.seen c.args.node) (members_view c.args.object.now.entries) in
     let all = take_all c.loop-member.member-index c.deref-member-items.result.now c.loop-member-test.false ∙ c.deref-member-items.ensures.value in
     subst (λ es. AreParts (demands_view es) (entries_view c.loop-member.parts.entries) bound) all c.loop-member.invariant
 
 pub add_part-returns-in_default-clause-added : goal.add_part-returns-in_default-clause-added
 add_part-returns-in_default-clause-added g t c = λ h bound is done k.
     let n = string_bytes c.args.member.now.0.value in
-    let s = g.N.Node.seen c.args.node in
+    let o = option_map g.N.Node.seen c.args.node in
     let name = c.as_str-name.ensures.value ∙ ap (λ z. string_bytes z) c.deref.ensures in
-    let key = subst (λ y. member_key g.N.Node.accessors s y ≡ y) name (c.in_ok-is_found.ensures.found c.if-not-is_found.false) in
+    let key = subst (λ y. key_at g.N.Node.accessors o y ≡ y) name (c.in_ok-is_found.ensures.found c.if-not-is_found.false) in
     let none = c.in_default.ensures ∙ ap (λ y. get_member y (members_view c.args.object.now.entries)) name in
     part_missing done c.args.member.now (entries_view c.args.parts.now.entries) bound
-    (ap (find (text_key n)) is ∙ member_absent g.N.Node.accessors (to_cel g.N.Node.accessors (64 - c.args.depth)) s (members_view c.args.object.now.entries) n key none (sym c.is_embedded.ensures ∙ not_true _ h)) k
+    (ap (find (text_key n)) is ∙ member_absent g.N.Node.accessors (64 - c.args.depth) o (members_view c.args.object.now.entries) n key none (sym c.is_embedded.ensures ∙ not_true _ h)) k
 
 pub add_part-returns-clause-added : goal.add_part-returns-clause-added
 add_part-returns-clause-added g t c = λ h bound is done k.
     let n = string_bytes c.args.member.now.0.value in
-    let s = g.N.Node.seen c.args.node in
-    let f = to_cel g.N.Node.accessors (64 - c.args.depth) in
+    let o = option_map g.N.Node.seen c.args.node in
+    let l = 64 - c.args.depth in
     let d = json_view c.in-Some.value.now in
+    let part = view c.in_ok-part.part in
     let name = c.as_str-name.ensures.value ∙ ap (λ z. string_bytes z) c.deref.ensures in
-    let key = subst (λ y. member_key g.N.Node.accessors s y ≡ y) name (c.in_ok-is_found.ensures.found c.if-not-is_found.false) in
+    let key = subst (λ y. key_at g.N.Node.accessors o y ≡ y) name (c.in_ok-is_found.ensures.found c.if-not-is_found.false) in
     let there = c.in-Some.ensures ∙ ap (λ y. get_member y (members_view c.args.object.now.entries)) name in
-    let alike = subst (λ y. Alike (part_of c.args.member.now.1) (view c.in_ok-part.part) (member_by g.N.Node.accessors f s y d)) name c.in_ok-part.ensures.value in
+    let same : 65 - (c.args.depth + 1) ≡ l = omega arith in
+    let inner = c.node_of_member-inner.ensures ∙ ap (node_of_member g.N.Node.accessors o) name in
+    let alike = subst (λ p. Alike (part_of c.args.member.now.1) part (value_at g.N.Node.accessors l p d)) inner
+    (subst (λ m. Alike (part_of c.args.member.now.1) part (value_at g.N.Node.accessors m (option_map g.N.Node.seen c.node_of_member-inner.result) d)) same c.in_ok-part.ensures.value) in
     let copied = ap (λ z. string_bytes z) c.in_ok-clone.ensures.cases in
-    part_put done c.args.member.now (view c.in_ok-part.part) (member_by g.N.Node.accessors f s n d) (entries_view c.args.parts.now.entries) bound (entries_view c.put_new.new.entries.entries)
+    part_put done c.args.member.now part (value_at g.N.Node.accessors l (node_of_member g.N.Node.accessors o n) d) (entries_view c.args.parts.now.entries) bound (entries_view c.put_new.new.entries.entries)
     (ap (λ y. find (text_key y) (entries_view c.args.parts.now.entries)) (sym copied) ∙ c.in_ok-is_new.ensures.new h)
-    (ap (find (text_key n)) is ∙ member_there g.N.Node.accessors f s (members_view c.args.object.now.entries) n key d there) alike
-    (c.in_ok-is_new.ensures.entered ∙ ap (λ y. put (text_key y) (view c.in_ok-part.part) (entries_view c.args.parts.now.entries)) copied) k
-
-pub member_part-returns-in_default-clause-value : goal.member_part-returns-in_default-clause-value
-member_part-returns-in_default-clause-value g t c =
-    alike_equal (part_of c.args.demand.now) _ _ (c.in_ok-plain.ensures.value ∙ member_plain g.N.Node.accessors (to_cel g.N.Node.accessors (64 - c.args.depth)) (g.N.Node.seen c.args.node) c.args.name.now (json_view c.args.member.now) c.in_default.ensures)
-
-pub member_part-returns-clause-value : goal.member_part-returns-clause-value
-member_part-returns-clause-value g t c =
-    let same : 65 - (c.args.depth + 1) ≡ 64 - c.args.depth = omega arith in
-    subst (λ w. Alike (part_of c.args.demand.now) (view c.in_ok-part.part) w)
-    (ap (λ n. to_cel g.N.Node.accessors n (g.N.Node.seen c.in-Some.inner) (json_view c.args.member.now)) same
-    ∙ member_inside g.N.Node.accessors (to_cel g.N.Node.accessors (64 - c.args.depth)) (g.N.Node.seen c.args.node) (g.N.Node.seen c.in-Some.inner) c.args.name.now (json_view c.args.member.now) c.in-Some.ensures)
-    c.in_ok-part.ensures.value
+    (ap (find (text_key n)) is ∙ member_there g.N.Node.accessors l o (members_view c.args.object.now.entries) n key d there) alike
+    (c.in_ok-is_new.ensures.entered ∙ ap (λ y. put (text_key y) part (entries_view c.args.parts.now.entries)) copied) k

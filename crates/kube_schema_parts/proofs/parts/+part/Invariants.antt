@@ -1,37 +1,34 @@
-use Rattle.std.proofs.Common.{◌+◌, ◌*◌, ◌-◌, take, map}
+use Rattle.std.proofs.Common.{◌+◌, ◌*◌, ◌-◌, take, map, option_map}
 use Rattle.serde_json.specs.View.{view as json_view, members_view}
 use Rattle.cel_demand.specs.Alike.{Alike, ListsAlike}
 use Rattle.cel_demand.specs.Demand.{part_of, members_view as demands_view}
 use Rattle.cel_value.specs.View.{view, entries_view}
-use Rattle.kube_schema_values.specs.Conversion.{to_cel, levels, object_by}
-use Rattle.kube_schema_parts.specs.Parts.{AreParts}
+use Rattle.kube_schema_values.specs.Conversion.{levels}
+use Rattle.kube_schema_parts.specs.Parts.{AreParts, entries_at, value_at}
 use Rattle.kube_schema_parts.proofs.parts.+part.Given as goal
 
 abbrev pub decreases-part_with : goal.decreases-part_with
-decreases-part_with g l = 6 * (66 - l.depth) + 4
+decreases-part_with g l = 5 * (66 - l.depth) + 3
 
 abbrev pub decreases-list_part : goal.decreases-list_part
-decreases-list_part g l = 6 * (66 - l.depth) + 3
+decreases-list_part g l = 5 * (66 - l.depth) + 2
 
 abbrev pub decreases-item_parts : goal.decreases-item_parts
-decreases-item_parts g l = 6 * (66 - l.depth) + 5
+decreases-item_parts g l = 5 * (66 - l.depth) + 4
 
 abbrev pub decreases-map_part : goal.decreases-map_part
-decreases-map_part g l = 6 * (66 - l.depth) + 3
+decreases-map_part g l = 5 * (66 - l.depth) + 2
 
 abbrev pub decreases-member_parts : goal.decreases-member_parts
-decreases-member_parts g l = 6 * (66 - l.depth) + 2
+decreases-member_parts g l = 5 * (66 - l.depth) + 1
 
 abbrev pub decreases-add_part : goal.decreases-add_part
-decreases-add_part g l = 6 * (66 - l.depth) + 1
-
-abbrev pub decreases-member_part : goal.decreases-member_part
-decreases-member_part g l = 6 * (66 - l.depth)
+decreases-add_part g l = 5 * (66 - l.depth)
 
 abbrev pub invariant-item_parts-loop-value : goal.invariant-item_parts-loop-value
 invariant-item_parts-loop-value g l =
-    ListsAlike (Alike (part_of l.item)) (map view l.parts.items) (map (λ v. to_cel g.N.Node.accessors (levels l.depth) (g.N.Node.seen l.node) (json_view v)) (take l.value-index l.value-items))
+    ListsAlike (Alike (part_of l.item)) (map view l.parts.items) (map (λ v. value_at g.N.Node.accessors (levels l.depth) (option_map g.N.Node.seen l.node) (json_view v)) (take l.value-index l.value-items))
 
 abbrev pub invariant-member_parts-loop-member : goal.invariant-member_parts-loop-member
 invariant-member_parts-loop-member g l =
-    AreParts (demands_view (take l.member-index l.member-items)) (entries_view l.parts.entries) (object_by g.N.Node.accessors (to_cel g.N.Node.accessors (64 - l.depth)) (g.N.Node.seen l.node) (members_view l.object.entries))
+    AreParts (demands_view (take l.member-index l.member-items)) (entries_view l.parts.entries) (entries_at g.N.Node.accessors (64 - l.depth) (option_map g.N.Node.seen l.node) (members_view l.object.entries))

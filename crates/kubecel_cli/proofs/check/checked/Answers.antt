@@ -30,4 +30,4 @@ returns g c =
     let some : 0 < length subjects = omega (arith, never, c.in_ok-subjects.subjects.ok.0) in
     checked_so g.S.Sources.reads c.args.files.now (check_view c.args.check) c.read_documents-3.new.files unread items
     (map document_view c.in_ok-crds.crds.items) (map document_view c.in_ok-olds.olds.items) (map document_view c.in_ok-objects.objects.items)
-    c.read_documents.new.files c.read_documents-2.new.files set definitions olds subjects c.in_ok-crds.ensures c.in_ok-olds.ensures c.in_ok-objects.ensures of crds_are old_are are some those judged
+    c.read_documents.new.files c.read_documents-2.new.files set definitions olds subjects c.in_ok-crds.ensures.read c.in_ok-olds.ensures.read c.in_ok-objects.ensures.read of crds_are old_are are some those judged

@@ -3,7 +3,7 @@ use Rattle.kubecel_io.proofs.documents.documents_of.Goals as goal
 use Rattle.kubecel_io.specs.Documents.{IsAt, IsFirstRefused}
 use Rattle.kubecel_io.specs.declared.cut.Mode.TheVariants.{Outside}
 use Rattle.kubecel_io.specs.declared.documents.Reading.{Reading}
-use Rattle.std.proofs.Common.{◌≡◌, ◌+◌, [], List, ℕ, drop, length, refl, sym, ap, subst, arith, ◌∙◌}
+use Rattle.std.proofs.Common.{◌+◌, [], drop, length, refl, sym, ap, subst, arith, ◌∙◌}
 use Rattle.std.proofs.lemmas.List.{drop_all}
 
 pub loop-i-init : goal.loop-i-init

@@ -1,6 +1,6 @@
 use Rattle.kubecel_io.proofs.fault.place_behind.Goals as goal
 use Rattle.kubecel_io.specs.Faults.{is_line_feed}
-use Rattle.std.proofs.Common.{◌≤◌, ◌+◌, length, not, take, arith}
+use Rattle.std.proofs.Common.{not, take, arith}
 use Rattle.std.proofs.lemmas.List.{length-take}
 use Rattle.std.proofs.lemmas.List.Sums.{suffix_len-le-length}
 

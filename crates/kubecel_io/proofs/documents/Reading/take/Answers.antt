@@ -4,7 +4,7 @@ use Rattle.kubecel_io.specs.Documents.{IsAt, IsFirstRefused, all_read, is_space,
 use Rattle.kubecel_io.specs.declared.cut.Mode.TheVariants.{Outside}
 use Rattle.serde_json.specs.Read.{read}
 use Rattle.serde_json.specs.View.{view}
-use Rattle.std.proofs.Common.{◌≡◌, ◌∷◌, [], List, ℕ, None, false, map, refl, subst, sym, arith, ◌∙◌}
+use Rattle.std.proofs.Common.{◌≡◌, ◌∷◌, [], List, ℕ, None, false, map, refl, subst, sym, arith}
 use Rattle.std.specs.List.{list_all}
 use Rattle.std.specs.Str.{IsUtf8}
 
