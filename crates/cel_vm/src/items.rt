@@ -10,6 +10,7 @@ use cel_value::Value;
 use std::alloc::AllocError;
 
 /// The item of a loop.
+#[inline(always)]
 pub fn item_of(state: &LoopState) -> &Value
     ensures { view result.now ≡ (loop_view state.now).item }
 {
@@ -31,6 +32,7 @@ pub fn top_item(loops: &Vec<LoopState>) -> Option<&Value>
 }
 
 /// The item of the loop that is `outward` loops further out, if there is such a loop.
+#[inline(always)]
 pub fn outer_item(loops: &Vec<LoopState>, outward: usize) -> Option<&Value>
     ensures { MatchOption result (slice_get (loops_view loops.now.items) outward ≡ None)
         (λ v. (l : Loop)

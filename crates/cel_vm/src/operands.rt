@@ -20,6 +20,7 @@ use cel_vm_code::Test;
 use std::alloc::{AllocError, Global};
 
 /// The program counter after a jump over `offset` instructions, if it is no later than the end.
+#[inline(always)]
 pub(crate) fn jump(pc: usize, offset: usize, end: usize) -> Option<usize>
     requires { pc < end }
     ensures { MatchOption result (end < pc + 1 + offset) (λ q. (q ≡ pc + 1 + offset) × (pc < q) × (q ≤ end)) }
@@ -76,6 +77,7 @@ fn fail(
 }
 
 /// A test for an error. A value stays where it is.
+#[inline(always)]
 pub(crate) fn guard(
     depth: usize,
     offset: usize,
@@ -325,6 +327,7 @@ pub(crate) fn pop_two(values: &mut Vec<Answer>) -> Option<(Value, Value)>
 }
 
 /// The topmost value, unless it is an error.
+#[inline(always)]
 pub(crate) fn top_value(values: &Vec<Answer>) -> Option<&Value>
     ensures { MatchOption result (Lacks (outcomes values.now.items))
         (λ v. (vs : List Outcome) × (outcomes values.now.items ≡ Ok (view v.now) ∷ vs)) }
@@ -337,6 +340,7 @@ pub(crate) fn top_value(values: &Vec<Answer>) -> Option<&Value>
 }
 
 /// The two topmost values, the lower one first.
+#[inline(always)]
 pub(crate) fn top_two(values: &Vec<Answer>) -> Option<(&Value, &Value)>
     ensures { MatchOption result ((ds : List Data) → taken 2 (outcomes values.now.items) ds ≡ None)
         (λ p. (vs : List Outcome)
@@ -354,6 +358,7 @@ pub(crate) fn top_two(values: &Vec<Answer>) -> Option<(&Value, &Value)>
 }
 
 /// This answer in place of the two topmost ones.
+#[inline(always)]
 pub(crate) fn put_over_two(values: &mut Vec<Answer>, answer: Answer)
     ensures { (r : Outcome) (s : Outcome) (vs : List Outcome) → outcomes values.old.items ≡ r ∷ s ∷ vs
         → outcomes values.new.items ≡ outcome_view answer ∷ vs }
