@@ -15,7 +15,8 @@ pub fn code_is_short()
     ensures { (t : Term) → length (code_of t) + 2 ≤ 5 * nodes t }
 {}
 
-/// What a tree means depends only on what its free names are bound to. So a variable that it doesn't read need not be bound.
+/// What a tree means depends only on what its free names are bound to.
+/// So a variable that it doesn't read need not be bound.
 pub fn unread_names_change_nothing()
     ensures { (library : Library) (book : Book) (t : Term) (e f : Bindings)
         → ((x : List ℕ) → is_free x t ≡ true → binding x e ≡ binding x f)

@@ -1,7 +1,8 @@
 //! CEL expressions: read, compiled to flat code, and run.
 //!
-//! [`Program::compile`] reads a text, [`Program::execute`] runs it in a [`Context`], which binds names to values and has a set of
-//! functions. Of the two results of a call the outer one says whether there was memory, the inner one what was found.
+//! [`Program::compile`] reads a text, [`Program::execute`] runs it in a [`Context`], which binds names to
+//! values and has a set of functions. Of the two results of a call the outer one says whether there was
+//! memory, the inner one what was found.
 //!
 //! ```rust
 //! use cel::{Answer, Context, Program, Refused, StandardFunctions, Value};
@@ -18,11 +19,13 @@
 //! }
 //! ```
 //!
-//! A [`PatternBook`] remembers what `regex` answered to each pattern; lent to several calls, it lets them answer alike.
+//! A [`PatternBook`] remembers what `regex` answered to each pattern; lent to several calls,
+//! it lets them answer alike.
 //!
-//! Proved: a program has the tree that its text derives, and an execution ends with what the tree means (`Meaning.antt` of
-//! `cel_semantics`) under the context's names and functions, for every set of functions that keeps the law of [`Functions`].
-//! There is no evaluator of trees: that the code's run ends with the tree's meaning is a theorem.
+//! Proved: a program has the tree that its text derives, and an execution ends with what the tree means
+//! (`Meaning.antt` of `cel_semantics`) under the context's names and functions, for every set of functions
+//! that keeps the law of [`Functions`]. There is no evaluator of trees: that the code's run ends with the
+//! tree's meaning is a theorem.
 #![tactic(auto)]
 
 pub mod laws;

@@ -103,7 +103,8 @@ impl Program {
         References::of(alloc, &self.expression)
     }
 
-    /// What it means in the context: a value, or why there is none. What the patterns in it mean is settled by a book of this call alone.
+    /// What it means in the context: a value, or why there is none. What the patterns in it mean is settled
+    /// by a book of this call alone.
     ///
     /// # Errors
     /// `Memory` alone.
@@ -122,7 +123,8 @@ impl Program {
         self.execute_with(alloc, context, &mut book)
     }
 
-    /// What it means in the context, with what the book knows of patterns. The book keeps its entries, also where memory is refused.
+    /// What it means in the context, with what the book knows of patterns. The book keeps its entries,
+    /// also where memory is refused.
     ///
     /// # Errors
     /// `Memory` alone.

@@ -35,8 +35,10 @@ abbrev mutual
   pub Alike : Part → Data → Data → Type 0
   Alike nothing v w = Unit {0}
   Alike whole v w = v ≡ w
-  Alike (each_item p) v w = (v ≡ w) ⊎ AreLists (λ ds es. ListsAlike (Alike p) (items_list ds) (items_list es)) v w
-  Alike (some_members ms) v w = (v ≡ w) ⊎ AreMaps (λ es fs. MembersAlike ms (λ x. find (text_key x) es) (λ x. find (text_key x) fs)) v w
+  Alike (each_item p) v w =
+      (v ≡ w) ⊎ AreLists (λ ds es. ListsAlike (Alike p) (items_list ds) (items_list es)) v w
+  Alike (some_members ms) v w =
+      (v ≡ w) ⊎ AreMaps (λ es fs. MembersAlike ms (λ x. find (text_key x) es) (λ x. find (text_key x) fs)) v w
 
   -- what these names stand for there and there is alike
   pub MembersAlike : Members → (List ℕ → Option Data) → (List ℕ → Option Data) → Type 0

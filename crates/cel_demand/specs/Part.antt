@@ -1,5 +1,6 @@
 -- Trusted by the clauses of other library calls.
--- A part of a value: what an expression needs to know of it, where it goes on by selecting members and by going over items.
+-- A part of a value: what an expression needs to know of it,
+-- where it goes on by selecting members and by going over items.
 use Rattle.std.specs.Prelude.{ℕ, List, Bool, false, ◌||◌, Option, Some, None, if◌then◌else◌}
 use Rattle.std.specs.Str.{bytes_eq}
 
@@ -21,7 +22,8 @@ mutual
 -- one more member; where it is there, its part is joined with that one
 abbrev pub with_member : List ℕ → Part → (Part → Part) → Members → Members
 with_member x p joined no_members = member x p no_members
-with_member x p joined (member y q ms) = if bytes_eq x y then member y (joined q) ms else member y q (with_member x p joined ms)
+with_member x p joined (member y q ms) =
+    if bytes_eq x y then member y (joined q) ms else member y q (with_member x p joined ms)
 
 abbrev mutual
   -- what is in one of two parts. A list has no members and a map no items, so only the whole has both.

@@ -1,6 +1,7 @@
 -- Trusted by the clauses of other library calls.
--- What an expression reads of what its free names are bound to (CEL language definition, "Field Selection", "Macros"). A selection reads one
--- member of its operand, and a macro its range's items, each as far as the macro's variable is read. All else reads its operands whole.
+-- What an expression reads of what its free names are bound to (CEL language definition, "Field Selection",
+-- "Macros"). A selection reads one member of its operand, and a macro its range's items, each as far as the
+-- macro's variable is read. All else reads its operands whole.
 use Rattle.std.specs.Prelude.{ℕ, List}
 use Rattle.cel_syntax_ast.specs.Term.{Term, literal, ident, select, has, index, unary, binary, conditional, list_of, map_with, call, qualified, macro, Terms, no_terms, term_and, Pairs, no_pairs, pair_and}
 use Rattle.cel_syntax_ast.specs.declared.expr.MacroKind.{MacroKind}
@@ -23,8 +24,8 @@ body_part ExistsOne p = whole
 body_part Map p = in_items p
 body_part Filter p = whole
 
--- The names so far, and the free names of a term: each with the part that is read of what it is bound to, where part p of the term's value
--- is read.
+-- The names so far, and the free names of a term: each with the part that is read of what it is bound to,
+-- where part p of the term's value is read.
 abbrev mutual
   pub reads : Term → Part → Members → Members
   reads (literal v) p names = names
@@ -42,7 +43,8 @@ abbrev mutual
   -- a macro reads each item as far as filter and body read its variable, and as far as it keeps it
   reads (macro kind range x filter body) p names =
       let inside = reads body (body_part kind p) (all_reads filter no_members) in
-      reads range (each_item (both (kept_part kind p) (part_at x inside))) (all_members (without x inside) names)
+      reads range (each_item (both (kept_part kind p) (part_at x inside)))
+      (all_members (without x inside) names)
 
   -- of terms that are read whole
   pub all_reads : Terms → Members → Members

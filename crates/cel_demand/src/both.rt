@@ -136,7 +136,8 @@ pub fn demand_on(
     name: &str,
     members: &Vec<(Rc<String>, Demand)>,
 ) -> Result<Option<Demand>, Refused>
-    ensures on { IfOk result (λ o. option_map part_of o ≡ part_read name.now (members_view members.now.items)) }
+    ensures on { IfOk result
+        (λ o. option_map part_of o ≡ part_read name.now (members_view members.now.items)) }
     ensures memory { IfErr result (λ e. e ≡ Refused.Memory) }
 {
     let Some(_index) = index_of(members, name) else {

@@ -10,8 +10,8 @@ ghost use Rattle.cel_demand.specs.Alike.{NamesAlike, ReadAlike};
 ghost use Rattle.cel_demand.specs.Part.{Part, both_read, part_read};
 ghost use Rattle.cel_demand.specs.Reads.{reads_of};
 
-/// What an expression means depends only on what it reads. So of what a name is bound to, only the part that is read has to be there, and
-/// a name that isn't read needn't be bound.
+/// What an expression means depends only on what it reads. So of what a name is bound to, only the part that
+/// is read has to be there, and a name that isn't read needn't be bound.
 pub fn meaning_depends_on_what_is_read()
     ensures { (library : Library) (book : Book) (t : Term) (e f : Bindings)
         → NamesAlike (λ x. part_read x (reads_of t)) e f

@@ -51,8 +51,8 @@ fn body_demand(alloc: Global, kind: MacroKind, demand: &Demand) -> Result<Demand
     }
 }
 
-/// The demand on a macro's range: how many items it has, and of each item what the macro keeps and what is read
-/// inside of its variable.
+/// The demand on a macro's range: how many items it has, and of each item what the macro keeps and what is
+/// read inside of its variable.
 fn range_demand(
     alloc: Global,
     kept: &Demand,

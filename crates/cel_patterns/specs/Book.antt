@@ -1,7 +1,8 @@
 -- Trusted by the headline.
 -- Which pattern texts are refused, and what the others find.
--- A pattern is what the text is in the syntax of Rust's crate `regex` (docs.rs/regex, "Syntax"), and it finds the leftmost-first matches
--- that do not overlap ("Regex::find_iter"). The functions `matches`, `find` and `findAll` of CEL and Kubernetes rest on it.
+-- A pattern is what the text is in the syntax of Rust's crate `regex` (docs.rs/regex, "Syntax"), and it finds
+-- the leftmost-first matches that do not overlap ("Regex::find_iter"). The functions `matches`, `find` and
+-- `findAll` of CEL and Kubernetes rest on it.
 use Rattle.std.specs.Prelude.{◌≡◌, ◌⊎◌, ◌≤◌, ℕ, Bool, true, false, List, map, take, length, Option, Some, None, is_some, option_map, IsSome, IsCharBoundary}
 use Rattle.std.specs.Str.{chars}
 use Rattle.regex_syntax.specs.Grammar.{read}
@@ -52,8 +53,10 @@ first_of (Some most) xs = take most xs
 
 -- the byte spans (start, end) of the matches in the text, in order, up to the limit
 unfoldable pub found_by : Book → List ℕ → List ℕ → Option ℕ → Option (List (ℕ × ℕ))
-found_by book pattern text limit = option_map (λ re. first_of limit (map span (find_all_str re text))) (pattern_in book pattern)
+found_by book pattern text limit =
+    option_map (λ re. first_of limit (map span (find_all_str re text))) (pattern_in book pattern)
 
 -- the span holds whole characters of the text
 abbrev pub IsSpanIn : List ℕ → ℕ × ℕ → Type 0
-IsSpanIn text (start, end) = (start ≤ end) × (end ≤ length text) × IsCharBoundary text start × IsCharBoundary text end
+IsSpanIn text (start, end) =
+    (start ≤ end) × (end ≤ length text) × IsCharBoundary text start × IsCharBoundary text end

@@ -19,7 +19,8 @@ SearchesAs regex re = (text : List ℕ) → ((k : ℕ) → get_or text k 0 < 256
 
 -- the text reads as a pattern, and the regex searches as it does
 abbrev pub IsRegexOf : List ℕ → Regex → Type 0
-IsRegexOf text regex = IsSome (pattern_of_text text) × ((re : Re) → pattern_of_text text ≡ Some re → SearchesAs regex re)
+IsRegexOf text regex =
+    IsSome (pattern_of_text text) × ((re : Re) → pattern_of_text text ≡ Some re → SearchesAs regex re)
 
 -- in each ASCII text the states come to an end exactly where the pattern matches
 abbrev pub EndsAs : Dfa → Re → Type 0
@@ -28,11 +29,13 @@ EndsAs dfa re = (text : List ℕ) → ((k : ℕ) → get_or text k 0 < 256) → 
 
 -- the text reads as a pattern, and the states match where it does
 abbrev pub IsDfaOf : List ℕ → Dfa → Type 0
-IsDfaOf pattern dfa = IsSome (pattern_of_text pattern) × ((re : Re) → pattern_of_text pattern ≡ Some re → EndsAs dfa re)
+IsDfaOf pattern dfa =
+    IsSome (pattern_of_text pattern) × ((re : Re) → pattern_of_text pattern ≡ Some re → EndsAs dfa re)
 
 -- it says whether the pattern matches somewhere in the text
 abbrev pub IsMatchAnswer : List ℕ → List ℕ → Bool → Type 0
-IsMatchAnswer pattern text found = (re : Re) → pattern_of_text pattern ≡ Some re → found ≡ is_some (find_str re text 0)
+IsMatchAnswer pattern text found =
+    (re : Re) → pattern_of_text pattern ≡ Some re → found ≡ is_some (find_str re text 0)
 
 -- they are the spans where the pattern matches, up to the limit
 abbrev pub FindsAll : List ℕ → List ℕ → Option ℕ → List (ℕ × ℕ) → Type 0

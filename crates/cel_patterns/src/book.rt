@@ -1,4 +1,5 @@
-//! A book of patterns: it builds each pattern once, keeps at most 256 of them, and remembers what was answered to each.
+//! A book of patterns: it builds each pattern once, keeps at most 256 of them,
+//! and remembers what was answered to each.
 ghost use Rattle.std.specs.Prelude.{◌≡◌, ◌≢◌, ◌↔◌, ◌<◌, ◌≤◌, ℕ, is_some, string_bytes, All, IfErr, IfOk, IfSome, IsSome, IsTrue, List, MatchOption, None, Some, false, true, if◌then◌else◌, option_map, vec_len};
 ghost use Rattle.cel_patterns.specs.Book.{Extends, found_by, IsBook, IsPlain, IsRefused, IsSpanIn, matched_by, pattern_of_text};
 ghost use Rattle.cel_patterns.specs.Built.{FindsAll, IsFaithful, IsMatchAnswer};
@@ -18,8 +19,8 @@ const MOST_BYTES: usize = 64 << 20;
 
 /// Which pattern texts were built and which were refused. An answer stays, also where memory is short later.
 ///
-/// The patterns themselves take room, so it keeps some of them at a time. A text whose pattern was forgotten is
-/// built again when it is asked for.
+/// The patterns themselves take room, so it keeps some of them at a time. A text whose pattern was forgotten
+/// is built again when it is asked for.
 ///
 /// It shows a book, `entries_of`: true at each text that was built, false at each that was refused.
 #[derive(Drop)]
@@ -195,7 +196,8 @@ impl PatternBook {
         }
     }
 
-    /// The byte spans where the pattern matches, the first `limit` or all, or `None` where the pattern is refused.
+    /// The byte spans where the pattern matches, the first `limit` or all,
+    /// or `None` where the pattern is refused.
     ///
     /// The matches go from the left and do not overlap.
     ///

@@ -1,4 +1,5 @@
-//! The book of patterns: what the crate `regex` answered to each pattern of a run, each built once and asked many times.
+//! The book of patterns: what the crate `regex` answered to each pattern of a run,
+//! each built once and asked many times.
 #![tactic(auto)]
 
 mod book;

@@ -105,7 +105,8 @@ impl Pattern {
         STORED_BYTES.saturating_add(parts.saturating_mul(64))
     }
 
-    /// Whether it matches somewhere in an ASCII text, by its states alone. `None` where they give up, and for any other text.
+    /// Whether it matches somewhere in an ASCII text, by its states alone.
+    /// `None` where they give up, and for any other text.
     fn tabled(&mut self, text: &str) -> Option<bool>
         ensures found { IfSome result (IsMatchAnswer (string_bytes self.old.text) text.now) }
         ensures text { self.new.text ≡ self.old.text }

@@ -1,7 +1,7 @@
 -- Trusted by the headline.
--- Sums, differences, products, quotients and remainders of values without doubles (CEL language definition, "Arithmetic", "Overflow" and
--- "List of Standard Definitions"). A result that is out of its kind's range is an overflow. A quotient is cut towards zero, and a
--- remainder has the dividend's sign.
+-- Sums, differences, products, quotients and remainders of values without doubles (CEL language definition,
+-- "Arithmetic", "Overflow" and "List of Standard Definitions"). A result that is out of its kind's range is
+-- an overflow. A quotient is cut towards zero, and a remainder has the dividend's sign.
 use Rattle.std.specs.Prelude.{ℕ, ◌+◌, ◌*◌, ◌^◌, ◌/◌, ◌%◌, ◌-◌, ◌++◌, ℤ, pos, negsuc, ◌+ℤ◌, ◌-ℤ◌, ◌*ℤ◌, neg_ℤ, codes, Bool, ◌&&◌, nat_lt, nat_eq, int_le, Option, Some, None, Ok, Err, if◌then◌else◌}
 use Rattle.std.specs.Option.{option_map_or}
 use Rattle.std.specs.Int.RustNames.{int_div, int_rem, unsigned_abs}
@@ -45,7 +45,8 @@ is_instant t = int_le (neg_ℤ (pos 62_135_596_800_000_000_000)) t && int_le t (
 
 -- an instant by a local clock, which shows one of these years too
 abbrev pub timestamp_or_overflow : ℤ → ℤ → Outcome
-timestamp_or_overflow t offset = if is_instant t && is_instant (local_nanosecond t offset) then Ok (timestamp t offset) else Err overflow
+timestamp_or_overflow t offset =
+    if is_instant t && is_instant (local_nanosecond t offset) then Ok (timestamp t offset) else Err overflow
 
 -- an int with its other sign
 abbrev pub opposite : Data → Outcome
@@ -84,12 +85,15 @@ product_of (uint m) (uint n) = uint_or_overflow (m * n)
 product_of _ _ = Err (no_overload (codes "*"))
 
 abbrev pub quotient_of : Data → Data → Outcome
-quotient_of (int m) (int n) = if nat_eq (unsigned_abs n) 0 then Err division_by_zero else int_or_overflow (int_div m n)
+quotient_of (int m) (int n) =
+    if nat_eq (unsigned_abs n) 0 then Err division_by_zero else int_or_overflow (int_div m n)
 quotient_of (uint m) (uint n) = if nat_eq n 0 then Err division_by_zero else Ok (uint (m / n))
 quotient_of _ _ = Err (no_overload (codes "/"))
 
 -- The least int has no remainder by -1, since their quotient is out of range.
 abbrev pub remainder_of : Data → Data → Outcome
-remainder_of (int m) (int n) = if nat_eq (unsigned_abs n) 0 then Err remainder_by_zero else (if is_int (int_div m n) then Ok (int (int_rem m n)) else Err overflow)
+remainder_of (int m) (int n) =
+    if nat_eq (unsigned_abs n) 0 then Err remainder_by_zero
+    else (if is_int (int_div m n) then Ok (int (int_rem m n)) else Err overflow)
 remainder_of (uint m) (uint n) = if nat_eq n 0 then Err remainder_by_zero else Ok (uint (m % n))
 remainder_of _ _ = Err (no_overload (codes "%"))

@@ -1,6 +1,6 @@
 -- Trusted by the headline.
--- What a call means (CEL language definition, "Functions"): first how its name may be called, then its receiver and its arguments, then
--- that none of them holds a double.
+-- What a call means (CEL language definition, "Functions"): first how its name may be called, then its
+-- receiver and its arguments, then that none of them holds a double.
 use Rattle.std.specs.Prelude.{ℕ, List, [], ◌∷◌, false, ◌||◌, Option, Some, None, Err, if◌then◌else◌}
 use Rattle.std.specs.List.{list_any}
 use Rattle.std.specs.Option.{option_map_or}
@@ -26,4 +26,5 @@ by_form Known name r = r
 -- the call of a known form with these values
 abbrev pub call_outcome : Library → Book → List ℕ → Option Data → List Data → Outcome
 call_outcome library book name receiver vs =
-    if option_map_or has_double receiver false || list_any has_double vs then Err no_doubles else library.answer_of name receiver vs book
+    if option_map_or has_double receiver false || list_any has_double vs then Err no_doubles
+    else library.answer_of name receiver vs book

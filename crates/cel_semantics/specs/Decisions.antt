@@ -32,11 +32,12 @@ abbrev pub first_fault : List ℕ → List Outcome → Option Fault
 first_fault name [] = None
 first_fault name (r ∷ rs) = option_or (bool_fault name r) (first_fault name rs)
 
--- b wherever an operand is b, whatever the others are; otherwise the first operand that is no bool gives its error, or `name` has
--- no overload for it; otherwise the other bool
+-- b wherever an operand is b, whatever the others are; otherwise the first operand that is no bool gives its
+-- error, or `name` has no overload for it; otherwise the other bool
 abbrev pub decision : Bool → List ℕ → List Outcome → Outcome
 decision b name rs =
-    if list_any (is_bool b) rs then Ok (bool b) else option_map_or Err (first_fault name rs) (Ok (bool (not b)))
+    if list_any (is_bool b) rs then Ok (bool b)
+    else option_map_or Err (first_fault name rs) (Ok (bool (not b)))
 
 -- the branch that a condition chooses
 abbrev pub branch_outcome : Result Bool Fault → Outcome → Outcome → Outcome

@@ -34,7 +34,8 @@ item_if d b = if b then Some d else None
 abbrev pub image_if : Outcome → Bool → IterationResult
 image_if r b = if b then and_then r (λ v. Ok (Some v)) else Ok None
 
--- what an item gives, by the outcome of the body there; filters are the outcomes of the filter there, of which there is one at most
+-- what an item gives, by the outcome of the body there; filters are the outcomes of the filter there, of
+-- which there is one at most
 abbrev pub iteration_result_of : MacroKind → Data → List Outcome → Outcome → IterationResult
 iteration_result_of All d filters r = and_then (truth (codes "all") r) (λ b. Ok (item_if d b))
 iteration_result_of Exists d filters r = and_then (truth (codes "exists") r) (λ b. Ok (item_if d b))
@@ -61,8 +62,8 @@ made_of ExistsOne ds = Ok (bool (nat_eq (length ds) 1))
 made_of Map ds = Ok (list (items_of ds))
 made_of Filter ds = Ok (list (items_of ds))
 
--- what a macro makes of the outcomes of its body at each item, and of what each item gives. `all` and `exists` look at all outcomes at once;
--- the others take the first error.
+-- what a macro makes of the outcomes of its body at each item, and of what each item gives. `all` and
+-- `exists` look at all outcomes at once; the others take the first error.
 abbrev pub macro_of : MacroKind → List Outcome → List IterationResult → Outcome
 macro_of All rs gs = decision false (codes "all") rs
 macro_of Exists rs gs = decision true (codes "exists") rs

@@ -1,6 +1,6 @@
 -- Trusted by the headline.
--- What an expression means: each tree, bindings, functions and book have exactly one outcome (CEL language definition, "Evaluation",
--- "Logical Operators", "Macros").
+-- What an expression means: each tree, bindings, functions and book have exactly one outcome (CEL language
+-- definition, "Evaluation", "Logical Operators", "Macros").
 use Rattle.std.specs.Prelude.{List, [], ◌∷◌, map, codes, true, false, None, Ok, Err}
 use Rattle.std.specs.Option.{option_map_or}
 use Rattle.cel_patterns.specs.Book.{Book}
@@ -56,16 +56,21 @@ module _ (library : Library) (book : Book) where
     meaning (index a b) env = strictly index_outcome (meaning a env) (meaning b env)
     meaning (unary op a) env = and_then (meaning a env) (λ v. unary_outcome op v)
     meaning (binary op a b) env = binary_of op (meaning a env) (meaning b env)
-    meaning (conditional a b c) env = branch_outcome (truth (codes "?:") (meaning a env)) (meaning b env) (meaning c env)
+    meaning (conditional a b c) env =
+        branch_outcome (truth (codes "?:") (meaning a env)) (meaning b env) (meaning c env)
     meaning (list_of ts) env = and_then (all_values (meanings ts env)) (λ vs. Ok (list (items_of vs)))
     meaning (map_with ps) env = map_meaning ps env (map_of no_entries)
-    meaning (call target name args) env = by_form (library.form_of name (is_there target) (count_of args)) name
-        (and_then (all_values (meanings target env)) (λ rs. and_then (all_values (meanings args env)) (λ vs. call_outcome library book name (receiver_of rs) vs)))
+    meaning (call target name args) env =
+        by_form (library.form_of name (is_there target) (count_of args)) name
+        (and_then (all_values (meanings target env)) (λ rs. and_then (all_values (meanings args env))
+        (λ vs. call_outcome library book name (receiver_of rs) vs)))
     meaning (qualified name args) env = by_form (library.form_of name false (count_of args)) name
         (and_then (all_values (meanings args env)) (λ vs. call_outcome library book name None vs))
-    meaning (macro kind range x filter body) env = and_then (meaning range env) (λ v. and_then (range_of (macro_name kind) v)
+    meaning (macro kind range x filter body) env =
+        and_then (meaning range env) (λ v. and_then (range_of (macro_name kind) v)
         (λ items. macro_of kind (map (λ d. meaning body ((x, d) ∷ env)) items)
-        (map (λ d. iteration_result_of kind d (meanings filter ((x, d) ∷ env)) (meaning body ((x, d) ∷ env))) items)))
+        (map (λ d. iteration_result_of kind d (meanings filter ((x, d) ∷ env)) (meaning body ((x, d) ∷ env)))
+        items)))
 
     pub meanings : Terms → Bindings → List Outcome
     meanings no_terms env = []
@@ -74,4 +79,5 @@ module _ (library : Library) (book : Book) where
     -- a map literal, entry by entry, after the map so far
     pub map_meaning : Pairs → Bindings → Data → Outcome
     map_meaning no_pairs env m = Ok m
-    map_meaning (pair_and k v ps) env m = and_then (entry_of (meaning k env) (meaning v env) m) (λ n. map_meaning ps env n)
+    map_meaning (pair_and k v ps) env m =
+        and_then (entry_of (meaning k env) (meaning v env) m) (λ n. map_meaning ps env n)

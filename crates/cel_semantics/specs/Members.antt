@@ -1,5 +1,6 @@
 -- Trusted by the headline.
--- Members of maps and items of lists (CEL language definition, "Field Selection", "Index", "Membership", "Map literals").
+-- Members of maps and items of lists (CEL language definition, "Field Selection", "Index",
+-- "Membership", "Map literals").
 use Rattle.std.specs.Prelude.{ℕ, zero, suc, ℤ, pos, negsuc, codes, Bool, false, ◌||◌, Option, Some, None, is_some, Ok, Err}
 use Rattle.std.specs.Option.{option_map_or}
 use Rattle.cel_value.specs.Data.{KeyData, bool_key, int_key, uint_key, text_key, Data, bool, int, uint, double, text, list, map_of, Items, no_items, item, Entries}

@@ -1,6 +1,7 @@
 -- Trusted by the headline.
--- What operators do with values (CEL language definition, "Equality", "Ordering", "Logical Operators", "Arithmetic").
--- Doubles are carried, but no operator takes one: it answers as if the name `double` were not declared.
+-- What operators do with values (CEL language definition, "Equality", "Ordering", "Logical Operators",
+-- "Arithmetic"). Doubles are carried, but no operator takes one:
+-- it answers as if the name `double` were not declared.
 use Rattle.std.specs.Prelude.{ℕ, List, codes, Bool, false, not, ◌||◌, Ok, Err, if◌then◌else◌}
 use Rattle.std.specs.Option.{option_map_or}
 use Rattle.std.specs.declared.cmp.Ordering.{Ordering}
@@ -47,7 +48,8 @@ holds_of _ o = false
 
 -- whether values without doubles stand in the operator's order
 abbrev pub order_test : BinaryOperator → Data → Data → Outcome
-order_test op v w = option_map_or (λ o. Ok (bool (holds_of op o))) (comparison v w) (Err (no_overload (operator_text op)))
+order_test op v w =
+    option_map_or (λ o. Ok (bool (holds_of op o))) (comparison v w) (Err (no_overload (operator_text op)))
 
 -- what an operator makes of two values without doubles; && and || are no such operators
 abbrev pub relation_outcome : BinaryOperator → Data → Data → Outcome

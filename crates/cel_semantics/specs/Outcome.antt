@@ -1,5 +1,6 @@
 -- Trusted by the headline.
--- What an evaluation comes to: a value, or the reason why there is none (CEL language definition, "Evaluation").
+-- What an evaluation comes to: a value, or the reason why there is none (CEL language
+-- definition, "Evaluation").
 use Rattle.std.specs.Prelude.{List, [], ◌∷◌, codes, Result, Ok, Err}
 use Rattle.cel_value.specs.Data.{Data}
 use Rattle.cel_value.specs.Faults.{Fault, undeclared, fault_view}

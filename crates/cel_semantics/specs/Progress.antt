@@ -12,7 +12,8 @@ use Rattle.cel_semantics.specs.declared.operators.Progress.TheVariants.{Decided,
 -- the operand decides, or the first fault so far is known
 abbrev pub Absorbs : Bool → List ℕ → Option Fault → Outcome → Progress → Type 0
 Absorbs stop name k r Decided = is_bool stop r ≡ true
-Absorbs stop name k r (Open f) = (is_bool stop r ≡ false) × (option_map fault_view f ≡ option_or k (bool_fault name r))
+Absorbs stop name k r (Open f) =
+    (is_bool stop r ≡ false) × (option_map fault_view f ≡ option_or k (bool_fault name r))
 
 -- none of these outcomes decides, and the first fault among them is k
 pub record Undecided (stop : Bool) (name : List ℕ) (k : Option Fault) (rs : List Outcome) : Type 0 where

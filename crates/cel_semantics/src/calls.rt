@@ -36,7 +36,8 @@ fn any_holds_double(args: &[Value]) -> bool
     false
 }
 
-/// The answer of a call whose form is known, unless a double is given to it. The book keeps its entries in any case.
+/// The answer of a call whose form is known, unless a double is given to it.
+/// The book keeps its entries in any case.
 ///
 /// # Errors
 /// `Memory` alone.

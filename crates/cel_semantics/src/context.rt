@@ -70,7 +70,8 @@ impl<'a, F: Functions> Context<'a, F> {
         self.add_variable(name, value)
     }
 
-    /// A scope inside this one: it begins with this one's variables and functions, and what is bound there stays there.
+    /// A scope inside this one: it begins with this one's variables and functions,
+    /// and what is bound there stays there.
     pub fn new_inner_scope(&self) -> Context<'_, F>
         ensures variables { bindings_of result ≡ bindings_of self.now }
         ensures functions { functions_of result ≡ functions_of self.now }

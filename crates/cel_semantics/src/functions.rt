@@ -38,7 +38,8 @@ pub trait Functions: Copy {
     fn form(&self, name: &str, receiver: bool, count: usize) -> Form
         ensures { result ≡ (library self.now).form_of name.now receiver count };
 
-    /// The answer of a call whose form is known. The book keeps its entries, also where the call is refused memory.
+    /// The answer of a call whose form is known. The book keeps its entries,
+    /// also where the call is refused memory.
     ///
     /// # Errors
     /// `Memory` alone.

@@ -43,7 +43,8 @@ fn keep(
     }
 }
 
-/// What an item gives to the result of a macro without a filter, by the outcome of the body there: a value, nothing, or an error.
+/// What an item gives to the result of a macro without a filter, by the outcome of the body there:
+/// a value, nothing, or an error.
 ///
 /// # Errors
 /// `Memory` alone.

@@ -72,7 +72,8 @@ fn add_at(alloc: Global, shared: Rc<Map>, key: &Value, value: &Value) -> Result<
     }
 }
 
-/// A map literal with its next entry. It takes time of the map's size only where the map is held elsewhere, too.
+/// A map literal with its next entry. It takes time of the map's size only where the
+/// map is held elsewhere, too.
 ///
 /// # Errors
 /// `Memory` alone.

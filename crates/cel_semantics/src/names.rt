@@ -11,7 +11,8 @@ use std::collections::BTreeMap;
 /// How many names are looked for one by one.
 const FEW: usize = 16;
 
-/// Names with their values. The first few stand in a list, which is quicker than a map while there are no others.
+/// Names with their values. The first few stand in a list,
+/// which is quicker than a map while there are no others.
 #[derive(Drop)]
 pub struct Names {
     first: Vec<(String, Value)>,

@@ -51,7 +51,8 @@ pub enum Progress {
     Open(Option<ExecutionError>),
 }
 
-/// Takes one more operand of `&&`, `||` or a macro, after operands whose first fault is `fault`: the bool `stop` decides.
+/// Takes one more operand of `&&`, `||` or a macro, after operands whose first fault is
+/// `fault`: the bool `stop` decides.
 ///
 /// # Errors
 /// `Memory` alone.

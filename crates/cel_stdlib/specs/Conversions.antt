@@ -1,7 +1,8 @@
 -- Trusted by the headline.
--- Values of one kind as values of another (CEL language definition, "List of Standard Definitions", `int`, `uint`, `string`, `bytes`,
--- `timestamp`, `duration`). A number that is out of its kind's range is an overflow, and a text that means no such number or time a fault
--- of the function. Bytes that are no UTF-8 become U+FFFD, one for each maximal piece.
+-- Values of one kind as values of another (CEL language definition, "List of Standard Definitions", `int`,
+-- `uint`, `string`, `bytes`, `timestamp`, `duration`). A number that is out of its kind's range is an
+-- overflow, and a text that means no such number or time a fault of the function. Bytes that are no UTF-8
+-- become U+FFFD, one for each maximal piece.
 use Rattle.std.specs.Prelude.{ℕ, ◌^◌, ℤ, pos, negsuc, nat_lt, ◌&&◌, List, length, codes, Bool, Option, Some, None, Ok, Err, decimal, if◌then◌else◌}
 use Rattle.std.specs.Fmt.{signed_decimal}
 use Rattle.std.specs.Option.{option_map_or}
@@ -21,12 +22,15 @@ is_numeral ds = nat_lt 0 (length ds) && all_ascii_digits ds
 
 -- the int that a text writes: `-`, `+` or no sign, and digits
 abbrev pub int_text : List ℕ → Option ℤ
-int_text s = if is_numeral (without_leading_sign s) && is_int (signed_digits_value 10 s) then Some (signed_digits_value 10 s) else None
+int_text s =
+    if is_numeral (without_leading_sign s) && is_int (signed_digits_value 10 s)
+    then Some (signed_digits_value 10 s) else None
 
 -- the uint that a text writes: `+` or no sign, and digits
 abbrev pub uint_text : List ℕ → Option ℕ
 uint_text s =
-    if is_numeral (without_leading_plus s) && nat_lt (digits_value 10 (without_leading_plus s)) (2 ^ 64) then Some (digits_value 10 (without_leading_plus s)) else None
+    if is_numeral (without_leading_plus s) && nat_lt (digits_value 10 (without_leading_plus s)) (2 ^ 64)
+    then Some (digits_value 10 (without_leading_plus s)) else None
 
 -- why a text is no number
 abbrev pub not_integer : List ℕ → Fault

@@ -1,6 +1,7 @@
 -- Trusted by the headline.
--- The least and the greatest of values (Kubernetes documentation, "CEL in Kubernetes", list library, `min` and `max`; documentation of
--- CEL-Go, "Lists"). Values are compared as `<` compares them, and of equal ones the first counts. A single value is compared with nothing.
+-- The least and the greatest of values (Kubernetes documentation, "CEL in Kubernetes", list library, `min`
+-- and `max`; documentation of CEL-Go, "Lists"). Values are compared as `<` compares them, and of equal ones
+-- the first counts. A single value is compared with nothing.
 use Rattle.std.specs.Prelude.{List, [], ◌∷◌, codes, Bool, not, is_some, Option, Some, None, option_map, Ok, Err, if◌then◌else◌}
 use Rattle.std.specs.List.{list_all, find}
 use Rattle.std.specs.Option.{option_map_or, unwrap_or}
@@ -23,7 +24,8 @@ goes_before Greatest o = is_gt o
 abbrev pub stands_before : Extreme → Data → Data → Bool
 stands_before end v w = is_some_and (goes_before end) (comparison v w)
 
--- of a value and a later one, the one that the other does not go before, where they have an order; of equal ones the first
+-- of a value and a later one, the one that the other does not go before,
+-- where they have an order; of equal ones the first
 abbrev pub better : Extreme → Data → Data → Option Data
 better end v w = option_map (λ o. if goes_before end o then w else v) (comparison w v)
 

@@ -1,5 +1,6 @@
 -- Trusted by the headline.
--- Whether an optional value holds one, and which (documentation of CEL-Go, "Optional types", `hasValue`, `value`).
+-- Whether an optional value holds one, and which (documentation of CEL-Go,
+-- "Optional types", `hasValue`, `value`).
 use Rattle.std.specs.Prelude.{codes, is_some, Ok, Err}
 use Rattle.std.specs.Option.{option_map_or}
 use Rattle.cel_value.specs.Data.{Data, bool, optional, Items}
@@ -13,7 +14,8 @@ has_value _ = Err (no_overload (codes "hasValue"))
 
 -- the value that is there
 abbrev pub value_held : Items → Outcome
-value_held ds = option_map_or Ok (first_item ds) (Err (function_error (codes "value") (codes "optional has no value")))
+value_held ds =
+    option_map_or Ok (first_item ds) (Err (function_error (codes "value") (codes "optional has no value")))
 
 abbrev pub value_of : Data → Outcome
 value_of (optional ds) = value_held ds

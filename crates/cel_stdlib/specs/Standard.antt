@@ -28,7 +28,8 @@ abbrev pub known_if : Bool → Form
 known_if b = if b then Known else Wrong
 
 abbrev pub standard_form : List ℕ → Bool → ℕ → Form
-standard_form name receiver count = option_map_or (λ f. known_if (takes f receiver count)) (function_named name) Unknown
+standard_form name receiver count =
+    option_map_or (λ f. known_if (takes f receiver count)) (function_named name) Unknown
 
 abbrev pub answer_of_one : OfOne → Data → Outcome
 answer_of_one Size v = size_outcome v
@@ -62,12 +63,15 @@ answer_of_both f name (Some v) (Some w) book = answer_of_two f v w book
 answer_of_both f name _ _ book = Err (no_overload name)
 
 abbrev pub answer_of : Function → List ℕ → Option Data → List Data → Book → Outcome
-answer_of (One f) name receiver args book = option_map_or (answer_of_one f) (first_operand receiver args) (Err (no_overload name))
-answer_of (Two f) name receiver args book = answer_of_both f name (first_operand receiver args) (second_operand receiver args) book
+answer_of (One f) name receiver args book =
+    option_map_or (answer_of_one f) (first_operand receiver args) (Err (no_overload name))
+answer_of (Two f) name receiver args book =
+    answer_of_both f name (first_operand receiver args) (second_operand receiver args) book
 answer_of (Many end) name receiver args book = extreme_of end (values_among args)
 
 abbrev pub standard_answer : List ℕ → Option Data → List Data → Book → Outcome
-standard_answer name receiver args book = option_map_or (λ f. answer_of f name receiver args book) (function_named name) (Err (no_overload name))
+standard_answer name receiver args book =
+    option_map_or (λ f. answer_of f name receiver args book) (function_named name) (Err (no_overload name))
 
 abbrev pub standard_library : Library
 standard_library = record { form_of = standard_form; answer_of = standard_answer }

@@ -1,6 +1,7 @@
 -- Trusted by the headline.
--- What strings have in them (CEL language definition, "List of Standard Definitions", `contains`, `startsWith`, `endsWith`, `matches`).
--- A string is its bytes in UTF-8: in a text the bytes of another one stand only where its characters do.
+-- What strings have in them (CEL language definition, "List of Standard Definitions", `contains`,
+-- `startsWith`, `endsWith`, `matches`). A string is its bytes in UTF-8: in a text the bytes of another one
+-- stand only where its characters do.
 use Rattle.std.specs.Prelude.{ℕ, nat_eq, ◌||◌, List, [], ◌∷◌, codes, Bool, Option, Some, None, Ok, Err}
 use Rattle.std.specs.List.{starts_with, ends_with}
 use Rattle.std.specs.Option.{option_map_or}
@@ -21,7 +22,8 @@ texts_in _ _ = None
 
 -- whether two texts pass a test, under the name of its function
 abbrev pub string_test : List ℕ → (List ℕ → List ℕ → Bool) → Data → Data → Outcome
-string_test name test v w = option_map_or (λ p. Ok (bool (test p.0 p.1))) (texts_in v w) (Err (no_overload name))
+string_test name test v w =
+    option_map_or (λ p. Ok (bool (test p.0 p.1))) (texts_in v w) (Err (no_overload name))
 
 abbrev pub contains : Data → Data → Outcome
 contains = string_test (codes "contains") has_part
@@ -41,4 +43,5 @@ pattern_found o = option_map_or (λ b. Ok (bool b)) o (Err refused_pattern)
 
 -- whether a pattern matches somewhere in a text, under a book
 abbrev pub matches : Data → Data → Book → Outcome
-matches v w book = option_map_or (λ p. pattern_found (matched_by book p.1 p.0)) (texts_in v w) (Err (no_overload (codes "matches")))
+matches v w book = option_map_or (λ p. pattern_found (matched_by book p.1 p.0)) (texts_in v w)
+    (Err (no_overload (codes "matches")))

@@ -1,6 +1,7 @@
 -- Trusted by the headline.
--- The standard functions: their names, and with which receiver and how many arguments each is called (CEL language definition, "List of
--- Standard Definitions"; documentation of CEL-Go, "Optional types" for `hasValue` and `value`, "Math" and "Lists" for `min` and `max`).
+-- The standard functions: their names, and with which receiver and how many arguments each is called (CEL
+-- language definition, "List of Standard Definitions"; documentation of CEL-Go, "Optional types" for
+-- `hasValue` and `value`, "Math" and "Lists" for `min` and `max`).
 use Rattle.std.specs.Prelude.{ℕ, ◌==◌, nat_eq, nat_lt, ◌&&◌, ◌||◌, not, List, [], ◌∷◌, length, codes, Bool, Option, Some, None, if◌then◌else◌}
 use Rattle.std.specs.List.{filter}
 use Rattle.std.specs.Map.{lookup}
@@ -75,4 +76,5 @@ takes (Many end) receiver count = takes_many receiver count
 
 -- the function that is called so, if one is
 abbrev pub known_function : List ℕ → Bool → ℕ → Option Function
-known_function name receiver count = option_and_then (λ f. if takes f receiver count then Some f else None) (function_named name)
+known_function name receiver count =
+    option_and_then (λ f. if takes f receiver count then Some f else None) (function_named name)

@@ -61,7 +61,8 @@ fn answer_of_two(
     }
 }
 
-// The layers of a call, this and those below, are inlined, since each of them would hand the answer on by a copy.
+// The layers of a call, this and those below, are inlined,
+// since each of them would hand the answer on by a copy.
 #[inline(always)]
 fn nth(args: &[Value], index: usize) -> Option<&Value>
     ensures { option_map (λ v. view v.now) result ≡ nth_item index (items_view args.now) }

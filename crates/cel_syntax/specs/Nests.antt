@@ -11,7 +11,9 @@ use Rattle.cel_syntax.specs.Ahead.{tokens_left}
 use Rattle.cel_syntax.specs.Reads.{Reads}
 
 pub record Nests (limit : ℕ) (pre : Global → MutBor Cursor → ℕ → Type 0)
-    (post : Global → MutBor Cursor → ℕ → Result (Expr × ℕ) SyntaxError → MutBor Cursor → Type 0) : Type 0 where
+    (post : Global → MutBor Cursor → ℕ → Result (Expr × ℕ) SyntaxError → MutBor Cursor
+    → Type 0) : Type 0 where
   pub callable : (alloc : Global) (old : MutBor Cursor) (n : ℕ) → n + 1 ≡ limit → pre alloc old n
-  pub reads : (alloc : Global) (old new : MutBor Cursor) (n : ℕ) (r : Result (Expr × ℕ) SyntaxError) → post alloc old n r new
+  pub reads : (alloc : Global) (old new : MutBor Cursor) (n : ℕ) (r : Result (Expr × ℕ) SyntaxError)
+      → post alloc old n r new
       → Reads (expr n (tokens_left old.now)) r (tokens_left new.now)

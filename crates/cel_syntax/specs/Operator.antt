@@ -1,5 +1,6 @@
 -- Trusted by the headline.
--- The operators. Source: section "Syntax" of the CEL language definition (table of precedence and associativity).
+-- The operators. Source: section "Syntax" of the CEL language definition (table of
+-- precedence and associativity).
 use Rattle.std.specs.Prelude.{ℕ, Bool, true, false, not, if◌then◌else◌, List, [], ◌∷◌, Option, Some, None, codes}
 use Rattle.std.specs.Str.{bytes_eq}
 use Rattle.cel_syntax_lexer.specs.Token.{Token, word, number, quoted, punctuator}
@@ -21,12 +22,14 @@ abbrev pub begins_number : List Token → Bool
 begins_number [] = false
 begins_number (k ∷ ts) = takes_minus k
 
--- Whether the sign before these tokens is an operator: a minus right before an int or a double belongs to that literal.
+-- Whether the sign before these tokens is an operator:
+-- a minus right before an int or a double belongs to that literal.
 abbrev pub is_operator_before : UnaryOperator → List Token → Bool
 is_operator_before u.Not ts = true
 is_operator_before u.Negate ts = not (begins_number ts)
 
--- How loosely an operator on two values binds, and which it is: 1 for products, 2 for sums, 3 for relations, 4 for "and", 5 for "or".
+-- How loosely an operator on two values binds, and which it is: 1 for products, 2 for sums,
+-- 3 for relations, 4 for "and", 5 for "or".
 abbrev pub operator_of : Punctuator → Option (ℕ × BinaryOperator)
 operator_of m.Star = Some (1, b.Multiply)
 operator_of m.Slash = Some (1, b.Divide)

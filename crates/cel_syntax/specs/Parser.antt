@@ -88,7 +88,8 @@ wrap s (suc n) t = tree.unary s (wrap s n t)
 -- a tree behind a number of signs, if the limit allows it
 unfoldable pub with_signs : ℕ → UnaryOperator → ℕ → Found → Parser Found
 with_signs limit s n x = λ ts.
-    if nat_eq n 0 then Some (x, ts) else (if nat_le (x.1 + n) limit then Some ((wrap s n x.0, x.1 + n), ts) else None)
+    if nat_eq n 0 then Some (x, ts)
+    else (if nat_le (x.1 + n) limit then Some ((wrap s n x.0, x.1 + n), ts) else None)
 
 -- what an operator makes of a tree and the operand after it
 abbrev pub with_operand : ℕ → Parser Found → BinaryOperator → Term → ℕ → Parser Found
@@ -107,7 +108,8 @@ unfoldable pub items_from : {A : Type 0} → Parser (A × ℕ) → ℕ → List 
 items_from item zero us l = refuse
 items_from item (suc n) us l = do
   x ← item
-  λ ts. if goes_on ts then items_from item n (us ++ x.0 ∷ []) (max l x.1) (drop 1 ts) else Some ((us ++ x.0 ∷ [], max l x.1), ts)
+  λ ts. if goes_on ts then items_from item n (us ++ x.0 ∷ []) (max l x.1) (drop 1 ts)
+      else Some ((us ++ x.0 ∷ [], max l x.1), ts)
 
 -- Each turn takes a token.
 unfoldable pub items_of : {A : Type 0} → Parser (A × ℕ) → Parser (List A × ℕ)
@@ -202,7 +204,8 @@ module _ (limit : ℕ) (sub : Parser Found) where
 
   -- The number counts the turns that are left. Each adds a level, so one more than the limit is enough.
   unfoldable pub links : ℕ → Term → ℕ → Parser Found
-  links zero t l = λ ts. if sees m.Dot ts then None else (if sees m.OpenSquare ts then None else Some ((t, l), ts))
+  links zero t l =
+      λ ts. if sees m.Dot ts then None else (if sees m.OpenSquare ts then None else Some ((t, l), ts))
   links (suc n) t l = do
     is_field ← eat m.Dot
     if is_field then (do x ← field t l; links n x.0 x.1) else (do

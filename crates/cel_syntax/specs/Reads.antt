@@ -16,18 +16,21 @@ Reads outcome (Err Memory) new = Unit {0}
 Reads outcome (Err Invalid) new = outcome ≡ None
 
 -- the same of a function that reads trees with commas between them
-abbrev pub ReadsItems : Outcome (List Term × ℕ) → Result (Vec Expr Global × ℕ) SyntaxError → List Token → Type 0
+abbrev pub ReadsItems : Outcome (List Term × ℕ) → Result (Vec Expr Global × ℕ) SyntaxError
+    → List Token → Type 0
 ReadsItems outcome (Ok x) new = outcome ≡ Some ((map term x.0.items, x.1), new)
 ReadsItems outcome (Err Memory) new = Unit {0}
 ReadsItems outcome (Err Invalid) new = outcome ≡ None
 
 -- and of one that reads pairs
-abbrev pub ReadsEntries : Outcome (List (Term × Term) × ℕ) → Result (Vec (Expr × Expr) Global × ℕ) SyntaxError → List Token → Type 0
+abbrev pub ReadsEntries : Outcome (List (Term × Term) × ℕ) → Result (Vec (Expr × Expr) Global × ℕ) SyntaxError
+    → List Token → Type 0
 ReadsEntries outcome (Ok x) new = outcome ≡ Some ((map (λ p. (term p.0, term p.1)) x.0.items, x.1), new)
 ReadsEntries outcome (Err Memory) new = Unit {0}
 ReadsEntries outcome (Err Invalid) new = outcome ≡ None
 
-abbrev pub ReadsPair : Outcome ((Term × Term) × ℕ) → Result ((Expr × Expr) × ℕ) SyntaxError → List Token → Type 0
+abbrev pub ReadsPair : Outcome ((Term × Term) × ℕ) → Result ((Expr × Expr) × ℕ) SyntaxError
+    → List Token → Type 0
 ReadsPair outcome (Ok x) new = outcome ≡ Some (((term x.0.0, term x.0.1), x.1), new)
 ReadsPair outcome (Err Memory) new = Unit {0}
 ReadsPair outcome (Err Invalid) new = outcome ≡ None

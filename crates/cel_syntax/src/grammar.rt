@@ -549,7 +549,8 @@ impl<F: Fn(Global, &mut Cursor<'_>, u8) -> Result<(Expr, usize), SyntaxError>> G
         self.with_operator(operator, left, right)
     }
 
-    /// The operators of one level that follow an operand, from the left. Their operands are of the levels below.
+    /// The operators of one level that follow an operand, from the left.
+    /// Their operands are of the levels below.
     #[cycle(operators)]
     fn turns(
         &self,

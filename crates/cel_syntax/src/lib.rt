@@ -14,10 +14,12 @@
 //! }
 //! ```
 //!
-//! [`References`] has all free names of a tree and the names of all its calls. The outer error says that there was no memory.
+//! [`References`] has all free names of a tree and the names of all its calls.
+//! The outer error says that there was no memory.
 //!
-//! Proved: `parse` answers a tree exactly where the text derives it by the grammar of the CEL language definition, and that tree
-//! (`specs/Reading.antt`). Laws: a text derives at most one tree, and the tree as a function of the text is the grammar's.
+//! Proved: `parse` answers a tree exactly where the text derives it by the grammar of the CEL language
+//! definition, and that tree (`specs/Reading.antt`). Laws: a text derives at most one tree, and the tree as a
+//! function of the text is the grammar's.
 #![tactic(auto)]
 
 mod bound;

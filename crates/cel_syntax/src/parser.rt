@@ -37,8 +37,8 @@ fn read(alloc: Global, tokens: &[Token<'_>]) -> Result<Option<Expr>, Refused>
 
 /// The tree that the tokens derive, or `None` where they derive none.
 ///
-/// Its parts may nest up to level 250. The only error is [`Refused::Memory`]. Source: the section "Syntax" of the
-/// CEL language definition.
+/// Its parts may nest up to level 250. The only error is [`Refused::Memory`]. Source: the section "Syntax" of
+/// the CEL language definition.
 pub fn parse_tokens(alloc: Global, tokens: &[Token<'_>]) -> Result<Option<Expr>, Refused>
     ensures grammar { MatchResult result
         (λ answer. MatchOption answer ((t : Term) → Derives (map token_of tokens.now) t → ⊥)

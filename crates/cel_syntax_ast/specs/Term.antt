@@ -1,5 +1,6 @@
 -- Trusted by the headline.
--- The tree of an expression as plain data, without its memory (abstract syntax of the CEL language definition).
+-- The tree of an expression as plain data, without its memory (abstract syntax of
+-- the CEL language definition).
 use Rattle.std.specs.Prelude.{ℕ, suc, zero, List, [], ◌∷◌, Option, Some, None, string_bytes, Box, Bool, true, false}
 use Rattle.std.specs.declared.alloc.Global.{Global}
 use Rattle.cel_value.specs.Data.{Data}

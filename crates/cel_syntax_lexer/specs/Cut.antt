@@ -20,20 +20,23 @@ token_within (suc n) z = this_or (token_of_bytes (take (suc n) z)) (suc n) (toke
 abbrev pub longest_token : List ℕ → Option (Token × ℕ)
 longest_token z = token_within (length z) z
 
--- What is cut from the front, and then the rest: a comment is dropped before all else, then white space, and where
--- neither stands the longest token is taken.
-abbrev pub from_first : (List ℕ → Option (List Token)) → List ℕ → Bool → Bool → Option (Token × ℕ) → Option (List Token)
+-- What is cut from the front, and then the rest: a comment is dropped before all else, then white space, and
+-- where neither stands the longest token is taken.
+abbrev pub from_first : (List ℕ → Option (List Token)) → List ℕ → Bool → Bool → Option (Token × ℕ)
+    → Option (List Token)
 from_first rest z true white found = rest (drop (prefix_len is_in_line z) z)
 from_first rest z false true found = rest (drop 1 z)
 from_first rest z false false None = None
-from_first rest z false false (Some found) = option_map (λ (ts : List Token). found.0 ∷ ts) (rest (drop found.1 z))
+from_first rest z false false (Some found) =
+    option_map (λ (ts : List Token). found.0 ∷ ts) (rest (drop found.1 z))
 
 -- the tokens of a text that is cut in at most n steps
 unfoldable pub cut_within : ℕ → List ℕ → Option (List Token)
 cut_within zero [] = Some []
 cut_within zero (b ∷ z) = None
 cut_within (suc n) [] = Some []
-cut_within (suc n) (b ∷ z) = from_first (λ y. cut_within n y) (b ∷ z) (begins_comment (b ∷ z)) (is_white_space b) (longest_token (b ∷ z))
+cut_within (suc n) (b ∷ z) = from_first (λ y. cut_within n y) (b ∷ z) (begins_comment (b ∷ z))
+    (is_white_space b) (longest_token (b ∷ z))
 
 -- No text has more steps than bytes, since each step drops a byte or more.
 unfoldable pub tokens_of_text : List ℕ → Option (List Token)

@@ -1,5 +1,6 @@
 -- Trusted by the headline.
--- What an escape writes. Source: the sections "Syntax" (ESCAPE, BYTES_LIT) and "String and Bytes Values" of the CEL language definition.
+-- What an escape writes. Source: the sections "Syntax" (ESCAPE, BYTES_LIT) and "String and Bytes Values" of
+-- the CEL language definition.
 use Rattle.std.specs.Prelude.{ℕ, zero, suc, nat_lt, nat_le, nat_eq, ◌&&◌, ◌||◌, if◌then◌else◌, List, [], ◌∷◌, ◌++◌, length, take, Option, Some, None, option_map}
 use Rattle.std.specs.Option.{option_and_then}
 use Rattle.std.specs.Char.{encode_utf8, is_digit}
@@ -17,7 +18,8 @@ letter_code c =
     else (if nat_eq c 114 then Some 13
     else (if nat_eq c 116 then Some 9
     else (if nat_eq c 118 then Some 11
-    else (if nat_eq c 92 || (nat_eq c 63 || (nat_eq c 34 || (nat_eq c 39 || nat_eq c 96))) then Some c else None)))))))
+    else (if nat_eq c 92 || (nat_eq c 63 || (nat_eq c 34 || (nat_eq c 39 || nat_eq c 96)))
+    then Some c else None)))))))
 
 -- the number that the first n bytes write, all digits
 unfoldable pub digits_code : ℕ → ℕ → List ℕ → Option ℕ

@@ -1,5 +1,6 @@
 -- Trusted by the headline.
--- The values of literals. Source: the sections "Syntax" (LITERAL) and "Values" of the CEL language definition.
+-- The values of literals. Source: the sections "Syntax" (LITERAL) and "Values" of
+-- the CEL language definition.
 use Rattle.std.specs.Prelude.{ℕ, Bool, true, false, if◌then◌else◌, List, Option, Some, None, codes}
 use Rattle.std.specs.Str.{bytes_eq}
 use Rattle.cel_value.specs.Data.{Data, null, bool}

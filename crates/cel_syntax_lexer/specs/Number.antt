@@ -1,5 +1,6 @@
 -- Trusted by the headline.
--- The values of numbers. Source: the sections "Syntax" (INT_LIT, UINT_LIT, FLOAT_LIT, EXPONENT) and "Values" of the CEL language definition.
+-- The values of numbers. Source: the sections "Syntax" (INT_LIT, UINT_LIT, FLOAT_LIT, EXPONENT) and "Values"
+-- of the CEL language definition.
 use Rattle.std.specs.Prelude.{ℕ, ◌-◌, ◌^◌, ℤ, pos, neg_ℤ, nat_lt, nat_le, nat_eq, Bool, true, false, ◌&&◌, ◌||◌, if◌then◌else◌, List, [], ◌∷◌, length, take, drop, slice_index, Option, Some, None, option_map}
 use Rattle.std.specs.List.{list_all, prefix_len}
 use Rattle.std.specs.Option.{option_and_then}
@@ -75,7 +76,8 @@ is_exponent (e ∷ s) = (nat_eq e 101 || nat_eq e 69) && is_numeral 10 (without_
 
 -- what stands after a point: digits, and an exponent or nothing
 unfoldable pub is_fraction : List ℕ → Bool
-is_fraction s = nat_lt 0 (digit_count s) && (nat_eq (length (after_digits s)) 0 || is_exponent (after_digits s))
+is_fraction s =
+    nat_lt 0 (digit_count s) && (nat_eq (length (after_digits s)) 0 || is_exponent (after_digits s))
 
 -- Digits may stand before the point; where there is no point, digits and an exponent do.
 unfoldable pub is_double : List ℕ → Bool
@@ -93,5 +95,6 @@ goes_with_minus s = is_double s || is_integer s
 unfoldable pub number_value : Bool → List ℕ → Option Data
 number_value negative s =
     if is_double s then Some double
-    else (if is_unsigned s then option_map uint (option_and_then (uint_value negative) (integer_value (without_last s)))
+    else (if is_unsigned s
+    then option_map uint (option_and_then (uint_value negative) (integer_value (without_last s)))
     else option_map int (option_and_then (int_value negative) (integer_value s)))

@@ -1,6 +1,7 @@
 -- Trusted by the headline.
 -- How a number is spelled. A minus before it is a punctuator.
--- Source: INT_LIT, UINT_LIT, FLOAT_LIT, DIGIT, HEXDIGIT and EXPONENT in the section "Syntax" of the CEL language definition.
+-- Source: INT_LIT, UINT_LIT, FLOAT_LIT, DIGIT, HEXDIGIT and EXPONENT in the section "Syntax" of
+-- the CEL language definition.
 use Rattle.std.specs.Prelude.{ℕ, Bool, ◌||◌, List}
 use Rattle.std.specs.Char.{is_ascii_digit, is_ascii_hexdigit}
 use Rattle.cel_syntax_lexer.specs.Spelling.{is_end, is_byte, is_either, one_then, some_then}

@@ -1,5 +1,6 @@
 -- Trusted by the headline.
--- The values of strings and bytes. Source: the sections "Syntax" (STRING_LIT, BYTES_LIT) and "String and Bytes Values" of the CEL language definition.
+-- The values of strings and bytes. Source: the sections "Syntax" (STRING_LIT, BYTES_LIT) and "String and
+-- Bytes Values" of the CEL language definition.
 use Rattle.std.specs.Prelude.{ℕ, ◌-◌, nat_eq, Bool, ◌||◌, if◌then◌else◌, List, length, take, drop, slice_index, Option, Some, None, codes}
 use Rattle.std.specs.List.{starts_with, ends_with}
 use Rattle.std.specs.Option.{option_and_then, option_or}
@@ -21,7 +22,9 @@ between quotes s = option_and_then (before_quotes quotes) (after_quotes quotes s
 
 -- Three quotes at each end, or one. Single and double quotes do the same.
 unfoldable pub body_of : List ℕ → Option (List ℕ)
-body_of s = option_or (between (codes "'''") s) (option_or (between (codes "\"\"\"") s) (option_or (between (codes "'") s) (between (codes "\"") s)))
+body_of s =
+    option_or (between (codes "'''") s) (option_or (between (codes "\"\"\"") s)
+    (option_or (between (codes "'") s) (between (codes "\"") s)))
 
 -- The letter r makes the spelling raw: its body stands for itself.
 abbrev pub is_raw : List ℕ → Bool
@@ -45,4 +48,5 @@ abbrev pub after_content : List ℕ → List ℕ
 after_content s = if nat_eq (slice_index s 0) 98 || nat_eq (slice_index s 0) 66 then drop 1 s else s
 
 unfoldable pub quoted_value : List ℕ → Option Data
-quoted_value s = option_and_then (content_value (content_of s)) (content_bytes (content_of s) (after_content s))
+quoted_value s =
+    option_and_then (content_value (content_of s)) (content_bytes (content_of s) (after_content s))

@@ -1,6 +1,8 @@
 -- Trusted by the headline.
--- How a string or bytes literal is spelled. Which escapes are right is no matter here: a wrong one is a token without a value.
--- Source: STRING_LIT, BYTES_LIT and ESCAPE in the section "Syntax" of the CEL language definition, and its section "String and Bytes Values".
+-- How a string or bytes literal is spelled. Which escapes are right is no matter here:
+-- a wrong one is a token without a value.
+-- Source: STRING_LIT, BYTES_LIT and ESCAPE in the section "Syntax" of the CEL language definition, and its
+-- section "String and Bytes Values".
 use Rattle.std.specs.Prelude.{ℕ, ◌+◌, Bool, true, false, not, ◌&&◌, ◌||◌, if◌then◌else◌, nat_eq, List, [], ◌∷◌, length, Option, Some, None, option_map}
 use Rattle.cel_syntax_lexer.specs.declared.string_literal.Quotes.{Quotes}
 use Rattle.cel_syntax_lexer.specs.Spelling.{is_byte, is_either, begins, one_then}
@@ -43,7 +45,8 @@ breaks q b = not q.tripled && is_line_break b
 abbrev pub hides : Quotes → Bool → ℕ → Bool
 hides q hidden b = not hidden && not q.raw && nat_eq b 92
 
--- how many bytes of the text and the closing quotes the string has, where it closes: it ends at the first offset at which they stand
+-- how many bytes of the text and the closing quotes the string has, where it closes: it ends at the first
+-- offset at which they stand
 unfoldable pub end_of : Quotes → Bool → List ℕ → Option ℕ
 end_of q hidden [] = None
 end_of q hidden (b ∷ z) =
@@ -77,7 +80,8 @@ triple_quotes raw quote = record { byte = quote; tripled = true; raw = raw }
 -- in single quotes or in tripled ones
 unfoldable pub is_string : Bool → List ℕ → Bool
 is_string raw [] = false
-is_string raw (b ∷ z) = is_quote b && (is_closed (single_quotes raw b) z || is_after_one (triple_quotes raw b) z)
+is_string raw (b ∷ z) =
+    is_quote b && (is_closed (single_quotes raw b) z || is_after_one (triple_quotes raw b) z)
 
 -- `r` or `R`, and a string whose backslashes hide nothing
 unfoldable pub is_raw_string : List ℕ → Bool

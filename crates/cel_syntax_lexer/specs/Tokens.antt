@@ -75,7 +75,9 @@ punctuator_of b (c ∷ d ∷ z) = None
 unfoldable pub token_of_bytes : List ℕ → Option Token
 token_of_bytes [] = None
 token_of_bytes (b ∷ z) =
-    if is_letter b then (if list_all is_word_byte z then Some (word (b ∷ z)) else (if is_prefixed (b ∷ z) then Some (quoted (b ∷ z)) else None))
+    if is_letter b
+    then (if list_all is_word_byte z then Some (word (b ∷ z))
+    else (if is_prefixed (b ∷ z) then Some (quoted (b ∷ z)) else None))
     else (if is_quote b then (if is_string false (b ∷ z) then Some (quoted (b ∷ z)) else None)
     else (if is_number (b ∷ z) then Some (number (b ∷ z))
     else option_map punctuator (punctuator_of b z)))
@@ -96,8 +98,10 @@ begins_comment (b ∷ c ∷ z) = nat_eq b 47 && nat_eq c 47
 pub data Cuts : List ℕ → List Token → Type 0 where
   done : Cuts [] []
   space : {b : ℕ} {z : List ℕ} {ts : List Token} → is_white_space b ≡ true → Cuts z ts → Cuts (b ∷ z) ts
-  comment : {z : List ℕ} {ts : List Token} → begins_comment z ≡ true → Cuts (drop (prefix_len is_in_line z) z) ts → Cuts z ts
-  token : {z : List ℕ} {n : ℕ} {t : Token} {ts : List Token} → begins_comment z ≡ false → Longest z n t → Cuts (drop n z) ts → Cuts z (t ∷ ts)
+  comment : {z : List ℕ} {ts : List Token}
+      → begins_comment z ≡ true → Cuts (drop (prefix_len is_in_line z) z) ts → Cuts z ts
+  token : {z : List ℕ} {n : ℕ} {t : Token} {ts : List Token}
+      → begins_comment z ≡ false → Longest z n t → Cuts (drop n z) ts → Cuts z (t ∷ ts)
 
 -- into these tokens and into no others
 abbrev pub CutsInto : List ℕ → List Token → Type 0

@@ -25,7 +25,8 @@ pub fn decimal_digits_write_their_number()
         → literal_value false (number (decimal n ++ 117 ∷ [])) ≡ Some (uint n) }
 {}
 
-/// What stands between quotes and has neither the quote nor a backslash is the value, and a raw backslash stands for itself.
+/// What stands between quotes and has neither the quote nor a backslash is the value,
+/// and a raw backslash stands for itself.
 pub fn plain_bodies_write_themselves()
     ensures string { (s : List ℕ) → is_free_of 34 s ≡ true → is_free_of 92 s ≡ true → is_utf8 s ≡ true
         → literal_value false (quoted (34 ∷ s ++ 34 ∷ [])) ≡ Some (text s) }

@@ -1,6 +1,7 @@
 -- Trusted by the headline.
--- What a call stands for: a macro, a function whose name has a dot in it, or an ordinary call. Source: section "Macros" of the CEL
--- language definition, and the names of the Kubernetes CEL libraries and of the CEL extension libraries.
+-- What a call stands for: a macro, a function whose name has a dot in it, or an ordinary call. Source:
+-- section "Macros" of the CEL language definition, and the names of the Kubernetes CEL libraries and of
+-- the CEL extension libraries.
 use Rattle.std.specs.Prelude.{ℕ, ◌-◌, nat_eq, length, Bool, ◌&&◌, if◌then◌else◌, List, [], ◌∷◌, ◌++◌, Option, Some, None, codes}
 use Rattle.std.specs.List.{list_any}
 use Rattle.std.specs.Str.{bytes_eq}
@@ -17,14 +18,16 @@ functions_of x =
     if bytes_eq x (codes "lists") then codes "range" ∷ []
     else (if bytes_eq x (codes "sets") then codes "contains" ∷ codes "equivalent" ∷ codes "intersects" ∷ []
     else (if bytes_eq x (codes "strings") then codes "quote" ∷ []
-    else (if bytes_eq x (codes "math") then codes "abs" ∷ codes "sign" ∷ codes "greatest" ∷ codes "least" ∷ codes "bitAnd" ∷ codes "bitOr" ∷ codes "bitXor" ∷ codes "bitNot"
-    ∷ codes "bitShiftLeft" ∷ codes "bitShiftRight" ∷ []
+    else (if bytes_eq x (codes "math") then codes "abs" ∷ codes "sign" ∷ codes "greatest" ∷ codes "least"
+    ∷ codes "bitAnd" ∷ codes "bitOr" ∷ codes "bitXor" ∷ codes "bitNot" ∷ codes "bitShiftLeft"
+    ∷ codes "bitShiftRight" ∷ []
     else (if bytes_eq x (codes "base64") then codes "encode" ∷ codes "decode" ∷ []
     else (if bytes_eq x (codes "jsonpatch") then codes "escapeKey" ∷ []
     else (if bytes_eq x (codes "ip") then codes "isCanonical" ∷ []
-    else (if bytes_eq x (codes "format") then codes "named" ∷ codes "dns1123Label" ∷ codes "dns1123Subdomain" ∷ codes "dns1035Label" ∷ codes "dns1123LabelPrefix"
-    ∷ codes "dns1123SubdomainPrefix" ∷ codes "dns1035LabelPrefix" ∷ codes "qualifiedName" ∷ codes "labelValue" ∷ codes "uri" ∷ codes "uuid" ∷ codes "byte"
-    ∷ codes "date" ∷ codes "datetime" ∷ []
+    else (if bytes_eq x (codes "format") then codes "named" ∷ codes "dns1123Label" ∷ codes "dns1123Subdomain"
+    ∷ codes "dns1035Label" ∷ codes "dns1123LabelPrefix" ∷ codes "dns1123SubdomainPrefix"
+    ∷ codes "dns1035LabelPrefix" ∷ codes "qualifiedName" ∷ codes "labelValue" ∷ codes "uri" ∷ codes "uuid"
+    ∷ codes "byte" ∷ codes "date" ∷ codes "datetime" ∷ []
     else [])))))))
 
 -- whether the two, with a dot between them, are the name of a function
@@ -78,7 +81,8 @@ macro_with k range (Some x) filter body = Some (tree.macro k range x filter body
 -- The variable is a plain identifier.
 abbrev pub macro_of : MacroKind → Term → List Term → Option Term
 macro_of k range (x ∷ body ∷ []) = macro_with k range (identifier_of x) tree.no_terms body
-macro_of k range (x ∷ filter ∷ body ∷ []) = macro_with k range (identifier_of x) (tree.term_and filter tree.no_terms) body
+macro_of k range (x ∷ filter ∷ body ∷ []) =
+    macro_with k range (identifier_of x) (tree.term_and filter tree.no_terms) body
 macro_of k range us = None
 
 abbrev pub by_kind : Option MacroKind → Term → (MacroKind → Option Term) → Option Term
@@ -96,9 +100,12 @@ has_of _ = None
 
 -- the call of a global function, unless it is a macro that isn't well formed
 unfoldable pub call_of : List ℕ → List Term → Option Term
-call_of w us = if bytes_eq w (codes "has") && nat_eq (length us) 1 then has_of us else Some (tree.call tree.no_terms w (terms_of us))
+call_of w us =
+    if bytes_eq w (codes "has") && nat_eq (length us) 1 then has_of us
+    else Some (tree.call tree.no_terms w (terms_of us))
 
--- The greatest level of a node's parts, by that of its arguments: the part of `has` is what it selects from, one level below its argument.
+-- The greatest level of a node's parts, by that of its arguments: the part of `has` is what it selects from,
+-- one level below its argument.
 abbrev pub parts_level : Term → ℕ → ℕ
 parts_level (tree.has t w) l = l - 1
 parts_level _ l = l

@@ -10,8 +10,10 @@ is_literal w = list_any (bytes_eq w) (codes "true" ∷ codes "false" ∷ codes "
 
 -- The other reserved words are reserved for the hosts of the language.
 unfoldable pub is_reserved : List ℕ → Bool
-is_reserved w = list_any (bytes_eq w) (codes "break" ∷ codes "continue" ∷ codes "for" ∷ codes "loop" ∷ codes "while" ∷ codes "else" ∷ codes "function" ∷ codes "if" ∷ codes "return"
-    ∷ codes "const" ∷ codes "let" ∷ codes "var" ∷ codes "void" ∷ codes "as" ∷ codes "import" ∷ codes "namespace" ∷ codes "package" ∷ [])
+is_reserved w = list_any (bytes_eq w) (codes "break" ∷ codes "continue" ∷ codes "for" ∷ codes "loop"
+    ∷ codes "while" ∷ codes "else" ∷ codes "function" ∷ codes "if" ∷ codes "return" ∷ codes "const"
+    ∷ codes "let" ∷ codes "var" ∷ codes "void" ∷ codes "as" ∷ codes "import" ∷ codes "namespace"
+    ∷ codes "package" ∷ [])
 
 -- A selected field may have any name but those of literals. (A word is of ASCII letters, so it is UTF-8.)
 unfoldable pub is_selector : List ℕ → Bool

@@ -44,7 +44,8 @@ most_items (v ∷ vs) = omega (arith, lighter v, most_items vs)
 pub items_fall : (a : lists.Inside) → deep-List a ≤ items_weight (items_view a.items.items)
 items_fall a = omega (arith, most_items a.items.items)
 
-most_entries : (es : List (Key × Value)) → most (λ v. deep-Value v) (map (λ e. e.1) es) ≤ entries_weight (entries_view es)
+most_entries : (es : List (Key × Value))
+    → most (λ v. deep-Value v) (map (λ e. e.1) es) ≤ entries_weight (entries_view es)
 most_entries [] = omega arith
 most_entries (e ∷ es) = omega (arith, lighter e.1, most_entries es)
 
@@ -54,7 +55,8 @@ entries_fall a = omega (arith, most_entries a.entries.entries)
 pub held_falls : (a : holds.Inside) → deep-Held a ≤ items_weight (alone (view a.value))
 held_falls a = omega (arith, lighter a.value)
 
-none_falls : (o : Option (Rc Held Global)) → deep-OptionalValue (record { held = o }) ≤ held_weight (held_view o)
+none_falls : (o : Option (Rc Held Global))
+    → deep-OptionalValue (record { held = o }) ≤ held_weight (held_view o)
 none_falls None = omega arith
 none_falls (Some r) = omega arith
 

@@ -37,10 +37,12 @@ key_text (uint_key n) = []
 key_text (text_key s) = s
 
 abbrev pub key_order : KeyData → KeyData → Ordering
-key_order = then_cmp (on key_class nat_cmp) (then_cmp (on key_number int_cmp) (on key_text (slice_cmp nat_cmp)))
+key_order =
+    then_cmp (on key_class nat_cmp) (then_cmp (on key_number int_cmp) (on key_text (slice_cmp nat_cmp)))
 
 pub key_order_total : IsTotalOrder key_order
-key_order_total = then_total (on_total key_class nat_cmp_total) (then_total (on_total key_number int_cmp_total) (on_total key_text nat_list_cmp_total))
+key_order_total = then_total (on_total key_class nat_cmp_total)
+    (then_total (on_total key_number int_cmp_total) (on_total key_text nat_list_cmp_total))
 
 pub key_total : IsTotalOrder (λ (a : Key) (b : Key). key_order (key_view a) (key_view b))
 key_total = on_total key_view key_order_total
@@ -51,4 +53,5 @@ key_equiv = on_equiv key_view (eq_by_cmp_equiv key_order_total)
 -- the entries, with d at k; a key that is there stays
 abbrev pub put : KeyData → Data → Entries → Entries
 put k d no_entries = entry k d no_entries
-put k d (entry l e es) = match_ordering (key_order k l) (entry k d (entry l e es)) (entry l d es) (entry l e (put k d es))
+put k d (entry l e es) =
+    match_ordering (key_order k l) (entry k d (entry l e es)) (entry l d es) (entry l e (put k d es))

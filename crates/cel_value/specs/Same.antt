@@ -1,7 +1,7 @@
 -- Trusted by the headline.
--- When two values are equal, and how they compare (CEL language definition, "Equality", "Ordering"; Kubernetes documentation, CEL
--- libraries). Each value has a shape, in which an int and a uint are their number, a timestamp is its instant and a quantity its number;
--- two values are equal where their shapes are.
+-- When two values are equal, and how they compare (CEL language definition, "Equality", "Ordering";
+-- Kubernetes documentation, CEL libraries). Each value has a shape, in which an int and a uint are their
+-- number, a timestamp is its instant and a quantity its number; two values are equal where their shapes are.
 use Rattle.std.specs.Prelude.{ℕ, ℤ, pos, ◌&&◌, ◌==◌, List, [], ◌∷◌, Bool, true, false, if◌then◌else◌, Option, None, Some, nat_eq, nat_lt}
 use Rattle.std.specs.declared.cmp.Ordering.{Ordering}
 use Rattle.std.specs.Ordering.{int_eq, int_cmp, nat_cmp, eq_by_cmp, ordering_then}
@@ -45,7 +45,9 @@ address_parts (six groups) = groups
 
 -- the numbers of a version with its pre-release, and its build metadata
 abbrev pub version_shape : Parts → Shape
-version_shape v = shape_of 14 [] [] (shape_and (leaf 0 (pos v.0 ∷ pos v.1 ∷ pos v.2 ∷ []) v.3) (shape_and (leaf 0 [] v.4) no_shapes))
+version_shape v =
+    shape_of 14 [] []
+    (shape_and (leaf 0 (pos v.0 ∷ pos v.1 ∷ pos v.2 ∷ []) v.3) (shape_and (leaf 0 [] v.4) no_shapes))
 
 abbrev mutual
   pub shape : Data → Shape
@@ -78,12 +80,14 @@ abbrev mutual
 
 abbrev mutual
   pub same_shape : Shape → Shape → Bool
-  same_shape (shape_of k ns s p) (shape_of l ms t q) = (k == l) && (same_shapes p q && (pointwise int_eq ns ms && pointwise nat_eq s t))
+  same_shape (shape_of k ns s p) (shape_of l ms t q) =
+      (k == l) && (same_shapes p q && (pointwise int_eq ns ms && pointwise nat_eq s t))
 
   pub same_shapes : Shapes → Shapes → Bool
   same_shapes no_shapes no_shapes = true
   same_shapes (shape_and x p) (shape_and y q) = same_shape x y && same_shapes p q
-  same_shapes (entry_and k x p) (entry_and l y q) = eq_by_cmp key_order k l && (same_shape x y && same_shapes p q)
+  same_shapes (entry_and k x p) (entry_and l y q) =
+      eq_by_cmp key_order k l && (same_shape x y && same_shapes p q)
   same_shapes _ _ = false
 
 abbrev pub same : Data → Data → Bool
@@ -95,7 +99,8 @@ is_ordered k = nat_lt 0 k && nat_lt k 7
 
 abbrev pub shape_order : Shape → Shape → Option Ordering
 shape_order (shape_of k ns s p) (shape_of l ms t q) =
-    if (k == l) && is_ordered k then Some (ordering_then (slice_cmp int_cmp ns ms) (slice_cmp nat_cmp s t)) else None
+    if (k == l) && is_ordered k then Some (ordering_then (slice_cmp int_cmp ns ms) (slice_cmp nat_cmp s t))
+    else None
 
 abbrev pub comparison : Data → Data → Option Ordering
 comparison a b = shape_order (shape a) (shape b)

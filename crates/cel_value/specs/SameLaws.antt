@@ -22,7 +22,8 @@ keys = eq_by_cmp_equiv key_order_total
 
 mutual
   same_shape-refl : (x : Shape) → same_shape x x ≡ true
-  same_shape-refl (shape_of k ns s p) = λ i. nat_eq_equiv.refl k i && (same_shapes-refl p i && (ints.refl ns i && nat_list_eq_equiv.refl s i))
+  same_shape-refl (shape_of k ns s p) =
+      λ i. nat_eq_equiv.refl k i && (same_shapes-refl p i && (ints.refl ns i && nat_list_eq_equiv.refl s i))
 
   same_shapes-refl : (p : Shapes) → same_shapes p p ≡ true
   same_shapes-refl no_shapes = refl
@@ -31,7 +32,9 @@ mutual
 
 mutual
   same_shape-symm : (x y : Shape) → same_shape x y ≡ same_shape y x
-  same_shape-symm (shape_of k ns s p) (shape_of l ms t q) = λ i. nat_eq_equiv.symm k l i && (same_shapes-symm p q i && (ints.symm ns ms i && nat_list_eq_equiv.symm s t i))
+  same_shape-symm (shape_of k ns s p) (shape_of l ms t q) =
+      λ i. nat_eq_equiv.symm k l i
+      && (same_shapes-symm p q i && (ints.symm ns ms i && nat_list_eq_equiv.symm s t i))
 
   same_shapes-symm : (p q : Shapes) → same_shapes p q ≡ same_shapes q p
   same_shapes-symm no_shapes no_shapes = refl
@@ -42,17 +45,21 @@ mutual
   same_shapes-symm (shape_and x p) (entry_and l y q) = refl
   same_shapes-symm (entry_and k x p) no_shapes = refl
   same_shapes-symm (entry_and k x p) (shape_and y q) = refl
-  same_shapes-symm (entry_and k x p) (entry_and l y q) = λ i. keys.symm k l i && (same_shape-symm x y i && same_shapes-symm p q i)
+  same_shapes-symm (entry_and k x p) (entry_and l y q) =
+      λ i. keys.symm k l i && (same_shape-symm x y i && same_shapes-symm p q i)
 
 mutual
   same_shape-congr : (x y z : Shape) → same_shape x y ≡ true → same_shape x z ≡ same_shape y z
   same_shape-congr (shape_of k ns s p) (shape_of l ms t q) (shape_of m os u r) h =
       let rest = second_so (k == l) (same_shapes p q && (pointwise int_eq ns ms && pointwise nat_eq s t)) h in
       let inside = second_so (same_shapes p q) (pointwise int_eq ns ms && pointwise nat_eq s t) rest in
-      let e1 = nat_eq_equiv.congr k l m (first_so (k == l) (same_shapes p q && (pointwise int_eq ns ms && pointwise nat_eq s t)) h) in
-      let e2 = same_shapes-congr p q r (first_so (same_shapes p q) (pointwise int_eq ns ms && pointwise nat_eq s t) rest) in
+      let e1 = nat_eq_equiv.congr k l m
+      (first_so (k == l) (same_shapes p q && (pointwise int_eq ns ms && pointwise nat_eq s t)) h) in
+      let e2 = same_shapes-congr p q r
+      (first_so (same_shapes p q) (pointwise int_eq ns ms && pointwise nat_eq s t) rest) in
       let e3 = ints.congr ns ms os (first_so (pointwise int_eq ns ms) (pointwise nat_eq s t) inside) in
-      let e4 = nat_list_eq_equiv.congr s t u (second_so (pointwise int_eq ns ms) (pointwise nat_eq s t) inside) in
+      let e4 =
+      nat_list_eq_equiv.congr s t u (second_so (pointwise int_eq ns ms) (pointwise nat_eq s t) inside) in
       λ i. e1 i && (e2 i && (e3 i && e4 i))
 
   same_shapes-congr : (p q r : Shapes) → same_shapes p q ≡ true → same_shapes p r ≡ same_shapes q r

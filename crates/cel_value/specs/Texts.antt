@@ -45,7 +45,8 @@ abbrev mutual
 
   pub entries_text : Bool → Entries → List ℕ
   entries_text later no_entries = 125 ∷ []
-  entries_text later (entry k d es) = comma_if later ++ (key_form true k ++ 58 ∷ (text_form true d ++ entries_text true es))
+  entries_text later (entry k d es) =
+      comma_if later ++ (key_form true k ++ 58 ∷ (text_form true d ++ entries_text true es))
 
 -- the first, or the second where there is no first
 abbrev pub first_of_two : Option Kind → Option Kind → Option Kind

@@ -25,7 +25,8 @@ impl Value {
     /// The list of these items.
     ///
     /// # Errors
-    /// `Memory`, also where it would have more levels than [`MAX_VALUE_LEVELS`](crate::value::MAX_VALUE_LEVELS).
+    /// `Memory`, also where it would have more levels than
+    /// [`MAX_VALUE_LEVELS`](crate::value::MAX_VALUE_LEVELS).
     pub fn from_items(alloc: Global, items: Vec<Value>) -> Result<Value, Refused>
         ensures value { IfOk result (λ v. view v ≡ list (items_view items.items)) }
         ensures memory { IfErr result (λ e. e ≡ Refused.Memory) }
@@ -36,7 +37,8 @@ impl Value {
     /// The map of these entries.
     ///
     /// # Errors
-    /// `Memory`, also where it would have more levels than [`MAX_VALUE_LEVELS`](crate::value::MAX_VALUE_LEVELS).
+    /// `Memory`, also where it would have more levels than
+    /// [`MAX_VALUE_LEVELS`](crate::value::MAX_VALUE_LEVELS).
     pub fn from_entries(alloc: Global, entries: Entries) -> Result<Value, Refused>
         ensures value { IfOk result (λ v. view v ≡ map_of (entries_view entries.entries)) }
         ensures memory { IfErr result (λ e. e ≡ Refused.Memory) }
@@ -45,10 +47,12 @@ impl Value {
     }
 }
 
-/// Puts a new entry into a map, unless the key is there. The map stays where the key is there, and where the call is refused.
+/// Puts a new entry into a map, unless the key is there. The map stays where the key is there,
+/// and where the call is refused.
 ///
 /// # Errors
-/// `Memory`, also where the map would have more levels than [`MAX_VALUE_LEVELS`](crate::value::MAX_VALUE_LEVELS).
+/// `Memory`, also where the map would have more levels than
+/// [`MAX_VALUE_LEVELS`](crate::value::MAX_VALUE_LEVELS).
 pub fn add_entry(
     entries: &mut Map,
     key: Key,

@@ -7,9 +7,9 @@ use crate::value::Value;
 use std::cmp::Ordering;
 
 impl Value {
-    /// How two values compare, or `None` where they have no order: bools (false first), numbers (an int with a uint),
-    /// strings by code points, bytes, timestamps by their instants, durations, each class within itself (CEL language
-    /// definition, "Ordering").
+    /// How two values compare, or `None` where they have no order: bools (false first), numbers (an int with
+    /// a uint), strings by code points, bytes, timestamps by their instants, durations, each class within
+    /// itself (CEL language definition, "Ordering").
     pub fn compare(&self, other: &Value) -> Option<Ordering>
         ensures { result ≡ comparison (view self.now) (view other.now) }
     {

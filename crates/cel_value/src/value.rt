@@ -1,5 +1,5 @@
-//! The values of CEL. What is large is shared, so that a copy takes no memory; a list, a map and an optional know whether a
-//! double stands in them and how many levels they have, so that neither question takes a walk.
+//! The values of CEL. What is large is shared, so that a copy takes no memory; a list, a map and an optional
+//! know whether a double stands in them and how many levels they have, so that neither question takes a walk.
 ghost use Rattle.std.specs.Prelude.{◌≡◌, ◌≤◌, suc, IfOk, IfErr};
 ghost use Rattle.cel_value.specs.Levels.{levels, max_levels};
 ghost use Rattle.cel_value.specs.Same.{has_double};
@@ -23,8 +23,9 @@ use std::rc::Rc;
 
 /// The most levels that a value has: lists, maps and optionals inside one another.
 ///
-/// Values are dropped, compared and printed level by level, and each level takes a part of the stack. An expression can
-/// wrap a value in one more list as often as it likes, so what would have more levels is refused as if there were no memory.
+/// Values are dropped, compared and printed level by level, and each level takes a part of the stack. An
+/// expression can wrap a value in one more list as often as it likes, so what would have more levels is
+/// refused as if there were no memory.
 pub const MAX_VALUE_LEVELS: u16 = 4096;
 
 /// Entries of a map that is being made, in the order of their keys.

@@ -1,6 +1,6 @@
 -- Trusted by the headline.
--- What a text of a time means, as a function of the text, and what a timestamp is printed as, as a function of its
--- instant and offset: what the relations of `DurationTexts` and `TimestampTexts` say, computed.
+-- What a text of a time means, as a function of the text, and what a timestamp is printed as, as a function
+-- of its instant and offset: what the relations of `DurationTexts` and `TimestampTexts` say, computed.
 -- Sources: Go, `time.ParseDuration`; RFC 3339, section 5.6.
 use Rattle.std.specs.Prelude.{◌≡◌, ℕ, zero, suc, ◌+◌, ◌==◌, ◌&&◌, ◌++◌, int_lt, List, [], ◌∷◌, length, Option, Some, None, option_map, ℤ, pos, neg_ℤ, ◌+ℤ◌, ◌-ℤ◌, ◌*ℤ◌, unsigned_abs, if◌then◌else◌}
 use Rattle.std.specs.Int.{int_div_euclid, int_rem_euclid}
@@ -92,7 +92,8 @@ text_of_parts second nanoseconds offset =
 -- and of its instant and its offset
 unfoldable pub timestamp_text : ℤ → ℤ → List ℕ
 timestamp_text instant offset =
-    text_of_parts (int_div_euclid instant (pos 1_000_000_000)) (unsigned_abs (int_rem_euclid instant (pos 1_000_000_000))) offset
+    text_of_parts (int_div_euclid instant (pos 1_000_000_000))
+    (unsigned_abs (int_rem_euclid instant (pos 1_000_000_000))) offset
 
 -- the text means a timestamp of this instant and this offset
 pub record MeansInstant (text : List ℕ) (instant offset : ℤ) : Type 0 where

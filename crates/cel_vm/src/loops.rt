@@ -116,8 +116,8 @@ fn enter(
     }
 }
 
-/// Starts a loop: pops its range and enters it. An error, or the fault of a value that is no range, is pushed in place of
-/// the macro's outcome, and the loop jumped over.
+/// Starts a loop: pops its range and enters it. An error, or the fault of a value that is no range, is pushed
+/// in place of the macro's outcome, and the loop jumped over.
 #[inline(never)]
 pub(crate) fn begin(
     alloc: Global,
@@ -178,7 +178,8 @@ fn close(answer: Answer, stacks: &mut Stacks) -> Result<LoopStep, AllocError>
     Ok(LoopStep::AfterLoop)
 }
 
-/// Ends the innermost loop after its last item: pops it with its slot for a pending error, and pushes its outcome.
+/// Ends the innermost loop after its last item: pops it with its slot for a pending
+/// error, and pushes its outcome.
 #[inline(never)]
 fn end_loop(alloc: Global, rule: ResultRule, stacks: &mut Stacks) -> Result<LoopStep, Refused>
     ensures value { IfOk result
@@ -223,8 +224,8 @@ fn next_item(
     }
 }
 
-/// Takes the outcome at an item of `all` or `exists`: the bool `stop` ends the loop; else its error is kept pending, and
-/// the next item follows.
+/// Takes the outcome at an item of `all` or `exists`: the bool `stop` ends the loop; else its error is kept
+/// pending, and the next item follows.
 #[inline(never)]
 fn take_outcome(
     alloc: Global,
@@ -282,7 +283,8 @@ fn gather(
     }
 }
 
-/// Takes the outcome at an item of a macro that collects: adds what the item gives, and goes to the next item.
+/// Takes the outcome at an item of a macro that collects: adds what the item gives,
+/// and goes to the next item.
 #[inline(never)]
 fn collect(
     alloc: Global,
@@ -354,7 +356,8 @@ fn take_filtered(
     }
 }
 
-/// Takes the outcome at an item of `map` without a filter: adds it, and goes to the next item. An error ends the loop.
+/// Takes the outcome at an item of `map` without a filter: adds it,
+/// and goes to the next item. An error ends the loop.
 #[inline(always)]
 fn take_image(
     alloc: Global,
@@ -458,7 +461,8 @@ fn passing(end: End, outcome: bool) -> Option<ResultRule>
     }
 }
 
-/// How the loop comes to its outcome, where its end finds a bool that neither decides it nor gives anything to it.
+/// How the loop comes to its outcome, where its end finds a bool that neither decides
+/// it nor gives anything to it.
 #[inline(always)]
 fn passing_on_top(end: End, stacks: &Stacks) -> Option<ResultRule>
     ensures { IfSome result (λ rule. (pending_of stacks.now ≢ [])

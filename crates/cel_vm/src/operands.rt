@@ -276,7 +276,8 @@ fn absorb_right(
     }
 }
 
-/// The right operand of && and ||. The bool that decides nothing stays where it is, unless an error is pending.
+/// The right operand of && and ||. The bool that decides nothing stays where it is,
+/// unless an error is pending.
 #[inline(always)]
 pub(crate) fn take_right(
     alloc: Global,
@@ -367,7 +368,8 @@ pub(crate) fn put_over_two(values: &mut Vec<Answer>, answer: Answer)
     put_top(values, answer);
 }
 
-/// Pops `count` values into `found`, the lowest first. Answers false if fewer are there or one of them is an error.
+/// Pops `count` values into `found`, the lowest first.
+/// Answers false if fewer are there or one of them is an error.
 pub(crate) fn take_values(
     count: usize,
     values: &mut Vec<Answer>,

@@ -12,7 +12,8 @@ use cel_value::{ExecutionError, Refused, Value};
 use std::alloc::AllocError;
 
 /// Pushes one more element.
-// Where there is room, this is no more than some stores, so it is inlined, as all is that each item of a loop needs.
+// Where there is room, this is no more than some stores, so it is inlined,
+// as all is that each item of a loop needs.
 #[inline(always)]
 pub fn push_last<T: Drop>(list: &mut Vec<T>, last: T) -> Result<(), AllocError>
     ensures { OnOk result (list.new.items ≡ list.old.items ++ last ∷ []) }

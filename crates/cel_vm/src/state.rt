@@ -7,8 +7,8 @@ use cel_semantics::ranges::Range;
 use cel_syntax_ast::MacroKind;
 use cel_value::{ExecutionError, Value};
 
-/// A loop: what it goes over, the index of the item that its variable is bound to, what the items so far gave to its result, and the
-/// program counters where its body starts and ends.
+/// A loop: what it goes over, the index of the item that its variable is bound to, what the items so far gave
+/// to its result, and the program counters where its body starts and ends.
 #[derive(Drop)]
 pub struct LoopState {
     pub range: Range,
@@ -35,7 +35,8 @@ pub struct End {
     pub filtered: bool,
 }
 
-/// How a macro comes to its outcome: an item that is this bool decides it, or it is made of what the items gave.
+/// How a macro comes to its outcome: an item that is this bool decides it,
+/// or it is made of what the items gave.
 #[derive(Clone, Copy)]
 pub enum ResultRule {
     Decided(bool),

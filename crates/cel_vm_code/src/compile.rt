@@ -44,7 +44,8 @@ fn loop_index(names: &[&str], name: &str) -> Option<usize>
 
 /// What loads a name inside loops over these variables.
 fn load(names: &[&str], name: &Rc<String>) -> Result<Instr, AllocError>
-    ensures { IfOk result (λ i. op i ≡ load_of (string_bytes name.now.value) (loop_index (string_bytes name.now.value) (variables names.now))) }
+    ensures { IfOk result (λ i. op i ≡ load_of (string_bytes name.now.value)
+        (loop_index (string_bytes name.now.value) (variables names.now))) }
 {
     match loop_index(names, name.as_str()) {
         Some(outward) => Ok(Instr::LoadItem(outward)),
@@ -164,7 +165,8 @@ fn compile_all<'e>(
     names: &[&'e str],
     items: &'e Vec<Expr>,
 ) -> Result<Vec<Vec<Instr>>, Refused>
-    ensures value { IfOk result (λ codes. codes_view codes.items ≡ codes_in (variables names.now) (terms_of (map term items.now.items))) }
+    ensures value { IfOk result (λ codes. codes_view codes.items
+        ≡ codes_in (variables names.now) (terms_of (map term items.now.items))) }
     ensures memory { IfErr result (λ e. e ≡ Refused.Memory) }
 {
     let mut codes = Vec::new(alloc);
@@ -181,7 +183,8 @@ fn compile_pairs<'e>(
     names: &[&'e str],
     pairs: &'e Vec<(Expr, Expr)>,
 ) -> Result<Vec<(Vec<Instr>, Vec<Instr>)>, Refused>
-    ensures value { IfOk result (λ codes. pairs_view codes.items ≡ pairs_in (variables names.now) (pairs_of (map (λ p. (term p.0, term p.1)) pairs.now.items))) }
+    ensures value { IfOk result (λ codes. pairs_view codes.items
+        ≡ pairs_in (variables names.now) (pairs_of (map (λ p. (term p.0, term p.1)) pairs.now.items))) }
     ensures memory { IfErr result (λ e. e ≡ Refused.Memory) }
 {
     let mut codes = Vec::new(alloc);
@@ -247,7 +250,8 @@ fn prepend_one(rest: &mut Vec<Instr>, instr: Instr) -> Result<(), AllocError>
     Ok(())
 }
 
-/// A test for an error over a number of values, unless it is sure that there is none, in front of code that is written from its end on.
+/// A test for an error over a number of values, unless it is sure that there is none, in front of code that
+/// is written from its end on.
 fn prepend_check(sure: bool, depth: usize, rest: &mut Vec<Instr>) -> Result<(), AllocError>
     ensures { OnOk result (from_end rest.new.items ≡ with_guard sure depth (from_end rest.old.items)) }
 {
@@ -260,7 +264,8 @@ fn prepend_check(sure: bool, depth: usize, rest: &mut Vec<Instr>) -> Result<(), 
 
 /// An operand, over a number of values, in front of code that is written from its end on.
 fn prepend_operand(code: Vec<Instr>, depth: usize, rest: &mut Vec<Instr>) -> Result<(), AllocError>
-    ensures { OnOk result (from_end rest.new.items ≡ operand (map op code.items) depth (from_end rest.old.items)) }
+    ensures { OnOk result (from_end rest.new.items
+        ≡ operand (map op code.items) depth (from_end rest.old.items)) }
 {
     let sure = is_sure(code.as_slice());
     prepend_check(sure, depth, rest)?;
@@ -277,7 +282,8 @@ fn join_operands(
     last: Vec<Instr>,
 ) -> Result<Vec<Instr>, AllocError>
     requires { depth ≤ 1 }
-    ensures { IfOk result (λ all. map op all.items ≡ operands (codes_view codes.items) depth (map op last.items)) }
+    ensures { IfOk result (λ all. map op all.items
+        ≡ operands (codes_view codes.items) depth (map op last.items)) }
 {
     let mut before = codes;
     let mut rest = last;
@@ -291,7 +297,8 @@ fn join_operands(
 
 /// The code of a list.
 fn join_list(alloc: Global, codes: Vec<Vec<Instr>>) -> Result<Vec<Instr>, AllocError>
-    ensures { IfOk result (λ all. (xs : List (List ℕ)) (ts : Terms) → codes_view codes.items ≡ codes_in xs ts → map op all.items ≡ code_in xs (list_of ts)) }
+    ensures { IfOk result (λ all. (xs : List (List ℕ)) (ts : Terms)
+        → codes_view codes.items ≡ codes_in xs ts → map op all.items ≡ code_in xs (list_of ts)) }
 {
     let last = one(alloc, Instr::Apply(Operation::List(codes.len())))?;
     join_operands(codes, 0, last)
@@ -314,7 +321,8 @@ fn join_both(
     right: Vec<Instr>,
 ) -> Result<Vec<Instr>, AllocError>
     requires { operands_of operation ≡ 2 }
-    ensures { IfOk result (λ all. map op all.items ≡ both_with (work_of operation) (map op left.items) (map op right.items)) }
+    ensures { IfOk result (λ all. map op all.items
+        ≡ both_with (work_of operation) (map op left.items) (map op right.items)) }
 {
     let last = one(alloc, Instr::Apply(operation))?;
     let rest = join_operand(right, 1, last)?;
@@ -327,7 +335,8 @@ fn prepend_entry(
     value: Vec<Instr>,
     rest: &mut Vec<Instr>,
 ) -> Result<(), AllocError>
-    ensures { OnOk result (from_end rest.new.items ≡ entry_code (map op key.items) (map op value.items) (from_end rest.old.items)) }
+    ensures { OnOk result (from_end rest.new.items
+        ≡ entry_code (map op key.items) (map op value.items) (from_end rest.old.items)) }
 {
     let offset = rest.len();
     prepend_one(rest, Instr::Guard { depth: 0, offset })?;
@@ -346,7 +355,8 @@ fn empty_map(alloc: Global) -> Result<Instr, Refused>
 
 /// The code of a map literal.
 fn join_map(alloc: Global, pairs: Vec<(Vec<Instr>, Vec<Instr>)>) -> Result<Vec<Instr>, Refused>
-    ensures value { IfOk result (λ all. map op all.items ≡ push (map_of no_entries) ∷ entries_code (pairs_view pairs.items) []) }
+    ensures value { IfOk result (λ all. map op all.items
+        ≡ push (map_of no_entries) ∷ entries_code (pairs_view pairs.items) []) }
     ensures memory { IfErr result (λ e. e ≡ Refused.Memory) }
 {
     let mut before = pairs;
@@ -368,7 +378,8 @@ fn join_form(
     count: usize,
     mut rest: Vec<Instr>,
 ) -> Result<Vec<Instr>, AllocError>
-    ensures { IfOk result (λ all. map op all.items ≡ after_form (string_bytes name.now.value) receiver count (map op rest.items)) }
+    ensures { IfOk result (λ all. map op all.items
+        ≡ after_form (string_bytes name.now.value) receiver count (map op rest.items)) }
 {
     let offset = rest.len();
     let mut all = one(
@@ -417,8 +428,9 @@ fn join_method(
     receiver: Vec<Instr>,
     codes: Vec<Vec<Instr>>,
 ) -> Result<Vec<Instr>, AllocError>
-    ensures { IfOk result (λ all. (xs : List (List ℕ)) (t : Term) (ts : Terms) → map op receiver.items ≡ code_in xs t
-        → codes_view codes.items ≡ codes_in xs ts → map op all.items ≡ code_in xs (call (term_and t no_terms) (string_bytes name.now.value) ts)) }
+    ensures { IfOk result (λ all. (xs : List (List ℕ)) (t : Term) (ts : Terms)
+        → map op receiver.items ≡ code_in xs t → codes_view codes.items ≡ codes_in xs ts
+        → map op all.items ≡ code_in xs (call (term_and t no_terms) (string_bytes name.now.value) ts)) }
 {
     let count = codes.len();
     let instr = call_instr(name, true, count)?;
@@ -458,7 +470,9 @@ fn join_strict(
     right: Vec<Instr>,
     literal: Option<&Value>,
 ) -> Result<Vec<Instr>, Refused>
-    ensures value { IfOk result (λ all. map op all.items ≡ strict_code operator (map op left.items) (map op right.items) (option_map (λ v. view v.now) literal.entry)) }
+    ensures value { IfOk result (λ all. map op all.items
+        ≡ strict_code operator (map op left.items) (map op right.items)
+        (option_map (λ v. view v.now) literal.entry)) }
     ensures memory { IfErr result (λ e. e ≡ Refused.Memory) }
 {
     match literal {
@@ -478,7 +492,9 @@ fn join_binary(
     right: Vec<Instr>,
     literal: Option<&Value>,
 ) -> Result<Vec<Instr>, Refused>
-    ensures value { IfOk result (λ all. map op all.items ≡ binary_code operator (map op left.items) (map op right.items) (option_map (λ v. view v.now) literal.entry)) }
+    ensures value { IfOk result (λ all. map op all.items
+        ≡ binary_code operator (map op left.items) (map op right.items)
+        (option_map (λ v. view v.now) literal.entry)) }
     ensures memory { IfErr result (λ e. e ≡ Refused.Memory) }
 {
     match operator {
@@ -495,7 +511,8 @@ fn join_branches(
     mut yes: Vec<Instr>,
     mut no: Vec<Instr>,
 ) -> Result<Vec<Instr>, AllocError>
-    ensures { IfOk result (λ all. map op all.items ≡ choice_code (test_name kind) (map op test.items) (map op yes.items) (map op no.items)) }
+    ensures { IfOk result (λ all. map op all.items
+        ≡ choice_code (test_name kind) (map op test.items) (map op yes.items) (map op no.items)) }
 {
     let on_false = yes.len() + 1;
     let skipped = no.len();
@@ -528,7 +545,8 @@ fn join_loop(
     range: Vec<Instr>,
     mut body: Vec<Instr>,
 ) -> Result<Vec<Instr>, AllocError>
-    ensures { IfOk result (λ all. map op all.items ≡ loop kind filtered (map op range.items) (map op body.items)) }
+    ensures { IfOk result (λ all. map op all.items
+        ≡ loop kind filtered (map op range.items) (map op body.items)) }
 {
     let offset = body.len() + 1;
     let mut all = range;
@@ -546,7 +564,8 @@ fn join_macro(
     filter: Option<Vec<Instr>>,
     body: Vec<Instr>,
 ) -> Result<Vec<Instr>, AllocError>
-    ensures { IfOk result (λ all. map op all.items ≡ macro_code kind (map op range.items) (filter_codes filter) (map op body.items)) }
+    ensures { IfOk result (λ all. map op all.items
+        ≡ macro_code kind (map op range.items) (filter_codes filter) (map op body.items)) }
 {
     match kind {
         MacroKind::All => join_loop(MacroKind::All, false, range, body),

@@ -32,8 +32,8 @@ pub enum Operation {
     Put,
 }
 
-/// One instruction. It takes its operands from a stack of values, each of them a value or the error that stands for it, and leaves its
-/// result there. A jump says how many instructions it jumps over.
+/// One instruction. It takes its operands from a stack of values, each of them a value or the error that
+/// stands for it, and leaves its result there. A jump says how many instructions it jumps over.
 #[derive(Debug, Drop)]
 pub enum Instr {
     /// Pushes a value.
@@ -49,7 +49,8 @@ pub enum Instr {
     },
     /// An operation on the topmost values.
     Apply(Operation),
-    /// How a name may be called with a receiver or without, with `count` arguments: goes on, or jumps over `offset` instructions with an error.
+    /// How a name may be called with a receiver or without, with `count` arguments: goes on, or jumps over
+    /// `offset` instructions with an error.
     Form {
         name: Rc<String>,
         receiver: bool,
@@ -62,7 +63,8 @@ pub enum Instr {
         receiver: bool,
         count: usize,
     },
-    /// A test: goes on where it holds, jumps over `on_false` instructions where it does not, or over `offset` instructions, both branches, with an error.
+    /// A test: goes on where it holds, jumps over `on_false` instructions where it does not, or over `offset`
+    /// instructions, both branches, with an error.
     Branch {
         test: Test,
         on_false: usize,
@@ -70,7 +72,8 @@ pub enum Instr {
     },
     /// Jumps over this number of instructions.
     Skip(usize),
-    /// Takes the left operand: jumps over the right one where it is the bool `stop`, or else keeps its error pending.
+    /// Takes the left operand: jumps over the right one where it is the bool `stop`,
+    /// or else keeps its error pending.
     Absorb {
         stop: bool,
         offset: usize,
@@ -82,8 +85,8 @@ pub enum Instr {
         kind: MacroKind,
         offset: usize,
     },
-    /// Takes what the body leaves at an item: ends the loop, or goes back with the next item. Behind a filter that is `true` over the
-    /// outcome, or `false` alone.
+    /// Takes what the body leaves at an item: ends the loop, or goes back with the next item. Behind a filter
+    /// that is `true` over the outcome, or `false` alone.
     Next {
         kind: MacroKind,
         filtered: bool,

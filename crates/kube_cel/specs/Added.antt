@@ -71,7 +71,8 @@ within to_items f = f
 within to_additional f = f
 within (to_branch kind i) f = with_index i f
 
--- the schema with these rules behind the last one of the node that the steps lead to, if that node has a list of rules
+-- the schema with these rules behind the last one of the node that the steps lead to,
+-- if that node has a list of rules
 abbrev pub with_rules : Items → List NodeStep → Data → Data
 with_rules more [] = with_key (codes "x-kubernetes-validations") (with_items more)
 with_rules more (t ∷ ts) = with_key (keyword_of t) (within t (with_rules more ts))

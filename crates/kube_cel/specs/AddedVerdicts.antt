@@ -39,13 +39,14 @@ if_there (Some (t ∷ ts)) es = []
 unfoldable pub found_at : Book → Visit Data → List Step → List ErrorData
 found_at b root p = if_some (verdicts raw_accessors b) (leads (goes raw_steps) p root)
 
--- and what the rules add that were added to the node at these steps: their verdicts at the places of that node, and nothing elsewhere
+-- and what the rules add that were added to the node at these steps: their verdicts at the places of that
+-- node, and nothing elsewhere
 unfoldable pub added_at : Book → Items → List NodeStep → Visit Data → List Step → List ErrorData
 added_at b more node root p =
     if_there (left_behind p (Some node)) (if_some (added_verdicts b more) (leads (goes raw_steps) p root))
 
--- The errors before and after: those at the same places in the same order, and at each place what was found there before, and behind it what
--- the rules add that were added.
+-- The errors before and after: those at the same places in the same order, and at each place what was found
+-- there before, and behind it what the rules add that were added.
 pub record AddsAlone (b : Book) (more : Items) (node : List NodeStep)
     (root : Visit Data) (before after : List ErrorData) : Type 0 where
   pub all_places : List (List Step)

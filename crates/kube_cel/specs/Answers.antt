@@ -24,8 +24,8 @@ abbrev pub found_in : Result (Unit {0}) ValidationErrors → List ErrorData
 found_in (Ok u) = []
 found_in (Err e) = map error_view (errors_in e)
 
--- the answer of a call with a book of its own: what is found from the root on under some book, both as it is computed and as the
--- errors at exactly the places, in order
+-- the answer of a call with a book of its own: what is found from the root on under some book, both as it is
+-- computed and as the errors at exactly the places, in order
 abbrev pub IsReportOf : {S : Type 0} → WalkAccessors S → Visit S → Result (Unit {0}) ValidationErrors → Type 0
 IsReportOf form root r =
     (b : Book) × IsBook b × (answer_view r ≡ report_of (answer form b 65 root))

@@ -1,5 +1,6 @@
 -- Scaffolding: only proofs and private clauses cite it.
--- Compiled rules are a set: an equation between two of them has one proof at most. So a struct can hold such an equation in a ghost field.
+-- Compiled rules are a set: an equation between two of them has one proof at most. So a struct can hold such
+-- an equation in a ghost field.
 use Rattle.std.proofs.Common.{◌≡◌, ℕ, List, [], ◌∷◌, Bool, Option, Some, None, Result, Ok, Err, refl, ap}
 use Rattle.std.proofs.Math.Bool.{Bool-set}
 use Rattle.std.proofs.Math.Nat.{ℕ_set}

@@ -24,8 +24,8 @@ ghost use Rattle.serde_json.specs.Data.{Data, Items};
 ghost use Rattle.std.specs.List.{list_any};
 ghost use Rattle.std.specs.Prelude.{◌≡◌, ◌+◌, ℕ, List, length, option_map, ◌≤◌, ◌↔◌, Option, Result, Some, false};
 
-/// The places of a schema are those of its tree, in the same order, and the same steps lead to the same visits: the node is the tree of the
-/// schema there.
+/// The places of a schema are those of its tree, in the same order, and the same steps lead to the same
+/// visits: the node is the tree of the schema there.
 pub fn the_tree_has_the_same_places()
     ensures places { (n : ℕ) (s : Visit Data) → places (goes raw_steps) (candidates raw_steps) n s
         ≡ places (goes compiled_steps) (candidates compiled_steps) n (with_node_of (view_of n) s) }
@@ -34,7 +34,8 @@ pub fn the_tree_has_the_same_places()
         ≡ leads (goes compiled_steps) p (with_node_of (view_of (n + length p)) s) }
 {}
 
-/// What is found at all places of a schema is found at all places of its tree, if at each visit the same is found.
+/// What is found at all places of a schema is found at all places of its tree,
+/// if at each visit the same is found.
 pub fn the_tree_is_answered_alike<E>()
     ensures { (found : Visit Data → List E) (found_in_tree : Visit Node → List E) (levels : ℕ)
         → ((n : ℕ) (s : Visit Data) → s.depth + n ≡ levels → found s
@@ -45,8 +46,9 @@ pub fn the_tree_is_answered_alike<E>()
         (with_node_of (view_of n) s) }
 {}
 
-/// Under one book the tree of a schema, which is what is left of it when it is compiled, answers as the schema does, also at depth 65:
-/// of values that each has filled with its defaults, and of values as they are.
+/// Under one book the tree of a schema, which is what is left of it when it is compiled, answers as the
+/// schema does, also at depth 65: of values that each has filled with its defaults,
+/// and of values as they are.
 pub fn a_compiled_schema_answers_alike()
     ensures filled { (b : Book) (schema value : Data) (old : Option Data) (root : Option Root)
         → answer raw_accessors b 65 (defaulted_start schema value old root)
@@ -56,8 +58,9 @@ pub fn a_compiled_schema_answers_alike()
         ≡ answer compiled_accessors b 65 (root_visit (view_of 65 schema) value old root) }
 {}
 
-/// Under one book, rules that are added behind the last one of a node leave all other errors as they were: at each place stands what was
-/// found there before, in the same order, and behind it, at the places of that node alone, the verdicts of the added rules.
+/// Under one book, rules that are added behind the last one of a node leave all other errors as they were: at
+/// each place stands what was found there before, in the same order, and behind it, at the places of that
+/// node alone, the verdicts of the added rules.
 pub fn added_rules_leave_all_other_errors()
     ensures { (b : Book) (schema value : Data) (old : Option Data)
         (root : Option Root) (more : Items) (node : List NodeStep)
@@ -66,7 +69,8 @@ pub fn added_rules_leave_all_other_errors()
         (answer raw_accessors b 65 (defaulted_start (with_rules more node schema) value old root)) }
 {}
 
-/// What is answered rests on a book only by which texts the book refuses, whatever form the schema has. So all plain books give one list.
+/// What is answered rests on a book only by which texts the book refuses, whatever form the schema has. So
+/// all plain books give one list.
 pub fn books_that_refuse_alike_give_one_list<S>()
     ensures alike { (a b : Book) → ((text : List ℕ) → IsRefused a text ↔ IsRefused b text)
         → (form : WalkAccessors S) (root : Visit S) → answer form a 65 root ≡ answer form b 65 root }
@@ -74,8 +78,9 @@ pub fn books_that_refuse_alike_give_one_list<S>()
         → (form : WalkAccessors S) (root : Visit S) → answer form a 65 root ≡ answer form b 65 root }
 {}
 
-/// One book that is lent to two calls, by the schema and by its tree in either order, gives one list: what the first call answers holds under
-/// each book that has the entries between the calls, and the book has them also at the end.
+/// One book that is lent to two calls, by the schema and by its tree in either order, gives one list: what
+/// the first call answers holds under each book that has the entries between the calls,
+/// and the book has them also at the end.
 pub fn one_lent_book_gives_one_list()
     ensures tree_second { (between after : Book) (schema value : Data)
         (old : Option Data) (root : Option Root)
@@ -94,7 +99,8 @@ pub fn one_lent_book_gives_one_list()
         → first ≡ second }
 {}
 
-/// Where a lent book refuses at the end only what reads as no pattern, the call has answered what every plain book gives.
+/// Where a lent book refuses at the end only what reads as no pattern,
+/// the call has answered what every plain book gives.
 pub fn a_plain_lent_book_gives_the_plain_list<S>()
     ensures { (lent : PatternBook) (plain : Book) → IsPlain (entries_of lent) → IsBook plain → IsPlain plain
         → (form : WalkAccessors S) (root : Visit S) (answered : Result (Unit {0}) (List ErrorData))
@@ -102,9 +108,10 @@ pub fn a_plain_lent_book_gives_the_plain_list<S>()
         → answered ≡ report_of (answer form plain 65 root) }
 {}
 
-/// What `self` is at a place is the part of the root's `self` that CEL finds along the steps: at each step the member at the property's name
-/// (escaped, but in a map), or the item at the index. Steps to branches stay at the value, whose node then binds it anew: they are left out.
-/// The same holds of `oldSelf`, where there is one. So a value that was bound at the root need not be bound again at the places within it.
+/// What `self` is at a place is the part of the root's `self` that CEL finds along the steps: at each step
+/// the member at the property's name (escaped, but in a map), or the item at the index. Steps to branches
+/// stay at the value, whose node then binds it anew: they are left out. The same holds of `oldSelf`, where
+/// there is one. So a value that was bound at the root need not be bound again at the places within it.
 pub fn self_is_the_part_of_the_roots()
     ensures schema { (root place : Visit Data) (steps : List Step)
         → root.depth + length steps ≤ 65 → list_any is_branch steps ≡ false

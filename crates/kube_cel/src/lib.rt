@@ -1,7 +1,9 @@
-//! Validation of Kubernetes objects by the CEL rules of their schemas (`x-kubernetes-validations`), without an API server.
+//! Validation of Kubernetes objects by the CEL rules of their schemas
+//! (`x-kubernetes-validations`), without an API server.
 //!
-//! In go a schema (a custom resource's `openAPIV3Schema`) and an object, as JSON, and the old object where there is one. Out come
-//! the errors, each with its field. A rule that can't be read or evaluated is an error, never a pass.
+//! In go a schema (a custom resource's `openAPIV3Schema`) and an object, as JSON, and the old object where
+//! there is one. Out come the errors, each with its field.
+//! A rule that can't be read or evaluated is an error, never a pass.
 //!
 //! ```rust
 //! use kube_cel::{Refused, validate};
@@ -17,12 +19,14 @@
 //! }
 //! ```
 //!
-//! [`Validator`] has all forms of the call: with a root context, with a lent book of patterns, by a schema compiled once. Besides
-//! there are policies ([`VapEvaluator`]), the analysis of rules ([`analyze_rule`]) and a linter ([`lint_schema`]).
+//! [`Validator`] has all forms of the call: with a root context, with a lent book of patterns, by a schema
+//! compiled once. Besides there are policies ([`VapEvaluator`]), the analysis of rules ([`analyze_rule`]) and
+//! a linter ([`lint_schema`]).
 //!
-//! Proved: `validate` and each call of [`Validator`] answer exactly one list of errors, unless there is no memory: for every place
-//! that schema and defaulted object share, in order, the errors of the rules there, and one error where they go on past depth 64;
-//! `Ok` exactly where that list is empty. The clause is `answer`; `specs/Answers.antt` begins what it says.
+//! Proved: `validate` and each call of [`Validator`] answer exactly one list of errors, unless there is no
+//! memory: for every place that schema and defaulted object share, in order, the errors of the rules there,
+//! and one error where they go on past depth 64; `Ok` exactly where that list is empty. The clause is
+//! `answer`; `specs/Answers.antt` begins what it says.
 #![tactic(auto)]
 
 mod branches;

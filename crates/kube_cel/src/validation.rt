@@ -22,17 +22,20 @@ use kube_types::Refused;
 use serde_json::Value;
 use std::alloc::Global;
 
-/// Judges objects by the CEL rules of their schemas (`x-kubernetes-validations`). It keeps nothing from call to call.
+/// Judges objects by the CEL rules of their schemas (`x-kubernetes-validations`).
+/// It keeps nothing from call to call.
 #[derive(Clone, Copy, Debug, Default, PartialEq, Eq)]
 pub struct Validator;
 
 impl Validator {
-    /// A validator. There is one such value alone, so that no contract distinguishes it from another. It takes no memory.
+    /// A validator. There is one such value alone, so that no contract distinguishes it from
+    /// another. It takes no memory.
     pub fn new() -> Validator {
         Validator
     }
 
-    /// Judges an object, and its old state where there is one: all errors of all rules, in order, or `Ok` where there is none.
+    /// Judges an object, and its old state where there is one: all errors of all rules, in order,
+    /// or `Ok` where there is none.
     ///
     /// # Errors
     ///
@@ -72,7 +75,8 @@ impl Validator {
         self.validate_in(alloc, schema, object, old, root, &mut book)
     }
 
-    /// As `validate_with_context`, with a lent book of patterns, which holds afterwards what it held and perhaps more.
+    /// As `validate_with_context`, with a lent book of patterns,
+    /// which holds afterwards what it held and perhaps more.
     ///
     /// # Errors
     ///

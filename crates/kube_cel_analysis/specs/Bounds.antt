@@ -1,6 +1,6 @@
 -- Trusted by the clauses of analysis and linter.
--- The greatest sizes that a node of a schema allows (Kubernetes documentation, "Resource use by validation functions": `maxItems` and
--- `maxLength` limit what a rule may cost; where there is none, a size is assumed).
+-- The greatest sizes that a node of a schema allows (Kubernetes documentation, "Resource use by validation
+-- functions": `maxItems` and `maxLength` limit what a rule may cost; where there is none, a size is assumed).
 use Rattle.std.specs.Prelude.{ℕ, Bool, false, ◌&&◌, ◌||◌, is_some, is_none, unwrap_or, Option, option_map}
 use Rattle.kube_cel_analysis.specs.Cost.{Sizes}
 use Rattle.kube_schema.specs.Tree.{Node, Named, no_named, named, named_of, items_of, own}

@@ -1,6 +1,7 @@
 -- Trusted by the clauses of analysis and linter.
--- What an expression is estimated to cost, over the greatest sizes that a schema allows (Kubernetes documentation, "Resource use by validation
--- functions": cost grows with the lists and texts that a rule goes over). Each sum and product is cut at the greatest number of 64 bits.
+-- What an expression is estimated to cost, over the greatest sizes that a schema allows (Kubernetes
+-- documentation, "Resource use by validation functions": cost grows with the lists and texts that a rule goes
+-- over). Each sum and product is cut at the greatest number of 64 bits.
 use Rattle.std.specs.Prelude.{ℕ, ◌+◌, ◌*◌, ◌-◌, ◌^◌, ◌/◌, min, max, List, [], ◌∷◌, codes, Bool, true, false, if◌then◌else◌}
 use Rattle.std.specs.List.{list_any}
 use Rattle.std.specs.Str.{bytes_eq}
@@ -56,8 +57,8 @@ step_cost Map false = 2
 step_cost Map true = 4
 
 abbrev mutual
-  -- a literal, a name, a map: one; all else one and its parts, but a list, which costs its items alone and at least one, and a macro, which costs
-  -- its filter and body and its step for each item of the longest list
+  -- a literal, a name, a map: one; all else one and its parts, but a list, which costs its items alone and at
+  -- least one, and a macro, which costs its filter and body and its step for each item of the longest list
   pub cost : Sizes → Term → ℕ
   cost s (literal v) = 1
   cost s (ident x) = 1

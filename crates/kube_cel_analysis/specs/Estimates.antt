@@ -1,6 +1,6 @@
 -- Trusted by the clauses of analysis and linter.
--- The warnings of a rule's cost at a node of a schema (Kubernetes documentation, "Resource use by validation functions"), and all warnings
--- of the rule.
+-- The warnings of a rule's cost at a node of a schema (Kubernetes documentation, "Resource use by validation
+-- functions"), and all warnings of the rule.
 use Rattle.std.specs.Prelude.{◌≡◌, ℕ, List, [], ◌∷◌, ◌++◌, Bool, true, false, ◌&&◌, Option, Some, None, if◌then◌else◌, codes, decimal, nat_lt}
 use Rattle.cel_syntax_ast.specs.Term.{Term, literal, ident, select, has, index, unary, binary, conditional, list_of, map_with, call, qualified, macro}
 use Rattle.kube_cel_analysis.specs.Cost.{cost}
@@ -15,7 +15,8 @@ abbrev pub cost_warning : List ℕ → ℕ → Warning
 cost_warning rule c = record {
   rule = rule;
   message = codes "estimated cost "
-      ++ (decimal c ++ codes " exceeds K8s budget 1000000; consider adding maxItems/maxLength to schema bounds");
+      ++ (decimal c
+      ++ codes " exceeds K8s budget 1000000; consider adding maxItems/maxLength to schema bounds");
   kind = CostExceeded;
 }
 

@@ -1,5 +1,6 @@
 -- Trusted by the clauses of analysis and linter.
--- The findings of the rules of one node: why a rule isn't compiled, which functions it calls that there aren't, what an analysis warns of.
+-- The findings of the rules of one node: why a rule isn't compiled, which functions it calls that there
+-- aren't, what an analysis warns of.
 use Rattle.std.specs.Prelude.{ℕ, List, [], ◌∷◌, ◌++◌, map, Bool, true, false, Result, Ok, Err, if◌then◌else◌, codes, string_bytes}
 use Rattle.std.specs.List.{flat_map}
 use Rattle.cel_semantics.specs.declared.functions.Form.{Form}
@@ -102,7 +103,8 @@ warning_finding p w = record {
 
 -- ---- all rules of a node
 
--- the names of each tree, those of its calls and its free ones, each once and in order: there is one such list of each tree
+-- the names of each tree, those of its calls and its free ones, each once and in order:
+-- there is one such list of each tree
 pub record Naming : Type 0 where
   pub called : Term → List (List ℕ)
   pub free : Term → List (List ℕ)

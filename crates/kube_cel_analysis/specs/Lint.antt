@@ -1,6 +1,7 @@
 -- Trusted by the clauses of analysis and linter.
--- The findings of all rules of a schema: those of a node before those of the nodes within it, and these in the order in which Kubernetes' walk over
--- an object takes them (properties by name, list items, other keys, the branches of allOf, oneOf and anyOf).
+-- The findings of all rules of a schema: those of a node before those of the nodes within it, and these in
+-- the order in which Kubernetes' walk over an object takes them (properties by name, list items, other keys,
+-- the branches of allOf, oneOf and anyOf).
 use Rattle.std.specs.Prelude.{ℕ, suc, List, [], ◌++◌, Option, Some, None}
 use Rattle.kube_cel_analysis.specs.Findings.{Finding, Naming, rules_findings}
 use Rattle.kube_cel_analysis.specs.Pointers.{property_pointer, items_pointer, additional_pointer, branch_pointer}

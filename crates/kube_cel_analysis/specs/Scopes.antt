@@ -1,5 +1,6 @@
 -- Trusted by the clauses of analysis and linter.
--- Which names a rule may use where it runs (Kubernetes documentation, "Validation rules" for schemas and "Validating Admission Policy" for policies).
+-- Which names a rule may use where it runs (Kubernetes documentation, "Validation rules" for schemas and
+-- "Validating Admission Policy" for policies).
 use Rattle.std.specs.Prelude.{◌≡◌, ℕ, List, [], ◌∷◌, ◌++◌, codes, Bool, Option, Some, None, if◌then◌else◌}
 use Rattle.std.specs.List.{list_any}
 use Rattle.std.specs.Str.{bytes_eq}

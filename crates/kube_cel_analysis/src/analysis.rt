@@ -85,7 +85,8 @@ fn add_cost(
     Ok(())
 }
 
-/// Adds the warning of a list of any length, where the expression goes over a list and a property may be such a one.
+/// Adds the warning of a list of any length, where the expression goes over a list and a
+/// property may be such a one.
 fn add_bounds(
     alloc: Global,
     rule: &str,
@@ -137,8 +138,9 @@ fn estimated(
     Ok(warnings)
 }
 
-/// Warns of what a rule costs, then of what it goes over, at the root of a schema: where the cost is above a million, and where the rule is
-/// a macro and a property is a list of any length. A text that isn't read gives no warning.
+/// Warns of what a rule costs, then of what it goes over, at the root of a schema: where the cost is above a
+/// million, and where the rule is a macro and a property is a list of any length.
+/// A text that isn't read gives no warning.
 ///
 /// # Errors
 ///
@@ -158,8 +160,8 @@ pub fn estimate_rule_cost(
     }
 }
 
-/// All warnings of an expression at a node of a schema: of its names, then of its cost, then of its bounds. The text of the rule is reported with
-/// each warning.
+/// All warnings of an expression at a node of a schema: of its names, then of its cost, then of its bounds.
+/// The text of the rule is reported with each warning.
 ///
 /// # Errors
 ///
@@ -181,8 +183,8 @@ pub fn analyze_expression(
     Ok(warnings)
 }
 
-/// All warnings of a rule at the root of a schema: of its names, then of its cost, then of its bounds. A text that isn't read gives no
-/// warning.
+/// All warnings of a rule at the root of a schema: of its names, then of its cost, then of its bounds. A text
+/// that isn't read gives no warning.
 ///
 /// # Errors
 ///

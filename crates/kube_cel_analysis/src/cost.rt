@@ -78,7 +78,8 @@ fn product(left: u64, right: u64) -> u64
     left.saturating_mul(right)
 }
 
-/// What an expression is estimated to cost over these sizes: its cost, or `u64::MAX` where it is more than that.
+/// What an expression is estimated to cost over these sizes: its cost,
+/// or `u64::MAX` where it is more than that.
 #[cycle(cost)]
 pub fn estimated_cost(expr: &Expr, sizes: Sizes) -> u64
     ensures { result ≡ cost (sizes_view sizes) (term expr.now) }

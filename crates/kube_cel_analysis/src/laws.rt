@@ -1,4 +1,5 @@
-//! Laws of findings and warnings, each the contract of a call: where findings come from, and what `==` compares.
+//! Laws of findings and warnings, each the contract of a call:
+//! where findings come from, and what `==` compares.
 ghost use Rattle.cel_semantics.specs.declared.functions.Form.TheVariants.{Unknown};
 ghost use Rattle.cel_syntax_ast.specs.FreeNames.{is_free};
 ghost use Rattle.cel_syntax_ast.specs.Term.{Term};
@@ -17,21 +18,23 @@ use crate::finding::{LintFinding, LintKind};
 use crate::scope::ScopeContext;
 use crate::warning::{AnalysisWarning, WarningKind};
 
-/// Each tree has a list of the names of its calls and one of its free names: the names that findings speak of are always there.
+/// Each tree has a list of the names of its calls and one of its free names:
+/// the names that findings speak of are always there.
 pub fn each_tree_has_its_names()
     ensures called { (t : Term) → (names : List (List ℕ)) × AreNames names (λ x. is_called x t) }
     ensures free { (t : Term) → (names : List (List ℕ)) × AreNames names (λ x. is_free x t) }
     ensures naming { Naming }
 {}
 
-/// What is found of a compiled schema is what is found of the rules at exactly its nodes, each a list of steps from the root, in the order of
-/// places, with the JSON Pointer of those steps.
+/// What is found of a compiled schema is what is found of the rules at exactly its nodes, each a list of
+/// steps from the root, in the order of places, with the JSON Pointer of those steps.
 pub fn findings_are_those_of_all_nodes()
     ensures { (names : Naming) (schema : CompiledSchema)
         → AreFoundAtNodes names (whole schema) (findings names [] (whole schema)) }
 {}
 
-/// A name is reported as unknown exactly where no form of it is known or wrong, with a receiver or without and with any number of arguments.
+/// A name is reported as unknown exactly where no form of it is known or wrong, with a receiver or without
+/// and with any number of arguments.
 pub fn reported_names_have_no_form()
     ensures reported { (name : List ℕ) → is_unknown name ≡ true → (receiver : Bool) (count : ℕ)
         → all_library.form_of name receiver count ≡ Unknown }

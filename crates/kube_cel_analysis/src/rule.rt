@@ -171,7 +171,8 @@ fn add_warnings(
     Ok(())
 }
 
-/// Adds what is wrong with a rule that is compiled: which functions there aren't, then what an analysis warns of.
+/// Adds what is wrong with a rule that is compiled: which functions there aren't,
+/// then what an analysis warns of.
 fn add_compiled(
     alloc: Global,
     pointer: &str,

@@ -142,8 +142,8 @@ fn add_names(
     Ok(())
 }
 
-/// Warns of each free name of an expression that isn't there where the rule runs, in the order of names. The text of the rule is reported with
-/// each warning.
+/// Warns of each free name of an expression that isn't there where the rule runs, in the order of names. The
+/// text of the rule is reported with each warning.
 ///
 /// # Errors
 ///
@@ -164,7 +164,8 @@ pub fn check_expression_scope(
     Ok(warnings)
 }
 
-/// Warns of each free name of a rule that isn't there where the rule runs, in the order of names. A text that isn't read gives no warning.
+/// Warns of each free name of a rule that isn't there where the rule runs, in the order of names. A text that
+/// isn't read gives no warning.
 ///
 /// # Errors
 ///

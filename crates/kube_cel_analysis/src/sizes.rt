@@ -11,8 +11,9 @@ use kube_schema::SchemaNode;
 /// The size that is taken where a schema says none.
 const USUAL_SIZE: u64 = 1000;
 
-/// The greatest sizes that a node allows: those that it says itself, else those of its properties, else 1000. Of the properties, the first in
-/// name order that has items counts for lists, also where it says no size, and the first that says a length counts for texts.
+/// The greatest sizes that a node allows: those that it says itself, else those of its properties, else 1000.
+/// Of the properties, the first in name order that has items counts for lists, also where it says no size,
+/// and the first that says a length counts for texts.
 #[tactic(auto, unfolding(crate::specs::Bounds::sizes_of))]
 pub fn sizes_of(node: &SchemaNode<'_>) -> Sizes
     ensures { sizes_view result ≡ sizes_of (node_tree node.now) }

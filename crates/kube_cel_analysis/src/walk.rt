@@ -15,8 +15,9 @@ use kube_schema_rules::BranchKind;
 use kube_types_refused::Refused;
 use std::alloc::Global;
 
-/// All that is wrong with the rules of a schema, node by node: a node before those within it, those in the order of properties by their names,
-/// `items`, `additionalProperties`, and the branches of `allOf`, `oneOf` and `anyOf`. Each rule is analysed with its node as the root of a schema.
+/// All that is wrong with the rules of a schema, node by node: a node before those within it, those in the
+/// order of properties by their names, `items`, `additionalProperties`, and the branches of `allOf`, `oneOf`
+/// and `anyOf`. Each rule is analysed with its node as the root of a schema.
 ///
 /// # Errors
 ///

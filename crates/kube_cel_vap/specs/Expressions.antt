@@ -1,5 +1,6 @@
 -- Trusted by the clauses of policies.
--- The expressions of a policy and their trees (Kubernetes API reference, Validation of ValidatingAdmissionPolicySpec).
+-- The expressions of a policy and their trees (Kubernetes API reference, Validation of
+-- ValidatingAdmissionPolicySpec).
 use Rattle.cel.specs.Program.{program_term}
 use Rattle.cel.specs.declared.program.Program.{Program}
 use Rattle.cel_syntax.specs.Reading.{tree_of}

@@ -1,6 +1,7 @@
 -- Trusted by the clauses of policies.
--- What an admission request says (Kubernetes API reference, AdmissionRequest of admission.k8s.io/v1), and the CEL value that it is to the
--- expressions of a policy (Kubernetes documentation, "Validating Admission Policy").
+-- What an admission request says (Kubernetes API reference, AdmissionRequest of admission.k8s.io/v1), and the
+-- CEL value that it is to the expressions of a policy (Kubernetes documentation,
+-- "Validating Admission Policy").
 use Rattle.cel_value.specs.Data.{Data, Entries, bool, list, map_of, no_entries, text, text_key}
 use Rattle.cel_value.specs.Keys.{put}
 use Rattle.cel_value.specs.View.{items_of}

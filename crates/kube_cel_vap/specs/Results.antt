@@ -1,6 +1,6 @@
 -- Trusted by the clauses of policies.
--- The results of a policy's expressions (Kubernetes documentation, "Validating Admission Policy"; Kubernetes API reference, Validation of
--- ValidatingAdmissionPolicySpec).
+-- The results of a policy's expressions (Kubernetes documentation, "Validating Admission Policy"; Kubernetes
+-- API reference, Validation of ValidatingAdmissionPolicySpec).
 use Rattle.cel_patterns.specs.Book.{Book}
 use Rattle.cel_semantics.specs.Bindings.{Bindings}
 use Rattle.cel_semantics.specs.Library.{Library}
@@ -36,7 +36,8 @@ abbrev pub own_message : Compiled → List ℕ
 own_message c =
     unwrap_or c.message (codes "validation expression '" ++ (c.expression ++ codes "' evaluated to false"))
 
--- what is reported of an expression that is false: the string that its messageExpression came to, if it did, else its own message
+-- what is reported of an expression that is false: the string that its messageExpression came to,
+-- if it did, else its own message
 abbrev pub false_message : Compiled → Option Outcome → List ℕ
 false_message c reported = unwrap_or (option_and_then message_text reported) (own_message c)
 

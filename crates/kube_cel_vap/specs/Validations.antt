@@ -1,5 +1,6 @@
 -- Trusted by the clauses of policies.
--- One validation of a policy, and what is reported of it (Kubernetes API reference, Validation of ValidatingAdmissionPolicySpec).
+-- One validation of a policy, and what is reported of it (Kubernetes API reference, Validation of
+-- ValidatingAdmissionPolicySpec).
 use Rattle.kube_cel_vap.specs.declared.expression.VapExpression.{VapExpression}
 use Rattle.kube_cel_vap.specs.declared.expression.VapResult.{VapResult}
 use Rattle.std.specs.Prelude.{ℕ, List, Bool, Option, option_map, string_bytes}

@@ -1,5 +1,6 @@
 -- Trusted by the clauses of policies.
--- What the expressions of a policy may ask of (Kubernetes documentation, "Validating Admission Policy", variables of expressions).
+-- What the expressions of a policy may ask of (Kubernetes documentation, "Validating Admission Policy",
+-- variables of expressions).
 use Rattle.cel_semantics.specs.Bindings.{Bindings}
 use Rattle.cel_value.specs.Data.{Data, null}
 use Rattle.kube_cel_vap.specs.declared.evaluator.VapEvaluator.{VapEvaluator}

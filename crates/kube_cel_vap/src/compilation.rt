@@ -51,7 +51,8 @@ impl CompiledVapExpression {
     }
 }
 
-/// Compiles an expression, then its messageExpression, where it has one. The first text that isn't read counts.
+/// Compiles an expression, then its messageExpression, where it has one.
+/// The first text that isn't read counts.
 #[tactic(auto, unfolding(crate::specs::Expressions::compile_result))]
 pub(crate) fn compile_expression(
     alloc: Global,

@@ -18,7 +18,8 @@ use kube_types_refused::Refused;
 use serde_json::Value;
 use std::alloc::Global;
 
-/// Sets what the expressions of a policy may ask of. Nothing of it takes memory. What is set again replaces what was set before.
+/// Sets what the expressions of a policy may ask of. Nothing of it takes memory.
+/// What is set again replaces what was set before.
 #[derive(Debug, Drop)]
 pub struct VapEvaluatorBuilder {
     given: Given,
@@ -103,7 +104,8 @@ impl VapEvaluator {
         }
     }
 
-    /// Compiles expressions, each with its messageExpression, in order. One that isn't read is an error in its place.
+    /// Compiles expressions, each with its messageExpression, in order.
+    /// One that isn't read is an error in its place.
     ///
     /// # Errors
     ///
@@ -144,7 +146,8 @@ impl VapEvaluator {
         Ok(results)
     }
 
-    /// Compiles expressions and evaluates them: one result for each, in order, also for those that aren't read.
+    /// Compiles expressions and evaluates them: one result for each, in order,
+    /// also for those that aren't read.
     ///
     /// # Errors
     ///

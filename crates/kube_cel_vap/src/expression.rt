@@ -13,7 +13,8 @@ pub struct VapExpression {
     pub expression: String,
     /// What is reported where it is false.
     pub message: Option<String>,
-    /// A CEL expression that gives what is reported where the expression is false. A string that it comes to stands before the message.
+    /// A CEL expression that gives what is reported where the expression is false. A string that it comes to
+    /// stands before the message.
     pub message_expression: Option<String>,
 }
 

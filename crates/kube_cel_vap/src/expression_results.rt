@@ -57,7 +57,8 @@ fn own_message(alloc: Global, compiled: &CompiledVapExpression) -> Result<String
     format!(in alloc; "validation expression '{text}' evaluated to false")
 }
 
-/// What is reported of an expression that is false: the string that its messageExpression comes to, if it does, else what it says itself.
+/// What is reported of an expression that is false: the string that its messageExpression comes to, if it
+/// does, else what it says itself.
 fn false_message(
     alloc: Global,
     compiled: &CompiledVapExpression,

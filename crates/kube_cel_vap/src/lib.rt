@@ -1,5 +1,5 @@
-//! The expressions of Kubernetes' ValidatingAdmissionPolicy, evaluated without an API server; the admission requests that they are
-//! evaluated over, and their results.
+//! The expressions of Kubernetes' ValidatingAdmissionPolicy, evaluated without an API server; the admission
+//! requests that they are evaluated over, and their results.
 #![tactic(auto)]
 
 mod compilation;

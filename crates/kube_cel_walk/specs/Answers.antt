@@ -1,6 +1,6 @@
 -- Trusted by the headline.
--- What is found at all places that a schema and a value share (Kubernetes documentation, "Validation rules": a rule is scoped to the
--- part of the object where its `x-kubernetes-validations` stands).
+-- What is found at all places that a schema and a value share (Kubernetes documentation, "Validation rules":
+-- a rule is scoped to the part of the object where its `x-kubernetes-validations` stands).
 use Rattle.cel_patterns.specs.Book.{Book}
 use Rattle.cel_semantics.specs.Bindings.{Bindings}
 use Rattle.cel_value.specs.Data.{Data}

@@ -1,5 +1,6 @@
 -- Trusted by the headline.
--- The errors that a rule may give, and what stands past the greatest depth (Kubernetes documentation, "Validation rules").
+-- The errors that a rule may give, and what stands past the greatest depth (Kubernetes
+-- documentation, "Validation rules").
 use Rattle.cel_value.specs.Faults.{Fault, undeclared}
 use Rattle.cel_value.specs.Texts.{fault_text}
 use Rattle.kube_cel_walk.specs.declared.error.ErrorKind.TheVariants.{CompilationFailure, InvalidRule, ValidationFailure, InvalidResult, EvaluationError, UnsupportedReference, SchemaTooDeep}
@@ -51,7 +52,8 @@ unread_message_rule path rule m =
     not_compiled path rule (codes "failed to compile messageExpression \""
     ++ (m ++ (codes "\" for rule \"" ++ (rule ++ codes "\": invalid CEL expression"))))
 
--- a path and the own path of a rule behind it: one that begins with a dot (46) stands as it is, another as a member
+-- a path and the own path of a rule behind it: one that begins with a dot (46) stands as
+-- it is, another as a member
 abbrev pub joined_path : List ℕ → List ℕ → List ℕ
 joined_path path own = if slice_index own 0 == 46 then path ++ own else member_path path own
 

@@ -30,7 +30,8 @@ message_text (Err e) = None
 abbrev pub own_message : schema.Fields → List ℕ
 own_message r = unwrap_or r.message (codes "failed rule: " ++ r.rule)
 
--- what is reported of a rule that is false: the string that its messageExpression came to, if it did, else what it says itself
+-- what is reported of a rule that is false: the string that its messageExpression came to,
+-- if it did, else what it says itself
 abbrev pub failed_message : schema.Fields → Option Outcome → List ℕ
 failed_message r reported = unwrap_or (option_and_then message_text reported) (own_message r)
 
@@ -39,7 +40,8 @@ value_error path r message (Some true) = None
 value_error path r message (Some false) = Some (failed_rule path r message)
 value_error path r message None = Some (no_bool path r)
 
--- the error of a rule, unless it is true: false, which has a message, no bool, a name that nothing declares, another fault
+-- the error of a rule, unless it is true: false, which has a message, no bool,
+-- a name that nothing declares, another fault
 abbrev pub outcome_error : List ℕ → schema.Fields → List ℕ → Outcome → Option ErrorData
 outcome_error path r message (Ok v) = value_error path r message (bool_in v)
 outcome_error path r message (Err e) = Some (fault_error path r e (undeclared_name e))
@@ -64,7 +66,8 @@ is_old_optional r = unwrap_or r.optional_old_self false
 abbrev pub is_old_null : Option Json → schema.Fields → Bool
 is_old_null old r = not (is_some old) && is_old_optional r
 
--- a rule that speaks of `oldSelf` is judged only where there is an old counterpart, or where `optionalOldSelf` is true
+-- a rule that speaks of `oldSelf` is judged only where there is an old counterpart,
+-- or where `optionalOldSelf` is true
 abbrev pub is_applicable : Option Json → Compiled → Bool
 is_applicable old c = not c.is_transition || (is_some old || is_old_optional c.fields)
 
@@ -78,8 +81,8 @@ bound_verdict b e path c =
     outcome_error path c.fields
     (failed_message c.fields (option_map (outcome_in b e) c.message_tree)) (outcome_in b e c.tree)
 
--- the verdict of a compiled rule among such names: none where it isn't applicable or is true. Where there is no old counterpart and it is
--- judged all the same, `oldSelf` is null
+-- the verdict of a compiled rule among such names: none where it isn't applicable or is true. Where there is
+-- no old counterpart and it is judged all the same, `oldSelf` is null
 abbrev pub rule_bindings : Bindings → Option Json → schema.Fields → Bindings
 rule_bindings e old r = if is_old_null old r then (codes "oldSelf", null) ∷ e else e
 

@@ -22,7 +22,8 @@ pub enum ErrorKind {
     SchemaTooDeep,
 }
 
-/// One error of one rule at one place of the object. Two are equal where their five public fields are; the cause isn't compared.
+/// One error of one rule at one place of the object. Two are equal where their five public fields
+/// are; the cause isn't compared.
 #[derive(Drop, Serialize, Deserialize)]
 #[derive_where(Debug, PartialEq, Eq)]
 pub struct ValidationError {

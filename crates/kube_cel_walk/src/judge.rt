@@ -74,8 +74,8 @@ fn bind_old<N: Node>(
     Ok(())
 }
 
-/// The names that all rules at a place have, each bound as far as a rule reads it: `self`, `oldSelf` where there is an old counterpart,
-/// and those of the whole object where it is known.
+/// The names that all rules at a place have, each bound as far as a rule reads it: `self`, `oldSelf` where
+/// there is an old counterpart, and those of the whole object where it is known.
 fn context_at<'c, N: Node>(alloc: Global, state: &WalkState<'_, N>) -> Result<Context<'c>, Refused>
     ensures bound { IfOk result (λ c. (path : List ℕ)
         → NamesAlike (λ x. rules_read x (N.form.rules (N.seen state.now.node)))

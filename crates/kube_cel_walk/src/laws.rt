@@ -19,7 +19,8 @@ pub fn equal_by_five_fields(a: &ValidationError, b: &ValidationError) -> bool
     a == b
 }
 
-/// The verdict of a rule depends only on what the rule and its messageExpression read of the values at a place.
+/// The verdict of a rule depends only on what the rule and its messageExpression
+/// read of the values at a place.
 pub fn verdict_depends_on_what_is_read()
     ensures { (b : Book) (e f : Bindings) (old : Option Json)
         (path : List ℕ) (rule : Result Compiled Malformed)

@@ -26,7 +26,8 @@ use kube_types::Refused;
 use serde_json::Value;
 use std::alloc::Global;
 
-/// A node of a schema, in whatever form the schema is held. Definitions see it as a `Seen`, and ask of it what the form says.
+/// A node of a schema, in whatever form the schema is held. Definitions see it as a `Seen`,
+/// and ask of it what the form says.
 pub trait Node: Copy {
     ghost Seen: { Type 0 };
 

@@ -32,7 +32,8 @@ pub fn push_item(path: &mut String, index: usize) -> Result<(), AllocError>
     Ok(())
 }
 
-/// The path that the error of a rule has: that of the value, and behind it the rule's own path, if it has one.
+/// The path that the error of a rule has: that of the value,
+/// and behind it the rule's own path, if it has one.
 pub fn error_path(alloc: Global, path: &str, rule: &Rule) -> Result<String, AllocError>
     ensures { IfOk result (λ s. string_bytes s ≡ rule_path path.now (rule_view rule.now).field_path) }
 {

@@ -54,7 +54,8 @@ pub fn bind_root(
     Ok(())
 }
 
-/// Whether a rule counts at a place: one that speaks of `oldSelf` needs an old counterpart, unless it says otherwise.
+/// Whether a rule counts at a place: one that speaks of `oldSelf` needs an old
+/// counterpart, unless it says otherwise.
 fn is_applicable(rule: &CompilationResult, old: Option<&Value>) -> bool
     ensures { result ≡ is_applicable (option_map (λ v. view v.now) old.entry) (result_view rule.now) }
 {
@@ -103,7 +104,8 @@ fn own_message(alloc: Global, rule: &Rule) -> Result<String, AllocError>
     format!(in alloc; "failed rule: {text}")
 }
 
-/// What is reported of a rule that is false: the string that its messageExpression comes to, if it does, else what it says itself.
+/// What is reported of a rule that is false: the string that its messageExpression comes to,
+/// if it does, else what it says itself.
 fn failed_message(
     alloc: Global,
     rule: &CompilationResult,

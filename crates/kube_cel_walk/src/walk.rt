@@ -208,7 +208,8 @@ fn walk_item<'a, N: Node>(
     Ok(())
 }
 
-/// Adds what is found through the branches of one keyword, in their order. The value stays, and so does what is known at the root.
+/// Adds what is found through the branches of one keyword, in their order.
+/// The value stays, and so does what is known at the root.
 #[cycle(walk)]
 fn walk_branches<N: Node>(
     kind: BranchKind,

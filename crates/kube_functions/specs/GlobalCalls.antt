@@ -93,7 +93,8 @@ answer_of_two two.BitShiftLeft v w = bits.bit_shift_left v w
 answer_of_two two.BitShiftRight v w = bits.bit_shift_right v w
 
 abbrev pub answer_of_both : OfTwo → List ℕ → List Data → Outcome
-answer_of_both f name args = answer_with name (λ p. answer_of_two f p.0 p.1) (option_zip (nth 0 args) (nth 1 args))
+answer_of_both f name args =
+    answer_with name (λ p. answer_of_two f p.0 p.1) (option_zip (nth 0 args) (nth 1 args))
 
 abbrev pub answer_of_many : Extreme → List Data → Outcome
 answer_of_many Least vs = math.least vs
@@ -104,6 +105,7 @@ answer_of_many Greatest vs = math.greatest vs
 abbrev pub answer_of : GlobalFunction → List ℕ → List Data → Outcome
 answer_of (global.Format kind) name args = Ok (plain.format kind)
 answer_of (global.One f) name args = answer_with name (answer_of_one f) (nth 0 args)
-answer_of (global.OneOrTwo f) name args = answer_with name (λ v. answer_of_one_or_two f v (nth 1 args)) (nth 0 args)
+answer_of (global.OneOrTwo f) name args =
+    answer_with name (λ v. answer_of_one_or_two f v (nth 1 args)) (nth 0 args)
 answer_of (global.Two f) name args = answer_of_both f name args
 answer_of (global.Many end) name args = answer_of_many end args

@@ -1,6 +1,7 @@
 -- Trusted by the headline.
--- The sets of functions: the standard one, and the one that has the functions of Kubernetes besides (Kubernetes documentation, "CEL in
--- Kubernetes"). A call that is a standard one is answered as it is there, but for the strings of addresses.
+-- The sets of functions: the standard one, and the one that has the functions of Kubernetes besides
+-- (Kubernetes documentation, "CEL in Kubernetes"). A call that is a standard one is answered as it is there,
+-- but for the strings of addresses.
 use Rattle.std.specs.Prelude.{ℕ, ◌||◌, List, length, Bool, true, false, Option, Some, None, is_some, Err, if◌then◌else◌}
 use Rattle.std.specs.Option.{option_map_or}
 use Rattle.cel_patterns.specs.Book.{Book}
@@ -34,7 +35,8 @@ abbrev pub is_added : List ℕ → Bool
 is_added name = is_some (method_named name) || is_some (global_named name)
 
 abbrev pub added_form : List ℕ → Bool → ℕ → Form
-added_form name receiver count = if is_taken name receiver count then Known else (if is_added name then Wrong else Unknown)
+added_form name receiver count =
+    if is_taken name receiver count then Known else (if is_added name then Wrong else Unknown)
 
 -- known to one of two sets; else of a name that one of them has
 abbrev pub either_form : Form → Form → Form
@@ -45,18 +47,22 @@ either_form Wrong Unknown = Wrong
 either_form Unknown other = other
 
 abbrev pub kube_form : List ℕ → Bool → ℕ → Form
-kube_form name receiver count = either_form (standard_form name receiver count) (added_form name receiver count)
+kube_form name receiver count =
+    either_form (standard_form name receiver count) (added_form name receiver count)
 
 -- ---- answers
 
 abbrev pub added_answer : List ℕ → Option Data → List Data → Book → Outcome
-added_answer name (Some v) args book = option_map_or (λ f. methods.answer_of f name v args book) (method_named name) (Err (no_overload name))
-added_answer name None args book = option_map_or (λ f. globals.answer_of f name args) (global_named name) (Err (no_overload name))
+added_answer name (Some v) args book =
+    option_map_or (λ f. methods.answer_of f name v args book) (method_named name) (Err (no_overload name))
+added_answer name None args book =
+    option_map_or (λ f. globals.answer_of f name args) (global_named name) (Err (no_overload name))
 
 -- the standard answer, but for the string of an address
 abbrev pub kept_answer : List ℕ → Option Data → List Data → Book → Outcome
 kept_answer name receiver args book =
-    option_map_or address_texts.string_of (address_operand name receiver args) (standard_answer name receiver args book)
+    option_map_or address_texts.string_of (address_operand name receiver args)
+    (standard_answer name receiver args book)
 
 -- the answer to a call that is a standard one in this form, or else to one that is added
 abbrev pub answer_by : Form → List ℕ → Option Data → List Data → Book → Outcome
@@ -65,7 +71,8 @@ answer_by Wrong name receiver args book = added_answer name receiver args book
 answer_by Unknown name receiver args book = added_answer name receiver args book
 
 abbrev pub kube_answer : List ℕ → Option Data → List Data → Book → Outcome
-kube_answer name receiver args book = answer_by (standard_form name (is_some receiver) (length args)) name receiver args book
+kube_answer name receiver args book =
+    answer_by (standard_form name (is_some receiver) (length args)) name receiver args book
 
 -- ---- the sets
 

@@ -1,5 +1,6 @@
 -- Trusted by the headline.
--- What the functions on receivers answer: each by the definition of its call. Operands are the receiver and the arguments.
+-- What the functions on receivers answer: each by the definition of its call.
+-- Operands are the receiver and the arguments.
 use Rattle.std.specs.Prelude.{ℕ, List, codes, Option}
 use Rattle.std.specs.Option.{option_zip}
 use Rattle.cel_patterns.specs.Book.{Book}
@@ -129,17 +130,21 @@ abbrev pub nth : ℕ → List Data → Option Data
 nth index args = nth_item index (items_of args)
 
 abbrev pub answer_of_slice : Data → List Data → Outcome
-answer_of_slice v args = answer_with (codes "slice") (λ p. lists.slice v p.0 p.1) (option_zip (nth 0 args) (nth 1 args))
+answer_of_slice v args =
+    answer_with (codes "slice") (λ p. lists.slice v p.0 p.1) (option_zip (nth 0 args) (nth 1 args))
 
 abbrev pub answer_of_replace : Data → List Data → Outcome
-answer_of_replace v args = answer_with (codes "replace") (λ p. pieces.replace_outcome v p.0 p.1 (nth 2 args)) (option_zip (nth 0 args) (nth 1 args))
+answer_of_replace v args = answer_with (codes "replace") (λ p. pieces.replace_outcome v p.0 p.1 (nth 2 args))
+    (option_zip (nth 0 args) (nth 1 args))
 
 abbrev pub answer_of : Method → List ℕ → Data → List Data → Book → Outcome
 answer_of (method.One f) name v args book = answer_of_one f v
 answer_of (method.OneOrTwo f) name v args book = answer_of_one_or_two f v (nth 0 args)
 answer_of (method.Two f) name v args book = answer_with name (answer_of_two f v) (nth 0 args)
-answer_of (method.TwoOrThree f) name v args book = answer_with name (λ w. answer_of_two_or_three f v w (nth 1 args)) (nth 0 args)
+answer_of (method.TwoOrThree f) name v args book =
+    answer_with name (λ w. answer_of_two_or_three f v w (nth 1 args)) (nth 0 args)
 answer_of method.Find name v args book = answer_with name (λ w. regex.find_outcome v w book) (nth 0 args)
-answer_of method.FindAll name v args book = answer_with name (λ w. regex.find_all_outcome v w (nth 1 args) book) (nth 0 args)
+answer_of method.FindAll name v args book =
+    answer_with name (λ w. regex.find_all_outcome v w (nth 1 args) book) (nth 0 args)
 answer_of method.Slice name v args book = answer_of_slice v args
 answer_of method.Replace name v args book = answer_of_replace v args

@@ -1,6 +1,7 @@
 -- Trusted by the headline.
--- The functions on receivers that Kubernetes adds to the standard ones: their names, and with how many arguments each is called
--- (Kubernetes documentation, "CEL in Kubernetes"; documentation of CEL-Go, "Strings", "Lists"; `k8s.io/apiserver/pkg/cel/library`).
+-- The functions on receivers that Kubernetes adds to the standard ones: their names, and with how many
+-- arguments each is called (Kubernetes documentation, "CEL in Kubernetes"; documentation of CEL-Go,
+-- "Strings", "Lists"; `k8s.io/apiserver/pkg/cel/library`).
 use Rattle.std.specs.Prelude.{ℕ, ◌==◌, ◌||◌, List, [], ◌∷◌, codes, Bool, Option}
 use Rattle.std.specs.Map.{lookup}
 use Rattle.std.specs.Str.{bytes_eq}

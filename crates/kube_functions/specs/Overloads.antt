@@ -1,6 +1,7 @@
 -- Trusted by the headline.
--- Functions of one name on operands of different kinds (Kubernetes documentation, "CEL in Kubernetes", extended string library, list library,
--- IP address library; documentation of CEL-Go, "Strings", "Lists"): on lists, and on strings; the strings of addresses, and of other values.
+-- Functions of one name on operands of different kinds (Kubernetes documentation, "CEL in Kubernetes",
+-- extended string library, list library, IP address library; documentation of CEL-Go, "Strings", "Lists"): on
+-- lists, and on strings; the strings of addresses, and of other values.
 use Rattle.std.specs.Prelude.{ℕ, List, codes, Bool, true, false, Option, Some, None, is_some, Err, if◌then◌else◌}
 use Rattle.std.specs.Option.{option_map_or}
 use Rattle.std.specs.Str.{bytes_eq}
@@ -27,11 +28,13 @@ unless_started name answer (Some start) = Err (no_overload name)
 
 abbrev pub index_of : Data → Data → Option Data → Outcome
 index_of v w start =
-    if is_list v then unless_started (codes "indexOf") (indices.index_of v w) start else offsets.index_of v w start
+    if is_list v then unless_started (codes "indexOf") (indices.index_of v w) start
+    else offsets.index_of v w start
 
 abbrev pub last_index_of : Data → Data → Option Data → Outcome
 last_index_of v w start =
-    if is_list v then unless_started (codes "lastIndexOf") (indices.last_index_of v w) start else offsets.last_index_of v w start
+    if is_list v then unless_started (codes "lastIndexOf") (indices.last_index_of v w) start
+    else offsets.last_index_of v w start
 
 -- ---- strings of addresses
 
@@ -46,4 +49,5 @@ address_in v = if is_address v then Some v else None
 -- the operand of `string`, where it is an IP address or a CIDR
 abbrev pub address_operand : List ℕ → Option Data → List Data → Option Data
 address_operand name receiver args =
-    if bytes_eq name (codes "string") then option_map_or address_in (first_operand receiver args) None else None
+    if bytes_eq name (codes "string")
+    then option_map_or address_in (first_operand receiver args) None else None

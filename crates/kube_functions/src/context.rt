@@ -6,7 +6,8 @@ ghost use Rattle.kube_functions.specs.declared.sets.KubeFunctions.TheVariants.{A
 
 use crate::sets::KubeFunctions;
 
-/// What the names of a rule are bound to, and which functions it may call: at first those of the CEL standard.
+/// What the names of a rule are bound to, and which functions it may call:
+/// at first those of the CEL standard.
 pub type Context<'a> = cel_semantics::Context<'a, KubeFunctions>;
 
 mod sealed {

@@ -1,4 +1,5 @@
-//! The functions that Kubernetes has without receivers: their names, and with how many arguments they are called.
+//! The functions that Kubernetes has without receivers: their names,
+//! and with how many arguments they are called.
 ghost use Rattle.std.specs.Prelude.{◌≡◌};
 ghost use Rattle.std.specs.Map.{lookup};
 ghost use Rattle.std.specs.Str.{bytes_eq};

@@ -18,8 +18,8 @@ pub fn the_first_set_is_the_standard_one()
     ensures { kube_library Standard ≡ standard_library }
 {}
 
-/// Each call that is known to the standard is known to the whole set, and has the same answer there, unless it is `string` of an IP
-/// address or a CIDR.
+/// Each call that is known to the standard is known to the whole set, and has the same answer there, unless
+/// it is `string` of an IP address or a CIDR.
 pub fn standard_calls_are_kept()
     ensures known { (name : List ℕ) (receiver : Bool) (count : ℕ)
         → standard_library.form_of name receiver count ≡ Known
@@ -38,8 +38,8 @@ pub fn addresses_have_strings()
         → all_library.answer_of (codes "string") None (v ∷ []) book ≡ string_of v }
 {}
 
-/// Whether a name is unknown depends on the name alone: unknown in one form, with a receiver or without and with any number of arguments, it is
-/// unknown in all of them.
+/// Whether a name is unknown depends on the name alone: unknown in one form, with a receiver or without and
+/// with any number of arguments, it is unknown in all of them.
 pub fn names_alone_are_unknown()
     ensures { (functions : KubeFunctions) (name : List ℕ) (receiver other : Bool) (count number : ℕ)
         → (kube_library functions).form_of name receiver count ≡ Unknown
@@ -63,8 +63,8 @@ pub fn plain_books_refuse_what_is_no_pattern()
         → IsRefused a text ↔ IsRefused b text }
 {}
 
-/// What a tree means rests on a book only by which texts the book refuses. So all plain books mean the same: they refuse what reads as no
-/// pattern, and nothing else.
+/// What a tree means rests on a book only by which texts the book refuses. So all plain books mean the same:
+/// they refuse what reads as no pattern, and nothing else.
 pub fn books_that_refuse_alike_mean_the_same()
     ensures alike { (functions : KubeFunctions) (a b : Book)
         → ((text : List ℕ) → IsRefused a text ↔ IsRefused b text)

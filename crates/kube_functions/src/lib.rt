@@ -1,7 +1,8 @@
-//! The functions of Kubernetes: all that a rule may call. `docs/APISERVER.md` lists them, and what isn't there.
+//! The functions of Kubernetes: all that a rule may call.
+//! `docs/APISERVER.md` lists them, and what isn't there.
 //!
-//! A [`Context`] begins with the functions of the CEL standard. [`KubeCelExt`] adds those of Kubernetes: on strings, patterns, lists,
-//! sets, numbers, quantities, addresses, versions, URLs and named formats.
+//! A [`Context`] begins with the functions of the CEL standard. [`KubeCelExt`] adds those of Kubernetes: on
+//! strings, patterns, lists, sets, numbers, quantities, addresses, versions, URLs and named formats.
 //!
 //! ```rust
 //! use cel::{Answer, Program, Refused};
@@ -18,8 +19,9 @@
 //! }
 //! ```
 //!
-//! Proved: how each name may be called, and that each call answers its definition (`specs/Kube.antt` and what it names). Laws: a
-//! call that is known to the standard is known to all, with the same answer, unless it is `string` of an address or a CIDR.
+//! Proved: how each name may be called, and that each call answers its definition (`specs/Kube.antt` and what
+//! it names). Laws: a call that is known to the standard is known to all, with the same answer, unless it is
+//! `string` of an address or a CIDR.
 #![tactic(auto)]
 
 mod context;

@@ -19,7 +19,8 @@ pub data Spells : Piece → List ℕ → Type 0 where
   -- a percent sign and a letter
   bare : (c : ℕ) → c ≢ 37 → c ≢ 46 → Spells (verb c) (37 ∷ c ∷ [])
   -- a percent sign, a dot, decimal digits of a number of 64 bits, and a letter that is no digit
-  precise : (ds : List ℕ) (c : ℕ) → IsNumeral 10 ds → digits_value 10 ds < 2 ^ 64 → 10 ≤ digit_value c → Spells (verb c) (37 ∷ 46 ∷ (ds ++ c ∷ []))
+  precise : (ds : List ℕ) (c : ℕ) → IsNumeral 10 ds → digits_value 10 ds < 2 ^ 64 → 10 ≤ digit_value c
+      → Spells (verb c) (37 ∷ 46 ∷ (ds ++ c ∷ []))
 
 -- each spelling of a piece is read as that piece, whatever follows
 abbrev pub SpelledPiecesAreRead : Type 0
@@ -27,8 +28,10 @@ SpelledPiecesAreRead = (p : Piece) (s cs : List ℕ) → Spells p s → pieces (
 
 -- a text without a percent sign is given as it stands, over any list
 abbrev pub PlainTextStands : Type 0
-PlainTextStands = (s : List ℕ) (ds : Items) → IsUtf8 s → ¬ Contains (chars s) 37 → format_of (text s) (list ds) ≡ Ok (text s)
+PlainTextStands = (s : List ℕ) (ds : Items) → IsUtf8 s → ¬ Contains (chars s) 37
+    → format_of (text s) (list ds) ≡ Ok (text s)
 
 -- `%s` alone gives what is printed of one value, or names the kind that is not
 abbrev pub OneValueIsPrinted : Type 0
-OneValueIsPrinted = (d : Data) → format_of (text (codes "%s")) (list (item d no_items)) ≡ as_string (or_refused (codes "%s does not support ") (printed_text d))
+OneValueIsPrinted = (d : Data) → format_of (text (codes "%s")) (list (item d no_items))
+    ≡ as_string (or_refused (codes "%s does not support ") (printed_text d))

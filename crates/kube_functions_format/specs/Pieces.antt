@@ -1,7 +1,8 @@
 -- Trusted by the headline.
--- A format text as pieces (documentation of CEL-Go, "Strings": `format`; Kubernetes documentation, "CEL in Kubernetes", extended string
--- library). A percent sign begins a verb, whose letter follows at once, or behind a dot and digits, a precision that changes nothing.
--- Two percent signs are one. All else stands for itself.
+-- A format text as pieces (documentation of CEL-Go, "Strings": `format`; Kubernetes documentation, "CEL in
+-- Kubernetes", extended string library). A percent sign begins a verb, whose letter follows at once, or
+-- behind a dot and digits, a precision that changes nothing. Two percent signs are one.
+-- All else stands for itself.
 use Rattle.std.specs.Prelude.{ℕ, ◌+◌, ◌*◌, ◌^◌, ◌==◌, nat_lt, Bool, false, List, [], ◌∷◌, codes, Option, Some, None, if◌then◌else◌}
 use Rattle.std.specs.Char.{digit_value, is_digit}
 use Rattle.std.specs.Option.{unwrap_or, option_map_or}
@@ -38,10 +39,15 @@ abbrev mutual
 
   pub behind_percent : List ℕ → List Piece
   behind_percent [] = ends_in_percent ∷ []
-  behind_percent (c ∷ cs) = if c == 37 then literal 37 ∷ pieces cs else if c == 46 then behind_digits None cs else verb c ∷ pieces cs
+  behind_percent (c ∷ cs) =
+      if c == 37 then literal 37 ∷ pieces cs
+      else if c == 46 then behind_digits None cs
+      else verb c ∷ pieces cs
 
   -- behind a percent sign, a dot, and digits of this number, if there are any
   pub behind_digits : Option ℕ → List ℕ → List Piece
   behind_digits n [] = (if is_precision n then ends_in_precision else no_precision) ∷ []
   behind_digits n (c ∷ cs) =
-      if is_digit c 10 then behind_digits (Some (with_digit n (digit_value c))) cs else if is_precision n then verb c ∷ pieces cs else no_precision ∷ []
+      if is_digit c 10 then behind_digits (Some (with_digit n (digit_value c))) cs
+      else if is_precision n then verb c ∷ pieces cs
+      else no_precision ∷ []

@@ -1,8 +1,9 @@
 -- Trusted by the headline.
--- What a verb shows of its item (documentation of CEL-Go, "Strings": `format`; Kubernetes documentation, "CEL in Kubernetes", extended
--- string library). `%s` shows the text of a value, `%d` a decimal number, `%o`, `%b`, `%x` and `%X` the digits of 64 bits in base 8, 2
--- and 16, in which an int stands in two's complement; `%b` shows a bool too, `%x` and `%X` also the bytes of bytes and of a string in
--- UTF-8. The verbs of doubles, `%f` and `%e`, are not declared.
+-- What a verb shows of its item (documentation of CEL-Go, "Strings": `format`; Kubernetes documentation, "CEL
+-- in Kubernetes", extended string library). `%s` shows the text of a value, `%d` a decimal number, `%o`,
+-- `%b`, `%x` and `%X` the digits of 64 bits in base 8, 2 and 16, in which an int stands in two's complement;
+-- `%b` shows a bool too, `%x` and `%X` also the bytes of bytes and of a string in UTF-8. The verbs of
+-- doubles, `%f` and `%e`, are not declared.
 use Rattle.std.specs.Prelude.{ℕ, ◌/◌, ◌%◌, ◌==◌, Bool, true, false, List, [], ◌∷◌, ◌++◌, codes, decimal, encode_utf8, Option, Result, Ok, Err}
 use Rattle.std.specs.Fmt.{digits, digit_glyph, signed_decimal}
 use Rattle.std.specs.Int.{w64, cast_unsigned}

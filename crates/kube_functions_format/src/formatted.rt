@@ -32,10 +32,12 @@ fn string_answer(alloc: Global, text: Result<String, ExecutionError>) -> Result<
     }
 }
 
-/// A string in which each verb stands for what it shows of the next item of a list, or the first fault from the left.
+/// A string in which each verb stands for what it shows of the next item of a list,
+/// or the first fault from the left.
 ///
-/// `%s` shows the text of a value, `%d` a decimal number, `%o`, `%b`, `%x` and `%X` digits in base 8, 2 and 16; `%%` is a percent
-/// sign. A dot and digits behind the percent sign change nothing (documentation of CEL-Go, "Strings").
+/// `%s` shows the text of a value, `%d` a decimal number, `%o`, `%b`, `%x` and `%X` digits in base 8, 2 and
+/// 16; `%%` is a percent sign. A dot and digits behind the percent sign change nothing
+/// (documentation of CEL-Go, "Strings").
 ///
 /// # Errors
 /// `Memory` alone.

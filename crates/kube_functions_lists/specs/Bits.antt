@@ -1,7 +1,7 @@
 -- Trusted by the headline.
--- Functions on the bits of ints (documentation of CEL-Go, "Math": `math.bitAnd`, `math.bitOr`, `math.bitXor`, `math.bitNot`,
--- `math.bitShiftLeft`, `math.bitShiftRight`). An int is its 64 bits in two's complement. Bits that are shifted out are lost, and a shift to
--- the right fills with the sign.
+-- Functions on the bits of ints (documentation of CEL-Go, "Math": `math.bitAnd`, `math.bitOr`, `math.bitXor`,
+-- `math.bitNot`, `math.bitShiftLeft`, `math.bitShiftRight`). An int is its 64 bits in two's complement. Bits
+-- that are shifted out are lost, and a shift to the right fills with the sign.
 use Rattle.std.specs.Prelude.{ℕ, ℤ, pos, negsuc, List, codes, nat_lt, Option, Some, None, Ok, Err, if◌then◌else◌}
 use Rattle.std.specs.Int.{w64, int_bit_and, int_bit_or, int_bit_xor, int_bit_not, int_shl, int_shr}
 use Rattle.std.specs.Option.{option_map_or}
@@ -25,7 +25,8 @@ abbrev pub bit_xor : Data → Data → Outcome
 bit_xor v w = of_ints (codes "math.bitXor") (λ m n. Ok (int (int_bit_xor w64 m n))) v w
 
 abbrev pub bit_not : Data → Outcome
-bit_not v = option_map_or (λ n. Ok (int (int_bit_not w64 n))) (int_in v) (Err (no_overload (codes "math.bitNot")))
+bit_not v =
+    option_map_or (λ n. Ok (int (int_bit_not w64 n))) (int_in v) (Err (no_overload (codes "math.bitNot")))
 
 abbrev pub shift_fault : List ℕ → Fault
 shift_fault name = function_error name (codes "shift amount must be between 0 and 63")
@@ -40,7 +41,9 @@ abbrev pub shift_outcome : List ℕ → (ℕ → ℤ) → ℤ → Outcome
 shift_outcome name f n = option_map_or (λ k. Ok (int (f k))) (places_in n) (Err (shift_fault name))
 
 abbrev pub bit_shift_left : Data → Data → Outcome
-bit_shift_left v w = of_ints (codes "math.bitShiftLeft") (λ m n. shift_outcome (codes "math.bitShiftLeft") (int_shl w64 m) n) v w
+bit_shift_left v w = of_ints (codes "math.bitShiftLeft")
+    (λ m n. shift_outcome (codes "math.bitShiftLeft") (int_shl w64 m) n) v w
 
 abbrev pub bit_shift_right : Data → Data → Outcome
-bit_shift_right v w = of_ints (codes "math.bitShiftRight") (λ m n. shift_outcome (codes "math.bitShiftRight") (int_shr m) n) v w
+bit_shift_right v w =
+    of_ints (codes "math.bitShiftRight") (λ m n. shift_outcome (codes "math.bitShiftRight") (int_shr m) n) v w

@@ -1,6 +1,7 @@
 -- Trusted by the headline.
--- Where a value stands in a list (documentation of CEL-Go, "Lists"; Kubernetes documentation, "CEL in Kubernetes", list library, `indexOf`,
--- `lastIndexOf`). Indices count from 0, and -1 says that it is not there. An index that no int is would be an overflow.
+-- Where a value stands in a list (documentation of CEL-Go, "Lists"; Kubernetes documentation, "CEL in
+-- Kubernetes", list library, `indexOf`, `lastIndexOf`). Indices count from 0, and -1 says that it is not
+-- there. An index that no int is would be an overflow.
 use Rattle.std.specs.Prelude.{ℕ, ◌+◌, pos, negsuc, List, [], ◌∷◌, codes, Bool, Option, None, Some, Ok, if◌then◌else◌}
 use Rattle.std.specs.List.{position_from}
 use Rattle.std.specs.Option.{option_map_or, option_or}
@@ -22,4 +23,5 @@ abbrev pub index_of : Data → Data → Outcome
 index_of v w = of_list (codes "indexOf") (λ ds. index_or_none (position_from (λ d. same d w) 0 ds)) v
 
 abbrev pub last_index_of : Data → Data → Outcome
-last_index_of v w = of_list (codes "lastIndexOf") (λ ds. index_or_none (last_position_from (λ d. same d w) 0 ds)) v
+last_index_of v w =
+    of_list (codes "lastIndexOf") (λ ds. index_or_none (last_position_from (λ d. same d w) 0 ds)) v

@@ -1,5 +1,6 @@
 -- Scaffolding: only proofs and private clauses cite it.
--- Sets of keys beside lists of values. A bool, a number and a string are keys of maps, and two of them are equal where their keys are.
+-- Sets of keys beside lists of values. A bool, a number and a string are keys of maps, and two of them are
+-- equal where their keys are.
 use Rattle.std.specs.Prelude.{◌≡◌, ◌||◌, List, Bool}
 use Rattle.std.specs.BTreeSet.{BTreeSet, contains}
 use Rattle.std.specs.declared.cmp.Ordering.{Ordering}

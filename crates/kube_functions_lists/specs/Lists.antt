@@ -1,6 +1,7 @@
 -- Trusted by the headline.
--- Lists made of a list's items (Kubernetes documentation, "CEL in Kubernetes", list library; documentation of CEL-Go, "Lists": `slice`,
--- `flatten`, `reverse`, `distinct`, `first`, `last`, `lists.range`). Items are equal as `==` has it.
+-- Lists made of a list's items (Kubernetes documentation, "CEL in Kubernetes", list library; documentation of
+-- CEL-Go, "Lists": `slice`, `flatten`, `reverse`, `distinct`, `first`, `last`, `lists.range`).
+-- Items are equal as `==` has it.
 use Rattle.std.specs.Prelude.{ℕ, suc, ◌++◌, ℤ, pos, negsuc, List, [], ◌∷◌, map, reverse as backwards, length, codes, decimal, not, ◌&&◌, nat_le, Option, None, Some, option_map, Ok, Err, take, drop, if◌then◌else◌}
 use Rattle.std.specs.Fmt.{signed_decimal}
 use Rattle.std.specs.List.{filter, list_any, range_with_len}
@@ -29,25 +30,30 @@ of_list name f v = option_map_or f (items_if_list v) (Err (no_overload name))
 -- ---- parts
 
 abbrev pub slice_message : ℤ → ℤ → ℕ → List ℕ
-slice_message a b n = codes "slice(" ++ (signed_decimal a ++ (codes ", " ++ (signed_decimal b ++ (codes ") out of range for list of length " ++ decimal n))))
+slice_message a b n =
+    codes "slice(" ++ (signed_decimal a ++ (codes ", " ++ (signed_decimal b
+    ++ (codes ") out of range for list of length " ++ decimal n))))
 
 abbrev pub slice_fault : ℤ → ℤ → ℕ → Fault
 slice_fault a b n = function_error (codes "slice") (slice_message a b n)
 
 -- the items from the index a on and before the index b; the length of the list counts as an index too
 abbrev pub part_between : List Data → ℤ → ℤ → Option (List Data)
-part_between ds (pos a) (pos b) = if nat_le a b && nat_le b (length ds) then Some (drop a (take b ds)) else None
+part_between ds (pos a) (pos b) =
+    if nat_le a b && nat_le b (length ds) then Some (drop a (take b ds)) else None
 part_between ds a b = None
 
 abbrev pub slice_outcome : List Data → ℤ → ℤ → Outcome
-slice_outcome ds a b = option_map_or (λ es. Ok (as_list es)) (part_between ds a b) (Err (slice_fault a b (length ds)))
+slice_outcome ds a b =
+    option_map_or (λ es. Ok (as_list es)) (part_between ds a b) (Err (slice_fault a b (length ds)))
 
 -- two ints
 abbrev pub ints_in : Data → Data → Option (ℤ × ℤ)
 ints_in a b = option_map_or (λ m. option_map (λ n. (m, n)) (int_in b)) (int_in a) None
 
 abbrev pub slice : Data → Data → Data → Outcome
-slice v a b = of_list (codes "slice") (λ ds. option_map_or (λ p. slice_outcome ds p.0 p.1) (ints_in a b) (Err (no_overload (codes "slice")))) v
+slice v a b = of_list (codes "slice")
+    (λ ds. option_map_or (λ p. slice_outcome ds p.0 p.1) (ints_in a b) (Err (no_overload (codes "slice")))) v
 
 -- an optional of the item, if there is one
 abbrev pub as_optional : Option Data → Data
@@ -111,7 +117,10 @@ depth_in None = Some (pos 1)
 depth_in (Some d) = int_in d
 
 abbrev pub flatten : Data → Option Data → Outcome
-flatten v d = option_map_or (λ ds. option_map_or (flatten_outcome ds) (depth_in d) (Err (no_overload (codes "flatten")))) (items_in v) (Err (no_overload (codes "flatten")))
+flatten v d =
+    option_map_or
+    (λ ds. option_map_or (flatten_outcome ds) (depth_in d) (Err (no_overload (codes "flatten"))))
+    (items_in v) (Err (no_overload (codes "flatten")))
 
 -- ---- numbers
 

@@ -1,6 +1,6 @@
 -- Trusted by the headline.
--- Functions on numbers (documentation of CEL-Go, "Math": `math.abs`, `math.sign`, `math.greatest`, `math.least`). Ints and uints are
--- compared as numbers, and of equal ones the first counts.
+-- Functions on numbers (documentation of CEL-Go, "Math": `math.abs`, `math.sign`, `math.greatest`,
+-- `math.least`). Ints and uints are compared as numbers, and of equal ones the first counts.
 use Rattle.std.specs.Prelude.{ℕ, zero, suc, ℤ, pos, negsuc, List, [], ◌∷◌, codes, is_some, Ok, Err, if◌then◌else◌}
 use Rattle.std.specs.List.{list_all}
 use Rattle.cel_value.specs.Data.{Data, int, uint}
@@ -15,7 +15,9 @@ use Rattle.std.specs.Int.RustNames.{unsigned_abs}
 
 -- the size of a number is an int, but that of the least int is none
 abbrev pub size_of : ℤ → Outcome
-size_of n = if is_int (pos (unsigned_abs n)) then Ok (int (pos (unsigned_abs n))) else Err (function_error (codes "math.abs") (codes "integer overflow"))
+size_of n =
+    if is_int (pos (unsigned_abs n)) then Ok (int (pos (unsigned_abs n)))
+    else Err (function_error (codes "math.abs") (codes "integer overflow"))
 
 abbrev pub abs : Data → Outcome
 abs (int n) = size_of n
@@ -52,7 +54,9 @@ not_numeric = function_error (codes "math.greatest/least") (codes "expected nume
 abbrev pub extreme_number : Extreme → List Data → Outcome
 extreme_number end [] = Err (none_given end)
 extreme_number end (d ∷ []) = Ok d
-extreme_number end (d ∷ e ∷ ds) = if list_all (λ v. is_some (number_in v)) (d ∷ e ∷ ds) then extreme_of end (d ∷ e ∷ ds) else Err not_numeric
+extreme_number end (d ∷ e ∷ ds) =
+    if list_all (λ v. is_some (number_in v)) (d ∷ e ∷ ds) then extreme_of end (d ∷ e ∷ ds)
+    else Err not_numeric
 
 -- a single list stands for its items
 abbrev pub greatest : List Data → Outcome

@@ -1,6 +1,6 @@
 -- Trusted by the headline.
--- Lists in ascending order (Kubernetes documentation, "CEL in Kubernetes", list library, `isSorted`, `min`, `max`; documentation of CEL-Go,
--- "Lists", `sort`). Values are compared as `<` compares them.
+-- Lists in ascending order (Kubernetes documentation, "CEL in Kubernetes", list library, `isSorted`, `min`,
+-- `max`; documentation of CEL-Go, "Lists", `sort`). Values are compared as `<` compares them.
 use Rattle.std.specs.Prelude.{ℕ, List, [], ◌∷◌, codes, Bool, true, false, not, is_some, Ok, Err, if◌then◌else◌}
 use Rattle.std.specs.List.{find}
 use Rattle.std.specs.Option.{option_map_or, unwrap_or}
@@ -36,7 +36,8 @@ not_ascending d e = if is_some (comparison d e) then Ok (bool false) else Err di
 
 -- the first neighbours that do not ascend decide
 abbrev pub order_of : List Data → Outcome
-order_of ds = option_map_or (λ p. not_ascending p.0 p.1) (find (λ p. not (ascend p.0 p.1)) (neighbours ds)) (Ok (bool true))
+order_of ds = option_map_or (λ p. not_ascending p.0 p.1) (find (λ p. not (ascend p.0 p.1)) (neighbours ds))
+    (Ok (bool true))
 
 abbrev pub is_sorted : Data → Outcome
 is_sorted v = of_list (codes "isSorted") order_of v
@@ -79,6 +80,7 @@ class_number d = if has_order d then class_of (shape d) else 0
 abbrev pub order_of_all : Data → Data → Ordering
 order_of_all d e = unwrap_or (comparison d e) (nat_cmp (class_number d) (class_number e))
 
--- whether a value stands before another one in that order: of two that have an order, where it is the lesser one
+-- whether a value stands before another one in that order: of two that have an order,
+-- where it is the lesser one
 abbrev pub goes_before : Data → Data → Bool
 goes_before d e = is_lt (order_of_all d e)

@@ -1,6 +1,6 @@
 -- Trusted by the headline.
--- Lists as sets of their items (documentation of CEL-Go, "Sets": `sets.contains`, `sets.equivalent`, `sets.intersects`). A value is in the
--- set where it equals an item.
+-- Lists as sets of their items (documentation of CEL-Go, "Sets": `sets.contains`, `sets.equivalent`,
+-- `sets.intersects`). A value is in the set where it equals an item.
 use Rattle.std.specs.Prelude.{ℕ, List, codes, Bool, ◌&&◌, Ok, Err}
 use Rattle.std.specs.List.{list_any, list_all}
 use Rattle.std.specs.Option.{option_map_or}
@@ -27,7 +27,9 @@ have_common ds es = list_any (is_in ds) es
 
 -- what a function of this name answers to two lists, by their items; it takes nothing else
 abbrev pub of_lists : List ℕ → (List Data → List Data → Bool) → Data → Data → Outcome
-of_lists name f v w = option_map_or (λ ds. option_map_or (λ es. Ok (bool (f ds es))) (items_if_list w) (Err (no_overload name))) (items_if_list v) (Err (no_overload name))
+of_lists name f v w =
+    option_map_or (λ ds. option_map_or (λ es. Ok (bool (f ds es))) (items_if_list w) (Err (no_overload name)))
+    (items_if_list v) (Err (no_overload name))
 
 abbrev pub contains : Data → Data → Outcome
 contains v w = of_lists (codes "sets.contains") has_all v w

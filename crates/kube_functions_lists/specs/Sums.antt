@@ -1,6 +1,6 @@
 -- Trusted by the headline.
--- Sums of lists (Kubernetes documentation, "CEL in Kubernetes", list library, `sum`). The items are added from the left: ints to ints,
--- uints to uints. A single item is its own sum, whatever it is.
+-- Sums of lists (Kubernetes documentation, "CEL in Kubernetes", list library, `sum`). The items are added
+-- from the left: ints to ints, uints to uints. A single item is its own sum, whatever it is.
 use Rattle.std.specs.Prelude.{◌+◌, pos, ◌+ℤ◌, List, [], ◌∷◌, codes, Ok, Err}
 use Rattle.cel_value.specs.Data.{Data, int, uint}
 use Rattle.cel_value.specs.Faults.{Fault, function_error}

@@ -34,14 +34,17 @@ from_index cs i = option_map (λ k. (k, drop k cs)) (offset_within 0 (length cs)
 abbrev pub StandsNowhere : ℕ → List ℕ → List ℕ → Type 0
 StandsNowhere n cs part = (k : ℕ) → n ≤ k → k ≤ length cs → stands_at cs part k ≡ false
 
--- the first offset from n on at which a part stands is the one between the characters before it and those behind it
+-- the first offset from n on at which a part stands is the one between the characters
+-- before it and those behind it
 abbrev pub StandsFirst : ℕ → List ℕ → List ℕ → List ℕ → List ℕ → Type 0
 StandsFirst n cs part before behind =
-    (cs ≡ before ++ (part ++ behind)) × (n ≤ length before) × ((k : ℕ) → n ≤ k → k < length before → stands_at cs part k ≡ false)
+    (cs ≡ before ++ (part ++ behind)) × (n ≤ length before)
+    × ((k : ℕ) → n ≤ k → k < length before → stands_at cs part k ≡ false)
 
 -- the last offset at which a part stands is that one
 abbrev pub StandsLast : List ℕ → List ℕ → List ℕ → List ℕ → Type 0
-StandsLast cs part before behind = (cs ≡ before ++ (part ++ behind)) × ((k : ℕ) → length before < k → k ≤ length cs → stands_at cs part k ≡ false)
+StandsLast cs part before behind = (cs ≡ before ++ (part ++ behind))
+    × ((k : ℕ) → length before < k → k ≤ length cs → stands_at cs part k ≡ false)
 
 -- ---- separators
 
@@ -55,7 +58,8 @@ abbrev pub left_of : {A : Type 0} → Option ℕ → ℕ → List A → List A
 left_of None m ps = ps
 left_of (Some n) m ps = take (n - m) ps
 
--- how many characters stand at least between a number of separators and the next one: an empty one stands once at an offset
+-- how many characters stand at least between a number of separators and the next one:
+-- an empty one stands once at an offset
 abbrev pub characters_passed : List ℕ → ℕ → ℕ
 characters_passed [] zero = 0
 characters_passed [] (suc m) = 1
@@ -64,4 +68,5 @@ characters_passed (c ∷ part) m = 0
 -- the pieces of what stands behind a number of separators
 abbrev pub pieces_behind : List ℕ → List ℕ → Option ℕ → ℕ → List (List ℕ)
 pieces_behind cs part limit m =
-    map encode_utf8_all (around cs 0 (left_of limit m (spans_among cs part 0 (range_with_len (characters_passed part m) (suc (length cs) - characters_passed part m)))))
+    map encode_utf8_all (around cs 0 (left_of limit m (spans_among cs part 0
+    (range_with_len (characters_passed part m) (suc (length cs) - characters_passed part m)))))

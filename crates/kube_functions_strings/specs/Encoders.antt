@@ -1,6 +1,6 @@
 -- Trusted by the headline.
--- Bytes as texts in Base64 (RFC 4648, section 4; documentation of CEL-Go, "Encoders"). In a text whose padding is missing, it is added
--- before the text is decoded.
+-- Bytes as texts in Base64 (RFC 4648, section 4; documentation of CEL-Go, "Encoders"). In a text whose
+-- padding is missing, it is added before the text is decoded.
 use Rattle.std.specs.Prelude.{◌≡◌, ◌↔◌, ℕ, ◌%◌, ◌==◌, List, [], ◌++◌, length, codes, Option, Some, Ok, Err, if◌then◌else◌}
 use Rattle.std.specs.Option.{option_map_or}
 use Rattle.std.specs.Result.{result_ok}
@@ -36,7 +36,8 @@ abbrev pub bytes_or_fault : Option (List ℕ) → Outcome
 bytes_or_fault o = option_map_or (λ b. Ok (bytes b)) o (Err invalid)
 
 abbrev pub base64_decode : Data → Outcome
-base64_decode v = answer_with (codes "base64.decode") (λ s. bytes_or_fault (decoded_bytes (with_padding s))) (text_in v)
+base64_decode v =
+    answer_with (codes "base64.decode") (λ s. bytes_or_fault (decoded_bytes (with_padding s))) (text_in v)
 
 -- a text is read as the bytes of which it is the encoding, and as no others
 abbrev pub DecodesEncodings : Type 0

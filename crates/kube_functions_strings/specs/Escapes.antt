@@ -1,6 +1,6 @@
 -- Trusted by the headline.
--- Strings in which some characters are escaped: `jsonpatch.escapeKey` (RFC 6901, section 3) and `strings.quote` (documentation of CEL-Go,
--- "Strings").
+-- Strings in which some characters are escaped: `jsonpatch.escapeKey` (RFC 6901, section 3) and
+-- `strings.quote` (documentation of CEL-Go, "Strings").
 use Rattle.std.specs.Prelude.{◌≡◌, ℕ, List, [], ◌∷◌, ◌++◌, ◌==◌, codes, Option, encode_utf8}
 use Rattle.std.specs.List.{flat_map}
 use Rattle.std.specs.Map.{lookup}

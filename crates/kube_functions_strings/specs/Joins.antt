@@ -1,5 +1,6 @@
 -- Trusted by the headline.
--- The strings of a list as one string (documentation of CEL-Go, "Strings": `join`). A list with an item that is no string has none.
+-- The strings of a list as one string (documentation of CEL-Go, "Strings": `join`).
+-- A list with an item that is no string has none.
 use Rattle.std.specs.Prelude.{ℕ, List, [], ◌∷◌, ◌++◌, codes, map, option_map, Option, Some, None, Result, Ok, Err, Vec}
 use Rattle.std.specs.Option.{option_map_or, option_zip}
 use Rattle.std.specs.declared.alloc.Global.{Global}
@@ -42,7 +43,8 @@ abbrev pub listed_in : Data → Option (List Data)
 listed_in v = option_map items_list (items_in v)
 
 abbrev pub join : Data → Option Data → Outcome
-join v s = answer_with (codes "join") (λ p. joined_or_fault p.1 (texts_of p.0)) (option_zip (listed_in v) (separator_in s))
+join v s = answer_with (codes "join") (λ p. joined_or_fault p.1 (texts_of p.0))
+    (option_zip (listed_in v) (separator_in s))
 
 -- the texts that a `Vec` lends
 abbrev pub texts_view : Result (Vec (Bor (List ℕ)) Global) Kind → Result (List (List ℕ)) Kind

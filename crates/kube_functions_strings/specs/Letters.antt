@@ -1,7 +1,7 @@
 -- Trusted by the headline.
--- Strings with other letters, in another order, or without white space at their ends (Kubernetes documentation, "CEL in Kubernetes",
--- extended string library; documentation of CEL-Go, "Strings": `lowerAscii`, `upperAscii`, `reverse`, `trim`). White space is what
--- `char::is_whitespace` of Rust says.
+-- Strings with other letters, in another order, or without white space at their ends (Kubernetes
+-- documentation, "CEL in Kubernetes", extended string library; documentation of CEL-Go, "Strings":
+-- `lowerAscii`, `upperAscii`, `reverse`, `trim`). White space is what `char::is_whitespace` of Rust says.
 use Rattle.std.specs.Prelude.{ℕ, List, codes, reverse, Ok}
 use Rattle.std.specs.Str.{chars, encode_utf8_all, trim, str_to_ascii_lowercase, str_to_ascii_uppercase}
 use Rattle.cel_value.specs.Data.{Data, text}

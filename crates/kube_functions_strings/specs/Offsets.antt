@@ -1,6 +1,7 @@
 -- Trusted by the headline.
--- Characters of a string by their offsets, and the offsets of one string in another (Kubernetes documentation, "CEL in Kubernetes", extended
--- string library; documentation of CEL-Go, "Strings": `charAt`, `indexOf`, `lastIndexOf`, `substring`). Offsets count code points from 0 on.
+-- Characters of a string by their offsets, and the offsets of one string in another (Kubernetes
+-- documentation, "CEL in Kubernetes", extended string library; documentation of CEL-Go, "Strings": `charAt`,
+-- `indexOf`, `lastIndexOf`, `substring`). Offsets count code points from 0 on.
 use Rattle.std.specs.Prelude.{ℕ, zero, suc, ◌-◌, min, ℤ, pos, negsuc, nat_le, nat_eq, ◌&&◌, List, [], ◌∷◌, ◌++◌, length, drop, codes, Bool, Option, Some, None, Ok, Err, encode_utf8, slice_get, slice_range, decimal, if◌then◌else◌}
 use Rattle.std.specs.Fmt.{signed_decimal}
 use Rattle.std.specs.List.{starts_with, find, range_with_len}
@@ -18,7 +19,8 @@ offset_within low high (negsuc k) = None
 
 -- which index is out of range for a string of which length
 abbrev pub past_length : List ℕ → ℤ → ℕ → List ℕ
-past_length what i n = what ++ (codes " " ++ (signed_decimal i ++ (codes " out of range for string of length " ++ decimal n)))
+past_length what i n =
+    what ++ (codes " " ++ (signed_decimal i ++ (codes " out of range for string of length " ++ decimal n)))
 
 -- ---- charAt
 
@@ -32,7 +34,8 @@ no_character i n = function_error (codes "charAt") (past_length (codes "index") 
 -- the character at an offset, or none at the end
 abbrev pub character_at : List ℕ → ℤ → Outcome
 character_at cs i =
-    option_map_or (λ k. Ok (text (character_text (slice_get cs k)))) (offset_within 0 (length cs) i) (Err (no_character i (length cs)))
+    option_map_or (λ k. Ok (text (character_text (slice_get cs k)))) (offset_within 0 (length cs) i)
+    (Err (no_character i (length cs)))
 
 abbrev pub char_at : Data → Data → Outcome
 char_at v w = answer_with (codes "charAt") (λ p. character_at (chars p.0) p.1) (text_and_int_in v w)
@@ -43,21 +46,25 @@ abbrev pub no_start : ℤ → ℕ → Fault
 no_start i n = function_error (codes "substring") (past_length (codes "start index") i n)
 
 abbrev pub no_end : ℤ → Fault
-no_end i = function_error (codes "substring") (codes "end index " ++ signed_decimal i ++ codes " out of range")
+no_end i =
+    function_error (codes "substring") (codes "end index " ++ signed_decimal i ++ codes " out of range")
 
 -- the characters from an offset up to another one
 abbrev pub characters_up_to : List ℕ → ℕ → ℤ → Outcome
 characters_up_to cs k b =
-    option_map_or (λ m. Ok (text (encode_utf8_all (slice_range cs k m)))) (offset_within k (length cs) b) (Err (no_end b))
+    option_map_or (λ m. Ok (text (encode_utf8_all (slice_range cs k m)))) (offset_within k (length cs) b)
+    (Err (no_end b))
 
 -- the end is the text's where none is given
 abbrev pub characters_between : List ℕ → ℤ → Option ℤ → Outcome
 characters_between cs a b =
-    option_map_or (λ k. characters_up_to cs k (unwrap_or b (pos (length cs)))) (offset_within 0 (length cs) a) (Err (no_start a (length cs)))
+    option_map_or (λ k. characters_up_to cs k (unwrap_or b (pos (length cs)))) (offset_within 0 (length cs) a)
+    (Err (no_start a (length cs)))
 
 abbrev pub substring : Data → Data → Option Data → Outcome
 substring v a b =
-    answer_with (codes "substring") (λ p. characters_between (chars p.0.0) p.0.1 p.1) (option_zip (text_and_int_in v a) (optional_int_in b))
+    answer_with (codes "substring") (λ p. characters_between (chars p.0.0) p.0.1 p.1)
+    (option_zip (text_and_int_in v a) (optional_int_in b))
 
 -- ---- indexOf, lastIndexOf
 
@@ -96,14 +103,17 @@ first_index cs (c ∷ part) i = or_no_offset (offset_from cs (c ∷ part) (at_le
 -- the greatest offset up to i. An empty part stands at i itself, or at the end of the text nearest to it.
 abbrev pub last_index : List ℕ → List ℕ → ℤ → ℤ
 last_index cs [] i = pos (min (at_least_zero i) (length cs))
-last_index cs (c ∷ part) i = or_no_offset (greatest_below (stands_at cs (c ∷ part)) (offsets_up_to (length cs) i))
+last_index cs (c ∷ part) i =
+    or_no_offset (greatest_below (stands_at cs (c ∷ part)) (offsets_up_to (length cs) i))
 
 abbrev pub index_of : Data → Data → Option Data → Outcome
 index_of v w i =
-    answer_with (codes "indexOf") (λ p. Ok (int (first_index (chars p.0.0) (chars p.0.1) (unwrap_or p.1 (pos 0)))))
+    answer_with (codes "indexOf")
+    (λ p. Ok (int (first_index (chars p.0.0) (chars p.0.1) (unwrap_or p.1 (pos 0)))))
     (option_zip (texts_in v w) (optional_int_in i))
 
 abbrev pub last_index_of : Data → Data → Option Data → Outcome
 last_index_of v w i =
-    answer_with (codes "lastIndexOf") (λ p. Ok (int (last_index (chars p.0.0) (chars p.0.1) (unwrap_or p.1 (pos (length (chars p.0.0)))))))
+    answer_with (codes "lastIndexOf")
+    (λ p. Ok (int (last_index (chars p.0.0) (chars p.0.1) (unwrap_or p.1 (pos (length (chars p.0.0)))))))
     (option_zip (texts_in v w) (optional_int_in i))

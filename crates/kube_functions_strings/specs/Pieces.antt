@@ -1,7 +1,8 @@
 -- Trusted by the headline.
--- Strings cut at a separator, with another text in its place, and joined (Kubernetes documentation, "CEL in Kubernetes", extended string
--- library; documentation of CEL-Go, "Strings": `split`, `replace`, `join`). A separator that is not empty stands at its matches from the
--- left, each the first that begins at or after the end of the one before it; an empty one stands once at each character boundary.
+-- Strings cut at a separator, with another text in its place, and joined (Kubernetes documentation, "CEL in
+-- Kubernetes", extended string library; documentation of CEL-Go, "Strings": `split`, `replace`, `join`). A
+-- separator that is not empty stands at its matches from the left, each the first that begins at or after the
+-- end of the one before it; an empty one stands once at each character boundary.
 use Rattle.std.specs.Prelude.{ℕ, suc, ◌+◌, ◌-◌, ◌==◌, nat_le, ◌&&◌, ℤ, pos, negsuc, Bool, List, [], ◌∷◌, length, map, drop, codes, Option, Some, None, Ok, slice_range, if◌then◌else◌}
 use Rattle.std.specs.List.{range_with_len, join_by}
 use Rattle.std.specs.Option.{option_zip}
@@ -22,7 +23,8 @@ is_next cs part end k = nat_le end k && stands_at cs part k
 abbrev pub spans_among : List ℕ → List ℕ → ℕ → List ℕ → List (ℕ × ℕ)
 spans_among cs part end [] = []
 spans_among cs part end (k ∷ ks) =
-    if is_next cs part end k then (k, k + length part) ∷ spans_among cs part (k + length part) ks else spans_among cs part end ks
+    if is_next cs part end k then (k, k + length part) ∷ spans_among cs part (k + length part) ks
+    else spans_among cs part end ks
 
 -- the spans of all separators in a text
 abbrev pub separators : List ℕ → List ℕ → List (ℕ × ℕ)
@@ -54,7 +56,8 @@ split_pieces cs part (Some (negsuc n)) = pieces cs part None
 
 abbrev pub split_outcome : Data → Data → Option Data → Outcome
 split_outcome v w n =
-    answer_with (codes "split") (λ p. Ok (text_list (split_pieces (chars p.0.0) (chars p.0.1) p.1))) (option_zip (texts_in v w) (optional_int_in n))
+    answer_with (codes "split") (λ p. Ok (text_list (split_pieces (chars p.0.0) (chars p.0.1) p.1)))
+    (option_zip (texts_in v w) (optional_int_in n))
 
 -- ---- replace
 

@@ -1,6 +1,6 @@
 -- Trusted by the headline.
--- What a pattern finds in a string (Kubernetes documentation, "CEL in Kubernetes", regex library, `find`, `findAll`). Which patterns are
--- refused, and what the others find, a book says.
+-- What a pattern finds in a string (Kubernetes documentation, "CEL in Kubernetes", regex library, `find`,
+-- `findAll`). Which patterns are refused, and what the others find, a book says.
 use Rattle.std.specs.Prelude.{ℕ, ℤ, pos, negsuc, List, [], ◌∷◌, codes, map, Option, Some, None, Ok, Err, slice_range}
 use Rattle.std.specs.Option.{option_map_or, option_zip}
 use Rattle.cel_patterns.specs.Book.{Book, found_by}
@@ -36,11 +36,13 @@ abbrev pub first_found : List ℕ → List ℕ → Book → Outcome
 first_found s pattern book = unless_refused (codes "find") (first_match s) (found_by book pattern s (Some 1))
 
 abbrev pub each_found : List ℕ → List ℕ → Option ℕ → Book → Outcome
-each_found s pattern limit book = unless_refused (codes "findAll") (match_texts s) (found_by book pattern s limit)
+each_found s pattern limit book =
+    unless_refused (codes "findAll") (match_texts s) (found_by book pattern s limit)
 
 abbrev pub find_outcome : Data → Data → Book → Outcome
 find_outcome v w book = answer_with (codes "find") (λ p. first_found p.0 p.1 book) (texts_in v w)
 
 abbrev pub find_all_outcome : Data → Data → Option Data → Book → Outcome
 find_all_outcome v w n book =
-    answer_with (codes "findAll") (λ p. each_found p.0.0 p.0.1 (limit_of p.1) book) (option_zip (texts_in v w) (optional_int_in n))
+    answer_with (codes "findAll") (λ p. each_found p.0.0 p.0.1 (limit_of p.1) book)
+    (option_zip (texts_in v w) (optional_int_in n))

@@ -31,8 +31,8 @@ fn past_characters(text: &str, count: usize) -> Option<&str>
     Some(characters.as_str())
 }
 
-// What follows the first `count` characters, where there are as many. Counts bytes where each character takes one, but for a single
-// character, which costs less than that test of the whole text.
+// What follows the first `count` characters, where there are as many. Counts bytes where each character takes
+// one, but for a single character, which costs less than that test of the whole text.
 fn past(text: &str, count: usize) -> Option<&str>
     ensures { MatchOption result (length (chars text.now) < count)
         (λ rest. spec.IsPast text.now count rest.now) }

@@ -16,8 +16,9 @@ pub fn decoding_undoes_encoding()
     ensures { DecodesEncodings }
 {}
 
-/// `split` and `replace` cut at the separators from the left, each the first that begins at or after the end of the one before it, and at no
-/// others. An empty one stands once at each offset: between characters, before the first and behind the last.
+/// `split` and `replace` cut at the separators from the left, each the first that begins at or after the end
+/// of the one before it, and at no others. An empty one stands once at each offset: between characters,
+/// before the first and behind the last.
 pub fn separators_stand_from_the_left()
     ensures from_left { (text part : List ℕ) (c : ℕ)
         → AreFromLeft text (c ∷ part) 0 (separators text (c ∷ part)) }

@@ -1,4 +1,5 @@
-//! `lowerAscii`, `upperAscii`, `reverse` and `trim`: strings with other letters, turned, or without white space at their ends.
+//! `lowerAscii`, `upperAscii`, `reverse` and `trim`: strings with other letters, turned,
+//! or without white space at their ends.
 ghost use Rattle.std.specs.Prelude.{◌≡◌, IfOk, IfErr, string_bytes};
 ghost use Rattle.cel_value.specs.View.{view};
 ghost use Rattle.cel_semantics.specs.Outcome.{outcome_view};

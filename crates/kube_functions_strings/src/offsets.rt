@@ -250,7 +250,8 @@ fn last_index(text: &str, part: &str, start: i64) -> i64
     }
 }
 
-/// The least offset from an int on at which a string has another one, or -1. An int that is absent or negative counts as 0.
+/// The least offset from an int on at which a string has another one, or -1.
+/// An int that is absent or negative counts as 0.
 ///
 /// # Errors
 /// `Memory` alone.
@@ -286,7 +287,8 @@ fn or_end(start: Option<i64>, text: &str) -> i64
     }
 }
 
-/// The greatest offset up to an int at which a string has another one, or -1. The length stands for an int that is absent.
+/// The greatest offset up to an int at which a string has another one, or -1.
+/// The length stands for an int that is absent.
 ///
 /// # Errors
 /// `Memory` alone.

@@ -119,7 +119,8 @@ pub fn find(
     }
 }
 
-/// The texts of a pattern's matches in a string, at most as many as a count that is not negative. The book keeps its entries in any case.
+/// The texts of a pattern's matches in a string, at most as many as a count that is not negative. The book
+/// keeps its entries in any case.
 ///
 /// # Errors
 /// `Memory` alone.

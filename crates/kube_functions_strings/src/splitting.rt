@@ -214,7 +214,8 @@ fn new_and_count<'a>(new: &'a Value, count: Option<&Value>) -> Option<(&'a str, 
     }
 }
 
-/// A string in which another one replaces a part: at the part's first `count` matches, or at all where the count is absent.
+/// A string in which another one replaces a part: at the part's first `count` matches,
+/// or at all where the count is absent.
 ///
 /// # Errors
 /// `Memory` alone.

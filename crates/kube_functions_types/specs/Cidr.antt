@@ -1,6 +1,7 @@
 -- Trusted by the headline.
--- Calls on CIDRs (Kubernetes documentation, "CEL in Kubernetes", CIDR library; `CIDR` in `k8s.io/apiserver/pkg/cel/library`).
--- A CIDR stands for the set of its addresses: an address is in it, or another CIDR's addresses all are.
+-- Calls on CIDRs (Kubernetes documentation, "CEL in Kubernetes", CIDR library; `CIDR` in
+-- `k8s.io/apiserver/pkg/cel/library`). A CIDR stands for the set of its addresses: an address is in it, or
+-- another CIDR's addresses all are.
 use Rattle.std.specs.Prelude.{ℕ, pos, ◌==◌, List, codes, Bool, false, Result, Ok, Err, is_ok}
 use Rattle.kube_types_address.specs.Addresses.{family}
 use Rattle.kube_types_address.specs.CidrTexts as cidr_texts
@@ -43,13 +44,16 @@ or_why name (Err message) = Err (function_error name message)
 -- `containsIP`: whether an address is in the set; a string stands for the address that it writes
 abbrev pub contains_ip : Data → Data → Outcome
 contains_ip (cidr c) (ip a) = bool_answer (prefixes.holds c a)
-contains_ip (cidr c) (text s) = and_then (or_why (codes "containsIP") (texts.ip_of s)) (λ a. bool_answer (prefixes.holds c a))
+contains_ip (cidr c) (text s) =
+    and_then (or_why (codes "containsIP") (texts.ip_of s)) (λ a. bool_answer (prefixes.holds c a))
 contains_ip _ _ = wrong_kind (codes "containsIP")
 
--- `containsCIDR`: whether every address of another CIDR is in the set; a string stands for the CIDR that it writes
+-- `containsCIDR`: whether every address of another CIDR is in the set;
+-- a string stands for the CIDR that it writes
 abbrev pub contains_cidr : Data → Data → Outcome
 contains_cidr (cidr c) (cidr d) = bool_answer (prefixes.encloses c d)
-contains_cidr (cidr c) (text s) = and_then (or_why (codes "containsCIDR") (cidr_texts.cidr_of s)) (λ d. bool_answer (prefixes.encloses c d))
+contains_cidr (cidr c) (text s) =
+    and_then (or_why (codes "containsCIDR") (cidr_texts.cidr_of s)) (λ d. bool_answer (prefixes.encloses c d))
 contains_cidr _ _ = wrong_kind (codes "containsCIDR")
 
 -- `prefixLength`: how many bits the prefix has

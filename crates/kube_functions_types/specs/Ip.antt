@@ -1,5 +1,6 @@
 -- Trusted by the headline.
--- Calls on IP addresses (Kubernetes documentation, "CEL in Kubernetes", IP address library; `IP` in `k8s.io/apiserver/pkg/cel/library`).
+-- Calls on IP addresses (Kubernetes documentation, "CEL in Kubernetes", IP address library; `IP` in
+-- `k8s.io/apiserver/pkg/cel/library`).
 use Rattle.std.specs.Prelude.{ℕ, pos, ◌==◌, List, codes, Bool, false, Result, Ok, Err, is_ok}
 use Rattle.kube_types_address.specs.Addresses.{Address, family}
 use Rattle.kube_types_address.specs.Kinds.{loopback, unspecified, link_local_multicast, link_local_unicast, global_unicast}

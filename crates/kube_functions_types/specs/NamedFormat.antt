@@ -1,5 +1,6 @@
 -- Trusted by the headline.
--- Calls on named formats (Kubernetes documentation, "CEL in Kubernetes", format library; `Format` in `k8s.io/apiserver/pkg/cel/library`).
+-- Calls on named formats (Kubernetes documentation, "CEL in Kubernetes", format library; `Format` in
+-- `k8s.io/apiserver/pkg/cel/library`).
 use Rattle.std.specs.Prelude.{ℕ, List, [], ◌∷◌, codes, Option, find, Ok}
 use Rattle.std.specs.Option.{option_map_or}
 use Rattle.std.specs.Str.{bytes_eq}
@@ -13,8 +14,8 @@ use Rattle.kube_functions_types.specs.Lists.{text_list}
 
 abbrev pub all_kinds : List FormatKind
 all_kinds =
-    Dns1123Label ∷ Dns1035Label ∷ Dns1035LabelPrefix ∷ Dns1123LabelPrefix ∷ Dns1123Subdomain ∷ Dns1123SubdomainPrefix
-    ∷ QualifiedName ∷ LabelValue ∷ Uri ∷ Uuid ∷ Byte ∷ Date ∷ DateTime ∷ []
+    Dns1123Label ∷ Dns1035Label ∷ Dns1035LabelPrefix ∷ Dns1123LabelPrefix ∷ Dns1123Subdomain
+    ∷ Dns1123SubdomainPrefix ∷ QualifiedName ∷ LabelValue ∷ Uri ∷ Uuid ∷ Byte ∷ Date ∷ DateTime ∷ []
 
 -- the kind of this name
 abbrev pub kind_named : List ℕ → Option FormatKind
@@ -30,7 +31,8 @@ abbrev pub held_faults : List (List ℕ) → Items
 held_faults [] = no_items
 held_faults (f ∷ fs) = item (text_list (f ∷ fs)) no_items
 
--- `validate`: an optional with the list of the faults that a string has in this format, and with none where it has no fault
+-- `validate`: an optional with the list of the faults that a string has in this format,
+-- and with none where it has no fault
 abbrev pub validate : Data → Data → Outcome
 validate (format kind) (text s) = Ok (optional (held_faults (faults_of kind s)))
 validate _ _ = wrong_kind (codes "validate")

@@ -1,6 +1,6 @@
 -- Trusted by the headline.
--- The order of quantities and that of versions (Kubernetes documentation, "CEL in Kubernetes", quantity library, semver library;
--- `Quantity` and `Semver` in `k8s.io/apiserver/pkg/cel/library`).
+-- The order of quantities and that of versions (Kubernetes documentation, "CEL in Kubernetes", quantity
+-- library, semver library; `Quantity` and `Semver` in `k8s.io/apiserver/pkg/cel/library`).
 use Rattle.std.specs.Prelude.{ℕ, ℤ, pos, negsuc, List, codes, Option, None, Some}
 use Rattle.std.specs.Ordering.{is_lt, is_gt}
 use Rattle.std.specs.declared.cmp.Ordering.{Ordering}

@@ -16,7 +16,8 @@ use Rattle.kube_functions_types.specs.Answers.{refusal, wrong_kind, bool_answer,
 
 -- `quantity`: the quantity that a string means
 abbrev pub quantity_of : Data → Outcome
-quantity_of (text s) = value_or (refusal (codes "quantity") (codes "invalid quantity")) quantity (reading.quantity_of s)
+quantity_of (text s) =
+    value_or (refusal (codes "quantity") (codes "invalid quantity")) quantity (reading.quantity_of s)
 quantity_of _ = wrong_kind (codes "quantity")
 
 -- `isQuantity`: whether a string means one
@@ -59,7 +60,8 @@ amounts_of _ w = None
 -- the quantity that an operation gives of both, under the name of its function
 abbrev pub combination_outcome : List ℕ → (Decimal → Decimal → Option Decimal) → Data → Data → Outcome
 combination_outcome name op v w =
-    option_map_or (λ p. value_or (refusal name (codes "quantity overflow")) quantity (op p.0 p.1)) (amounts_of v w) (wrong_kind name)
+    option_map_or (λ p. value_or (refusal name (codes "quantity overflow")) quantity (op p.0 p.1))
+    (amounts_of v w) (wrong_kind name)
 
 -- `add`: the exact sum of a quantity and a quantity, an int or a uint
 abbrev pub quantity_sum : Data → Data → Outcome

@@ -1,5 +1,6 @@
 -- Trusted by the headline.
--- Calls on versions (Kubernetes documentation, "CEL in Kubernetes", semver library; `Semver` in `k8s.io/apiserver/pkg/cel/library`).
+-- Calls on versions (Kubernetes documentation, "CEL in Kubernetes", semver library; `Semver` in
+-- `k8s.io/apiserver/pkg/cel/library`).
 use Rattle.std.specs.Prelude.{ℕ, List, ◌++◌, codes, Bool, false, Option, None, Some, is_some}
 use Rattle.std.specs.Option.{option_map_or}
 use Rattle.kube_types_semver.specs.Reading.{version_of, integer_of}
@@ -7,7 +8,8 @@ use Rattle.cel_value.specs.Data.{Data, bool, int, text, semver}
 use Rattle.cel_semantics.specs.Outcome.{Outcome}
 use Rattle.kube_functions_types.specs.Answers.{refusal, wrong_kind, bool_answer, value_or}
 
--- whether a string is to be read leniently: what the argument says, and not where there is none; an argument that is no bool says nothing
+-- whether a string is to be read leniently: what the argument says, and not where there is none; an argument
+-- that is no bool says nothing
 abbrev pub lenience : Option Data → Option Bool
 lenience None = Some false
 lenience (Some (bool b)) = Some b
@@ -20,12 +22,15 @@ not_version s = codes "invalid semver '" ++ (s ++ codes "'")
 -- `semver`: the version that a string is
 abbrev pub version_from : Data → Option Data → Outcome
 version_from (text s) o =
-    option_map_or (λ lenient. value_or (refusal (codes "semver") (not_version s)) semver (version_of lenient s)) (lenience o) (wrong_kind (codes "semver"))
+    option_map_or
+    (λ lenient. value_or (refusal (codes "semver") (not_version s)) semver (version_of lenient s))
+    (lenience o) (wrong_kind (codes "semver"))
 version_from _ o = wrong_kind (codes "semver")
 
 -- `isSemver`: whether a string is one
 abbrev pub is_version : Data → Option Data → Outcome
-is_version (text s) o = option_map_or (λ lenient. bool_answer (is_some (version_of lenient s))) (lenience o) (wrong_kind (codes "isSemver"))
+is_version (text s) o = option_map_or (λ lenient. bool_answer (is_some (version_of lenient s))) (lenience o)
+    (wrong_kind (codes "isSemver"))
 is_version _ o = wrong_kind (codes "isSemver")
 
 -- one of a version's numbers as an int, under the name of its function

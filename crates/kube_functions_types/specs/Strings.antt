@@ -1,5 +1,6 @@
 -- Trusted by the headline.
--- The strings of IP addresses and CIDRs (Kubernetes documentation, "CEL in Kubernetes", IP address library, CIDR library, `string`).
+-- The strings of IP addresses and CIDRs (Kubernetes documentation, "CEL in Kubernetes",
+-- IP address library, CIDR library, `string`).
 use Rattle.std.specs.Prelude.{codes, Ok}
 use Rattle.kube_types_address.specs.CidrTexts.{cidr_text}
 use Rattle.kube_types_address.specs.Texts.{address_text}

@@ -1,5 +1,6 @@
 -- Trusted by the headline.
--- Calls on URLs (Kubernetes documentation, "CEL in Kubernetes", URL library; `URLs` in `k8s.io/apiserver/pkg/cel/library`).
+-- Calls on URLs (Kubernetes documentation, "CEL in Kubernetes", URL library; `URLs` in
+-- `k8s.io/apiserver/pkg/cel/library`).
 use Rattle.std.specs.Prelude.{ℕ, List, [], ◌∷◌, codes, unwrap_or, Ok, is_some}
 use Rattle.kube_types_url.specs.Query.{pairs_of, values_of, values_or_none}
 use Rattle.kube_types_url.specs.Reading as reading
@@ -53,7 +54,8 @@ query_pairs u = pairs_of (unwrap_or (u.0).query [])
 -- of some of these pairs, each name with all the values that stand with it
 abbrev pub entries_among : List (List ℕ × List ℕ) → List (List ℕ × List ℕ) → Entries
 entries_among pairs [] = no_entries
-entries_among pairs (p ∷ ps) = put (text_key p.0) (text_list (values_or_none (values_of pairs p.0))) (entries_among pairs ps)
+entries_among pairs (p ∷ ps) =
+    put (text_key p.0) (text_list (values_or_none (values_of pairs p.0))) (entries_among pairs ps)
 
 -- `getQuery`: the map from each name of the query to the list of its values, in order
 abbrev pub get_query : Data → Outcome

@@ -127,7 +127,8 @@ fn contains_set(alloc: Global, cidr: &KubeCIDR, other: &Value) -> Result<Answer,
     }
 }
 
-/// `containsCIDR`: whether every address of another CIDR is in the set. A string stands for the CIDR that it writes.
+/// `containsCIDR`: whether every address of another CIDR is in the set.
+/// A string stands for the CIDR that it writes.
 ///
 /// # Errors
 /// `Memory` alone.

@@ -140,7 +140,8 @@ pub fn is_unspecified(alloc: Global, value: &Value) -> Result<Answer, Refused>
     }
 }
 
-/// `isLinkLocalMulticast`: whether an address is in `224.0.0.0/24`, or is an IPv6 multicast address of the scope of one link.
+/// `isLinkLocalMulticast`: whether an address is in `224.0.0.0/24`,
+/// or is an IPv6 multicast address of the scope of one link.
 ///
 /// # Errors
 /// `Memory` alone.
@@ -168,7 +169,8 @@ pub fn is_link_local_unicast(alloc: Global, value: &Value) -> Result<Answer, Ref
     }
 }
 
-/// `isGlobalUnicast`: whether an address is none of loopback, unspecified, multicast, link-local unicast and `255.255.255.255`.
+/// `isGlobalUnicast`: whether an address is none of loopback, unspecified, multicast,
+/// link-local unicast and `255.255.255.255`.
 ///
 /// # Errors
 /// `Memory` alone.

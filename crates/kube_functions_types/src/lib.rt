@@ -1,4 +1,5 @@
-//! The functions of Kubernetes on its own types: quantities, IP addresses and CIDRs, versions, URLs and named formats.
+//! The functions of Kubernetes on its own types: quantities, IP addresses and CIDRs,
+//! versions, URLs and named formats.
 //!
 //! Source: the CEL libraries in `k8s.io/apiserver/pkg/cel/library`.
 #![tactic(auto)]

@@ -67,7 +67,8 @@ fn validated(alloc: Global, format: KubeFormat, value: &Value) -> Result<Answer,
     }
 }
 
-/// `validate`: an optional with the list of the faults that a string has in a format, and with none where it has no fault.
+/// `validate`: an optional with the list of the faults that a string has in a format,
+/// and with none where it has no fault.
 ///
 /// # Errors
 /// `Memory` alone.

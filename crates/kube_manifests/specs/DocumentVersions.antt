@@ -1,6 +1,6 @@
 -- Trusted by laws alone.
--- The versions that stand in documents, one after another, whatever is wrong with other parts of them: Kubernetes API reference,
--- CustomResourceDefinition v1.
+-- The versions that stand in documents, one after another, whatever is wrong with other parts of them:
+-- Kubernetes API reference, CustomResourceDefinition v1.
 use Rattle.std.specs.Prelude.{List, [], ◌∷◌, ◌++◌, Option, Some, None, Result, Ok, Err}
 use Rattle.serde_json.specs.Data.{Data, Items, no_items, item}
 use Rattle.kube_manifests.specs.declared.fault.CrdFault.{CrdFault}

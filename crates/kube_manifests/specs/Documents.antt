@@ -1,7 +1,8 @@
 -- Trusted by the clauses of other library calls.
--- The versions that documents define, or their first fault: Kubernetes API reference, CustomResourceDefinition v1
--- (CustomResourceDefinitionSpec, CustomResourceDefinitionVersion, CustomResourceValidation); Kubernetes documentation, "Extend the
--- Kubernetes API with CustomResourceDefinitions"; API conventions, "Types (Kinds)" (lists). Pointers: RFC 6901.
+-- The versions that documents define, or their first fault: Kubernetes API reference,
+-- CustomResourceDefinition v1 (CustomResourceDefinitionSpec, CustomResourceDefinitionVersion,
+-- CustomResourceValidation); Kubernetes documentation, "Extend the Kubernetes API with
+-- CustomResourceDefinitions"; API conventions, "Types (Kinds)" (lists). Pointers: RFC 6901.
 use Rattle.std.specs.Prelude.{ℕ, suc, List, [], ◌∷◌, ◌++◌, ◌&&◌, Bool, false, Option, Some, None, option_and_then, Result, Ok, Err, codes, decimal, nat_eq, if◌then◌else◌}
 use Rattle.std.specs.List.{ends_with, list_any}
 use Rattle.std.specs.Option.{option_map_or}
@@ -161,7 +162,8 @@ module _ {S : Type 0} (form : Data → S) where
     schema = form e.schema;
   }
 
-  -- with one version more, unless another one has its apiVersion and kind: two of one definition must not have one name
+  -- with one version more, unless another one has its apiVersion and kind:
+  -- two of one definition must not have one name
   abbrev pub with_version : Location → ℕ → List (Version S) → Version S → Result (List (Version S)) Fault
   with_version location i had v =
       if list_any (is_of_version (api_version v) v.kind) had

@@ -4,7 +4,8 @@ use Rattle.std.specs.Prelude.{ℕ, ◌+◌, ◌-◌, ◌^◌, length, min, Optio
 use Rattle.kube_schema.specs.Tree.{Node, node, Maybe, nothing, just, Named, no_named, named, Nodes, no_nodes, more}
 
 unfoldable mutual
-  -- those of a node and of all nodes within it; a node past the greatest depth has one error in place of its rules, which counts as one
+  -- those of a node and of all nodes within it; a node past the greatest depth has one error in place of its
+  -- rules, which counts as one
   pub rules_in : Node → ℕ
   rules_in (node o ps it ad xs ys zs) =
       length o.validations + (rules_in_named ps

@@ -1,6 +1,6 @@
 -- Trusted by the clauses of other library calls.
--- What a set of versions holds, and what it answers for an object: Kubernetes documentation, "Versions in CustomResourceDefinitions",
--- "Validation rules".
+-- What a set of versions holds, and what it answers for an object: Kubernetes documentation, "Versions in
+-- CustomResourceDefinitions", "Validation rules".
 use Rattle.std.specs.Prelude.{◌≡◌, ℕ, List, map, Option, Some, None, Result, Ok, Err, string_bytes}
 use Rattle.serde_json.specs.Data.{Data, Items}
 use Rattle.kube_cel.specs.Answers.{IsReportOf}
@@ -69,8 +69,8 @@ all_compiled (Err f) = Err f
 
 -- ---- what is reported of an object
 
--- an object is judged exactly where a version is chosen for it. Then the answer is that of the version's schema, with the object's own
--- apiVersion, group and kind; else the reason is reported
+-- an object is judged exactly where a version is chosen for it. Then the answer is that of the version's
+-- schema, with the object's own apiVersion, group and kind; else the reason is reported
 abbrev pub IsJudgement : List (Version Data) → Data → Option Data → Judgement → Type 0
 IsJudgement versions value old (Judged answer) =
     (v : Version Data) × (chosen_version versions value ≡ Ok v)

@@ -1,6 +1,7 @@
 -- Trusted by the clauses of other library calls.
--- The versions of custom resources, and which of them judges an object: Kubernetes documentation, "Versions in CustomResourceDefinitions";
--- Kubernetes API reference, CustomResourceDefinitionVersion v1; API conventions, "Types (Kinds)" (apiVersion and kind of an object).
+-- The versions of custom resources, and which of them judges an object: Kubernetes documentation, "Versions
+-- in CustomResourceDefinitions"; Kubernetes API reference, CustomResourceDefinitionVersion v1; API
+-- conventions, "Types (Kinds)" (apiVersion and kind of an object).
 use Rattle.std.specs.Prelude.{ℕ, List, ◌++◌, ◌&&◌, Bool, Option, Some, None, option_and_then, Result, Ok, Err, codes, nat_eq, if◌then◌else◌}
 use Rattle.std.specs.List.{find, list_any, starts_with}
 use Rattle.std.specs.Str.{bytes_eq}

@@ -7,10 +7,12 @@ ghost use Rattle.std.specs.Prelude.{◌≡◌, IfOk};
 use std::alloc::{AllocError, Global};
 use std::fmt;
 
-/// What is wrong with a definition. The first one is reported: those of a definition in this order, then those of its versions, one after another.
+/// What is wrong with a definition. The first one is reported: those of a definition in this order, then
+/// those of its versions, one after another.
 #[derive(Clone, Copy, Debug, PartialEq, Eq)]
 pub enum CrdFault {
-    /// The value doesn't say that it is a CustomResourceDefinition of `apiextensions.k8s.io/v1`, and is no list.
+    /// The value doesn't say that it is a CustomResourceDefinition of
+    /// `apiextensions.k8s.io/v1`, and is no list.
     NotACrd,
     /// `metadata.name` is missing, empty or no string.
     NoName,

@@ -5,7 +5,8 @@ use std::fmt;
 /// What a set of definitions answers for an object.
 #[derive(Debug, Drop)]
 pub enum Judgement {
-    /// The answer of the schema by which the object is judged: `Ok` where all rules admit it, else all errors.
+    /// The answer of the schema by which the object is judged:
+    /// `Ok` where all rules admit it, else all errors.
     Judged(Result<(), ValidationErrors>),
     /// No rule was applied, and why.
     NotJudged(NotJudged),

@@ -8,20 +8,23 @@ ghost use Rattle.serde_json.specs.Data.{Data, Items};
 ghost use Rattle.serde_json.specs.View.{items_of};
 ghost use Rattle.std.specs.Prelude.{◌≡◌, ◌++◌, List, Ok, Option};
 
-/// No errors are reported of an object only where a version is found for it, and that version's schema finds none.
+/// No errors are reported of an object only where a version is found for it,
+/// and that version's schema finds none.
 pub fn no_errors_only_where_a_schema_finds_none()
     ensures { (versions : List (Version Data)) (object : Data) (old : Option Data)
         → IsJudgement versions object old (Judged (Ok tt))
         → (v : Version Data) × (chosen_version versions object ≡ Ok v) × FindsNothing v object old }
 {}
 
-/// The version that is found for an object is one of the set's, it is served, and the object has its apiVersion and kind.
+/// The version that is found for an object is one of the set's, it is served,
+/// and the object has its apiVersion and kind.
 pub fn the_version_found_is_the_objects_own()
     ensures { (versions : List (Version Data)) (object : Data) (v : Version Data)
         → chosen_version versions object ≡ Ok v → IsOwn versions object v }
 {}
 
-/// Where documents have no fault, their versions are those that stand in them, one document after another, and no others.
+/// Where documents have no fault, their versions are those that stand in them,
+/// one document after another, and no others.
 pub fn a_set_has_the_versions_of_its_documents()
     ensures { (documents : Items) (versions : List (Version Data))
         → versions_of documents ≡ Ok versions → versions ≡ from_each_item document_versions documents }

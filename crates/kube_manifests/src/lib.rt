@@ -1,8 +1,8 @@
-//! CustomResourceDefinitions, and the objects that they define: an object is judged by the schema of its own apiVersion and kind, and where
-//! there is none the answer says why; it never passes.
+//! CustomResourceDefinitions, and the objects that they define: an object is judged by the schema of its own
+//! apiVersion and kind, and where there is none the answer says why; it never passes.
 //!
-//! In go documents as JSON: definitions, or lists of them. Each version's schema is compiled once. Then objects are judged, each with its old
-//! state where there is one.
+//! In go documents as JSON: definitions, or lists of them. Each version's schema is compiled once. Then
+//! objects are judged, each with its old state where there is one.
 //!
 //! ```rust
 //! use kube_manifests::{CrdSet, Judgement, Refused};
@@ -19,9 +19,11 @@
 //! }
 //! ```
 //!
-//! Proved: a set holds exactly the versions of its documents, or the documents give exactly their first fault; an object is judged exactly
-//! where a served version of its apiVersion and kind is in the set, and then the answer is that of the version's schema, as `kube_cel` says
-//! it; else exactly the reason is reported. `specs/Versions.antt` says which version that is, `specs/Documents.antt` which versions documents have.
+//! Proved: a set holds exactly the versions of its documents, or the documents give exactly their first
+//! fault; an object is judged exactly where a served version of its apiVersion and kind is in the set, and
+//! then the answer is that of the version's schema, as `kube_cel` says it; else exactly the reason is
+//! reported. `specs/Versions.antt` says which version that is,
+//! `specs/Documents.antt` which versions documents have.
 #![tactic(auto)]
 
 mod choice;

@@ -8,8 +8,8 @@ ghost use Rattle.std.specs.Prelude.{◌≡◌, ◌+◌, ◌<◌, ◌^◌, option
 use kube_cel::{CompiledSchema, SchemaNode};
 use kube_schema_rules::BranchKind;
 
-/// How many rules all nodes of a schema have together, `u64::MAX` where there are more. Where the schema goes on past the greatest depth,
-/// the error that stands there in place of the rules counts as one.
+/// How many rules all nodes of a schema have together, `u64::MAX` where there are more. Where the schema goes
+/// on past the greatest depth, the error that stands there in place of the rules counts as one.
 pub fn rule_count(schema: &CompiledSchema) -> u64
     ensures { result ≡ saturated_count (rules_in (whole schema.now)) }
 {

@@ -22,9 +22,10 @@ pub struct CrdSet {
 }
 
 impl CrdSet {
-    /// All versions of all definitions of the documents, served or not. A document is a CustomResourceDefinition of
-    /// `apiextensions.k8s.io/v1`, or a list of them: a value whose kind ends in `List`, with an array in `items`. The inner error is the
-    /// first fault of the first definition that has one.
+    /// All versions of all definitions of the documents, served or not. A document is a
+    /// CustomResourceDefinition of `apiextensions.k8s.io/v1`, or a list of them: a value whose kind ends in
+    /// `List`, with an array in `items`. The inner error is the first fault of the
+    /// first definition that has one.
     ///
     /// # Errors
     ///
@@ -46,8 +47,9 @@ impl CrdSet {
         Ok(Ok(CrdSet { versions }))
     }
 
-    /// Judges an object, and its old state where there is one, by the schema of its apiVersion and kind. Rules at the root may ask its
-    /// apiVersion, group and kind. Where no version is there that is served, the answer says why.
+    /// Judges an object, and its old state where there is one, by the schema of its apiVersion and kind.
+    /// Rules at the root may ask its apiVersion, group and kind.
+    /// Where no version is there that is served, the answer says why.
     ///
     /// # Errors
     ///
@@ -80,8 +82,8 @@ impl CrdSet {
         Ok(Judgement::Judged(answer))
     }
 
-    /// How many rules the schema has by which an object is judged, or why none judges it: the reason is that of `validate`. It takes no
-    /// memory.
+    /// How many rules the schema has by which an object is judged, or why none judges it: the reason is that
+    /// of `validate`. It takes no memory.
     ///
     /// # Errors
     ///

@@ -1,5 +1,6 @@
 -- Trusted by the clauses of policies.
--- What a policy is evaluated over (Kubernetes API reference, Validation of ValidatingAdmissionPolicySpec: the variables of `expression`).
+-- What a policy is evaluated over (Kubernetes API reference, Validation of ValidatingAdmissionPolicySpec: the
+-- variables of `expression`).
 use Rattle.kube_cel_vap.specs.Requests.{request_view}
 use Rattle.kube_cel_vap.specs.Variables.{Variables}
 use Rattle.kube_manifests_admission.specs.declared.inputs.PolicyInputs.{PolicyInputs}

@@ -1,5 +1,6 @@
 -- Trusted by the clauses of policies.
--- What the document of a policy says (Kubernetes API reference, ValidatingAdmissionPolicy of `admissionregistration.k8s.io`), or its first fault.
+-- What the document of a policy says (Kubernetes API reference, ValidatingAdmissionPolicy of
+-- `admissionregistration.k8s.io`), or its first fault.
 use Rattle.kube_cel_vap.specs.Expressions.{◌>>=◌}
 use Rattle.kube_manifests_admission.specs.Faults.{FaultData, fault_seen, field, nth, nth_field}
 use Rattle.kube_manifests_admission.specs.declared.fault.FaultKind.TheVariants.{Missing, NotObject, NotList, NotString, Unsupported, UnknownField, Repeated, NothingToCheck}

@@ -1,6 +1,6 @@
 -- Trusted by the clauses of policies.
--- What an AdmissionReview says of a request (Kubernetes API reference, AdmissionReview and AdmissionRequest of `admission.k8s.io`), or its first
--- fault.
+-- What an AdmissionReview says of a request (Kubernetes API reference, AdmissionReview and AdmissionRequest
+-- of `admission.k8s.io`), or its first fault.
 use Rattle.kube_cel_vap.specs.Requests.{KindData, RequestData, ResourceData}
 use Rattle.kube_cel_vap.specs.Expressions.{◌>>=◌}
 use Rattle.kube_cel_vap.specs.Variables.{Variables}
@@ -173,7 +173,8 @@ request_in d = do
   kind ← required_one (field [] (codes "kind")) review_kinds (get (codes "kind") d)
   object_of (field [] (codes "request")) (get (codes "request") d)
 
--- Of the two objects a review leaves out what isn't there: it is null. Of params and of the namespace it says nothing.
+-- Of the two objects a review leaves out what isn't there: it is null.
+-- Of params and of the namespace it says nothing.
 abbrev pub inputs_from : Data → RequestData → Variables
 inputs_from d r = record {
   object = Some (value_or_null (get (codes "object") d));

@@ -6,8 +6,9 @@ ghost use Rattle.std.specs.Prelude.{◌≡◌};
 use kube_cel_vap::AdmissionRequest;
 use serde_json::Value;
 
-/// What a policy is evaluated over. `None` says that something isn't known: an expression that asks for it is not judged. What is known to
-/// be null is `Some(Value::Null)`: `oldObject` where an object is created, `object` where one is deleted, `params` where a policy has none,
+/// What a policy is evaluated over. `None` says that something isn't known: an expression that asks for it is
+/// not judged. What is known to be null is `Some(Value::Null)`: `oldObject` where an object is created,
+/// `object` where one is deleted, `params` where a policy has none,
 /// `namespaceObject` where an object has no namespace.
 #[derive(Debug, Drop)]
 pub struct PolicyInputs {

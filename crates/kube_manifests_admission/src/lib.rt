@@ -1,4 +1,5 @@
-//! The document of a ValidatingAdmissionPolicy, and what an AdmissionReview gives to evaluate it over: both as JSON.
+//! The document of a ValidatingAdmissionPolicy, and what an AdmissionReview gives to
+//! evaluate it over: both as JSON.
 #![tactic(auto)]
 
 mod fault;

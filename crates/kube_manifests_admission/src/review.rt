@@ -362,8 +362,9 @@ fn review_of(alloc: Global, document: &Value) -> Result<Result<PolicyInputs, Fou
 }
 
 impl PolicyInputs {
-    /// `request`, `object` and `oldObject` of an AdmissionReview (`admission.k8s.io`). What it leaves out of the two objects is known to be
-    /// null. Of `params` and `namespaceObject` it says nothing: set these fields afterwards.
+    /// `request`, `object` and `oldObject` of an AdmissionReview (`admission.k8s.io`). What it leaves out of
+    /// the two objects is known to be null. Of `params` and `namespaceObject` it says nothing:
+    /// set these fields afterwards.
     ///
     /// Answers the first [`PolicyFault`] where the document is no such review.
     ///

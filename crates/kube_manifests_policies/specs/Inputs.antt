@@ -1,6 +1,6 @@
 -- Trusted by the clauses of policies.
--- What the expressions of a policy ask for (Kubernetes API reference, Validation of ValidatingAdmissionPolicySpec: the variables of
--- `expression`), and what of it isn't given.
+-- What the expressions of a policy ask for (Kubernetes API reference, Validation of
+-- ValidatingAdmissionPolicySpec: the variables of `expression`), and what of it isn't given.
 use Rattle.cel_syntax_ast.specs.FreeNames.{is_free}
 use Rattle.cel_syntax_ast.specs.Term.{Term}
 use Rattle.kube_cel_vap.specs.Variables.{Variables}
@@ -41,7 +41,8 @@ abbrev pub asks_by : List ℕ → Option (List ℕ) → Term → Bool
 asks_by name None t = is_free name t
 asks_by name (Some member) t = asks (codes "request") member true t
 
--- an expression asks for a name that is free in it, and for a member of `request` that it selects, or may reach by `request` as a whole
+-- an expression asks for a name that is free in it, and for a member of `request` that it selects, or may
+-- reach by `request` as a whole
 abbrev pub asks_for : Input → Term → Bool
 asks_for i t = asks_by (input_name i) (member_of i) t
 

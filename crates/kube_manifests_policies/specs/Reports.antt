@@ -1,6 +1,7 @@
 -- Trusted by the clauses of policies.
--- What the match conditions, the validations and the audit annotations of a policy come to, and the policy (Kubernetes API reference,
--- ValidatingAdmissionPolicySpec; Kubernetes documentation, "Validating Admission Policy").
+-- What the match conditions, the validations and the audit annotations of a policy come to, and the policy
+-- (Kubernetes API reference, ValidatingAdmissionPolicySpec; Kubernetes documentation,
+-- "Validating Admission Policy").
 use Rattle.cel.specs.Program.{program_term}
 use Rattle.cel.specs.declared.program.Program.{Program}
 use Rattle.cel_patterns.specs.Book.{Book, IsBook}
@@ -65,8 +66,8 @@ abbrev pub own_message : ItemData → List ℕ
 own_message x =
     unwrap_or x.message (codes "validation expression '" ++ (x.expression ++ codes "' evaluated to false"))
 
--- The string that a messageExpression comes to, else the validation's own message. Where the messageExpression can't be judged, that is reported
--- with it.
+-- The string that a messageExpression comes to, else the validation's own message. Where the
+-- messageExpression can't be judged, that is reported with it.
 abbrev pub message_from : ItemData → Result Outcome ItemReportData → List ℕ
 message_from x (Ok o) = unwrap_or (results.message_text o) (own_message x)
 message_from x (Err reported) =

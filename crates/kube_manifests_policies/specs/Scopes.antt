@@ -1,6 +1,6 @@
 -- Trusted by the clauses of policies.
--- What the expressions of a policy see (Kubernetes documentation, "Validating Admission Policy", variables of expressions and variable
--- composition), and what an expression comes to there.
+-- What the expressions of a policy see (Kubernetes documentation, "Validating Admission Policy", variables of
+-- expressions and variable composition), and what an expression comes to there.
 use Rattle.cel.specs.Program.{program_term}
 use Rattle.cel.specs.declared.program.Program.{Program}
 use Rattle.cel_patterns.specs.Book.{Book}
@@ -62,8 +62,9 @@ abbrev pub is_not_given : ItemReportData → Bool
 is_not_given (not_given i) = true
 is_not_given _ = false
 
--- What isn't given to a variable isn't given to an expression that asks for the variable. One that errs is an error where it is selected,
--- which `&&`, `||` and `?:` may pass over, as any other; and in any case of an expression that asks for it otherwise.
+-- What isn't given to a variable isn't given to an expression that asks for the variable. One that errs is an
+-- error where it is selected, which `&&`, `||` and `?:` may pass over, as any other; and in any case of an
+-- expression that asks for it otherwise.
 abbrev pub stops : Term → Labelled → Bool
 stops t r = asks (codes "variables") r.label (is_not_given r.reported) t
 

@@ -1,6 +1,6 @@
 -- Trusted by the clauses of policies.
--- What a policy decides (Kubernetes API reference, ValidatingAdmissionPolicySpec: `matchConditions`, `failurePolicy`, `validations`,
--- `auditAnnotations`).
+-- What a policy decides (Kubernetes API reference, ValidatingAdmissionPolicySpec: `matchConditions`,
+-- `failurePolicy`, `validations`, `auditAnnotations`).
 use Rattle.kube_manifests_policies.specs.Inputs.{input_name}
 use Rattle.kube_manifests_policies.specs.declared.inputs.Input.{Input}
 use Rattle.kube_manifests_policies.specs.declared.verdict.Problem.{Problem}
@@ -53,8 +53,9 @@ is_problem problem.NotGiven _ = false
 abbrev pub any_is : Problem → List Labelled → Bool
 any_is m rs = list_any (λ r. is_problem m r.reported) rs
 
--- One condition that is false, and the policy is skipped, whatever the others are. Where none is false and one can't be judged, nothing is
--- decided. Where one errs, failurePolicy decides: the request is refused, or the policy is skipped. Else the policy is evaluated.
+-- One condition that is false, and the policy is skipped, whatever the others are. Where none is false and
+-- one can't be judged, nothing is decided. Where one errs, failurePolicy decides: the request is refused, or
+-- the policy is skipped. Else the policy is evaluated.
 abbrev pub after_conditions : Bool → List Labelled → Option PolicyDecision
 after_conditions ignores rs = if any_is problem.False rs then Some Skipped else (
     if any_is problem.NotGiven rs then Some NotJudged else (

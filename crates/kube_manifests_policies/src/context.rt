@@ -128,7 +128,8 @@ fn bind_no_values(
     Ok(())
 }
 
-/// What the first variable sees, or a validation of a policy without variables, where the match conditions saw this.
+/// What the first variable sees, or a validation of a policy without variables,
+/// where the match conditions saw this.
 pub(crate) fn policy_scope<'a>(
     alloc: Global,
     scope: Scope<'a>,

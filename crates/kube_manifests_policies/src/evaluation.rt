@@ -97,15 +97,17 @@ fn policy_verdict(
     }
 }
 
-/// Evaluates a ValidatingAdmissionPolicy (`admissionregistration.k8s.io`) over these inputs, as Kubernetes documents it.
+/// Evaluates a ValidatingAdmissionPolicy (`admissionregistration.k8s.io`) over these inputs,
+/// as Kubernetes documents it.
 ///
-/// The match conditions come first: where one is false, the policy is skipped; where none is false and one errs, `failurePolicy` decides.
-/// Then come the variables, each of which sees those before it under `variables`. One that errs makes an error of each expression that
-/// selects it, which `&&`, `||` and `?:` may pass over as any other error. Then come validations and audit annotations. Neither
-/// `matchConstraints` nor a binding is looked at.
+/// The match conditions come first: where one is false, the policy is skipped; where none is false and one
+/// errs, `failurePolicy` decides. Then come the variables, each of which sees those before it under
+/// `variables`. One that errs makes an error of each expression that selects it, which `&&`, `||` and `?:`
+/// may pass over as any other error. Then come validations and audit annotations. Neither `matchConstraints`
+/// nor a binding is looked at.
 ///
-/// An expression that asks for what isn't given, itself or by a variable, is not evaluated: it is reported as [`ItemReport::NotGiven`](crate::ItemReport),
-/// and the policy is never admitted then.
+/// An expression that asks for what isn't given, itself or by a variable, is not evaluated: it is reported as
+/// [`ItemReport::NotGiven`](crate::ItemReport), and the policy is never admitted then.
 ///
 /// Answers the first [`PolicyFault`] where the document is no such policy.
 ///

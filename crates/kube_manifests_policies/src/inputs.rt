@@ -28,7 +28,8 @@ pub enum Input {
     NamespaceObject,
     /// `authorizer`, which asks an API server. It is never given.
     Authorizer,
-    /// `request.subResource`, which an [`AdmissionRequest`](crate::AdmissionRequest) doesn't carry, as those that follow.
+    /// `request.subResource`, which an [`AdmissionRequest`](crate::AdmissionRequest) doesn't
+    /// carry, as those that follow.
     SubResource,
     /// `request.requestKind`.
     RequestKind,

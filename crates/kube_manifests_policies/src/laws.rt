@@ -12,8 +12,8 @@ ghost use Rattle.std.specs.Str.{bytes_eq};
 
 use crate::verdict::PolicyDecision;
 
-/// A policy of validations alone, none of which asks for what isn't given: they come to the results that `VapEvaluator::evaluate` of
-/// `kube_cel_vap` has for them.
+/// A policy of validations alone, none of which asks for what isn't given: they come to the results that
+/// `VapEvaluator::evaluate` of `kube_cel_vap` has for them.
 #[tactic(auto, using(crate::proofs::Vap::alike))]
 pub fn validations_alone()
     ensures { (b : Book) (v : Variables) (ignores : Bool) (xs : List ItemData)
@@ -29,7 +29,8 @@ pub fn admitted_only_if_judged()
         → IsJudged (policy_verdict b v p) }
 {}
 
-/// The order of two variables that don't ask for each other doesn't matter: either way each of them has the same value, or none.
+/// The order of two variables that don't ask for each other doesn't matter:
+/// either way each of them has the same value, or none.
 #[tactic(auto, using(crate::proofs::Turned::either_order))]
 pub fn variables_in_any_order()
     ensures { (b : Book) (s : ScopeData) (x y : ItemData) → HasVariables s → IsApartFrom x y → IsApartFrom y x

@@ -1,8 +1,9 @@
-//! Whole ValidatingAdmissionPolicies, evaluated without an API server: match conditions, variables, validations and audit annotations.
+//! Whole ValidatingAdmissionPolicies, evaluated without an API server: match conditions, variables,
+//! validations and audit annotations.
 //!
-//! In go the document of a policy and what is given of a request ([`PolicyInputs`]). Out comes a verdict ([`PolicyVerdict`]), with what each
-//! expression came to. What isn't given is never taken as empty: an expression that asks for it isn't evaluated, and the policy is then never
-//! admitted.
+//! In go the document of a policy and what is given of a request ([`PolicyInputs`]). Out comes a verdict
+//! ([`PolicyVerdict`]), with what each expression came to. What isn't given is never taken as empty: an
+//! expression that asks for it isn't evaluated, and the policy is then never admitted.
 //!
 //! ```rust
 //! use kube_manifests_policies::{PolicyDecision, PolicyInputs, Refused, evaluate_policy};
@@ -21,9 +22,10 @@
 //! }
 //! ```
 //!
-//! Proved: [`evaluate_policy`] answers, under some book of patterns, exactly the verdict of the policy over the inputs, or the document's
-//! first fault (`specs/Reports.antt`, `specs/Policies.antt`). Laws: where a policy admits, none of its expressions asked for what isn't
-//! given, and no validation is false; the order of two variables that don't ask for each other doesn't matter.
+//! Proved: [`evaluate_policy`] answers, under some book of patterns, exactly the verdict of the policy over
+//! the inputs, or the document's first fault (`specs/Reports.antt`, `specs/Policies.antt`). Laws: where a
+//! policy admits, none of its expressions asked for what isn't given, and no validation is false; the order
+//! of two variables that don't ask for each other doesn't matter.
 #![tactic(auto)]
 
 mod context;

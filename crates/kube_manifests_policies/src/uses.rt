@@ -36,8 +36,8 @@ fn is_name(expr: &Expr, name: &str) -> bool
     }
 }
 
-/// Whether an expression asks for a member of a free name: by `has`, by taking the name as a whole, and, where `selects` is true, also by
-/// selecting that member.
+/// Whether an expression asks for a member of a free name: by `has`, by taking the name as a whole, and,
+/// where `selects` is true, also by selecting that member.
 #[cycle(uses)]
 pub(crate) fn asks(expr: &Expr, name: &str, member: &str, selects: bool) -> bool
     ensures { result ≡ asks name.now member.now selects (term expr.now) }

@@ -82,7 +82,8 @@ impl Problem {
 /// What one expression of a policy came to.
 #[derive(Debug, Drop)]
 pub struct PolicyResult {
-    /// The name of a match condition or of a variable, the text of a validation's expression, the key of an audit annotation.
+    /// The name of a match condition or of a variable, the text of a validation's expression,
+    /// the key of an audit annotation.
     pub label: String,
     /// What it came to.
     pub reported: ItemReport,

@@ -1,6 +1,7 @@
 -- Trusted by the clauses of manifests.
--- The candidate findings of one node of a rule's tree: which call can't work, and which literal. Source: Kubernetes documentation, "CEL in Kubernetes"; the
--- functions are those of `kube_functions`; that doubles have no values is this project's own.
+-- The candidate findings of one node of a rule's tree: which call can't work, and which literal. Source:
+-- Kubernetes documentation, "CEL in Kubernetes"; the functions are those of `kube_functions`; that doubles
+-- have no values is this project's own.
 use Rattle.std.specs.Prelude.{ℕ, List, [], ◌∷◌, ◌++◌, length, Bool, true, false, Option, Some, None, is_some, if◌then◌else◌, codes, decimal}
 use Rattle.std.specs.List.{list_any, slice_get}
 use Rattle.std.specs.Option.{option_and_then}
@@ -17,7 +18,8 @@ use Rattle.kube_manifests_review.specs.declared.finding.ReviewKind.{ReviewKind}
 use Rattle.kube_manifests_review.specs.declared.finding.ReviewKind.TheVariants as kind
 use Rattle.kube_manifests_review.specs.declared.text.Text as code
 
--- a text of a rule: where it stands in the document, the rule's own text, and whether it is its messageExpression
+-- a text of a rule: where it stands in the document, the rule's own text,
+-- and whether it is its messageExpression
 pub record Text : Type 0 where
   pub pointer : List ℕ
   pub rule : List ℕ

@@ -1,5 +1,6 @@
 -- Trusted by the clauses of manifests.
--- The findings that a review may have of a document, each with the condition under which it is reported. Source: this project's own statement.
+-- The findings that a review may have of a document, each with the condition under which it is reported.
+-- Source: this project's own statement.
 use Rattle.std.specs.Prelude.{◌≡◌, ℕ, List, [], ◌∷◌, ◌++◌, map, Bool, true, false, ◌&&◌, None, is_none, is_err, if◌then◌else◌, codes, string_bytes}
 use Rattle.std.specs.List.{flat_map}
 use Rattle.cel_patterns.specs.Book.{Book, pattern_in}

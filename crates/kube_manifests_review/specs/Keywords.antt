@@ -1,7 +1,8 @@
 -- Trusted by the clauses of manifests.
--- Keys that are one letter off a keyword: the edit distance of Levenshtein between their characters is one ("Binary codes capable of correcting
--- deletions, insertions, and reversals", 1966). The keywords are those that this project reads of a schema (Kubernetes API reference,
--- `JSONSchemaProps`), and the fields of a rule (`ValidationRule`).
+-- Keys that are one letter off a keyword: the edit distance of Levenshtein between their characters is one
+-- ("Binary codes capable of correcting deletions, insertions, and reversals", 1966). The keywords are those
+-- that this project reads of a schema (Kubernetes API reference, `JSONSchemaProps`),
+-- and the fields of a rule (`ValidationRule`).
 use Rattle.std.specs.Prelude.{ℕ, List, [], ◌∷◌, ◌++◌, ◌==◌, ◌||◌, Bool, true, false, Option, Some, None, if◌then◌else◌, codes}
 use Rattle.std.specs.List.{flat_map}
 use Rattle.std.specs.Str.{bytes_eq, chars}
@@ -16,7 +17,8 @@ abbrev pub is_end : List ℕ → Bool
 is_end [] = true
 is_end (c ∷ cs) = false
 
--- whether one character that is put in, left out or changed makes one of the other; of equal first characters the rest decides
+-- whether one character that is put in, left out or changed makes one of the other;
+-- of equal first characters the rest decides
 abbrev pub one_letter_off : List ℕ → List ℕ → Bool
 one_letter_off [] [] = false
 one_letter_off [] (w ∷ ws) = is_end ws

@@ -1,6 +1,7 @@
 -- Trusted by the clauses of manifests.
--- The schemas within a schema, each with its JSON Pointer: a schema before those within it, and these in the order in which Kubernetes' walk over an
--- object takes them (Kubernetes documentation, "Extend the Kubernetes API with CustomResourceDefinitions", "Specifying a structural schema").
+-- The schemas within a schema, each with its JSON Pointer: a schema before those within it, and these in the
+-- order in which Kubernetes' walk over an object takes them (Kubernetes documentation, "Extend the Kubernetes
+-- API with CustomResourceDefinitions", "Specifying a structural schema").
 use Rattle.std.specs.Prelude.{◌≡◌, ℕ, zero, suc, List, [], ◌∷◌, ◌++◌, map, Option, Some, None, codes, string_bytes}
 use Rattle.serde_json.specs.Data.{Data, Items, no_items, item, Members, no_members, member}
 use Rattle.serde_json.specs.Find.{get}

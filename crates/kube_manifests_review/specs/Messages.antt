@@ -1,6 +1,7 @@
 -- Trusted by the clauses of manifests.
--- Which trees plainly give no string: the kind of the node says so, without any value. Source: CEL language definition, "List of Standard
--- Definitions", "Macros"; of the operators `+` alone gives strings, and of strings alone.
+-- Which trees plainly give no string: the kind of the node says so, without any value. Source: CEL language
+-- definition, "List of Standard Definitions", "Macros";
+-- of the operators `+` alone gives strings, and of strings alone.
 use Rattle.std.specs.Prelude.{Bool, true, false, not, ◌||◌, is_some}
 use Rattle.cel_syntax_ast.specs.Term.{Term, literal, ident, select, has, index, unary, binary, conditional, list_of, map_with, call, qualified, macro}
 use Rattle.cel_syntax_ast.specs.declared.expr.BinaryOperator.{BinaryOperator}

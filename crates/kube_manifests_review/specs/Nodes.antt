@@ -1,5 +1,6 @@
 -- Trusted by the clauses of manifests.
--- The nodes of a tree: itself, then those of its parts, in the order of the text. Source: CEL language definition, "Syntax".
+-- The nodes of a tree: itself, then those of its parts, in the order of the text.
+-- Source: CEL language definition, "Syntax".
 use Rattle.std.specs.Borrow.{Bor}
 use Rattle.std.specs.Prelude.{◌≡◌, List, [], ◌∷◌, ◌++◌, map}
 use Rattle.cel_syntax_ast.specs.declared.expr.Expr.{Expr}

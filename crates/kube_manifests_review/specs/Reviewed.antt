@@ -1,6 +1,7 @@
 -- Trusted by the clauses of manifests.
--- The findings of a CustomResourceDefinition: of each version in its order what a linter finds, then what a review finds of its schema. Source:
--- Kubernetes API reference, `CustomResourceDefinitionSpec`, `CustomResourceDefinitionVersion`, `CustomResourceValidation`.
+-- The findings of a CustomResourceDefinition: of each version in its order what a linter finds, then what a
+-- review finds of its schema. Source: Kubernetes API reference, `CustomResourceDefinitionSpec`,
+-- `CustomResourceDefinitionVersion`, `CustomResourceValidation`.
 use Rattle.std.specs.Prelude.{ℕ, suc, List, [], ◌∷◌, ◌++◌, map, Bool, true, false, Option, Some, None, if◌then◌else◌, is_some, codes}
 use Rattle.std.specs.List.{flat_map, list_any}
 use Rattle.std.specs.Option.{option_and_then}

@@ -1,5 +1,6 @@
 -- Trusted by the clauses of manifests.
--- The candidate findings of the rules of one schema, and of the schema's keys. Source: Kubernetes API reference, `JSONSchemaProps`, `ValidationRule`.
+-- The candidate findings of the rules of one schema, and of the schema's keys. Source: Kubernetes API
+-- reference, `JSONSchemaProps`, `ValidationRule`.
 use Rattle.std.specs.Prelude.{ℕ, suc, List, [], ◌∷◌, ◌++◌, false, true, Option, Some, None, unwrap_or, Result, Ok, Err, if◌then◌else◌, codes}
 use Rattle.std.specs.List.{flat_map}
 use Rattle.std.specs.Option.{option_and_then}

@@ -11,7 +11,8 @@ pub enum ReviewKind {
     Lint(LintKind),
     /// The document has no versions, or a version has no schema.
     Document,
-    /// A function is called in a form that it doesn't have, or a messageExpression calls one that there isn't.
+    /// A function is called in a form that it doesn't have,
+    /// or a messageExpression calls one that there isn't.
     Call,
     /// A literal pattern is refused.
     Pattern,

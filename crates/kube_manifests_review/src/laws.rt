@@ -10,8 +10,8 @@ pub fn one_letter_off_is_one_edit()
     ensures off { (key word : List ℕ) → IsOneEdit key word → one_letter_off key word ≡ true }
 {}
 
-/// No keyword of the API reference is one letter off one that is asked for, and no field of a rule off another one. All are ASCII, so that
-/// their bytes are their characters.
+/// No keyword of the API reference is one letter off one that is asked for, and no field of a rule off
+/// another one. All are ASCII, so that their bytes are their characters.
 pub fn no_keyword_is_one_letter_off()
     ensures keywords { list_any (λ k. list_any (one_letter_off k) keywords) schema_keywords ≡ false }
     ensures fields { list_any (λ k. list_any (one_letter_off k) rule_fields) rule_fields ≡ false }

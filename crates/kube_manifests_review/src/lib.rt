@@ -1,7 +1,8 @@
 //! The review of a CustomResourceDefinition: what a person should look at, found without an object.
 //!
-//! [`review_crd`] reports, version by version, what the linter finds, and then what is wrong with the schema besides: calls that can't work, literals
-//! and patterns that aren't read, messages that are no strings, keys one letter off a keyword, rules that are no list, a schema without rules.
+//! [`review_crd`] reports, version by version, what the linter finds, and then what is wrong with the schema
+//! besides: calls that can't work, literals and patterns that aren't read, messages that are no strings, keys
+//! one letter off a keyword, rules that are no list, a schema without rules.
 //! Each finding has its JSON Pointer in the document.
 //!
 //! ```rust
@@ -18,8 +19,8 @@
 //! }
 //! ```
 //!
-//! Proved: the findings are exactly those of the definition (`Reviewed.antt`), in order, under some book of patterns; [`review_crd_with`] says the
-//! same of every book that has the lent book's entries afterwards.
+//! Proved: the findings are exactly those of the definition (`Reviewed.antt`), in order, under some book of
+//! patterns; [`review_crd_with`] says the same of every book that has the lent book's entries afterwards.
 #![tactic(auto)]
 
 mod call;

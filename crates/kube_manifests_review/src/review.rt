@@ -104,9 +104,10 @@ fn due(
     Ok(found)
 }
 
-/// What a person should look at in a CustomResourceDefinition, with what the book knows of patterns: of each version in its order what a linter
-/// finds, then what else is wrong with the schema or its rules, schema by schema from the outermost inwards. The book keeps its entries, also
-/// where memory is refused. (Kubernetes API reference, `CustomResourceDefinitionSpec`, `JSONSchemaProps`, `ValidationRule`.)
+/// What a person should look at in a CustomResourceDefinition, with what the book knows of patterns: of each
+/// version in its order what a linter finds, then what else is wrong with the schema or its rules, schema by
+/// schema from the outermost inwards. The book keeps its entries, also where memory is refused. (Kubernetes
+/// API reference, `CustomResourceDefinitionSpec`, `JSONSchemaProps`, `ValidationRule`.)
 ///
 /// # Errors
 ///

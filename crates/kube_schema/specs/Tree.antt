@@ -1,6 +1,6 @@
 -- Trusted by the headline.
--- A schema as a tree of nodes: Kubernetes documentation, "Extend the Kubernetes API with CustomResourceDefinitions", "Specifying a
--- structural schema".
+-- A schema as a tree of nodes: Kubernetes documentation, "Extend the Kubernetes API with
+-- CustomResourceDefinitions", "Specifying a structural schema".
 use Rattle.std.specs.Prelude.{ℕ, zero, suc, ◌+◌, List, [], ◌∷◌, Bool, Option, Some, None, Result, Ok, Err}
 use Rattle.std.specs.Ordering.{nat_cmp, match_ordering}
 use Rattle.std.specs.Cmp.Lexicographic.{slice_cmp}
@@ -23,7 +23,8 @@ pub record Own : Type 0 where
   pub default : Option Data
 
 mutual
-  -- a node with its properties, the node of list items, the node of other keys, and the branches of allOf, oneOf and anyOf
+  -- a node with its properties, the node of list items, the node of other keys,
+  -- and the branches of allOf, oneOf and anyOf
   pub data Node : Type 0 where
     node : Own → Named → Maybe → Maybe → Nodes → Nodes → Nodes → Node
 

@@ -1,6 +1,6 @@
 -- Trusted by the headline.
--- The tree that a schema stands for, keyword by keyword: Kubernetes documentation, "Extend the Kubernetes API with
--- CustomResourceDefinitions", "Specifying a structural schema".
+-- The tree that a schema stands for, keyword by keyword: Kubernetes documentation, "Extend the Kubernetes API
+-- with CustomResourceDefinitions", "Specifying a structural schema".
 use Rattle.std.specs.Prelude.{ℕ, zero, suc, false, List, [], ◌∷◌, Option, Some, None, Err, codes, option_and_then}
 use Rattle.serde_json.specs.Data.{Data, Items, no_items, item, Members, no_members, member}
 use Rattle.serde_json.specs.Find.{get, as_array, as_number, as_u64}

@@ -1,5 +1,5 @@
-//! JSON values as CEL values, by a node of a compiled schema (Kubernetes documentation, "Use CEL validation rules", the CEL types of
-//! schema types and the escaping of property names).
+//! JSON values as CEL values, by a node of a compiled schema (Kubernetes documentation, "Use CEL validation
+//! rules", the CEL types of schema types and the escaping of property names).
 ghost use Rattle.std.specs.Prelude.{◌≡◌, IfErr, IfOk, option_map};
 ghost use Rattle.serde_json.specs.View.{view as json_view};
 ghost use Rattle.cel_demand.specs.Alike.{Alike};
@@ -63,8 +63,8 @@ impl Node for CompiledNode<'_> {
 
 /// The CEL value of a JSON value at a node of a compiled schema that stands `depth` steps below the root.
 ///
-/// Texts become what the node's format says, members and items are converted by their own nodes, and keys are escaped unless the node is
-/// a map. At a depth of 65 and more no schema is looked at.
+/// Texts become what the node's format says, members and items are converted by their own nodes, and keys are
+/// escaped unless the node is a map. At a depth of 65 and more no schema is looked at.
 ///
 /// # Errors
 ///
@@ -82,8 +82,8 @@ pub fn bind_node(
     bind_at(alloc, CompiledNode { node: *node }, value, depth)
 }
 
-/// As much of the CEL value of a JSON value as is demanded of it, at a node of a compiled schema that stands `depth` steps below the root.
-/// What isn't demanded may be missing.
+/// As much of the CEL value of a JSON value as is demanded of it, at a node of a compiled schema that stands
+/// `depth` steps below the root. What isn't demanded may be missing.
 ///
 /// # Errors
 ///

@@ -14,7 +14,8 @@ use kube_types_refused::Refused;
 use serde_json::{Map, Value};
 use std::alloc::Global;
 
-/// How many levels of a schema are compiled: those of depth 0 to 64. What lies deeper is a marker, which keeps its default alone.
+/// How many levels of a schema are compiled: those of depth 0 to 64. What lies deeper is a marker,
+/// which keeps its default alone.
 const LEVELS: usize = 65;
 
 /// Compiles a schema: one node for it and for each schema within it, down to depth 65.

@@ -1,4 +1,5 @@
-//! Laws of binding and of defaults by schemas and by their trees, each the contract of a call that does nothing.
+//! Laws of binding and of defaults by schemas and by their trees,
+//! each the contract of a call that does nothing.
 ghost use Rattle.std.specs.Prelude.{◌≡◌, ℕ, suc};
 ghost use Rattle.serde_json.specs.Data.{Data};
 ghost use Rattle.kube_schema.specs.CompiledDefaults as tree_defaults;
@@ -15,8 +16,9 @@ pub fn the_tree_binds_alike()
         → to_cel raw levels schema value ≡ to_cel tree_accessors levels (view_of levels schema) value }
 {}
 
-/// An object is filled key by key, at every level: a key that it has holds its member, filled by the schema of that member; another key
-/// holds the default of its property, filled by that property; where there is neither, nothing stands. The tree of a schema fills so, too.
+/// An object is filled key by key, at every level: a key that it has holds its member, filled by the schema
+/// of that member; another key holds the default of its property, filled by that property; where there is
+/// neither, nothing stands. The tree of a schema fills so, too.
 pub fn objects_are_filled_key_by_key()
     ensures schema { (levels : ℕ) (schema value : Data)
         → FillsMembers schema_defaults.raw levels schema value

@@ -1,5 +1,5 @@
-//! The schema side of Kubernetes' validation rules: the rules of a node, read and compiled; defaults; JSON values as CEL values, by
-//! their schemas; and schemas that are compiled once.
+//! The schema side of Kubernetes' validation rules: the rules of a node, read and compiled; defaults; JSON
+//! values as CEL values, by their schemas; and schemas that are compiled once.
 //!
 //! ```rust
 //! use kube_schema::{Refused, compile_schema};
@@ -14,11 +14,12 @@
 //! }
 //! ```
 //!
-//! Also [`apply_defaults`], [`bind`], [`rules_of`], [`escape_field_name`] and their like; each takes the allocator first, and
-//! answers [`Refused`] where there is no memory.
+//! Also [`apply_defaults`], [`bind`], [`rules_of`], [`escape_field_name`] and their like; each takes the
+//! allocator first, and answers [`Refused`] where there is no memory.
 //!
-//! Proved: rules, names, bound and filled values are what their definitions say, and a compiled schema shows the tree of its
-//! schema. Laws: filled twice is filled once; schema and tree fill and bind alike; the escaping of names loses nothing.
+//! Proved: rules, names, bound and filled values are what their definitions say, and a compiled schema shows
+//! the tree of its schema. Laws: filled twice is filled once; schema and tree fill and bind alike; the
+//! escaping of names loses nothing.
 #![tactic(auto)]
 
 pub mod binding;

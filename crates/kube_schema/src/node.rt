@@ -343,8 +343,8 @@ impl<'a> SchemaNode<'a> {
         }
     }
 
-    /// The rules of the node in their order, each with its programs, or why it has none. A schema that goes on past the greatest
-    /// depth has one error in their place.
+    /// The rules of the node in their order, each with its programs, or why it has none. A schema that goes
+    /// on past the greatest depth has one error in their place.
     pub fn validations(&self) -> &'a [Result<CompilationResult, CompilationError>]
         ensures { map compiled_seen result.now ≡ (own (node_tree self.now)).validations }
     {

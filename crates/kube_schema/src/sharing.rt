@@ -16,8 +16,8 @@ use serde_json::{Map, Value};
 use std::alloc::Global;
 use std::borrow::Cow;
 
-/// The value that `fill_node` makes. Where no default is missing, the value itself is lent, and takes no memory. A schema without a
-/// default costs one comparison.
+/// The value that `fill_node` makes. Where no default is missing, the value itself is lent, and takes no
+/// memory. A schema without a default costs one comparison.
 ///
 /// # Errors
 ///

@@ -41,4 +41,5 @@ module _ {S : Type 0} (accessors : ConversionAccessors S) where
 
 -- the first entries are alike to the second in these members, and have no other
 abbrev pub AreParts : Members → Entries → Entries → Type 0
-AreParts ms es fs = MembersAlike ms (λ x. find (text_key x) es) (λ x. find (text_key x) fs) × ((x : List ℕ) → find (text_key x) fs ≡ None → find (text_key x) es ≡ None)
+AreParts ms es fs = MembersAlike ms (λ x. find (text_key x) es) (λ x. find (text_key x) fs)
+    × ((x : List ℕ) → find (text_key x) fs ≡ None → find (text_key x) es ≡ None)

@@ -25,8 +25,8 @@ use std::rc::Rc;
 /// The greatest depth at which a part is bound alone.
 const MAX_DEPTH: usize = 64;
 
-/// As much of the CEL value of a JSON value as is demanded of it, at a node of a schema that stands `depth` steps below the root. What
-/// isn't demanded may be missing.
+/// As much of the CEL value of a JSON value as is demanded of it, at a node of a schema that stands `depth`
+/// steps below the root. What isn't demanded may be missing.
 ///
 /// # Errors
 ///
@@ -78,7 +78,8 @@ fn part_with<N: Node>(
     }
 }
 
-// A part of each item, where the value is a list whose items aren't demanded whole. Anything else is bound whole.
+// A part of each item, where the value is a list whose items aren't demanded whole.
+// Anything else is bound whole.
 #[cycle(part)]
 fn list_part<N: Node>(
     alloc: Global,
@@ -127,7 +128,8 @@ fn item_parts<N: Node>(
     Ok(parts)
 }
 
-// Some members of a map, where the value is an object and its members can be found by these names. Anything else is bound whole.
+// Some members of a map, where the value is an object and its members can be found by these names.
+// Anything else is bound whole.
 #[cycle(part)]
 fn map_part<N: Node>(
     alloc: Global,
@@ -177,8 +179,8 @@ fn member_parts<N: Node>(
     Ok(Some(parts))
 }
 
-// Adds the part of one more member, if the object has it. Answers false where it can't be found by its name, where it is a field that an
-// object of its kind has though it isn't there, or where it was there before.
+// Adds the part of one more member, if the object has it. Answers false where it can't be found by its name,
+// where it is a field that an object of its kind has though it isn't there, or where it was there before.
 #[cycle(part)]
 fn add_part<N: Node>(
     alloc: Global,
@@ -309,7 +311,8 @@ fn is_found_by<N: Node>(node: Option<N>, name: &str, keys: &mut MemberKeys) -> R
 
 // The member of a name.
 fn member_of<'a>(object: &'a Members<String, Json>, name: &str) -> Option<&'a Json>
-    ensures { option_map (λ v. json_view v.now) result ≡ get_member name.now (members_view object.now.entries) }
+    ensures { option_map (λ v. json_view v.now) result
+        ≡ get_member name.now (members_view object.now.entries) }
 {
     object.get(name)
 }

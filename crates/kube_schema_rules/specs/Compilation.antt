@@ -1,6 +1,7 @@
 -- Trusted by the headline.
--- Which rules are compiled (Kubernetes API reference, ValidationRule of CustomResourceDefinition): a rule is malformed where its fields have
--- a fault, where its text is no expression of the CEL grammar, or where it has a messageExpression that is none.
+-- Which rules are compiled (Kubernetes API reference, ValidationRule of CustomResourceDefinition): a rule is
+-- malformed where its fields have a fault, where its text is no expression of the CEL grammar, or where it
+-- has a messageExpression that is none.
 use Rattle.std.specs.Prelude.{ℕ, List, [], ◌∷◌, ◌++◌, Bool, Option, Some, None, option_map, Result, Ok, Err, codes, decimal, string_bytes}
 use Rattle.serde_json.specs.Data.{Data, Items, no_items, item}
 use Rattle.cel_syntax.specs.Reading.{tree_of}
@@ -12,7 +13,8 @@ use Rattle.kube_schema_rules.specs.declared.result.CompilationResult.{Compilatio
 use Rattle.kube_schema_rules.specs.declared.compilation.CompilationError.{CompilationError}
 use Rattle.kube_schema_rules.specs.declared.compilation.CompilationError.TheVariants as error
 
--- a rule, the tree of its text, whether `oldSelf` is a free name of it, and the tree of its messageExpression, where it has one
+-- a rule, the tree of its text, whether `oldSelf` is a free name of it, and the tree of its
+-- messageExpression, where it has one
 pub record Compiled : Type 0 where
   pub fields : Fields
   pub tree : Term

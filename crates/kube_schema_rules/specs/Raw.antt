@@ -11,7 +11,8 @@ use Rattle.std.specs.Prelude.{ℕ, List, false, if◌then◌else◌, Option, Som
 unfoldable pub declared_property : List ℕ → Data → Option Data
 declared_property key node = option_and_then (get key) (get (codes "properties") node)
 
--- the schema of names that aren't declared: `additionalProperties` where it is an object, unless unknown fields are kept as they are
+-- the schema of names that aren't declared: `additionalProperties` where it is an object, unless unknown
+-- fields are kept as they are
 unfoldable pub undeclared_property : Data → Option Data
 undeclared_property node =
     if unwrap_or (option_and_then as_bool (get (codes "x-kubernetes-preserve-unknown-fields") node)) false

@@ -1,5 +1,6 @@
 -- Trusted by the headline.
--- Which rule a JSON value is, or its first fault (Kubernetes API reference, ValidationRule of CustomResourceDefinition).
+-- Which rule a JSON value is, or its first fault (Kubernetes API reference, ValidationRule of
+-- CustomResourceDefinition).
 use Rattle.std.specs.Prelude.{ℕ, List, ◌++◌, Bool, Option, Some, None, option_map, option_and_then, unwrap_or, Result, Ok, Err, codes, string_bytes, is_some, if◌then◌else◌}
 use Rattle.serde_json.specs.Data.{Data, null, boolean, number, string, array, object, Items, no_items}
 use Rattle.serde_json.specs.Find.{get, as_str, as_array, as_object}

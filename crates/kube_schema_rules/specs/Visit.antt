@@ -1,6 +1,7 @@
 -- Trusted by the headline.
--- What lies at a place of a schema and a JSON value (Kubernetes documentation, "Validation rules": a rule is scoped to the part
--- of the object where its `x-kubernetes-validations` stands), and where steps lead from there.
+-- What lies at a place of a schema and a JSON value (Kubernetes documentation, "Validation rules": a rule is
+-- scoped to the part of the object where its `x-kubernetes-validations` stands),
+-- and where steps lead from there.
 use Rattle.kube_schema_rules.specs.declared.branches.BranchKind.{BranchKind}
 use Rattle.kube_schema_rules.specs.declared.branches.BranchKind.TheVariants.{AllOf, OneOf, AnyOf}
 use Rattle.kube_schema_rules.specs.Inside.{keys_at, count_at, in_order, up_to}
@@ -66,7 +67,8 @@ unless_there None o = o
 unless_there (Some s) o = None
 
 module _ {S : Type 0} (steps : StepAccessors S) where
-  -- where a step leads, if it is allowed: to a declared member, to an item, to a member that isn't declared, to a branch
+  -- where a step leads, if it is allowed: to a declared member, to an item,
+  -- to a member that isn't declared, to a branch
   unfoldable pub goes : Step → Visit S → Option (Visit S)
   goes (property k) s =
       further None s.depth (member_path s.path k) (steps.property k s.node)

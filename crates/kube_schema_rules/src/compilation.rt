@@ -72,8 +72,8 @@ impl fmt::Display for CompilationError {
     }
 }
 
-/// Reads a rule and compiles its texts. The first fault counts: one of the rule's fields, then the text of the rule, then its
-/// messageExpression.
+/// Reads a rule and compiles its texts. The first fault counts: one of the rule's fields, then the text of
+/// the rule, then its messageExpression.
 ///
 /// # Errors
 ///

@@ -23,7 +23,9 @@ pub struct CompilationResult {
     /// How much of the values at a place its texts read.
     pub demands: Demands,
     ghost value_read: { option_map part_of demands.value
-        ≡ texts_read (codes "self") (program_term program) (option_map program_term message_program) } by { same_read-prop _ _ },
+        ≡ texts_read (codes "self") (program_term program)
+        (option_map program_term message_program) } by { same_read-prop _ _ },
     ghost old_read: { option_map part_of demands.old
-        ≡ texts_read (codes "oldSelf") (program_term program) (option_map program_term message_program) } by { same_read-prop _ _ },
+        ≡ texts_read (codes "oldSelf") (program_term program)
+        (option_map program_term message_program) } by { same_read-prop _ _ },
 }

@@ -71,9 +71,9 @@ struct Parts<'a> {
 }
 
 impl Rule {
-    /// Reads a rule: an object with a string `rule`, with a string, null or nothing in `message`, `messageExpression`, `reason`
-    /// and `fieldPath`, and with a bool, null or nothing in `optionalOldSelf`. Fields of other names are ignored. The first
-    /// fault, in this order of the fields, is reported.
+    /// Reads a rule: an object with a string `rule`, with a string, null or nothing in `message`,
+    /// `messageExpression`, `reason` and `fieldPath`, and with a bool, null or nothing in `optionalOldSelf`.
+    /// Fields of other names are ignored. The first fault, in this order of the fields, is reported.
     ///
     /// # Errors
     ///

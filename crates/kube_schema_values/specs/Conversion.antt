@@ -1,6 +1,6 @@
 -- Trusted by the headline.
--- What a JSON value is in CEL by a schema, in whatever form the schema is: Kubernetes documentation, "Use CEL validation rules",
--- the CEL types of schema types and the escaping of property names.
+-- What a JSON value is in CEL by a schema, in whatever form the schema is: Kubernetes documentation, "Use CEL
+-- validation rules", the CEL types of schema types and the escaping of property names.
 use Rattle.std.specs.Prelude.{ℕ, zero, suc, ◌-◌, List, [], Bool, Option, Some, None, is_some, if◌then◌else◌, codes}
 use Rattle.std.specs.Option.{option_map_or}
 use Rattle.serde_json.specs.Data as json

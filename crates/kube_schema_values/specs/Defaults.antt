@@ -1,6 +1,6 @@
 -- Trusted by the headline.
--- What a value becomes under the defaults of a schema: Kubernetes documentation, "Extend the Kubernetes API with
--- CustomResourceDefinitions", "Defaulting". A default that is put in has the defaults put into it too.
+-- What a value becomes under the defaults of a schema: Kubernetes documentation, "Extend the Kubernetes API
+-- with CustomResourceDefinitions", "Defaulting". A default that is put in has the defaults put into it too.
 use Rattle.std.specs.Prelude.{◌≡◌, ℕ, zero, suc, List, [], ◌∷◌, Option, Some, None, option_map, option_and_then, unwrap_or}
 use Rattle.std.specs.Option.{option_or}
 use Rattle.serde_json.specs.Data.{Data, null, boolean, number, string, array, object, Items, no_items, item, Members, no_members, member, put}
@@ -58,8 +58,8 @@ defaulted_value accessors (suc n) s d = defaulted_by accessors (defaulted_value 
 
 -- ---- the law of an object's members
 
--- Of an object whose schema has n levels below it: a key that it had holds its member, filled by the member's schema; another key holds its
--- default, filled likewise; where there is no default, nothing.
+-- Of an object whose schema has n levels below it: a key that it had holds its member, filled by the member's
+-- schema; another key holds its default, filled likewise; where there is no default, nothing.
 pub record FillsMembers {S : Type 0} (accessors : DefaultsAccessors S)
     (n : ℕ) (s : S) (value out : Data) : Type 0 where
   pub members : (ms : Members) (k : List ℕ) → Some ms ≡ as_object value

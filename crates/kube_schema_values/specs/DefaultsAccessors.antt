@@ -1,6 +1,7 @@
 -- Trusted by the headline.
--- What defaults ask of a schema, in whatever form it is, and what a schema that is JSON answers: Kubernetes documentation, "Extend
--- the Kubernetes API with CustomResourceDefinitions", "Defaulting" and "Specifying a structural schema".
+-- What defaults ask of a schema, in whatever form it is, and what a schema that is JSON answers: Kubernetes
+-- documentation, "Extend the Kubernetes API with CustomResourceDefinitions",
+-- "Defaulting" and "Specifying a structural schema".
 use Rattle.std.specs.Prelude.{ℕ, List, [], ◌∷◌, Bool, false, if◌then◌else◌, Option, Some, None, is_some, option_and_then, unwrap_or, codes}
 use Rattle.serde_json.specs.Data.{Data, Members, no_members, member}
 use Rattle.serde_json.specs.Find.{get, as_object, as_bool}

@@ -1,6 +1,6 @@
 -- Trusted by the headline.
--- How a field name is written so that CEL can select it: Kubernetes documentation, "Use CEL validation rules", escaping of
--- property names, but that a single underscore stays.
+-- How a field name is written so that CEL can select it: Kubernetes documentation, "Use CEL validation
+-- rules", escaping of property names, but that a single underscore stays.
 use Rattle.std.specs.Prelude.{ℕ, List, [], ◌∷◌, ◌++◌, Bool, ◌==◌, ◌&&◌, if◌then◌else◌, codes}
 use Rattle.std.specs.Char.{encode_utf8}
 use Rattle.std.specs.List.{list_any}
@@ -8,7 +8,10 @@ use Rattle.std.specs.Str.{bytes_eq}
 
 -- the words that CEL keeps for itself (CEL language definition, "Syntax")
 abbrev pub reserved_words : List (List ℕ)
-reserved_words = codes "true" ∷ codes "false" ∷ codes "null" ∷ codes "in" ∷ codes "as" ∷ codes "break" ∷ codes "const" ∷ codes "continue" ∷ codes "else" ∷ codes "for" ∷ codes "function" ∷ codes "if" ∷ codes "import" ∷ codes "let" ∷ codes "loop" ∷ codes "package" ∷ codes "namespace" ∷ codes "return" ∷ codes "var" ∷ codes "void" ∷ codes "while" ∷ []
+reserved_words = codes "true" ∷ codes "false" ∷ codes "null" ∷ codes "in" ∷ codes "as" ∷ codes "break"
+    ∷ codes "const" ∷ codes "continue" ∷ codes "else" ∷ codes "for" ∷ codes "function" ∷ codes "if"
+    ∷ codes "import" ∷ codes "let" ∷ codes "loop" ∷ codes "package" ∷ codes "namespace" ∷ codes "return"
+    ∷ codes "var" ∷ codes "void" ∷ codes "while" ∷ []
 
 unfoldable pub is_reserved : List ℕ → Bool
 is_reserved s = list_any (bytes_eq s) reserved_words
@@ -19,13 +22,19 @@ between_underscores s = codes "__" ++ (s ++ codes "__")
 
 -- one byte that is not the first of two underscores: a dot, a dash, a slash, or another
 abbrev pub escaped_byte : ℕ → List ℕ
-escaped_byte b = if b == 46 then codes "__dot__" else (if b == 45 then codes "__dash__" else (if b == 47 then codes "__slash__" else b ∷ []))
+escaped_byte b =
+    if b == 46 then codes "__dot__"
+    else (if b == 45 then codes "__dash__"
+    else (if b == 47 then codes "__slash__"
+    else b ∷ []))
 
 -- a text that is no reserved word: each two underscores, taken from the left, then the other bytes
 unfoldable pub escaped_text : List ℕ → List ℕ
 escaped_text [] = []
 escaped_text (b ∷ []) = escaped_byte b
-escaped_text (b ∷ c ∷ rest) = if b == 95 && c == 95 then codes "__underscores__" ++ escaped_text rest else escaped_byte b ++ escaped_text (c ∷ rest)
+escaped_text (b ∷ c ∷ rest) =
+    if b == 95 && c == 95 then codes "__underscores__" ++ escaped_text rest
+    else escaped_byte b ++ escaped_text (c ∷ rest)
 
 unfoldable pub escape : List ℕ → List ℕ
 escape s = if is_reserved s then between_underscores s else escaped_text s
@@ -34,7 +43,11 @@ escape s = if is_reserved s then between_underscores s else escaped_text s
 
 -- what stands for a character that is not the first of two underscores
 unfoldable pub escaped_character : ℕ → List ℕ
-escaped_character c = if c == 46 then codes "__dot__" else (if c == 45 then codes "__dash__" else (if c == 47 then codes "__slash__" else encode_utf8 c))
+escaped_character c =
+    if c == 46 then codes "__dot__"
+    else (if c == 45 then codes "__dash__"
+    else (if c == 47 then codes "__slash__"
+    else encode_utf8 c))
 
 -- an underscore that is still to be written
 abbrev pub held_text : Bool → List ℕ

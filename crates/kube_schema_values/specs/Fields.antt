@@ -1,6 +1,6 @@
 -- Trusted by laws alone.
--- The fields that a Kubernetes object within another has besides its own: Kubernetes documentation, "Extend the Kubernetes API
--- with CustomResourceDefinitions", `x-kubernetes-embedded-resource`.
+-- The fields that a Kubernetes object within another has besides its own: Kubernetes documentation, "Extend
+-- the Kubernetes API with CustomResourceDefinitions", `x-kubernetes-embedded-resource`.
 use Rattle.std.specs.Prelude.{ℕ, List, [], Bool, Option, Some, None, if◌then◌else◌, codes}
 use Rattle.std.specs.Str.{bytes_eq}
 use Rattle.cel_value.specs.Data.{Data, map_of, no_entries, text}

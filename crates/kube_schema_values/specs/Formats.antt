@@ -1,6 +1,6 @@
 -- Trusted by the headline.
--- What a text becomes by the format that its schema names: Kubernetes API reference, JSONSchemaProps, and "Use CEL validation
--- rules", the CEL types of schema types. A text that doesn't read stays a text.
+-- What a text becomes by the format that its schema names: Kubernetes API reference, JSONSchemaProps, and
+-- "Use CEL validation rules", the CEL types of schema types. A text that doesn't read stays a text.
 use Rattle.std.specs.Prelude.{ℕ, List, if◌then◌else◌, codes}
 use Rattle.std.specs.Option.{option_map_or}
 use Rattle.std.specs.Str.{bytes_eq}

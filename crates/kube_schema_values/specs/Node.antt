@@ -33,4 +33,5 @@ property_of name s = option_and_then (get name) (get (codes "properties") s)
 
 -- an object `additionalProperties`
 unfoldable pub additional_of : Data → Option Data
-additional_of s = option_and_then (λ d. if is_some (as_object d) then Some d else None) (get (codes "additionalProperties") s)
+additional_of s = option_and_then (λ d. if is_some (as_object d) then Some d else None)
+    (get (codes "additionalProperties") s)

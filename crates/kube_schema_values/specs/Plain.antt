@@ -1,6 +1,6 @@
 -- Trusted by the headline.
--- What a JSON value is in CEL where no schema says more: Kubernetes documentation, "Use CEL validation rules", the CEL types of
--- schema types.
+-- What a JSON value is in CEL where no schema says more: Kubernetes documentation, "Use CEL validation
+-- rules", the CEL types of schema types.
 use Rattle.std.specs.Option.{option_map_or}
 use Rattle.serde_json.specs.Data as json_data
 use Rattle.serde_json.specs.Find.{as_i64, as_u64}

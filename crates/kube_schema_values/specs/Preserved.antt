@@ -29,7 +29,8 @@ surface (string t) = whole (string t)
 surface (array ds) = list_of (items_len ds)
 surface (object ms) = members
 
--- what each path leads to in the old value is in the new one too, and the same; only objects may have more members
+-- what each path leads to in the old value is in the new one too, and the same;
+-- only objects may have more members
 pub record Keeps (old new : Data) : Type 0 where
   pub kept : (path : List Step) (d : Data) → follow path old ≡ Some d
       → option_map surface (follow path new) ≡ Some (surface d)

@@ -1,5 +1,5 @@
-//! JSON values as CEL values, by a schema (Kubernetes documentation, "Use CEL validation rules", the CEL types of schema types
-//! and the escaping of property names).
+//! JSON values as CEL values, by a schema (Kubernetes documentation, "Use CEL validation rules", the CEL
+//! types of schema types and the escaping of property names).
 ghost use Rattle.std.specs.Prelude.{◌≡◌, ◌≤◌, ◌-◌, IfErr, IfOk, string_bytes};
 ghost use Rattle.serde_json.specs.View.{view as json_view, items_view as json_items_view, members_view};
 ghost use Rattle.cel_value.specs.View.{view, items_view, entries_view};
@@ -20,8 +20,8 @@ const MAX_DEPTH: usize = 64;
 
 /// The CEL value of a JSON value at a node of a schema that stands `depth` steps below the root.
 ///
-/// Texts become what the node's format says, members and items are converted by their own nodes, and keys are escaped unless the node is
-/// a map. At a depth of 65 and more no schema is looked at.
+/// Texts become what the node's format says, members and items are converted by their own nodes, and keys are
+/// escaped unless the node is a map. At a depth of 65 and more no schema is looked at.
 ///
 /// # Errors
 ///

@@ -21,16 +21,16 @@ pub fn deep_values_are_plain()
         → to_cel raw (levels depth) schema value ≡ plain value }
 {}
 
-/// At the key of each member of an object stands that member, bound, and at the key of no other name is anything, whether the
-/// keys are escaped or not: two members never meet.
+/// At the key of each member of an object stands that member, bound, and at the key of no other name is
+/// anything, whether the keys are escaped or not: two members never meet.
 pub fn members_are_found()
     ensures { (left : ℕ) (schema : Json) (members : Members) (name : List ℕ)
         → find (text_key (member_key raw schema name)) (members_by raw (to_cel raw left) schema members)
         ≡ option_map (member_by raw (to_cel raw left) schema name) (get_member name members) }
 {}
 
-/// What stands at the key of each name in a bound object: the object's own member, else what a Kubernetes object within another
-/// has besides.
+/// What stands at the key of each name in a bound object: the object's own member, else what a Kubernetes
+/// object within another has besides.
 pub fn fields_are_found()
     ensures { (left : ℕ) (schema : Json) (members : Members) (name : List ℕ)
         → find (text_key (member_key raw schema name)) (object_by raw (to_cel raw left) schema members)

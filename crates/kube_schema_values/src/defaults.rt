@@ -1,4 +1,5 @@
-//! The defaults of a schema (Kubernetes documentation, "Extend the Kubernetes API with CustomResourceDefinitions", "Defaulting").
+//! The defaults of a schema (Kubernetes documentation, "Extend the Kubernetes API with
+//! CustomResourceDefinitions", "Defaulting").
 ghost use Rattle.std.specs.Prelude.{◌≡◌, IfErr, IfOk, OnOk, option_map};
 ghost use Rattle.serde_json.specs.View.{view, items_view, members_view};
 ghost use Rattle.kube_schema_values.specs.DefaultsAccessors.{raw, declared_properties, keys_in, property, additional, preserves, default_in, members_or_none};
@@ -11,11 +12,13 @@ use std::alloc::{AllocError, Global};
 /// How many levels of a schema have defaults: those of depth 0 to 64.
 pub(crate) const LEVELS: usize = 65;
 
-/// The value with the defaults of the schema: an object gets each missing key of `properties` that has a `default`, and all members and list
-/// items that were there get the defaults of their own schemas. A default that is put in gets the defaults inside it.
+/// The value with the defaults of the schema: an object gets each missing key of `properties` that has a
+/// `default`, and all members and list items that were there get the defaults of their own schemas. A default
+/// that is put in gets the defaults inside it.
 ///
-/// Where no property is declared a member takes its schema from `additionalProperties`, if that is an object and unknown fields are not preserved. Nothing
-/// changes past depth 64. `allOf`, `oneOf` and `anyOf` are not entered.
+/// Where no property is declared a member takes its schema from `additionalProperties`, if that is an object
+/// and unknown fields are not preserved. Nothing changes past depth 64.
+/// `allOf`, `oneOf` and `anyOf` are not entered.
 ///
 /// # Errors
 ///

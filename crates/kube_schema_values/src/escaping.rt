@@ -25,8 +25,9 @@ pub(crate) fn is_reserved(name: &str) -> bool
     }
 }
 
-/// The name as CEL selects it: a reserved word between double underscores; in any other name each two underscores from the
-/// left become `__underscores__`, `.` becomes `__dot__`, `-` `__dash__` and `/` `__slash__`, and the rest stays.
+/// The name as CEL selects it: a reserved word between double underscores; in any other name each two
+/// underscores from the left become `__underscores__`, `.` becomes `__dot__`, `-` `__dash__` and `/`
+/// `__slash__`, and the rest stays.
 ///
 /// Two names are never escaped to one text.
 ///
@@ -49,7 +50,8 @@ pub fn escape_field_name(alloc: Global, name: &str) -> Result<String, Refused>
     Ok(escaped)
 }
 
-/// Whether a name is surely its own escaped text. A name with an underscore isn't, even where [`escape_field_name`] leaves it as it is.
+/// Whether a name is surely its own escaped text. A name with an underscore isn't, even where
+/// [`escape_field_name`] leaves it as it is.
 #[tactic(auto, unfolding(crate::specs::Escape::escape))]
 pub fn is_its_own_escape(name: &str) -> bool
     ensures { result ≡ true → escape name.now ≡ name.now }
@@ -84,11 +86,13 @@ fn push_escaped(name: &str, out: &mut String) -> Result<(), AllocError>
     Ok(())
 }
 
-// Adds the next character, behind an underscore that may still be held back. Answers whether one is held back now, since it
-// may be the first of two.
+// Adds the next character, behind an underscore that may still be held back. Answers whether one is held back
+// now, since it may be the first of two.
 fn push_next(holds_underscore: bool, character: char, out: &mut String) -> Result<bool, AllocError>
-    ensures { IfOk result (λ holds. (rest : List ℕ) → string_bytes out.new ++ escaped_text (held_text holds ++ rest)
-        ≡ string_bytes out.old ++ escaped_text (held_text holds_underscore ++ (encode_utf8 character ++ rest))) }
+    ensures { IfOk result (λ holds. (rest : List ℕ)
+        → string_bytes out.new ++ escaped_text (held_text holds ++ rest)
+        ≡ string_bytes out.old
+        ++ escaped_text (held_text holds_underscore ++ (encode_utf8 character ++ rest))) }
 {
     match (holds_underscore, character) {
         (true, '_') => {

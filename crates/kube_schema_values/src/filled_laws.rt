@@ -13,7 +13,8 @@ pub fn filled_twice_is_filled_once()
         ≡ defaulted_value raw levels schema value }
 {}
 
-/// What is there stays: at each path that leads somewhere in a value stands the same afterwards, and only objects may have got more members.
+/// What is there stays: at each path that leads somewhere in a value stands the same afterwards, and only
+/// objects may have got more members.
 pub fn what_is_there_stays()
     ensures { (levels : ℕ) (schema value : Data) → Keeps value (defaulted_value raw levels schema value) }
 {}

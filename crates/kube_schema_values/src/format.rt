@@ -1,5 +1,5 @@
-//! What a text becomes by the format that its schema names (Kubernetes API reference, JSONSchemaProps; "Use CEL validation
-//! rules", the CEL types of schema types).
+//! What a text becomes by the format that its schema names (Kubernetes API reference, JSONSchemaProps; "Use
+//! CEL validation rules", the CEL types of schema types).
 ghost use Rattle.std.specs.Prelude.{◌≡◌, IfErr, IfOk};
 ghost use Rattle.cel_value.specs.View.{view};
 ghost use Rattle.kube_schema_values.specs.Formats.{format_named, value_by_format, timestamp_or_text, duration_or_text, bytes_or_text};

@@ -1,4 +1,5 @@
-//! The values of a schema: field names as CEL identifiers, the defaults of a schema put into a value, and JSON values as CEL values.
+//! The values of a schema: field names as CEL identifiers, the defaults of a schema put into a value, and
+//! JSON values as CEL values.
 #![tactic(auto)]
 
 pub mod binding;

@@ -18,7 +18,8 @@ pub fn unescape_undoes_escape()
     ensures { (name : List ℕ) → unescape (escape name) ≡ Some name }
 {}
 
-/// At the escaped name of each member of an object stands that member, bound, and at no other escaped name is anything.
+/// At the escaped name of each member of an object stands that member, bound,
+/// and at no other escaped name is anything.
 pub fn members_are_found()
     ensures { (name : List ℕ) (members : Members)
         → find (text_key (escape name)) (plain_entries members) ≡ option_map plain (get_member name members) }

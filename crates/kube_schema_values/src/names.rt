@@ -10,7 +10,8 @@ use std::rc::Rc;
 /// The most names that are kept. A name that isn't among them is made anew.
 const MAX_NAMES: usize = 32;
 
-/// After this number of names in a row that weren't found, only one slot is tried, so that names that all differ cost little.
+/// After this number of names in a row that weren't found, only one slot is tried,
+/// so that names that all differ cost little.
 const MAX_MISSES: usize = 64;
 
 /// A name with its escaped text.
@@ -81,8 +82,8 @@ impl MemberKeys {
         Ok(Rc::new(self.alloc, String::from_str(self.alloc, name)?)?)
     }
 
-    // The escaped text of a name that is kept. Objects of one kind have their members in one order, so the name behind the one
-    // that was found last is looked at first.
+    // The escaped text of a name that is kept. Objects of one kind have their members in one order, so the
+    // name behind the one that was found last is looked at first.
     fn find(&mut self, name: &str) -> Result<Option<Rc<String>>, AllocError>
         ensures { IfOk result (λ found. IfSome found (λ s. string_bytes s.value ≡ escape name.now)) }
     {

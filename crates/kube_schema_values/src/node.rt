@@ -1,4 +1,5 @@
-//! What binding asks of a node of a schema, and what a schema as JSON answers (Kubernetes API reference, JSONSchemaProps).
+//! What binding asks of a node of a schema, and what a schema as JSON answers (Kubernetes API
+//! reference, JSONSchemaProps).
 ghost use Rattle.std.specs.Prelude.{◌≡◌, option_map, Option};
 ghost use Rattle.serde_json.specs.View.{view};
 ghost use Rattle.kube_schema_values.specs.Node.{is_set, format_of, is_map, is_embedded, property_of, additional_of, items_of};
@@ -7,7 +8,8 @@ ghost use Rattle.kube_schema_values.specs.Conversion.{ConversionAccessors, raw, 
 use crate::format::SchemaFormat;
 use serde_json::Value;
 
-/// A node of a schema, in whatever form the schema is held. Definitions see it as a `Seen`, and ask of it what the accessors say.
+/// A node of a schema, in whatever form the schema is held. Definitions see it as a `Seen`,
+/// and ask of it what the accessors say.
 pub trait Node: Copy {
     ghost Seen: { Type 0 };
 
@@ -87,7 +89,8 @@ fn is_set(schema: &Value, keyword: &str) -> bool
     schema.get(keyword).and_then(Value::as_bool) == Some(true)
 }
 
-/// What the texts at a node become: strings under `x-kubernetes-int-or-string: true`, else what `format` says.
+/// What the texts at a node become: strings under `x-kubernetes-int-or-string: true`, else what `format`
+/// says.
 #[tactic(auto, unfolding(crate::specs::Node::format_of))]
 pub fn format_of(schema: &Value) -> SchemaFormat
     ensures { result ≡ format_of (view schema.now) }
@@ -101,7 +104,8 @@ pub fn format_of(schema: &Value) -> SchemaFormat
     }
 }
 
-/// Whether the objects at a node are maps with keys of their own: `additionalProperties` is there and isn't `false`.
+/// Whether the objects at a node are maps with keys of their own:
+/// `additionalProperties` is there and isn't `false`.
 #[tactic(auto, unfolding(crate::specs::Node::is_map))]
 pub fn is_map(schema: &Value) -> bool
     ensures { result ≡ is_map (view schema.now) }

@@ -1,5 +1,5 @@
-//! The fields that a Kubernetes object within another always has (Kubernetes documentation, "Extend the Kubernetes API with
-//! CustomResourceDefinitions", `x-kubernetes-embedded-resource`).
+//! The fields that a Kubernetes object within another always has (Kubernetes documentation, "Extend the
+//! Kubernetes API with CustomResourceDefinitions", `x-kubernetes-embedded-resource`).
 ghost use Rattle.std.specs.Prelude.{◌≡◌, [], IfErr, OnOk};
 ghost use Rattle.serde_json.specs.View.{members_view};
 ghost use Rattle.cel_value.specs.Data.{map_of, no_entries, text};
@@ -11,7 +11,8 @@ use cel_value::{Entries, Refused, Value};
 use serde_json::{Map as Members, Value as Json};
 use std::alloc::Global;
 
-/// Puts the fields of a resource that aren't there: empty texts at `apiVersion` and `kind`, an empty map at `metadata`.
+/// Puts the fields of a resource that aren't there: empty texts at `apiVersion` and `kind`,
+/// an empty map at `metadata`.
 ///
 /// # Errors
 ///

@@ -13,7 +13,8 @@ use serde_json::{Map, Value};
 use std::alloc::Global;
 use std::borrow::Cow;
 
-/// The value that `apply_defaults` makes. Where no default is missing, the value itself is lent, and takes no memory.
+/// The value that `apply_defaults` makes. Where no default is missing,
+/// the value itself is lent, and takes no memory.
 ///
 /// # Errors
 ///

@@ -67,7 +67,8 @@ fn unescaped(alloc: Global, text: &str) -> Result<String, AllocError>
     Ok(name)
 }
 
-// Adds what the first character stands for, escaped or not, and answers the rest of the text; none where the text is empty.
+// Adds what the first character stands for, escaped or not, and answers the rest of the text;
+// none where the text is empty.
 fn push_first<'t>(text: &'t str, name: &mut String) -> Result<Option<&'t str>, AllocError>
     ensures { IfOk result (λ found. MatchOption found
         ((string_bytes name.new ≡ string_bytes name.old) × (text.now ≡ []))

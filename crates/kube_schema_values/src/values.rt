@@ -1,5 +1,5 @@
-//! JSON values as CEL values, where no schema says more: numbers by their range, objects as maps with escaped keys
-//! (Kubernetes documentation, "Use CEL validation rules", the CEL types of schema types).
+//! JSON values as CEL values, where no schema says more: numbers by their range, objects as maps with escaped
+//! keys (Kubernetes documentation, "Use CEL validation rules", the CEL types of schema types).
 ghost use Rattle.std.specs.Prelude.{◌≡◌, IfErr, IfOk, OnOk, OnErr, string_bytes};
 ghost use Rattle.serde_json.specs.View.{view as json_view, items_view as json_items_view, members_view, number_view};
 ghost use Rattle.cel_value.specs.Data.{text, text_key};
@@ -13,8 +13,9 @@ use serde_json::{Map as Members, Number, Value as Json};
 use std::alloc::Global;
 use std::rc::Rc;
 
-/// A JSON value as a CEL value: a number becomes an int where `i64` holds it, else a uint where `u64` does, else a double;
-/// an object becomes a map whose keys are escaped as [`escape_field_name`](crate::escape_field_name) does.
+/// A JSON value as a CEL value: a number becomes an int where `i64` holds it, else a uint where `u64` does,
+/// else a double; an object becomes a map whose keys are escaped as
+/// [`escape_field_name`](crate::escape_field_name) does.
 ///
 /// # Errors
 ///

@@ -1,7 +1,9 @@
-//! The types that Kubernetes adds to those of CEL, and `Refused`, the one outer error of every call that takes memory.
+//! The types that Kubernetes adds to those of CEL, and `Refused`,
+//! the one outer error of every call that takes memory.
 //!
-//! Resource quantities ([`KubeQuantity`]), IP addresses and CIDRs ([`KubeIP`], [`KubeCIDR`]), versions ([`KubeSemver`]), URLs
-//! ([`KubeUrl`]) and named formats of texts ([`KubeFormat`]). What takes memory to be read takes an allocator first.
+//! Resource quantities ([`KubeQuantity`]), IP addresses and CIDRs ([`KubeIP`], [`KubeCIDR`]), versions
+//! ([`KubeSemver`]), URLs ([`KubeUrl`]) and named formats of texts ([`KubeFormat`]). What takes memory to be
+//! read takes an allocator first.
 //!
 //! ```rust
 //! use kube_types::{KubeCIDR, KubeIP, KubeQuantity};
@@ -18,8 +20,9 @@
 //! }
 //! ```
 //!
-//! Proved: each operation answers its definition, which names its source (RFCs, the documentation of Kubernetes, SemVer 2.0). The
-//! modules `*_laws` state theorems: the order of quantities is total, a printed address is read as the same, and more.
+//! Proved: each operation answers its definition, which names its source (RFCs, the documentation of
+//! Kubernetes, SemVer 2.0). The modules `*_laws` state theorems: the order of quantities is total, a printed
+//! address is read as the same, and more.
 #![tactic(auto)]
 
 pub use kube_types_address::{KubeCIDR, KubeIP, laws as address_laws};

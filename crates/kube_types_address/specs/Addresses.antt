@@ -1,7 +1,7 @@
 -- Trusted by the headline.
 -- IP addresses and their numbers.
--- Source: RFC 791 for the four octets of an IPv4 address, RFC 4291 for the eight groups of an IPv6 address and for the
--- IPv4-mapped ones (section 2.5.5.2).
+-- Source: RFC 791 for the four octets of an IPv4 address, RFC 4291 for the eight groups of an IPv6 address
+-- and for the IPv4-mapped ones (section 2.5.5.2).
 use Rattle.std.specs.Prelude.{◌≡◌, ℕ, zero, suc, ◌+◌, ◌*◌, ◌/◌, ◌%◌, ◌^◌, ◌<◌, Bool, false, List, [], ◌∷◌, ◌++◌, length, take, bytes_eq, slice_index}
 
 -- four octets, or eight groups of 16 bits, each the highest first

@@ -1,6 +1,7 @@
 -- Trusted by the headline.
 -- The texts of CIDRs.
--- Source: RFC 4632, section 3.1, and RFC 4291, section 2.3: an address, a slash, and the length of the prefix in decimal.
+-- Source: RFC 4632, section 3.1, and RFC 4291, section 2.3: an address, a slash,
+-- and the length of the prefix in decimal.
 use Rattle.std.specs.Prelude.{◌≡◌, ℕ, ◌+◌, ◌≤◌, Bool, true, false, not, ◌&&◌, ◌||◌, ◌==◌, nat_lt, nat_le, ◌⊎◌, List, ◌∷◌, ◌++◌, length, take, drop, slice_index, Option, Some, None, Result, Ok, Err, option_map, codes, decimal, if◌then◌else◌}
 use Rattle.std.specs.Char.{is_ascii_digit}
 use Rattle.std.specs.List.{list_any, list_all, position}
@@ -11,7 +12,8 @@ use Rattle.kube_types_address.specs.Texts.{IsTextOf, address_of, address_text}
 
 -- decimal digits, at least one, with no needless zero before them
 unfoldable pub is_plain : List ℕ → Bool
-is_plain digits = list_all is_ascii_digit digits && (nat_lt 0 (length digits) && (nat_lt (length digits) 2 || not (slice_index digits 0 == 48)))
+is_plain digits = list_all is_ascii_digit digits
+    && (nat_lt 0 (length digits) && (nat_lt (length digits) 2 || not (slice_index digits 0 == 48)))
 
 -- the digits write the number
 abbrev pub IsLengthText : List ℕ → ℕ → Type 0
@@ -21,7 +23,8 @@ IsLengthText digits n = (is_plain digits ≡ true) × (digits_value 10 digits �
 abbrev pub is_slash : ℕ → Bool
 is_slash c = c == 47
 
--- The text writes this CIDR: an address, the first slash, and the length of the prefix, which is no longer than the address.
+-- The text writes this CIDR: an address, the first slash, and the length of the prefix,
+-- which is no longer than the address.
 pub record IsCidrText (text : List ℕ) (c : Network) : Type 0 where
   pub front : List ℕ
   pub digits : List ℕ
@@ -54,7 +57,8 @@ around_slash text = option_map (λ i. (take i text, drop (i + 1) text)) (positio
 
 -- the number that plain digits write, up to a most
 unfoldable pub length_of : ℕ → List ℕ → Option ℕ
-length_of most digits = if is_plain digits && nat_le (digits_value 10 digits) most then Some (digits_value 10 digits) else None
+length_of most digits =
+    if is_plain digits && nat_le (digits_value 10 digits) most then Some (digits_value 10 digits) else None
 
 -- the CIDR of an address and digits, if they write one
 abbrev pub cidr_from : Option Address → List ℕ → Option Network

@@ -6,7 +6,8 @@ use Rattle.std.specs.Net.Text.{hex}
 
 -- what follows `front` in a text that begins with it
 unfoldable pub rest_after : List ℕ → List ℕ → Option (List ℕ)
-rest_after front text = if bytes_eq (take (length front) text) front then Some (drop (length front) text) else None
+rest_after front text =
+    if bytes_eq (take (length front) text) front then Some (drop (length front) text) else None
 
 -- groups in hex, with a colon before each
 unfoldable pub more_text : List ℕ → List ℕ

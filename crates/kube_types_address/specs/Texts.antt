@@ -1,7 +1,7 @@
 -- Trusted by the headline.
 -- The texts of addresses.
--- Source: RFC 4291, section 2.2, for what an IPv6 text means; RFC 3986, section 3.2.2, for the octets of an IPv4 text,
--- which have no leading zeros; RFC 5952, section 4, for the one text that is printed.
+-- Source: RFC 4291, section 2.2, for what an IPv6 text means; RFC 3986, section 3.2.2, for the octets of an
+-- IPv4 text, which have no leading zeros; RFC 5952, section 4, for the one text that is printed.
 use Rattle.std.specs.Prelude.{◌≡◌, ℕ, Bool, true, false, ◌⊎◌, List, Option, Some, None, Result, Ok, Err, codes, option_map, bytes_eq, ◌==◌, if◌then◌else◌}
 use Rattle.std.specs.List.{list_any}
 use Rattle.std.specs.Net.Grammar.{IsDotted, IsColonHex}
@@ -9,14 +9,15 @@ use Rattle.std.specs.Net.Reader.{whole_value, read_ipv4, read_ipv6}
 use Rattle.std.specs.Net.Text.{ipv4_text, hex_groups_text}
 use Rattle.kube_types_address.specs.Addresses.{Address, four, six, is_mapped}
 
--- The text writes this address. IPv4: four decimal numbers below 256 without leading zeros, and dots between them. IPv6: eight
--- groups of one to four hex digits with colons between them, where `::` may stand once for one zero group or more, and the
--- last two groups may be written as an IPv4 address.
+-- The text writes this address. IPv4: four decimal numbers below 256 without leading zeros, and dots between
+-- them. IPv6: eight groups of one to four hex digits with colons between them, where `::` may stand once for
+-- one zero group or more, and the last two groups may be written as an IPv4 address.
 abbrev pub IsTextOf : List ℕ → Address → Type 0
 IsTextOf text (four octets) = IsDotted text octets
 IsTextOf text (six groups) = IsColonHex text groups
 
--- The text that is printed: lower case, no leading zeros, and `::` for the longest run of two zero groups or more, the first on a tie.
+-- The text that is printed: lower case, no leading zeros,
+-- and `::` for the longest run of two zero groups or more, the first on a tie.
 abbrev pub address_text : Address → List ℕ
 address_text (four octets) = ipv4_text octets
 address_text (six groups) = hex_groups_text groups
@@ -39,7 +40,8 @@ abbrev pub IsIpAnswer : List ℕ → Result Address (List ℕ) → Type 0
 IsIpAnswer text (Ok a) = (has_zone text ≡ false) × IsTextOf text a × (is_mapped a ≡ false)
 IsIpAnswer text (Err e) =
     ((has_zone text ≡ true) × (e ≡ zone_error))
-    ⊎ (((has_zone text ≡ false) × ((a : Address) × IsTextOf text a × (is_mapped a ≡ true)) × (e ≡ mapped_error))
+    ⊎ (((has_zone text ≡ false) × ((a : Address) × IsTextOf text a × (is_mapped a ≡ true))
+    × (e ≡ mapped_error))
     ⊎ ((has_zone text ≡ false) × ((a : Address) → ¬ (IsTextOf text a)) × (e ≡ invalid_error)))
 
 -- the first of two, if it is there, and else the second
@@ -49,7 +51,8 @@ or_else None other = other
 
 -- the address that a text writes, if it writes one
 unfoldable pub address_of : List ℕ → Option Address
-address_of text = or_else (option_map four (whole_value (read_ipv4 text))) (option_map six (whole_value (read_ipv6 text)))
+address_of text =
+    or_else (option_map four (whole_value (read_ipv4 text))) (option_map six (whole_value (read_ipv6 text)))
 
 -- an address that is not IPv4-mapped
 abbrev pub unless_mapped : Option Address → Result Address (List ℕ)

@@ -24,8 +24,8 @@ pub struct KubeCIDR {
 impl KubeCIDR {
     ghost use Rattle.kube_types_address.specs.Networks.{network, cidr_answer};
 
-    /// The CIDR that a text writes: an address, `/`, and the length of the prefix, to 32 or 128, without a sign or leading zeros.
-    /// No memory is taken.
+    /// The CIDR that a text writes: an address, `/`, and the length of the prefix, to 32 or 128, without a
+    /// sign or leading zeros. No memory is taken.
     ///
     /// # Errors
     ///

@@ -20,7 +20,8 @@ impl KubeIP {
     ///
     /// # Errors
     ///
-    /// The first of these that holds: the text has a `%`; its address is in `::ffff:0:0/96`; it writes no address.
+    /// The first of these that holds: the text has a `%`;
+    /// its address is in `::ffff:0:0/96`; it writes no address.
     pub fn read(text: &str) -> Result<KubeIP, &'static str>
         ensures value { ip_answer result ≡ ip_of text.now }
         ensures grammar { IsIpAnswer text.now (ip_answer result) }

@@ -84,8 +84,8 @@ impl KubeIP {
         }
     }
 
-    /// Whether the address is none of these: loopback, unspecified, multicast (`224.0.0.0/4`, `ff00::/8`), link-local unicast,
-    /// `255.255.255.255`.
+    /// Whether the address is none of these: loopback, unspecified, multicast (`224.0.0.0/4`, `ff00::/8`),
+    /// link-local unicast, `255.255.255.255`.
     pub fn is_global_unicast(&self) -> bool
         ensures { result ≡ global_unicast (address self.now) }
     {

@@ -1,5 +1,5 @@
-//! Laws of addresses and CIDRs: each function here does nothing, and its contract is the law. All but the first two are over the
-//! definitions alone.
+//! Laws of addresses and CIDRs: each function here does nothing, and its contract is the law. All but the
+//! first two are over the definitions alone.
 ghost use Rattle.std.specs.Prelude.{◌≡◌, ◌≤◌, ◌↔◌, ℕ, List, true, false, Result, Ok};
 ghost use Rattle.kube_types_address.specs.Addresses.{Address, IsAddress, number, is_mapped};
 ghost use Rattle.kube_types_address.specs.CidrTexts.{IsCidrAnswer, cidr_of, cidr_text};

@@ -1,6 +1,6 @@
 -- Trusted by the headline.
--- Texts in base64. Source: RFC 4648, sections 4 and 5, with the letters of both alphabets, and with or without
--- the padding of section 3.2.
+-- Texts in base64. Source: RFC 4648, sections 4 and 5, with the letters of both alphabets, and with or
+-- without the padding of section 3.2.
 use Rattle.std.specs.Prelude.{ℕ, ◌%◌, ◌==◌, Bool, not, ◌&&◌, ◌||◌, nat_le, List, length, drop}
 use Rattle.std.specs.Char.{is_ascii_alphanumeric}
 use Rattle.std.specs.List.{list_all, prefix_len}

@@ -1,7 +1,7 @@
 -- Trusted by the headline.
 -- Dates and date-times. Source: RFC 3339, section 5.6: `full-date` and `date-time`, whose letters may be of
--- either case; an hour is at most 23, a minute 59 and a second 60. The calendar is the proleptic Gregorian one of
--- `jiff_core`, in which 0000 is a leap year.
+-- either case; an hour is at most 23, a minute 59 and a second 60. The calendar is the proleptic Gregorian
+-- one of `jiff_core`, in which 0000 is a leap year.
 use Rattle.std.specs.Prelude.{ℕ, ◌+◌, ◌*◌, Bool, true, false, ◌&&◌, ◌||◌, ◌==◌, nat_le, List, [], ◌∷◌, length, take, drop, position, codes, pos, Option, Some, None, option_map, is_some, if◌then◌else◌}
 use Rattle.std.specs.Char.{is_ascii_digit}
 use Rattle.std.specs.List.{list_all}
@@ -14,7 +14,8 @@ use Rattle.kube_types_formats.specs.Offsets.{is_one_of, last_offset}
 -- the calendar has this day
 abbrev pub is_civil : ℕ → ℕ → ℕ → Bool
 is_civil year month day =
-    nat_le year 9999 && nat_le 1 month && nat_le month 12 && nat_le 1 day && nat_le day (days_in_month (pos year) month)
+    nat_le year 9999 && nat_le 1 month && nat_le month 12 && nat_le 1 day
+    && nat_le day (days_in_month (pos year) month)
 
 -- YYYY-MM-DD, and a day of the calendar
 unfoldable pub date_fault : List ℕ → Option Fault

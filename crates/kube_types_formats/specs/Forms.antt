@@ -16,4 +16,5 @@ fits form text = pointwise fits_mark form text
 
 -- the number that the two decimal digits at this offset write
 abbrev pub two_digits : List ℕ → ℕ → ℕ
-two_digits text byte_offset = (slice_index text byte_offset - 48) * 10 + (slice_index text (byte_offset + 1) - 48)
+two_digits text byte_offset =
+    (slice_index text byte_offset - 48) * 10 + (slice_index text (byte_offset + 1) - 48)

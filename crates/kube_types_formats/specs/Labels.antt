@@ -59,7 +59,8 @@ abbrev pub parts_of : List ℕ → List (List ℕ)
 parts_of text = slice_split (is_one_of (46 ∷ [])) text
 
 -- the faults of each part before the last one by one rule, and of the last one by another
-unfoldable pub faults_of_parts : (List ℕ → List (List ℕ)) → (List ℕ → List (List ℕ)) → List (List ℕ) → List (List ℕ)
+unfoldable pub faults_of_parts : (List ℕ → List (List ℕ)) → (List ℕ → List (List ℕ)) → List (List ℕ)
+    → List (List ℕ)
 faults_of_parts each last [] = []
 faults_of_parts each last (part ∷ []) = last part
 faults_of_parts each last (part ∷ (next ∷ more)) =

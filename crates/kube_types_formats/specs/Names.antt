@@ -29,7 +29,8 @@ label_value_faults text = if length text == 0 then [] else name_faults [] text
 -- what stands before the slash
 unfoldable pub name_prefix_faults : List ℕ → List (List ℕ)
 name_prefix_faults prefix =
-    if length prefix == 0 then fault_line [] EmptyPrefix ∷ [] else subdomain_faults Rfc1123 (codes "prefix: ") prefix
+    if length prefix == 0 then fault_line [] EmptyPrefix ∷ []
+    else subdomain_faults Rfc1123 (codes "prefix: ") prefix
 
 -- the text, cut at the offset of its last slash (47)
 unfoldable pub faults_around : Option ℕ → List ℕ → List (List ℕ)

@@ -1,6 +1,6 @@
 -- Trusted by the headline.
--- URIs, by their scheme alone. Source: RFC 3986, section 3.1: a letter, then letters, digits, `+`, `-` and `.`,
--- up to the first colon.
+-- URIs, by their scheme alone. Source: RFC 3986, section 3.1: a letter, then letters, digits, `+`, `-` and
+-- `.`, up to the first colon.
 use Rattle.std.specs.Prelude.{ℕ, ◌==◌, Bool, false, ◌&&◌, ◌||◌, List, [], ◌∷◌, length, take, position, Option, Some, None, if◌then◌else◌}
 use Rattle.std.specs.Char.{is_ascii_alphabetic, is_ascii_alphanumeric}
 use Rattle.std.specs.List.{list_all}

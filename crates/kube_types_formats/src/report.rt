@@ -32,7 +32,8 @@ impl Report {
         self.texts
     }
 
-    /// Adds the text of a fault. The prefix names the part of the text that has it; it is empty for the whole text.
+    /// Adds the text of a fault. The prefix names the part of the text that has it;
+    /// it is empty for the whole text.
     pub(crate) fn add(&mut self, prefix: &str, fault: Fault) -> Result<(), Refused>
         ensures added { OnOk result
             (texts_of self.new ≡ texts_of self.old ++ (fault_line prefix.now fault ∷ [])) }

@@ -1,7 +1,7 @@
 -- Trusted by the headline.
 -- Numbers written as an integer and a power of ten, and their order.
--- Source: the documentation of `Quantity` in `k8s.io/apimachinery/pkg/api/resource` of Kubernetes, where a quantity is a
--- fixed-point number, and its canonical form keeps no needless zeros.
+-- Source: the documentation of `Quantity` in `k8s.io/apimachinery/pkg/api/resource` of Kubernetes, where a
+-- quantity is a fixed-point number, and its canonical form keeps no needless zeros.
 use Rattle.std.specs.Prelude.{◌≡◌, ℕ, ◌^◌, Bool, ℤ, pos, negsuc, neg_ℤ, ◌-ℤ◌, ◌*ℤ◌, if◌then◌else◌}
 use Rattle.std.specs.Ordering.{int_cmp}
 use Rattle.std.specs.declared.cmp.Ordering.{Ordering}

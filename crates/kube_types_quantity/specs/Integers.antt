@@ -7,10 +7,14 @@ use Rattle.kube_types_quantity.specs.Normal.{fits}
 use Rattle.kube_types_quantity.specs.declared.integer.IntegerError.{IntegerError}
 use Rattle.kube_types_quantity.specs.declared.integer.IntegerError.TheVariants.{NotAnInteger, TooLargeForInteger}
 
--- A number in normal form is an integer exactly where its scale is not negative. It is given where 64 bits hold it.
+-- A number in normal form is an integer exactly where its scale is not negative.
+-- It is given where 64 bits hold it.
 unfoldable pub integer_of : Decimal → Result ℤ IntegerError
-integer_of x = if is_negative x.scale then Err NotAnInteger
-    else (if fits 63 (times_ten_to x.mantissa (natural x.scale)) then Ok (times_ten_to x.mantissa (natural x.scale)) else Err TooLargeForInteger)
+integer_of x =
+    if is_negative x.scale then Err NotAnInteger
+    else (if fits 63 (times_ten_to x.mantissa (natural x.scale))
+    then Ok (times_ten_to x.mantissa (natural x.scale))
+    else Err TooLargeForInteger)
 
 -- what each error prints
 abbrev pub integer_error_text : IntegerError → List ℕ

@@ -1,13 +1,16 @@
 -- Trusted by the headline.
 -- The normal form of a number: the mantissa ends in no zero, and zero has the scale 0.
--- Source: the canonical form in the documentation of `Quantity`, `k8s.io/apimachinery/pkg/api/resource` of Kubernetes.
+-- Source: the canonical form in the documentation of `Quantity`,
+-- `k8s.io/apimachinery/pkg/api/resource` of Kubernetes.
 use Rattle.std.specs.Prelude.{◌≡◌, ℕ, zero, suc, Bool, true, ◌&&◌, ◌/◌, ◌%◌, ◌^◌, ◌==◌, ℤ, pos, negsuc, ◌+ℤ◌, unsigned_abs, nat_lt, Option, Some, None, if◌then◌else◌}
 use Rattle.std.specs.Int.{is_negative}
 use Rattle.kube_types_quantity.specs.Decimal.{Decimal, with_sign}
 
 -- whether a mantissa and a scale are in normal form
 abbrev pub is_normal : ℤ → ℤ → Bool
-is_normal mantissa scale = if unsigned_abs mantissa % 10 == 0 then (unsigned_abs mantissa == 0) && (unsigned_abs scale == 0) else true
+is_normal mantissa scale =
+    if unsigned_abs mantissa % 10 == 0 then (unsigned_abs mantissa == 0) && (unsigned_abs scale == 0)
+    else true
 
 -- how many zeros stand at the end of n, among its last `most` digits
 unfoldable pub zeros_among : ℕ → ℕ → ℕ
@@ -26,7 +29,8 @@ mantissa_without_zeros z = with_sign (is_negative z) (unsigned_abs z / 10 ^ trai
 unfoldable pub normal_form : Decimal → Decimal
 normal_form x = record {
   mantissa = mantissa_without_zeros x.mantissa;
-  scale = if unsigned_abs x.mantissa == 0 then pos 0 else x.scale +ℤ pos (trailing_zeros (unsigned_abs x.mantissa));
+  scale = if unsigned_abs x.mantissa == 0 then pos 0
+      else x.scale +ℤ pos (trailing_zeros (unsigned_abs x.mantissa));
 }
 
 -- whether a signed integer of this many bits beside its sign holds z

@@ -24,7 +24,8 @@ pub tied_same : (x y : Decimal) → decimal_cmp x y ≡ Equal → SameNumber x y
 tied_same x y e = int_cmp-IsAntisymmetric (aligned_mantissa x y) (aligned_mantissa y x) e
 
 pub same_tied : (x y : Decimal) → SameNumber x y → decimal_cmp x y ≡ Equal
-same_tied x y e = ap (int_cmp (aligned_mantissa x y)) (sym e) ∙ tied_itself int_cmp_total (aligned_mantissa x y)
+same_tied x y e =
+    ap (int_cmp (aligned_mantissa x y)) (sym e) ∙ tied_itself int_cmp_total (aligned_mantissa x y)
 
 pub quantity_cmp_total : IsTotalOrder (on number decimal_cmp)
 quantity_cmp_total = on_total number decimal_cmp_total
@@ -33,16 +34,24 @@ pub quantity_cmp_agrees : Agrees (as_partial_cmp (on number decimal_cmp)) (on nu
 quantity_cmp_agrees = λ x y. refl
 
 -- the fields of two quantities are equal exactly where their numbers tie
-pub quantity_cmp_matches_eq : (x y : KubeQuantity) → (int_eq x.mantissa y.mantissa && int_eq x.scale y.scale) ≡ eq_by_cmp (on number decimal_cmp) x y
-quantity_cmp_matches_eq x y = both_ways (int_eq x.mantissa y.mantissa && int_eq x.scale y.scale) (eq_by_cmp (on number decimal_cmp) x y)
+pub quantity_cmp_matches_eq : (x y : KubeQuantity)
+    → (int_eq x.mantissa y.mantissa && int_eq x.scale y.scale) ≡ eq_by_cmp (on number decimal_cmp) x y
+quantity_cmp_matches_eq x y =
+    both_ways (int_eq x.mantissa y.mantissa && int_eq x.scale y.scale) (eq_by_cmp (on number decimal_cmp) x y)
     (λ e.
-    let m : x.mantissa ≡ y.mantissa = int_eq_same x.mantissa y.mantissa (first_so (int_eq x.mantissa y.mantissa) (int_eq x.scale y.scale) e) in
-    let s : x.scale ≡ y.scale = int_eq_same x.scale y.scale (second_so (int_eq x.mantissa y.mantissa) (int_eq x.scale y.scale) e) in
+    let m : x.mantissa ≡ y.mantissa =
+    int_eq_same x.mantissa y.mantissa (first_so (int_eq x.mantissa y.mantissa) (int_eq x.scale y.scale) e) in
+    let s : x.scale ≡ y.scale =
+    int_eq_same x.scale y.scale (second_so (int_eq x.mantissa y.mantissa) (int_eq x.scale y.scale) e) in
     let one : number y ≡ number x = λ i. record { mantissa = sym m i; scale = sym s i } in
-    ap (λ d. is_eq (decimal_cmp (number x) d)) one ∙ (Equal-is (decimal_cmp (number x) (number x))).1 (tied_itself decimal_cmp_total (number x)))
+    ap (λ d. is_eq (decimal_cmp (number x) d)) one
+    ∙ (Equal-is (decimal_cmp (number x) (number x))).1 (tied_itself decimal_cmp_total (number x)))
     (λ e.
-    let same = normal_unique (number x) (number y) x.normal y.normal (tied_same (number x) (number y) ((Equal-is (decimal_cmp (number x) (number y))).0 e)) in
+    let same = normal_unique (number x) (number y) x.normal y.normal
+    (tied_same (number x) (number y) ((Equal-is (decimal_cmp (number x) (number y))).0 e)) in
     λ i. same_int_eq x.mantissa y.mantissa same.0 i && same_int_eq x.scale y.scale same.1 i)
 
-pub quantity_partial_order : IsPartialOrder (λ (x y : KubeQuantity). int_eq x.mantissa y.mantissa && int_eq x.scale y.scale) (as_partial_cmp (on number decimal_cmp))
+pub quantity_partial_order : IsPartialOrder
+    (λ (x y : KubeQuantity). int_eq x.mantissa y.mantissa && int_eq x.scale y.scale)
+    (as_partial_cmp (on number decimal_cmp))
 quantity_partial_order = po quantity_cmp_total quantity_cmp_matches_eq

@@ -11,7 +11,8 @@ places_text places n = replicate (places - length (decimal n)) 48 ++ decimal n
 
 -- the digits of the size of m, with the last `places` after the point (46)
 abbrev pub pointed_text : ℤ → ℕ → List ℕ
-pointed_text m places = sign_text (is_negative m) ++ (decimal (unsigned_abs m / 10 ^ places) ++ (46 ∷ places_text places (unsigned_abs m % 10 ^ places)))
+pointed_text m places = sign_text (is_negative m)
+    ++ (decimal (unsigned_abs m / 10 ^ places) ++ (46 ∷ places_text places (unsigned_abs m % 10 ^ places)))
 
 -- a mantissa with its scale: zeros after it, or a point in it
 abbrev pub scaled_text : ℤ → ℤ → List ℕ

@@ -32,9 +32,11 @@ times_times z j k =
     let whole = product_parts z (10 ^ (j + k)) in
     let power : 10 ^ (j + k) ≡ 10 ^ j * 10 ^ k = pow-add 10 j k in
     let ups : up (times_ten_to (times_ten_to z j) k) ≡ up (times_ten_to z (j + k)) =
-    outer.0 ∙ ap (λ n. n * 10 ^ k) inner.0 ∙ mul_assoc (up z) (10 ^ j) (10 ^ k) ∙ ap (λ n. up z * n) (sym power) ∙ sym whole.0 in
+    outer.0 ∙ ap (λ n. n * 10 ^ k) inner.0 ∙ mul_assoc (up z) (10 ^ j) (10 ^ k)
+    ∙ ap (λ n. up z * n) (sym power) ∙ sym whole.0 in
     let downs : down (times_ten_to (times_ten_to z j) k) ≡ down (times_ten_to z (j + k)) =
-    outer.1 ∙ ap (λ n. n * 10 ^ k) inner.1 ∙ mul_assoc (down z) (10 ^ j) (10 ^ k) ∙ ap (λ n. down z * n) (sym power) ∙ sym whole.1 in
+    outer.1 ∙ ap (λ n. n * 10 ^ k) inner.1 ∙ mul_assoc (down z) (10 ^ j) (10 ^ k)
+    ∙ ap (λ n. down z * n) (sym power) ∙ sym whole.1 in
     same_in _ _ (omega (arith, ups, downs))
 
 product_lt : (u v : ℤ) (k : ℕ) → 0 < k → u <ℤ v → (u *ℤ pos k) <ℤ (v *ℤ pos k)
@@ -44,7 +46,8 @@ product_lt u v k p h =
     let more = mul-lt-mul_of_pos_right (lt_out u v h) p in
     record { lt = lt_in (u *ℤ pos k) (v *ℤ pos k) (omega (arith, us.0, us.1, vs.0, vs.1, more)) }
 
-ranked_as : (o : Ordering) {P Q R P' Q' R' : Type 0} → (P → P') → (Q → Q') → (R → R') → MatchOrdering o P Q R → MatchOrdering o P' Q' R'
+ranked_as : (o : Ordering) {P Q R P' Q' R' : Type 0} → (P → P') → (Q → Q') → (R → R') → MatchOrdering o P Q R
+    → MatchOrdering o P' Q' R'
 ranked_as Less f g h m = f m
 ranked_as Equal f g h m = g m
 ranked_as Greater f g h m = h m
@@ -52,7 +55,8 @@ ranked_as Greater f g h m = h m
 -- a positive factor keeps the order
 pub product_cmp : (u v : ℤ) (k : ℕ) → 0 < k → int_cmp (u *ℤ pos k) (v *ℤ pos k) ≡ int_cmp u v
 product_cmp u v k p = sym (int_cmp_is (u *ℤ pos k) (v *ℤ pos k) (int_cmp u v)
-    (ranked_as (int_cmp u v) (product_lt u v k p) (λ e. ap (λ z. z *ℤ pos k) e) (product_lt v u k p) (int_ranked u v (int_cmp u v) refl)))
+    (ranked_as (int_cmp u v) (product_lt u v k p) (λ e. ap (λ z. z *ℤ pos k) e) (product_lt v u k p)
+    (int_ranked u v (int_cmp u v) refl)))
 
 natural_up : (z : ℤ) → natural z ≡ up z
 natural_up (pos n) = refl
@@ -64,7 +68,8 @@ one_part (negsuc n) a b e = omega arith
 
 -- how far one scale is above another, both counted from a base
 pub scale_gap : (base s t : ℤ) (a b : ℕ) → s ≡ base +ℤ pos a → t ≡ base +ℤ pos b → natural (s -ℤ t) ≡ a - b
-scale_gap base s t a b p q = natural_up (s -ℤ t) ∙ one_part (s -ℤ t) a b (let e : (s -ℤ t) +ℤ pos b ≡ pos a = omega (arith, ints) in omega (arith, ints))
+scale_gap base s t a b p q = natural_up (s -ℤ t)
+    ∙ one_part (s -ℤ t) a b (let e : (s -ℤ t) +ℤ pos b ≡ pos a = omega (arith, ints) in omega (arith, ints))
 
 -- a mantissa brought down to the base
 pub aligned_at : (base : ℤ) (x y : Decimal) (a b : ℕ) → x.scale ≡ base +ℤ pos a → y.scale ≡ base +ℤ pos b
@@ -98,7 +103,8 @@ decimal_cmp_total = record {
       let b = scale_above n y.scale (omega arith) in
       let c = scale_above n z.scale (omega arith) in
       compared_at (negsuc n) x z a.0 c.0 a.1 c.1
-      ∙ int_cmp_total.trans (times_ten_to x.mantissa a.0) (times_ten_to y.mantissa b.0) (times_ten_to z.mantissa c.0)
+      ∙ int_cmp_total.trans (times_ten_to x.mantissa a.0) (times_ten_to y.mantissa b.0)
+      (times_ten_to z.mantissa c.0)
       (sym (compared_at (negsuc n) x y a.0 b.0 a.1 b.1) ∙ p)
       (sym (compared_at (negsuc n) y z b.0 c.0 b.1 c.1) ∙ q);
   congr = λ x y z p.
@@ -107,6 +113,7 @@ decimal_cmp_total = record {
       let b = scale_above n y.scale (omega arith) in
       let c = scale_above n z.scale (omega arith) in
       compared_at (negsuc n) x z a.0 c.0 a.1 c.1
-      ∙ int_cmp_total.congr (times_ten_to x.mantissa a.0) (times_ten_to y.mantissa b.0) (times_ten_to z.mantissa c.0) (sym (compared_at (negsuc n) x y a.0 b.0 a.1 b.1) ∙ p)
+      ∙ int_cmp_total.congr (times_ten_to x.mantissa a.0) (times_ten_to y.mantissa b.0)
+      (times_ten_to z.mantissa c.0) (sym (compared_at (negsuc n) x y a.0 b.0 a.1 b.1) ∙ p)
       ∙ sym (compared_at (negsuc n) y z b.0 c.0 b.1 c.1);
 }

@@ -9,11 +9,15 @@ use Rattle.kube_types_quantity.specs.Normal.{fits, quantity_holding}
 abbrev pub decimal_at : ℤ → ℤ → Decimal
 decimal_at m s = record { mantissa = m; scale = s }
 
--- The number whose mantissa this operation gives of both mantissas at the smaller scale, where 128 bits hold these and what it gives,
--- and 32 bits the scale of the normal form.
+-- The number whose mantissa this operation gives of both mantissas at the smaller scale, where 128 bits hold
+-- these and what it gives, and 32 bits the scale of the normal form.
 abbrev pub combination : (ℤ → ℤ → ℤ) → Decimal → Decimal → Option Decimal
-combination op x y = if fits 127 (aligned_mantissa x y) && (fits 127 (aligned_mantissa y x) && fits 127 (op (aligned_mantissa x y) (aligned_mantissa y x)))
-    then quantity_holding (decimal_at (op (aligned_mantissa x y) (aligned_mantissa y x)) (int_min x.scale y.scale)) else None
+combination op x y =
+    if fits 127 (aligned_mantissa x y)
+    && (fits 127 (aligned_mantissa y x) && fits 127 (op (aligned_mantissa x y) (aligned_mantissa y x)))
+    then quantity_holding
+    (decimal_at (op (aligned_mantissa x y) (aligned_mantissa y x)) (int_min x.scale y.scale))
+    else None
 
 -- the exact sum
 unfoldable pub sum_of : Decimal → Decimal → Option Decimal

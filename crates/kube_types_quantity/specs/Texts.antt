@@ -1,6 +1,8 @@
 -- Trusted by laws alone.
--- What the text of a quantity means, told of the whole text: a number with a sign or none, and a suffix that it is multiplied by.
--- Source: the grammar and the suffixes in the documentation of `Quantity`, `k8s.io/apimachinery/pkg/api/resource` of Kubernetes.
+-- What the text of a quantity as a whole means: a number with a sign or none,
+-- and a suffix that it is multiplied by.
+-- Source: the grammar and the suffixes in the documentation of `Quantity`,
+-- `k8s.io/apimachinery/pkg/api/resource` of Kubernetes.
 use Rattle.std.specs.Prelude.{◌≡◌, ◌+◌, ◌*◌, ◌^◌, ◌<◌, ◌⊎◌, Bool, true, false, ℕ, ℤ, pos, negsuc, ◌-ℤ◌, List, [], ◌∷◌, ◌++◌, length, codes}
 use Rattle.std.specs.Char.{is_ascii_digit}
 use Rattle.std.specs.List.{list_all}
@@ -28,12 +30,24 @@ IsNumber text whole fraction = AreDigits whole × AreDigits fraction × (0 < len
 
 -- <decimalSI> and <binarySI>: each suffix with its factor
 abbrev pub suffixes : List (List ℕ × Factor)
-suffixes = (codes "", power_of_ten (pos 0))
-    ∷ (codes "n", power_of_ten (negsuc 8)) ∷ (codes "u", power_of_ten (negsuc 5)) ∷ (codes "m", power_of_ten (negsuc 2))
-    ∷ (codes "k", power_of_ten (pos 3)) ∷ (codes "M", power_of_ten (pos 6)) ∷ (codes "G", power_of_ten (pos 9))
-    ∷ (codes "T", power_of_ten (pos 12)) ∷ (codes "P", power_of_ten (pos 15)) ∷ (codes "E", power_of_ten (pos 18))
-    ∷ (codes "Ki", whole_factor (2 ^ 10)) ∷ (codes "Mi", whole_factor (2 ^ 20)) ∷ (codes "Gi", whole_factor (2 ^ 30))
-    ∷ (codes "Ti", whole_factor (2 ^ 40)) ∷ (codes "Pi", whole_factor (2 ^ 50)) ∷ (codes "Ei", whole_factor (2 ^ 60)) ∷ []
+suffixes =
+    (codes "", power_of_ten (pos 0))
+    ∷ (codes "n", power_of_ten (negsuc 8))
+    ∷ (codes "u", power_of_ten (negsuc 5))
+    ∷ (codes "m", power_of_ten (negsuc 2))
+    ∷ (codes "k", power_of_ten (pos 3))
+    ∷ (codes "M", power_of_ten (pos 6))
+    ∷ (codes "G", power_of_ten (pos 9))
+    ∷ (codes "T", power_of_ten (pos 12))
+    ∷ (codes "P", power_of_ten (pos 15))
+    ∷ (codes "E", power_of_ten (pos 18))
+    ∷ (codes "Ki", whole_factor (2 ^ 10))
+    ∷ (codes "Mi", whole_factor (2 ^ 20))
+    ∷ (codes "Gi", whole_factor (2 ^ 30))
+    ∷ (codes "Ti", whole_factor (2 ^ 40))
+    ∷ (codes "Pi", whole_factor (2 ^ 50))
+    ∷ (codes "Ei", whole_factor (2 ^ 60))
+    ∷ []
 
 -- a table has the text with the factor
 abbrev pub IsRow : List (List ℕ × Factor) → List ℕ → Factor → Type 0
@@ -56,11 +70,12 @@ pub record IsExponent (text : List ℕ) (exponent : ℤ) : Type 0 where
 
 -- <suffix>: one of the table, or an exponent of ten
 abbrev pub IsSuffix : List ℕ → Factor → Type 0
-IsSuffix text factor = IsRow suffixes text factor ⊎ ((exponent : ℤ) × IsExponent text exponent × (power_of_ten exponent ≡ factor))
+IsSuffix text factor = IsRow suffixes text factor
+    ⊎ ((exponent : ℤ) × IsExponent text exponent × (power_of_ten exponent ≡ factor))
 
--- The text means the number x, which is in normal form: white space at both ends counts for nothing, and x is the number with its
--- sign, times the factor of the suffix. A signed integer of 128 bits holds the digits times the whole number of the factor before
--- the sign, and 32 bits the scale of x.
+-- The text means the number x, which is in normal form: white space at both ends counts for nothing, and x is
+-- the number with its sign, times the factor of the suffix. A signed integer of 128 bits holds the digits
+-- times the whole number of the factor before the sign, and 32 bits the scale of x.
 pub record IsQuantityText (text : List ℕ) (x : Decimal) : Type 0 where
   pub sign : List ℕ
   pub negative : Bool
@@ -75,6 +90,7 @@ pub record IsQuantityText (text : List ℕ) (x : Decimal) : Type 0 where
   pub suffix_text : IsSuffix suffix factor
   pub size_within : digits_value 10 (whole ++ fraction) * factor.times < 2 ^ 127
   pub normal : IsNormal x
-  pub value : SameNumber x (decimal_at (with_sign negative (digits_value 10 (whole ++ fraction) * factor.times))
+  pub value : SameNumber x
+      (decimal_at (with_sign negative (digits_value 10 (whole ++ fraction) * factor.times))
       (factor.tens -ℤ pos (length fraction)))
   pub scale_within : fits 31 x.scale ≡ true

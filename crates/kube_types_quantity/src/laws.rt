@@ -1,4 +1,5 @@
-//! Laws of quantities, over the definitions alone: each function here does nothing, and its contract is the law.
+//! Laws of quantities, over the definitions alone: each function here does nothing,
+//! and its contract is the law.
 ghost use Rattle.std.specs.Cmp.{IsTotalOrder};
 ghost use Rattle.std.specs.Int.{is_negative};
 ghost use Rattle.std.specs.Prelude.{◌≡◌, ◌↔◌, false, ℕ, ℤ, pos, List, Some};
@@ -29,13 +30,15 @@ pub fn normal_form_keeps_the_number()
     ensures { (x : Decimal) → IsNormal (normal_form x) × SameNumber (normal_form x) x }
 {}
 
-/// A number in normal form is the integer z exactly where its scale is not negative, and its mantissa times ten to the scale is z.
+/// A number in normal form is the integer z exactly where its scale is not negative,
+/// and its mantissa times ten to the scale is z.
 pub fn integers_have_no_places()
     ensures { (x : Decimal) (z : ℤ) → IsNormal x → SameNumber x (decimal_at z (pos 0))
         ↔ ((is_negative x.scale ≡ false) × (z ≡ times_ten_to x.mantissa (natural x.scale))) }
 {}
 
-/// A text means a quantity exactly where it spells a number and a suffix, and then the number times the factor of the suffix.
+/// A text means a quantity exactly where it spells a number and a suffix,
+/// and then the number times the factor of the suffix.
 pub fn texts_mean_their_number()
     ensures { (text : List ℕ) (x : Decimal) → (quantity_of text ≡ Some x) ↔ IsQuantityText text x }
 {}

@@ -38,7 +38,8 @@ fn split_at_point(number: u128, places: u32) -> (u128, u128)
     }
 }
 
-/// The decimal number in full, with no exponent and no suffix; a scale near its end takes thousands of millions of zeros.
+/// The decimal number in full, with no exponent and no suffix;
+/// a scale near its end takes thousands of millions of zeros.
 #[tactic(auto, unfolding(crate::specs::Printed::decimal_text))]
 impl fmt::Display for KubeQuantity {
     ghost use Rattle.kube_types_quantity.specs.Printed.{decimal_text};

@@ -12,7 +12,8 @@ use crate::scaling::{scaled, signed};
 
 /// An exact decimal number: `mantissa` times ten to the `scale`, in normal form.
 ///
-/// The mantissa ends in no zero, and zero is 0 at the scale 0. So two quantities are one number exactly where their fields are equal.
+/// The mantissa ends in no zero, and zero is 0 at the scale 0.
+/// So two quantities are one number exactly where their fields are equal.
 #[derive(Clone, Copy, Debug, PartialEq, Eq)]
 pub struct KubeQuantity {
     pub(crate) mantissa: i128,
@@ -30,9 +31,10 @@ impl KubeQuantity {
 
     /// The quantity that a text means, if it means one. No memory is taken.
     ///
-    /// White space at both ends is dropped; a sign may stand first; then digits with at most one point, and nothing, a suffix
-    /// (`n u m k M G T P E`, `Ki Mi Gi Ti Pi Ei`) or `e` or `E` with an exponent. The digits times the factor of a binary
-    /// suffix must fit 127 bits, and the scale of the normal form 32 bits.
+    /// White space at both ends is dropped; a sign may stand first; then digits with at most one point, and
+    /// nothing, a suffix (`n u m k M G T P E`, `Ki Mi Gi Ti Pi Ei`) or `e` or `E` with an exponent. The
+    /// digits times the factor of a binary suffix must fit 127 bits,
+    /// and the scale of the normal form 32 bits.
     #[tactic(auto, unfolding(crate::specs::Reading::quantity_of, crate::specs::Reading::unsigned_quantity, crate::specs::Reading::value_of))]
     pub fn read(text: &str) -> Option<KubeQuantity>
         ensures { option_map number result ≡ quantity_of text.now }
@@ -73,7 +75,8 @@ impl KubeQuantity {
         }
     }
 
-    /// The exact sum. `None` where 128 bits do not hold both mantissas at the smaller scale and their sum, or 32 bits the scale of the sum.
+    /// The exact sum. `None` where 128 bits do not hold both mantissas at the smaller scale and their sum, or
+    /// 32 bits the scale of the sum.
     #[tactic(auto, unfolding(crate::specs::Sums::sum_of))]
     pub fn add(&self, other: &KubeQuantity) -> Option<KubeQuantity>
         ensures { option_map number result ≡ sum_of (number self.now) (number other.now) }
@@ -131,7 +134,8 @@ impl KubeQuantity {
         }
     }
 
-    /// The quantity of a mantissa at the smaller of the two scales, if its normal form has a scale of 32 bits.
+    /// The quantity of a mantissa at the smaller of the two scales,
+    /// if its normal form has a scale of 32 bits.
     fn at_smaller_scale(&self, other: &KubeQuantity, mantissa: i128) -> Option<KubeQuantity>
         ensures { option_map number result ≡ quantity_holding (decimal_at mantissa
             (int_min (number self.now).scale (number other.now).scale)) }

@@ -9,7 +9,8 @@ use std::{fmt, io};
 
 /// Why a call gave no answer at all.
 ///
-/// It is never an answer: not a rule's error, not a failed validation and not a pass. What was lent to the call is as it was before.
+/// It is never an answer: not a rule's error, not a failed validation and not a pass.
+/// What was lent to the call is as it was before.
 #[derive(Clone, Copy, Debug, PartialEq, Eq)]
 pub enum Refused {
     /// Memory was refused, or a growth would have passed the greatest capacity.

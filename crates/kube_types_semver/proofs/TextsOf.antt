@@ -168,7 +168,7 @@ zero_read n small e = sym (decimal_is_IsNumeral n small).1 ∙ ap (digits_value 
 zero_written : (n : ℕ) → n ≡ 0 → 48 ∷ [] ≡ decimal n
 zero_written n e = sym (ap decimal e ∙ decimal_digit 0 (omega arith))
 
--- ---- digits and what follows them are told apart
+-- ---- where digits end
 
 abbrev NoDigit : List ℕ → Type 0
 NoDigit text = is_ascii_digit (get_or text 0 0) ≡ false

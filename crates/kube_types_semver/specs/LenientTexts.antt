@@ -1,5 +1,5 @@
 -- Trusted by laws alone.
--- What the text of a version means, read strictly or leniently, told of the whole text.
+-- What the text of a version as a whole means, read strictly or leniently.
 -- Source: SemVer 2.0, semver.org; and the `normalize` option of `semver` in the CEL library `Semver`,
 -- `k8s.io/apiserver/pkg/cel/library` of Kubernetes.
 use Rattle.semver.specs.Grammar.{IsValid}
@@ -17,18 +17,21 @@ IsVersionText text p = (parts_text p ≡ text) × IsValid p
 
 -- one digit or more, zeros before others too, and their number
 abbrev pub IsNumberText : List ℕ → ℕ → Type 0
-IsNumberText digits n = (0 < length digits) × (list_all is_ascii_digit digits ≡ true) × (digits_value 10 digits ≡ n)
+IsNumberText digits n =
+    (0 < length digits) × (list_all is_ascii_digit digits ≡ true) × (digits_value 10 digits ≡ n)
 
 -- one to three numbers as texts; a number that is missing is 0
 abbrev pub AreNumbers : List (List ℕ) → ℕ → ℕ → ℕ → Type 0
 AreNumbers [] k m n = ⊥
 AreNumbers (major ∷ []) k m n = IsNumberText major k × (m ≡ 0) × (n ≡ 0)
 AreNumbers (major ∷ minor ∷ []) k m n = IsNumberText major k × IsNumberText minor m × (n ≡ 0)
-AreNumbers (major ∷ minor ∷ patch ∷ []) k m n = IsNumberText major k × IsNumberText minor m × IsNumberText patch n
+AreNumbers (major ∷ minor ∷ patch ∷ []) k m n =
+    IsNumberText major k × IsNumberText minor m × IsNumberText patch n
 AreNumbers (major ∷ minor ∷ patch ∷ next ∷ more) k m n = ⊥
 
--- The text is this version but for zeros before its numbers and for numbers that are missing: one to three numbers with dots between
--- them, then a hyphen and its pre-release, then a plus and its build metadata, or nothing after the numbers.
+-- The text is this version but for zeros before its numbers and for numbers that are missing: one to three
+-- numbers with dots between them, then a hyphen and its pre-release, then a plus and its build metadata, or
+-- nothing after the numbers.
 pub record IsLooseText (text : List ℕ) (p : Parts) : Type 0 where
   pub numbers : List (List ℕ)
   pub spelled : text ≡ join_dots numbers ++ (marked 45 p.3 ++ marked 43 p.4)
@@ -41,6 +44,7 @@ abbrev pub IsAfterV : List ℕ → List ℕ → Type 0
 IsAfterV text bare = (text ≡ codes "v" ++ bare) ⊎ ((text ≡ codes "V" ++ bare)
     ⊎ ((text ≡ bare) × (slice_index bare 0 ≢ 118) × (slice_index bare 0 ≢ 86)))
 
--- The text, read leniently, is this version: after one `v` or none it is that by SemVer 2.0, or but for zeros and missing numbers.
+-- The text, read leniently, is this version: after one `v` or none it is that by SemVer 2.0,
+-- or but for zeros and missing numbers.
 abbrev pub IsLenientText : List ℕ → Parts → Type 0
 IsLenientText text p = (bare : List ℕ) × IsAfterV text bare × (IsVersionText bare p ⊎ IsLooseText bare p)

@@ -1,7 +1,8 @@
 -- Trusted by the headline.
 -- Equality and order of versions.
--- Source: SemVer 2.0, semver.org, section 11: precedence compares the three numbers and then by the pre-release. Build metadata
--- has no precedence there; it decides last, in the order that Cargo's crate `semver` gives it.
+-- Source: SemVer 2.0, semver.org, section 11: precedence compares the three numbers and then by the
+-- pre-release. Build metadata has no precedence there; it decides last,
+-- in the order that Cargo's crate `semver` gives it.
 use Rattle.semver.specs.Order.{pre_cmp, build_cmp}
 use Rattle.semver.specs.Parse.{Parts}
 use Rattle.std.specs.Cmp.Lexicographic.{pointwise}
@@ -20,4 +21,5 @@ parts_cmp = then_cmp precedence (on (λ (p : Parts). p.4) build_cmp)
 
 -- whether two versions are equal in every part
 abbrev pub same_parts : Parts → Parts → Bool
-same_parts p q = (p.0 == q.0) && ((p.1 == q.1) && ((p.2 == q.2) && (pointwise nat_eq p.3 q.3 && pointwise nat_eq p.4 q.4)))
+same_parts p q =
+    (p.0 == q.0) && ((p.1 == q.1) && ((p.2 == q.2) && (pointwise nat_eq p.3 q.3 && pointwise nat_eq p.4 q.4)))

@@ -16,8 +16,11 @@ use Rattle.kube_types_semver.specs.Shown.{parts}
 use Rattle.kube_types_semver.specs.declared.version.KubeSemver.{KubeSemver}
 
 pub parts_cmp_total : IsTotalOrder parts_cmp
-parts_cmp_total = then_total (then_total (on_total (λ (p : Parts). p.0) nat_cmp_total) (then_total (on_total (λ (p : Parts). p.1) nat_cmp_total)
-    (then_total (on_total (λ (p : Parts). p.2) nat_cmp_total) (on_total (λ (p : Parts). p.3) pre_total)))) (on_total (λ (p : Parts). p.4) build_total)
+parts_cmp_total =
+    then_total (then_total (on_total (λ (p : Parts). p.0) nat_cmp_total)
+    (then_total (on_total (λ (p : Parts). p.1) nat_cmp_total)
+    (then_total (on_total (λ (p : Parts). p.2) nat_cmp_total) (on_total (λ (p : Parts). p.3) pre_total))))
+    (on_total (λ (p : Parts). p.4) build_total)
 
 -- what a tie of two orders, one after the other, says of each
 tie_first : (r s : Ordering) → ordering_then r s ≡ Equal → r ≡ Equal
@@ -48,9 +51,12 @@ pub same_tied : (p q : Parts) → p ≡ q → parts_cmp p q ≡ Equal
 same_tied p q e = ap (parts_cmp p) (sym e) ∙ tied_itself parts_cmp_total p
 
 pub same_parts_equiv : IsEquivalence same_parts
-same_parts_equiv = and_equiv (on_equiv (λ (p : Parts). p.0) nat_eq_equiv) (and_equiv (on_equiv (λ (p : Parts). p.1) nat_eq_equiv)
+same_parts_equiv =
+    and_equiv (on_equiv (λ (p : Parts). p.0) nat_eq_equiv)
+    (and_equiv (on_equiv (λ (p : Parts). p.1) nat_eq_equiv)
     (and_equiv (on_equiv (λ (p : Parts). p.2) nat_eq_equiv)
-    (and_equiv (on_equiv (λ (p : Parts). p.3) nat_list_eq_equiv) (on_equiv (λ (p : Parts). p.4) nat_list_eq_equiv))))
+    (and_equiv (on_equiv (λ (p : Parts). p.3) nat_list_eq_equiv)
+    (on_equiv (λ (p : Parts). p.4) nat_list_eq_equiv))))
 
 -- the test for equality
 pub tested_same : (p q : Parts) → same_parts p q ≡ true → p ≡ q
@@ -80,10 +86,14 @@ version_cmp_total = on_total parts parts_cmp_total
 pub version_cmp_agrees : Agrees (as_partial_cmp (on parts parts_cmp)) (on parts parts_cmp)
 version_cmp_agrees = λ x y. refl
 
-pub version_cmp_matches_eq : (x y : KubeSemver) → same_parts (parts x) (parts y) ≡ eq_by_cmp (on parts parts_cmp) x y
+pub version_cmp_matches_eq : (x y : KubeSemver)
+    → same_parts (parts x) (parts y) ≡ eq_by_cmp (on parts parts_cmp) x y
 version_cmp_matches_eq x y = both_ways (same_parts (parts x) (parts y)) (eq_by_cmp (on parts parts_cmp) x y)
-    (λ e. (Equal-is (parts_cmp (parts x) (parts y))).1 (same_tied (parts x) (parts y) (tested_same (parts x) (parts y) e)))
-    (λ e. same_tested (parts x) (parts y) (tied_same (parts x) (parts y) ((Equal-is (parts_cmp (parts x) (parts y))).0 e)))
+    (λ e. (Equal-is (parts_cmp (parts x) (parts y))).1
+    (same_tied (parts x) (parts y) (tested_same (parts x) (parts y) e)))
+    (λ e. same_tested (parts x) (parts y)
+    (tied_same (parts x) (parts y) ((Equal-is (parts_cmp (parts x) (parts y))).0 e)))
 
-pub version_partial_order : IsPartialOrder (λ (a b : KubeSemver). same_parts (parts a) (parts b)) (as_partial_cmp (on parts parts_cmp))
+pub version_partial_order : IsPartialOrder (λ (a b : KubeSemver). same_parts (parts a) (parts b))
+    (as_partial_cmp (on parts parts_cmp))
 version_partial_order = po version_cmp_total version_cmp_matches_eq

@@ -1,8 +1,8 @@
 -- Trusted by the headline.
 -- The text of a version, read strictly or leniently.
--- Source: SemVer 2.0, semver.org, whose grammar `version_parts` reads; and the `normalize` option of `semver` in the CEL library
--- `Semver`, `k8s.io/apiserver/pkg/cel/library` of Kubernetes: it drops a leading `v`, adds missing minor and patch numbers and
--- drops leading zeros.
+-- Source: SemVer 2.0, semver.org, whose grammar `version_parts` reads; and the `normalize` option of `semver`
+-- in the CEL library `Semver`, `k8s.io/apiserver/pkg/cel/library` of Kubernetes: it drops a leading `v`, adds
+-- missing minor and patch numbers and drops leading zeros.
 use Rattle.semver.specs.Order.{strip_zeros, parts}
 use Rattle.semver.specs.Parse.{Parts, version_parts}
 use Rattle.std.specs.Char.{is_ascii_digit}
@@ -37,21 +37,27 @@ is_number part = not (length part == 0) && list_all is_ascii_digit part
 unfoldable pub number_text : List ℕ → List ℕ
 number_text digits = if length (strip_zeros digits) == 0 then codes "0" else strip_zeros digits
 
--- Three numbers in full, with the tail after them: a number that is missing is 0, and more than three are no version.
+-- Three numbers in full, with the tail after them: a number that is missing is 0,
+-- and more than three are no version.
 unfoldable pub full_text : List (List ℕ) → List ℕ → Option (List ℕ)
 full_text [] tail = None
 full_text (major ∷ []) tail = Some (number_text major ++ (codes ".0.0" ++ tail))
-full_text (major ∷ minor ∷ []) tail = Some (number_text major ++ (codes "." ++ (number_text minor ++ (codes ".0" ++ tail))))
+full_text (major ∷ minor ∷ []) tail =
+    Some (number_text major ++ (codes "." ++ (number_text minor ++ (codes ".0" ++ tail))))
 full_text (major ∷ minor ∷ patch ∷ []) tail =
-    Some (number_text major ++ (codes "." ++ (number_text minor ++ (codes "." ++ (number_text patch ++ tail)))))
+    Some (number_text major ++ (codes "." ++ (number_text minor ++ (codes "."
+    ++ (number_text patch ++ tail)))))
 full_text (major ∷ minor ∷ patch ∷ next ∷ more) tail = None
 
 -- the same of a text with no leading `v`
 unfoldable pub normal_text : List ℕ → Option (List ℕ)
-normal_text text = if list_all is_number (parts (core_of text)) then full_text (parts (core_of text)) (tail_of text) else Some text
+normal_text text =
+    if list_all is_number (parts (core_of text)) then full_text (parts (core_of text)) (tail_of text)
+    else Some text
 
--- The text that a lenient reading gives to the strict one, if any: one leading `v` is dropped, and the numbers before the first
--- hyphen are written in full. A text whose part before the first hyphen is anything else than numbers with dots between them stays.
+-- The text that a lenient reading gives to the strict one, if any: one leading `v` is dropped, and the
+-- numbers before the first hyphen are written in full. A text whose part before the first hyphen is anything
+-- else than numbers with dots between them stays.
 abbrev pub lenient_text : List ℕ → Option (List ℕ)
 lenient_text text = normal_text (without_v text)
 

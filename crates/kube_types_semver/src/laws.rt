@@ -1,4 +1,5 @@
-//! Laws of versions, over the definitions alone: each function here does nothing, and its contract is the law.
+//! Laws of versions, over the definitions alone: each function here does nothing,
+//! and its contract is the law.
 ghost use Rattle.semver.specs.Parse.{Parts};
 ghost use Rattle.std.specs.Cmp.{IsTotalOrder};
 ghost use Rattle.std.specs.Prelude.{◌≡◌, ◌↔◌, ℕ, List, ◌∷◌, true, false, Some};
@@ -27,7 +28,8 @@ pub fn lenient_keeps_versions()
     ensures { (text : List ℕ) (p : Parts) → version_of false text ≡ Some p → version_of true text ≡ Some p }
 {}
 
-/// A lenient reading takes a text with one `v` (118) or `V` (86) before it as that text, unless the text has one itself.
+/// A lenient reading takes a text with one `v` (118) or `V` (86) before it as that text,
+/// unless the text has one itself.
 pub fn lenient_drops_one_v()
     ensures small { (text : List ℕ) → without_v text ≡ text
         → version_of true (118 ∷ text) ≡ version_of true text }
@@ -35,8 +37,9 @@ pub fn lenient_drops_one_v()
         → version_of true (86 ∷ text) ≡ version_of true text }
 {}
 
-/// A text is read strictly as a version exactly where it is that version by SemVer 2.0, and leniently exactly where it is that but for
-/// one `v` before it, for zeros before its numbers, and for numbers that are missing.
+/// A text is read strictly as a version exactly where it is that version by SemVer 2.0, and leniently exactly
+/// where it is that but for one `v` before it, for zeros before its numbers,
+/// and for numbers that are missing.
 pub fn texts_mean_their_version()
     ensures strict { (text : List ℕ) (p : Parts) → (version_of false text ≡ Some p) ↔ IsVersionText text p }
     ensures lenient { (text : List ℕ) (p : Parts) → (version_of true text ≡ Some p) ↔ IsLenientText text p }

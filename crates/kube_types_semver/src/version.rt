@@ -19,13 +19,13 @@ pub struct KubeSemver {
 impl KubeSemver {
     /// The version that a text is, if it is one.
     ///
-    /// Strictly, a text is a version by SemVer 2.0 with numbers below 2 to the 64. A lenient reading drops one leading `v` or
-    /// `V`; where the part before the first `-` is one to three runs of digits with dots between them, it drops their leading
-    /// zeros and takes 0 for each number that is missing, and where it is four runs or more, the text is no version. Any other
-    /// text it reads strictly.
+    /// Strictly, a text is a version by SemVer 2.0 with numbers below 2 to the 64. A lenient reading drops
+    /// one leading `v` or `V`; where the part before the first `-` is one to three runs of digits with dots
+    /// between them, it drops their leading zeros and takes 0 for each number that is missing, and where it
+    /// is four runs or more, the text is no version. Any other text it reads strictly.
     ///
-    /// Answers `Refused::Memory` where memory is refused, and no other refusal. A strict reading of a version with neither a
-    /// pre-release nor build metadata takes no memory.
+    /// Answers `Refused::Memory` where memory is refused, and no other refusal. A strict reading of a version
+    /// with neither a pre-release nor build metadata takes no memory.
     #[tactic(auto, unfolding(crate::specs::Reading::version_of))]
     pub fn read(alloc: Global, text: &str, lenient: bool) -> Result<Option<KubeSemver>, Refused>
         ensures answer { IfOk result (λ version. option_map parts version ≡ version_of lenient text.now) }

@@ -12,4 +12,5 @@ abbrev pub same_url : Shown → Shown → Bool
 same_url u v = bytes_eq (serialize u.0) (serialize v.0) && beq u.1 v.1
 
 pub same_url_equiv : IsEquivalence same_url
-same_url_equiv = and_equiv (on_equiv (λ (u : Shown). serialize u.0) nat_list_eq_equiv) (on_equiv (λ (u : Shown). u.1) bool_eq_equiv)
+same_url_equiv = and_equiv (on_equiv (λ (u : Shown). serialize u.0) nat_list_eq_equiv)
+    (on_equiv (λ (u : Shown). u.1) bool_eq_equiv)

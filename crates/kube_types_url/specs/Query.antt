@@ -1,14 +1,16 @@
 -- Trusted by the headline.
 -- The query of a URL as a map from names to values.
--- Source: the parser of application/x-www-form-urlencoded, section 5.1 of the URL Standard, url.spec.whatwg.org; and `getQuery` of
--- the CEL library `URLs`, `k8s.io/apiserver/pkg/cel/library` of Kubernetes, which gives a map from names to lists.
+-- Source: the parser of application/x-www-form-urlencoded, section 5.1 of the URL Standard,
+-- url.spec.whatwg.org; and `getQuery` of the CEL library `URLs`, `k8s.io/apiserver/pkg/cel/library` of
+-- Kubernetes, which gives a map from names to lists.
 use Rattle.form_urlencoded.specs.Form.{decode}
 use Rattle.std.specs.List.{list_any, slice_split, before_first, after_first}
 use Rattle.std.specs.Prelude.{ℕ, ◌==◌, List, [], Option, Some, None, map, filter, length, nat_lt, if◌then◌else◌}
 use Rattle.std.specs.Str.{bytes_eq}
 use Rattle.std.specs.Str.Lossy.{utf8_lossy}
 
--- The text that a name or a value stands for: `+` is a space, an escape is its byte, and what is not UTF-8 is replaced.
+-- The text that a name or a value stands for: `+` is a space, an escape is its byte,
+-- and what is not UTF-8 is replaced.
 abbrev pub decoded_text : List ℕ → List ℕ
 decoded_text text = utf8_lossy (decode text)
 
@@ -22,7 +24,8 @@ value_of piece = after_first (λ b. b == 61) piece
 
 -- the names and values of pieces, in the order in which they stand; an empty piece has none
 unfoldable pub pairs_of_pieces : List (List ℕ) → List (List ℕ × List ℕ)
-pairs_of_pieces pieces = map (λ piece. (decoded_text (name_of piece), decoded_text (value_of piece))) (filter (λ piece. nat_lt 0 (length piece)) pieces)
+pairs_of_pieces pieces = map (λ piece. (decoded_text (name_of piece), decoded_text (value_of piece)))
+    (filter (λ piece. nat_lt 0 (length piece)) pieces)
 
 -- the names and values of a query, whose pieces stand between `&` (38)
 abbrev pub pairs_of : List ℕ → List (List ℕ × List ℕ)

@@ -1,7 +1,7 @@
 -- Trusted by the headline.
 -- The text of a URL or of a path.
--- Source: the CEL library `URLs`, `k8s.io/apiserver/pkg/cel/library` of Kubernetes: a URL or an absolute path; and the URL
--- Standard, url.spec.whatwg.org, whose parser is `parse_url`.
+-- Source: the CEL library `URLs`, `k8s.io/apiserver/pkg/cel/library` of Kubernetes: a URL or an absolute
+-- path; and the URL Standard, url.spec.whatwg.org, whose parser is `parse_url`.
 use Rattle.std.specs.Option.{option_map}
 use Rattle.std.specs.Prelude.{ℕ, ◌==◌, Bool, List, ◌++◌, Option, Some, None, slice_index, codes, if◌then◌else◌}
 use Rattle.std.specs.Result.{result_ok}

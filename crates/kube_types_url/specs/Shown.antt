@@ -1,7 +1,7 @@
 -- Trusted by the headline.
 -- What clauses see of a URL, and the texts of its parts.
--- Source: the CEL library `URLs`, `k8s.io/apiserver/pkg/cel/library` of Kubernetes: `getScheme`, `getHost`, `getHostname`, `getPort`.
--- A path has no scheme, and its host is `localhost`.
+-- Source: the CEL library `URLs`, `k8s.io/apiserver/pkg/cel/library` of Kubernetes: `getScheme`, `getHost`,
+-- `getHostname`, `getPort`. A path has no scheme, and its host is `localhost`.
 use Rattle.std.specs.Fmt.{decimal}
 use Rattle.std.specs.Prelude.{ℕ, Bool, List, [], ◌++◌, Option, Some, None, Vec, String, map, string_bytes, codes, if◌then◌else◌}
 use Rattle.std.specs.declared.alloc.Global.{Global}

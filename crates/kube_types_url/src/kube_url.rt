@@ -29,7 +29,8 @@ impl KubeUrl {
     /// A text that begins with `/` is a path: it is read as `http://localhost` and the text.
     ///
     /// # Errors
-    /// `Memory` where memory is refused, and `TooLarge` where `url` answers `Overflow`, which it does for no text of less than 256 MiB.
+    /// `Memory` where memory is refused, and `TooLarge` where `url` answers `Overflow`, which it does for no
+    /// text of less than 256 MiB.
     pub fn read(alloc: Global, text: &str) -> Result<Option<KubeUrl>, Refused>
         ensures url { IfOk result (λ url. option_map url_view url ≡ url_of text.now) }
         ensures large { IfErr result (λ e. e ≡ TooLarge → 268_435_456 ≤ length text.now) }
@@ -59,9 +60,11 @@ impl KubeUrl {
         if self.is_path { "" } else { self.url.scheme() }
     }
 
-    /// The host, with `:` and the port where the URL keeps one: `localhost` for a path, and an empty text for no host.
+    /// The host, with `:` and the port where the URL keeps one: `localhost` for a path,
+    /// and an empty text for no host.
     ///
-    /// A URL keeps no port that is the default of its scheme. Answers `Refused::Memory` where memory is refused.
+    /// A URL keeps no port that is the default of its scheme.
+    /// Answers `Refused::Memory` where memory is refused.
     pub fn host(&self, alloc: Global) -> Result<String, Refused>
         ensures answer { IfOk result (λ host. string_bytes host ≡ host_of (url_view self.now)) }
         ensures memory { IfErr result (λ e. e ≡ Memory) }
@@ -76,7 +79,8 @@ impl KubeUrl {
         }
     }
 
-    /// The host without a port, and without the brackets of an IPv6 address: `localhost` for a path, and an empty text for no host.
+    /// The host without a port, and without the brackets of an IPv6 address: `localhost` for a path,
+    /// and an empty text for no host.
     ///
     /// Answers `Refused::Memory` where memory is refused.
     pub fn hostname(&self, alloc: Global) -> Result<String, Refused>
@@ -132,8 +136,9 @@ impl KubeUrl {
 
     /// The query as a map from names to their values, these in the order in which they stand.
     ///
-    /// The query is cut at `&`, and empty pieces are dropped. A piece is a name and a value, cut at its first `=`, and the value is
-    /// empty where there is none. In both, `+` stands for a space, escapes are decoded, and what is not UTF-8 is replaced.
+    /// The query is cut at `&`, and empty pieces are dropped. A piece is a name and a value, cut at its first
+    /// `=`, and the value is empty where there is none. In both, `+` stands for a space, escapes are decoded,
+    /// and what is not UTF-8 is replaced.
     ///
     /// Answers `Refused::Memory` where memory is refused.
     pub fn query(&self, alloc: Global) -> Result<BTreeMap<String, Vec<String>>, Refused>

@@ -20,7 +20,8 @@ fn refusal(error: ParseError) -> Option<Refused>
     }
 }
 
-/// The least length of a text, in bytes, whose URL may be too large. `url` holds texts of less than 4 GB, and writes no byte as that many.
+/// The least length of a text, in bytes, whose URL may be too large. `url` holds texts of less than 4 GB, and
+/// writes no byte as that many.
 const LEAST_TOO_LARGE: usize = 268_435_456;
 
 /// What is reported of a refusal of a text of this length: no short text is too large.
@@ -47,7 +48,8 @@ pub(crate) fn full_text(alloc: Global, text: &str) -> Result<String, Refused>
     }
 }
 
-/// The URL that a text is by the URL Standard, if it is one. The length is that of the text that was given to be read.
+/// The URL that a text is by the URL Standard, if it is one.
+/// The length is that of the text that was given to be read.
 pub(crate) fn parsed(alloc: Global, text: &str, length: usize) -> Result<Option<Url>, Refused>
     ensures url { IfOk result (λ url. url ≡ result_ok (parse_url None text.now)) }
     ensures large { IfErr result (λ e. e ≡ TooLarge → 268_435_456 ≤ length) }

@@ -1,7 +1,7 @@
 -- Trusted by the clauses of kubecel.
--- The JSON documents that stand in a text one after another. RFC 8259 says what one of them is, which bytes are white space
--- (section 2), and how strings end (section 7). A document ends at white space where no bracket is open, at the bracket that
--- closes its first one, or with the text.
+-- The JSON documents that stand in a text one after another. RFC 8259 says what one of them is, which bytes
+-- are white space (section 2), and how strings end (section 7). A document ends at white space where no
+-- bracket is open, at the bracket that closes its first one, or with the text.
 use Rattle.kubecel_io.specs.declared.cut.Mode.{Mode}
 use Rattle.kubecel_io.specs.declared.cut.Mode.TheVariants.{Outside, Within, Escaped}
 use Rattle.kubecel_io.specs.declared.documents.Reading.{Reading}
@@ -82,6 +82,7 @@ with_documents xs ys = option_map (λ zs. xs ++ zs) ys
 pub record IsAt (text : List ℕ) (r : Reading) (rest : List ℕ) : Type 0 where
   pub before : List ℕ
   pub whole : text ≡ before ++ (r.piece.items ++ rest)
-  pub cut : (xs : List ℕ) → pieces Outside 0 [] (before ++ (r.piece.items ++ xs)) ≡ pieces Outside 0 [] before ++ pieces r.mode r.depth r.piece.items xs
+  pub cut : (xs : List ℕ) → pieces Outside 0 [] (before ++ (r.piece.items ++ xs))
+      ≡ pieces Outside 0 [] before ++ pieces r.mode r.depth r.piece.items xs
   pub values : documents before ≡ Some (map view r.found.items)
   pub characters : IsUtf8 (r.piece.items ++ rest)

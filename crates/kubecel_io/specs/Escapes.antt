@@ -1,6 +1,7 @@
 -- Trusted by the clauses of kubecel.
--- Texts within XML, and within the commands that GitHub reads from the output of a job. Sources: XML 1.0, sections 2.2 and 2.4; GitHub's
--- documentation, "Workflow commands", and the escapes of its package `@actions/core`.
+-- Texts within XML, and within the commands that GitHub reads from the output of a job. Sources: XML 1.0,
+-- sections 2.2 and 2.4; GitHub's documentation, "Workflow commands",
+-- and the escapes of its package `@actions/core`.
 use Rattle.kubecel_io.specs.declared.escape.Escape.{Escape}
 use Rattle.kubecel_io.specs.declared.escape.Escape.TheVariants as escape
 use Rattle.std.specs.List.{flat_map}

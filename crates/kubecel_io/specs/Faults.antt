@@ -1,6 +1,6 @@
 -- Trusted by the clauses of kubecel.
--- Where a text is no JSON, and in which words that is said. Source: this project's own statement; a line ends with a line feed
--- (POSIX.1-2017, 3.206).
+-- Where a text is no JSON, and in which words that is said. Source: this project's own statement; a line ends
+-- with a line feed (POSIX.1-2017, 3.206).
 use Rattle.kubecel_io.specs.Documents.{IsFirstRefused}
 use Rattle.kubecel_io.specs.declared.fault.Fault.{Fault}
 use Rattle.std.specs.List.{count_by, suffix_len}

@@ -12,7 +12,8 @@ pub record FindingData : Type 0 where
   pub rule : List ℕ
   pub message : List ℕ
 
--- one thing: the file where it stands, how many documents stand before it there, its kind, namespace and name (empty where it has none)
+-- one thing: the file where it stands, how many documents stand before it there, its kind,
+-- namespace and name (empty where it has none)
 pub record ItemData : Type 0 where
   pub file : List ℕ
   pub index : ℕ

@@ -1,6 +1,7 @@
 -- Trusted by the clauses of kubecel.
--- Which objects a document holds, what they are called, and which old object one of them was before. Sources: Kubernetes API conventions,
--- "Types (Kinds)" (lists), "Metadata"; Kubernetes documentation, "API groups and versioning".
+-- Which objects a document holds, what they are called, and which old object one of them was before. Sources:
+-- Kubernetes API conventions, "Types (Kinds)" (lists), "Metadata"; Kubernetes documentation,
+-- "API groups and versioning".
 use Rattle.kubecel_io.specs.Reads.{Found}
 use Rattle.kubecel_io.specs.declared.objects.Identity.{Identity}
 use Rattle.serde_json.specs.Data.{Data, Items, no_items, item}

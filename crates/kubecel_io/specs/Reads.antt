@@ -1,6 +1,6 @@
 -- Trusted by the clauses of kubecel.
--- What a run of `kubecel` reads: the files that it names, one after another, and the documents that stand in them; or the first
--- file that has none, and what is said of it.
+-- What a run of `kubecel` reads: the files that it names, one after another, and the documents that stand in
+-- them; or the first file that has none, and what is said of it.
 use Rattle.kubecel_io.specs.Documents.{documents}
 use Rattle.kubecel_io.specs.Faults.{IsFault, fault_text}
 use Rattle.kubecel_io.specs.declared.fault.Fault.{Fault}
@@ -44,8 +44,8 @@ module _ {S : Type 0} (reads : S → List ℕ → Option (List ℕ) → S → Ty
       × IsRead before path values between × AreRead between paths rest after
       × (found ≡ with_indices path 0 values ++ rest)
 
-  -- the file at the path has no documents, and these words say why: it can't be read, for a reason of which nothing is said, or where
-  -- it is no JSON
+  -- the file at the path has no documents, and these words say why: it can't be read, for a reason of which
+  -- nothing is said, or where it is no JSON
   abbrev pub IsUnread : S → List ℕ → List ℕ → S → Type 0
   IsUnread before path words after =
       (reads before path None after × (reason : List ℕ) × (words ≡ path ++ (codes ": " ++ reason)))

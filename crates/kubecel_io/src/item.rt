@@ -112,7 +112,8 @@ fn greater(first: u8, second: u8) -> u8
     if first < second { second } else { first }
 }
 
-/// The exit status of a run that judged these: 2 where one couldn't be judged, else 1 where one fails, else 0.
+/// The exit status of a run that judged these: 2 where one couldn't be judged,
+/// else 1 where one fails, else 0.
 pub fn status_of(items: &[Item]) -> u8
     ensures value { result ≡ items_status (map item_view items.now) }
     ensures within { result ≤ 2 }

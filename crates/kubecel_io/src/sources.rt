@@ -13,8 +13,8 @@ use std::io;
 
 /// The files that a command names.
 pub trait Sources {
-    // That a read at a path, from the first state on, may give this text, or none where it can't be read, and leave the second
-    // state. Of real files nothing is promised.
+    // That a read at a path, from the first state on, may give this text, or none where it can't be read, and
+    // leave the second state. Of real files nothing is promised.
     ghost reads: { Self → List ℕ → Option (List ℕ) → Self → Type 0 } = { λ _ _ _ _. ⊤ };
 
     /// The text of a file, or why it can't be read.
@@ -60,7 +60,8 @@ pub struct Document {
 /// The documents of the files at these paths, which are read in order.
 ///
 /// # Errors
-/// The first file that can't be read or isn't made of JSON documents, with the place in it where it is no JSON.
+/// The first file that can't be read or isn't made of JSON documents,
+/// with the place in it where it is no JSON.
 pub fn read_documents<S: Sources>(
     alloc: Global,
     paths: &[&str],
@@ -81,7 +82,8 @@ pub fn read_documents<S: Sources>(
 
 /// What is said of a file that can't be read.
 fn unreadable(alloc: Global, path: &str, error: &io::Error) -> Result<String, AllocError>
-    ensures { IfOk result (λ words. (reason : List ℕ) × (string_bytes words ≡ path.now ++ (codes ": " ++ reason))) }
+    ensures { IfOk result (λ words. (reason : List ℕ)
+        × (string_bytes words ≡ path.now ++ (codes ": " ++ reason))) }
 {
     let reason = format!(in alloc; "{error}")?;
     format!(in alloc; "{path}: {reason}")
@@ -90,8 +92,8 @@ fn unreadable(alloc: Global, path: &str, error: &io::Error) -> Result<String, Al
 /// The documents of the file at the path.
 fn read_file<S: Sources>(alloc: Global, path: &str, files: &mut S) -> Result<Vec<Value>, Stop>
     ensures read { IfOk result (λ v. IsRead S.reads files.old path.now (map view v.items) files.new) }
-    ensures unread { IfErr result (λ stop. IfSome (words_of stop) (λ words. IsUnread S.reads files.old path.now
-        words files.new)) }
+    ensures unread { IfErr result (λ stop. IfSome (words_of stop)
+        (λ words. IsUnread S.reads files.old path.now words files.new)) }
 {
     let text = match files.read(alloc, path)? {
         Ok(text) => text,

@@ -72,7 +72,8 @@ impl Map {
     /// One more entry, whose key isn't there.
     ///
     /// # Errors
-    /// `Memory`, also where the map would have more levels than [`MAX_VALUE_LEVELS`](super::MAX_VALUE_LEVELS).
+    /// `Memory`, also where the map would have more levels than
+    /// [`MAX_VALUE_LEVELS`](super::MAX_VALUE_LEVELS).
     #[tactic(auto, using(crate::proofs::Members::more_doubles, crate::proofs::Members::more_levels))]
     pub(crate) fn insert_new(&mut self, key: Key, value: Value) -> Result<(), Refused>
         requires { find (key_view key) self.now ≡ None }
