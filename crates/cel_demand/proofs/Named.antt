@@ -1,14 +1,13 @@
 -- What is alike by the names that are read.
-use Rattle.std.proofs.Common.{◌≡◌, ℕ, zero, suc, List, [], ◌∷◌, Bool, true, false, ◌||◌, Option, Some, None, option_map, if◌then◌else◌, refl, sym, ap, ◌∙◌, subst, true≢false}
+use Rattle.std.proofs.Common.{◌≡◌, ℕ, zero, suc, List, [], ◌∷◌, Bool, true, false, ◌||◌, Option, Some, None, if◌then◌else◌, refl, sym, ap, ◌∙◌, subst, true≢false}
 use Rattle.std.specs.Str.{bytes_eq}
 use Rattle.std.proofs.lemmas.Bool.{false_from_ne_true}
 use Rattle.std.proofs.lemmas.Slice.Eq.{bytes_eq-Decides}
 use Rattle.cel_value.specs.Data.{Data}
 use Rattle.cel_demand.specs.Alike.{OptionsAlike, Alike, MembersAlike, ReadAlike}
-use Rattle.cel_demand.specs.Demand.{part_of, members_view}
+use Rattle.cel_demand.specs.Demand.{members_view}
 use Rattle.cel_demand.specs.Part.{Part, Members, no_members, member, both, part_at, has_name, part_read, both_read}
 use Rattle.cel_demand.specs.Places.{Entry, name_of, is_named, IsFirst}
-use Rattle.cel_demand.specs.declared.demand.Demand.{Demand}
 use Rattle.cel_demand.proofs.Parts.{options_split, both_alike}
 
 or_right : (a b : Bool) → b ≡ true → (a || b) ≡ true

@@ -1,29 +1,26 @@
 -- A meaning depends only on what is read.
-use Rattle.std.proofs.Common.{◌≡◌, ℕ, List, [], ◌∷◌, map, None, Ok, codes, ap, refl, subst}
+use Rattle.std.proofs.Common.{◌≡◌, ◌∷◌, None, Ok, codes, ap, refl, subst}
 use Rattle.cel_patterns.specs.Book.{Book}
 use Rattle.cel_semantics.specs.Bindings.{Bindings, binding}
 use Rattle.cel_semantics.specs.Calls.{receiver_of, by_form, call_outcome}
 use Rattle.cel_syntax_ast.specs.Term.{is_there, Term, literal, ident, select, has, index, unary, binary, conditional, list_of, map_with, call, qualified, macro, Terms, no_terms, term_and, count_of, Pairs, no_pairs, pair_and}
 use Rattle.cel_semantics.specs.Decisions.{truth, branch_outcome}
 use Rattle.cel_semantics.specs.Library.{Library}
-use Rattle.cel_semantics.specs.Macros.{macro_name, macro_of, iteration_result_of}
 use Rattle.cel_semantics.specs.Meaning.{meaning, meanings, map_meaning, binary_of, strictly, entry_of}
 use Rattle.cel_semantics.specs.Members.{selection, has_member, index_outcome}
 use Rattle.cel_semantics.specs.Operators.{unary_outcome}
 use Rattle.cel_semantics.specs.Outcome.{Outcome, and_then, all_values}
-use Rattle.cel_semantics.specs.Ranges.{range_of}
-use Rattle.cel_syntax_ast.specs.declared.expr.MacroKind.{MacroKind}
 use Rattle.cel_value.specs.Data.{Data, text_key, list, map_of, no_entries}
 use Rattle.cel_value.specs.Faults.{Fault, undeclared}
 use Rattle.cel_value.specs.View.{items_of}
 use Rattle.std.specs.Prelude.{Bool, true, false, Result, Err}
-use Rattle.cel_demand.specs.Alike.{ListsAlike, Alike, MembersAlike, BoundAlike, NamesAlike}
+use Rattle.cel_demand.specs.Alike.{Alike, BoundAlike, NamesAlike}
 use Rattle.cel_demand.specs.Part.{Part, nothing, whole, each_item, some_members, Members, no_members, member, both, all_members, part_at, part_read, without}
 use Rattle.cel_demand.specs.Reads.{reads, all_reads, pair_reads, reads_of, kept_part, body_part}
 use Rattle.cel_demand.proofs.Macros.{made_over_alike}
 use Rattle.cel_demand.proofs.Named.{by_reads}
 use Rattle.cel_demand.proofs.Parts.{with_member_alike, both_alike, all_members_alike, bound_inside, alike-refl}
-use Rattle.cel_demand.proofs.Results.{ResultsAlike, results_equal, whole_results, results_then, found_alike, selection_alike, has_alike, range_alike, images_alike}
+use Rattle.cel_demand.proofs.Results.{ResultsAlike, results_equal, whole_results, results_then, found_alike, selection_alike, has_alike}
 
 chosen_alike : (p : Part) (t : Result Bool Fault) (r s u v : Outcome) → ResultsAlike (Alike p) r s → ResultsAlike (Alike p) u v → ResultsAlike (Alike p) (branch_outcome t r u) (branch_outcome t s v)
 chosen_alike p (Ok true) r s u v h k = h

@@ -4,7 +4,7 @@ use Rattle.std.specs.Option.{option_map_or}
 use Rattle.cel_semantics.specs.Members.{selection, has_member}
 use Rattle.cel_semantics.specs.Outcome.{Outcome, and_then}
 use Rattle.cel_semantics.specs.Ranges.{items_list, range_of}
-use Rattle.cel_value.specs.Data.{Data, bool, list, map_of, text_key}
+use Rattle.cel_value.specs.Data.{Data, bool, map_of, text_key}
 use Rattle.cel_value.specs.Faults.{Fault, no_key}
 use Rattle.cel_value.specs.Find.{find}
 use Rattle.cel_demand.specs.Alike.{OptionsAlike, ListsAlike, Alike, MembersAlike}

@@ -4,7 +4,7 @@ use Rattle.std.specs.Prelude.{slice_set}
 use Rattle.std.specs.Str.{bytes_eq}
 use Rattle.std.proofs.lemmas.List.{take_more, take_all}
 use Rattle.cel_demand.specs.Demand.{part_of, members_view}
-use Rattle.cel_demand.specs.Part.{Part, Members, no_members, member, with_member, both, part_at}
+use Rattle.cel_demand.specs.Part.{Part, Members, no_members, member, with_member}
 use Rattle.cel_demand.specs.Places.{Entry, name_of, is_named, IsFirst}
 use Rattle.cel_demand.specs.declared.demand.Demand.{Demand}
 

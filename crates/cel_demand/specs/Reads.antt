@@ -2,7 +2,6 @@
 -- What an expression reads of what its free names are bound to (CEL language definition, "Field Selection",
 -- "Macros"). A selection reads one member of its operand, and a macro its range's items, each as far as the
 -- macro's variable is read. All else reads its operands whole.
-use Rattle.std.specs.Prelude.{ℕ, List}
 use Rattle.cel_syntax_ast.specs.Term.{Term, literal, ident, select, has, index, unary, binary, conditional, list_of, map_with, call, qualified, macro, Terms, no_terms, term_and, Pairs, no_pairs, pair_and}
 use Rattle.cel_syntax_ast.specs.declared.expr.MacroKind.{MacroKind}
 use Rattle.cel_syntax_ast.specs.declared.expr.MacroKind.TheVariants.{All, Exists, ExistsOne, Map, Filter}

@@ -2,7 +2,7 @@
 ghost use Rattle.std.specs.Prelude.{◌≡◌, IfOk, IfErr, OnOk, map};
 ghost use Rattle.cel_syntax_ast.specs.Term.{term, terms_of, pairs_of};
 ghost use Rattle.cel_demand.specs.Demand.{part_of, members_view};
-ghost use Rattle.cel_demand.specs.Part.{whole, each_item, both, part_at};
+ghost use Rattle.cel_demand.specs.Part.{each_item, both, part_at};
 ghost use Rattle.cel_demand.specs.Reads.{reads, all_reads, pair_reads, reads_of, kept_part, body_part};
 
 use crate::both::{add_member, add_others, both, demand_at, in_items};

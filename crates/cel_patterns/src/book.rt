@@ -1,6 +1,6 @@
 //! A book of patterns: it builds each pattern once, keeps at most 256 of them,
 //! and remembers what was answered to each.
-ghost use Rattle.std.specs.Prelude.{◌≡◌, ◌≢◌, ◌↔◌, ◌<◌, ◌≤◌, ℕ, is_some, string_bytes, All, IfErr, IfOk, IfSome, IsSome, IsTrue, List, MatchOption, None, Some, false, true, if◌then◌else◌, option_map, vec_len};
+ghost use Rattle.std.specs.Prelude.{◌≡◌, ◌≢◌, ◌↔◌, ◌<◌, ◌≤◌, ℕ, is_some, string_bytes, All, IfErr, IfOk, IfSome, IsSome, IsTrue, List, None, Some, false, true, if◌then◌else◌, option_map, vec_len};
 ghost use Rattle.cel_patterns.specs.Book.{Extends, found_by, IsBook, IsPlain, IsRefused, IsSpanIn, matched_by, pattern_of_text};
 ghost use Rattle.cel_patterns.specs.Built.{FindsAll, IsFaithful, IsMatchAnswer};
 ghost use Rattle.cel_patterns.specs.Stored.{IsStoredAt};

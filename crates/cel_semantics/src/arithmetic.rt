@@ -1,5 +1,5 @@
 //! Sums, differences, products, quotients and remainders of values without doubles.
-ghost use Rattle.std.specs.Prelude.{◌≡◌, ◌+◌, ◌*◌, ◌++◌, ◌+ℤ◌, ◌-ℤ◌, ◌*ℤ◌, neg_ℤ, IfOk, IfErr, Ok, string_bytes, map};
+ghost use Rattle.std.specs.Prelude.{◌≡◌, ◌+◌, ◌*◌, ◌++◌, ◌+ℤ◌, ◌-ℤ◌, ◌*ℤ◌, neg_ℤ, IfOk, IfErr, Ok, map};
 ghost use Rattle.cel_value.specs.Data.{int, uint, text, bytes, list};
 ghost use Rattle.cel_value.specs.View.{view};
 ghost use Rattle.cel_semantics.specs.Arithmetic.{int_in, uint_in, or_overflow, int_or_overflow, uint_or_overflow, opposite, items_joined, sum_of, difference_of, product_of, quotient_of, remainder_of};

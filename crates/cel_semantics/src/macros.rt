@@ -1,6 +1,5 @@
 //! What macros make of their items.
-ghost use Rattle.std.specs.Prelude.{◌≡◌, ℕ, List, [], Ok, Err, Result, Option, option_map, IfOk, IfErr, map};
-ghost use Rattle.cel_value.specs.Faults.{fault_view};
+ghost use Rattle.std.specs.Prelude.{◌≡◌, [], Ok, Err, Result, Option, IfOk, IfErr, map};
 ghost use Rattle.cel_value.specs.View.{view};
 ghost use Rattle.cel_semantics.specs.Decisions.{truth};
 ghost use Rattle.cel_semantics.specs.Macros.{item_if, iteration_result_of, made_of, macro_name, iteration_result_view};

@@ -1,5 +1,5 @@
 -- Reading an operand and what follows it, level by level.
-use Rattle.std.proofs.Common.{◌≡◌, ℕ, zero, suc, refl, sym, ap, ◌∙◌, Bool, true, false, Option, Some, None, List, [], ◌∷◌}
+use Rattle.std.proofs.Common.{◌≡◌, ℕ, zero, suc, refl, ap, ◌∙◌, false, Option, Some, None, List, [], ◌∷◌}
 use Rattle.std.specs.Prelude.{is_some}
 use Rattle.cel_syntax_lexer.specs.Token.{Token}
 use Rattle.cel_syntax_ast.specs.declared.expr.BinaryOperator.{BinaryOperator}

@@ -19,7 +19,7 @@ use Rattle.cel_syntax.specs.Grammar.{OptionalComma, without, with_comma, Express
 use Rattle.cel_syntax.specs.Ahead as ahead
 use Rattle.cel_syntax.specs.Parser as p
 use Rattle.cel_syntax.specs.Ahead.{same_punctuator, sees, sees_end, goes_on, operator_at, sees_sign}
-use Rattle.cel_syntax.specs.Parser.{Outcome, Parser, Found, and_then, slack, above}
+use Rattle.cel_syntax.specs.Parser.{Parser, Found, slack}
 use Rattle.cel_syntax.proofs.Steps.{sees_itself, above_at, token_operator_at, no_operator, no_tighter, identifier_value}
 use Rattle.cel_syntax.proofs.Rows as rows
 use Rattle.cel_syntax.proofs.Rows.{Rows, last_row, more_rows}

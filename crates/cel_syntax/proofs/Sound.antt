@@ -20,7 +20,7 @@ use Rattle.cel_syntax.specs.Grammar as g
 use Rattle.cel_syntax.specs.Grammar.{OptionalComma, Expression, Chain, Prefixed, Signed, Member, Primary, Items, SomeItems, Entries, SomeEntries, Pair, Derives}
 use Rattle.cel_syntax.specs.Ahead as ahead
 use Rattle.cel_syntax.specs.Parser as p
-use Rattle.cel_syntax.specs.Ahead.{same_punctuator, sees, sees_sign, operator_at}
+use Rattle.cel_syntax.specs.Ahead.{sees, sees_sign, operator_at}
 use Rattle.cel_syntax.specs.Parser.{Outcome, Parser, Found, and_then, slack, above}
 use Rattle.cel_syntax.proofs.Steps.{and_then_some, sees_punctuator, above_some, operator_at_token}
 use Rattle.cel_syntax.proofs.Rows.{Rows, last_row, more_rows, sound_items}

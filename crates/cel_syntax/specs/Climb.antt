@@ -1,6 +1,6 @@
 -- Scaffolding: only proofs and private clauses cite it.
 -- The operators that follow an operand, level by level: what `chain` reads after its first operand.
-use Rattle.std.specs.Prelude.{ℕ, zero, suc, Some}
+use Rattle.std.specs.Prelude.{ℕ, zero, suc}
 use Rattle.cel_syntax.specs.Parser.{Parser, Found, ◌>>=◌, pure, chain, turns}
 
 module _ (limit : ℕ) (sub : Parser Found) where

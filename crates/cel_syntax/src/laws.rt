@@ -4,7 +4,7 @@ ghost use Rattle.cel_syntax.specs.Parser.{tree_of_tokens};
 ghost use Rattle.cel_syntax.specs.Reading.{TextDerives, tree_of};
 ghost use Rattle.cel_syntax_ast.specs.Term.{Term};
 ghost use Rattle.cel_syntax_lexer.specs.Token.{Token};
-ghost use Rattle.std.specs.Prelude.{◌≡◌, ◌↔◌, List, Some, ℕ};
+ghost use Rattle.std.specs.Prelude.{◌≡◌, List, Some, ℕ};
 
 /// Tokens have a tree exactly where they derive it.
 pub fn tree_is_grammar()

@@ -1,7 +1,7 @@
 //! What the escapes of a quoted literal write.
 
 ghost use Rattle.std.specs.Option.{option_and_then};
-ghost use Rattle.std.specs.Prelude.{◌≡◌, ◌≤◌, ◌<◌, ◌++◌, IfErr, IfSome, MatchResult, OnOk, drop, length, option_map};
+ghost use Rattle.std.specs.Prelude.{◌≡◌, ◌≤◌, ◌<◌, ◌++◌, IfErr, MatchResult, OnOk, drop, length, option_map};
 ghost use Rattle.kube_types_refused.specs.declared.Refused.TheVariants.{Memory};
 ghost use Rattle.cel_syntax_lexer.specs.declared.content.Content.TheVariants.{Bytes};
 ghost use Rattle.cel_syntax_lexer.specs.Escape as spec;

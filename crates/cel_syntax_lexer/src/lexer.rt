@@ -1,6 +1,6 @@
 //! A scan from token to token.
 
-ghost use Rattle.std.specs.Prelude.{◌≡◌, ◌≤◌, ℕ, length, MatchOption, MatchResult, drop, map};
+ghost use Rattle.std.specs.Prelude.{◌≡◌, ℕ, length, MatchOption, MatchResult, map};
 ghost use Rattle.kube_types_refused.specs.declared.Refused.TheVariants.{Memory};
 ghost use Rattle.cel_syntax_lexer.specs.Token.{Token as SpecToken, token_of};
 ghost use Rattle.cel_syntax_lexer.specs.Tokens as spec;

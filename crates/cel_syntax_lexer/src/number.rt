@@ -1,6 +1,6 @@
 //! How many bytes at the front of a text are a number, or a part of one.
 
-ghost use Rattle.std.specs.Prelude.{◌≡◌, ◌≤◌, length};
+ghost use Rattle.std.specs.Prelude.{◌≤◌, length};
 ghost use Rattle.cel_syntax_lexer.specs.Numbers as spec;
 ghost use Rattle.cel_syntax_lexer.specs.Spelling.{LongestSpelling};
 

@@ -1,5 +1,5 @@
 //! What is inside a value of one kind. Each call answers `None` for a value of another kind.
-ghost use Rattle.std.specs.Prelude.{◌≡◌, option_map, string_bytes};
+ghost use Rattle.std.specs.Prelude.{◌≡◌, option_map};
 ghost use Rattle.cel_value.specs.View.{view};
 ghost use Rattle.cel_value.specs.Parts.{number_in, bool_in, text_in, bytes_in, items_in, entries_in, held_in, timestamp_in, duration_in, ip_in, cidr_in, quantity_in, semver_in, url_in, format_in};
 ghost use Rattle.cel_value_times.specs.Instants.{instant};

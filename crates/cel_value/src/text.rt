@@ -1,5 +1,5 @@
 //! The texts of values, keys and errors.
-ghost use Rattle.std.specs.Prelude.{◌≡◌, ◌∷◌, ◌++◌, IfOk, IfErr, OnOk, Some, string_bytes, option_map, true, false};
+ghost use Rattle.std.specs.Prelude.{◌≡◌, ◌∷◌, ◌++◌, IfOk, IfErr, OnOk, Some, string_bytes, true, false};
 ghost use Rattle.cel_value.specs.Keys.{key_view};
 ghost use Rattle.cel_value.specs.View.{view};
 ghost use Rattle.cel_value.specs.Faults.{fault_view};

@@ -1,5 +1,5 @@
 //! Operands on the stack, and the instructions that test them.
-ghost use Rattle.std.specs.Prelude.{◌≡◌, ◌∷◌, [], ◌<◌, ◌≤◌, ◌+◌, ℕ, IfOk, IfErr, List, Ok, Err, drop, length, map, Some, None, MatchBool, MatchOption, MatchResult};
+ghost use Rattle.std.specs.Prelude.{◌≡◌, ◌∷◌, [], ◌<◌, ◌≤◌, ◌+◌, IfOk, IfErr, List, Ok, Err, drop, length, map, Some, None, MatchBool, MatchOption, MatchResult};
 ghost use Rattle.cel_value.specs.Data.{Data};
 ghost use Rattle.cel_value.specs.Faults.{fault_view};
 ghost use Rattle.cel_value.specs.View.{view};

@@ -1,5 +1,5 @@
 //! From trees to code.
-ghost use Rattle.std.specs.Prelude.{◌≡◌, ◌≤◌, ◌<◌, ◌++◌, [], ◌∷◌, ℕ, List, IfOk, IfErr, IfSome, OnOk, map, length, option_map, string_bytes, codes};
+ghost use Rattle.std.specs.Prelude.{◌≡◌, ◌≤◌, ◌<◌, [], ◌∷◌, ℕ, List, IfOk, IfErr, IfSome, OnOk, map, length, option_map, string_bytes, codes};
 ghost use Rattle.cel_value.specs.Data.{map_of, no_entries};
 ghost use Rattle.cel_value.specs.View.{view};
 ghost use Rattle.cel_syntax_ast.specs.Term.{Term, Terms, list_of, call, qualified, no_terms, term_and, term, terms_of, pairs_of};

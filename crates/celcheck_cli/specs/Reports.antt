@@ -1,12 +1,9 @@
 -- Trusted by the clauses of celcheck.
 -- What `eval` and `vap` report, and with which status.
-use Rattle.cel.specs.Program.{program_term}
 use Rattle.cel_patterns.specs.Book.{Book, IsBook}
 use Rattle.cel_semantics.specs.Meaning.{meaning}
 use Rattle.cel_semantics.specs.Outcome.{Outcome}
 use Rattle.cel_syntax.specs.Reading.{tree_of}
-use Rattle.cel_syntax_ast.specs.Term.{Term}
-use Rattle.cel_value.specs.Data.{Data as Value}
 use Rattle.cel_value.specs.Faults.{fault_view}
 use Rattle.cel_value.specs.Kinds.{kind_name}
 use Rattle.cel_value.specs.Texts.{printed_text, fault_text}
@@ -27,7 +24,7 @@ use Rattle.kube_types_refused.specs.declared.Refused.TheVariants.{Memory}
 use Rattle.serde_json.specs.Data.{Data}
 use Rattle.std.specs.declared.io.Error.{Error}
 use Rattle.std.specs.List.{flat_map}
-use Rattle.std.specs.Prelude.{◌≡◌, ℕ, List, [], ◌∷◌, ◌++◌, Bool, true, false, if◌then◌else◌, map, Option, Some, None, option_map, Result, Ok, Err, codes, string_bytes}
+use Rattle.std.specs.Prelude.{◌≡◌, ℕ, List, [], ◌∷◌, ◌++◌, if◌then◌else◌, map, Option, Some, None, option_map, Result, Ok, Err, codes, string_bytes}
 
 -- the status after what was found with this status was written, or could not be
 abbrev pub status_after : ℕ → Result (Unit {0}) Error → ℕ

@@ -3,14 +3,11 @@ use Rattle.cel_patterns.specs.Book.{Book}
 use Rattle.kube_cel.specs.Compiled.{compiled_accessors}
 use Rattle.kube_cel.specs.Raw.{raw_accessors}
 use Rattle.kube_cel.specs.Starts.{compiled_start, with_schema_defaults, source_start}
-use Rattle.kube_cel_walk.specs.Errors.{ErrorData}
 use Rattle.kube_cel_walk.specs.RuleErrors.{too_deep}
 use Rattle.kube_schema_rules.proofs.Candidates.{CountsAll}
-use Rattle.kube_schema_rules.specs.Raw.{raw_steps}
 use Rattle.kube_schema_rules.specs.Visit.{Visit, Root, root_visit}
 use Rattle.kube_cel.proofs.Counted.{compiled_counts_all}
 use Rattle.kube_cel.proofs.Same.{tree_answers}
-use Rattle.kube_cel.specs.CompiledSteps.{compiled_steps}
 use Rattle.kube_cel.specs.Visits.{with_node_of}
 use Rattle.kube_cel_walk.specs.declared.root.RootContext.{RootContext}
 use Rattle.kube_cel_walk.specs.Roots.{root_view}
@@ -25,14 +22,14 @@ use Rattle.kube_schema.proofs.SameDefaults.{filled_same}
 use Rattle.kube_schema.specs.CompiledDefaults as tree_fill
 use Rattle.kube_schema.specs.declared.node.CompiledSchema.{CompiledSchema}
 use Rattle.kube_schema.specs.Shown.{whole}
-use Rattle.kube_schema.specs.Tree.{Node, own}
+use Rattle.kube_schema.specs.Tree.{Node}
 use Rattle.kube_schema.specs.View.{view_of, own_view, children_view}
 use Rattle.kube_schema.proofs.SameBinding.{bound_same}
 use Rattle.kube_schema.specs.CompiledConversion as tree_conversion
 use Rattle.serde_json.specs.Data.{Data}
 use Rattle.serde_json.specs.declared.value.Value.{Value}
 use Rattle.serde_json.specs.View.{view}
-use Rattle.std.proofs.Common.{Bor, ◌≡◌, ◌+◌, ◌-◌, ◌==◌, ℕ, zero, suc, List, [], ◌∷◌, Bool, true, false, Option, Some, None, option_map, codes, if◌then◌else◌, refl, sym, ap, ◌∙◌, arith}
+use Rattle.std.proofs.Common.{Bor, ◌≡◌, ◌+◌, ◌-◌, ◌==◌, ℕ, zero, suc, [], ◌∷◌, true, Option, Some, None, option_map, codes, if◌then◌else◌, refl, sym, ap, ◌∙◌, arith}
 use Rattle.std.proofs.lemmas.Bool.Decides.{nat_tests}
 use Rattle.std.specs.List.{flat_map}
 

@@ -14,14 +14,14 @@ use Rattle.kube_cel.specs.CompiledSteps.{compiled_steps}
 use Rattle.kube_cel_walk.specs.Answers.{bound_at}
 use Rattle.kube_cel_walk.specs.WalkAccessors.{WalkAccessors}
 use Rattle.kube_schema.specs.CompiledConversion.{tree_accessors}
-use Rattle.kube_schema.specs.Tree.{Node, own}
+use Rattle.kube_schema.specs.Tree.{own}
 use Rattle.kube_schema.specs.Tree as tree
 use Rattle.kube_schema_values.proofs.Fields.{found_in_object}
 use Rattle.kube_schema_values.specs.Conversion.{ConversionAccessors, items_by, member_by, member_key, member_node, or_else, raw, to_cel, to_cel_by}
 use Rattle.kube_schema_values.specs.Fields.{field_besides}
 use Rattle.kube_schema_values.specs.Node.{additional_of, items_of, property_of}
 use Rattle.serde_json.specs.Data.{Data, null, boolean, number, string, array, object, Items, no_items, item as one_item}
-use Rattle.serde_json.specs.Find.{as_bool, at, get, get_item, get_member}
+use Rattle.serde_json.specs.Find.{as_bool, at, get, get_item}
 use Rattle.std.proofs.Common.{◌≡◌, ◌≤◌, ◌+◌, ◌-◌, ◌||◌, ℕ, zero, suc, List, [], ◌∷◌, length, Bool, true, false, if◌then◌else◌, codes, pos, Option, Some, None, option_map, option_and_then, Ok, Err, refl, sym, ap, ◌∙◌, arith}
 use Rattle.std.specs.List.{list_any}
 use Rattle.std.specs.Option.{option_map_or, unwrap_or}

@@ -14,7 +14,7 @@ use Rattle.kube_schema_rules.specs.Walk.{AreFoundAtPlaces}
 use Rattle.kube_cel_walk.specs.Answers.{answer, verdicts, IsAnswer}
 use Rattle.kube_cel_walk.specs.WalkAccessors.{WalkAccessors}
 use Rattle.serde_json.specs.Data.{Data}
-use Rattle.std.proofs.Common.{◌≡◌, ◌<◌, List, [], ◌∷◌, map, length, Option, Result, Ok, Err, IfOk, refl, sym, subst, ap, ◌∙◌, arith}
+use Rattle.std.proofs.Common.{◌≡◌, ◌<◌, List, [], ◌∷◌, map, length, Option, Result, Ok, Err, IfOk, refl, sym, subst, ap, arith}
 
 pub agrees_itself : (b : Book) → Extends b b
 agrees_itself b = record { keeps = λ text built e. e }

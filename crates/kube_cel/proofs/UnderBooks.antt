@@ -15,7 +15,7 @@ use Rattle.kube_cel_walk.specs.Errors.{ErrorData}
 use Rattle.kube_cel_walk.specs.RuleErrors.{too_deep}
 use Rattle.kube_schema_rules.specs.Visit.{Root, Visit, candidates, goes}
 use Rattle.kube_schema_rules.specs.Walk.{answers}
-use Rattle.kube_cel_walk.specs.Verdicts.{bound_verdict, compiled_verdict, failed_message, is_applicable, list_of_option, outcome_error, outcome_in, rule_bindings, verdict}
+use Rattle.kube_cel_walk.specs.Verdicts.{bound_verdict, failed_message, is_applicable, list_of_option, outcome_error, outcome_in, rule_bindings, verdict}
 use Rattle.kube_cel_walk.specs.Answers.{answer, place_bindings, rule_verdicts, verdicts}
 use Rattle.kube_cel_walk.specs.WalkAccessors.{WalkAccessors}
 use Rattle.kube_functions.proofs.Alike.{plain_alike}

@@ -4,7 +4,7 @@ use Rattle.kube_cel_analysis.specs.Lint.{branch_findings, branches_of, findings,
 use Rattle.kube_cel_analysis.specs.Nodes.{AreFoundAtNodes, found_at, goes, pointer_after, pointer_behind}
 use Rattle.kube_cel_analysis.specs.Pointers.{additional_pointer, branch_pointer, items_pointer, property_pointer}
 use Rattle.kube_schema_rules.proofs.ByKind.{branches_in_order, extras_in_order, items_in_order, kind_before, last_kind, properties_in_order}
-use Rattle.kube_schema_rules.proofs.Found.{answers_end, answers_more, flat_map-map, flat_map_same}
+use Rattle.kube_schema_rules.proofs.Found.{answers_more, flat_map-map, flat_map_same}
 use Rattle.kube_schema_rules.proofs.Ordered.{IsIn, are_places, in_left, in_map, in_right}
 use Rattle.kube_schema_rules.proofs.Sorted.{in_ordered, in_up, key_cmp, same_key}
 use Rattle.kube_schema_rules.specs.declared.branches.BranchKind.{BranchKind}
@@ -16,9 +16,9 @@ use Rattle.kube_schema.specs.declared.node.CompiledSchema.{CompiledSchema}
 use Rattle.kube_schema.specs.declared.nodes.NodeId.{NodeId}
 use Rattle.kube_schema.specs.declared.nodes.PropertyLink.{PropertyLink}
 use Rattle.kube_schema.specs.declared.nodes.TableNode.{TableNode}
-use Rattle.kube_schema.specs.Raw.{AllOrdered, assemble, assemble_some, keywords_view, link_names, maybe_at, named_at, nodes_at, tree, tree_in, with_children}
+use Rattle.kube_schema.specs.Raw.{AllOrdered, assemble, assemble_some, link_names, maybe_at, named_at, nodes_at, tree, tree_in, with_children}
 use Rattle.kube_schema.specs.Shown.{whole}
-use Rattle.kube_schema.specs.Tree.{Node, node, Maybe, nothing, just, Named, no_named, named, Nodes, no_nodes, more, additional_of, all_of, any_of, as_option, count, find, items_of, maybe_count, named_count, named_of, names, nodes_count, nodes_length, nth_node, one_of, own, property_of}
+use Rattle.kube_schema.specs.Tree.{Node, node, Maybe, nothing, just, Named, no_named, named, Nodes, no_nodes, more, all_of, any_of, as_option, count, find, maybe_count, named_count, named_of, names, nodes_count, nodes_length, nth_node, one_of, own}
 use Rattle.std.proofs.Common.{◌≡◌, ◌<◌, ◌≤◌, ◌+◌, ℕ, zero, suc, List, [], ◌∷◌, ◌++◌, map, length, Option, Some, None, option_map, option_and_then, IsSome, Ordering, Less, Equal, Greater, refl, sym, ap, ◌∙◌, subst, inl, inr, append-nil, arith, string_bytes, slice_get}
 use Rattle.std.proofs.lemmas.Cmp.{nat_list_cmp_total, tied_itself}
 use Rattle.std.proofs.lemmas.List.Concat.{flat_map-append}

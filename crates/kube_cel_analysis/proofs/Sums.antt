@@ -1,6 +1,6 @@
 -- Sums that are cut.
 use native.Mathlib.Omega.{arith}
-use Rattle.std.proofs.Common.{◌≡◌, ℕ, min}
+use Rattle.std.proofs.Common.{◌≡◌, ℕ}
 use Rattle.cel_syntax_ast.specs.Term.{Terms, no_terms, term_and}
 use Rattle.kube_cel_analysis.specs.Cost.{Sizes, cost_of_all, sum}
 

@@ -2,7 +2,7 @@
 -- The nodes of a schema as lists of steps from its root, in the order of places, and what is found of the
 -- rules of all of them. A step is one of a place, but needs no value: the step to the node of list items is
 -- that to item 0, and the step to the node of other keys is that to the empty key.
-use Rattle.std.specs.Prelude.{◌≡◌, ◌↔◌, ℕ, zero, suc, List, [], ◌∷◌, Option, None, option_and_then, Contains, IsSome}
+use Rattle.std.specs.Prelude.{◌≡◌, ◌↔◌, ℕ, zero, suc, List, [], ◌∷◌, Option, None, Contains, IsSome}
 use Rattle.std.specs.List.{flat_map}
 use Rattle.std.specs.List.Sorted.{IsStrictlySortedBy}
 use Rattle.kube_cel_analysis.specs.Findings.{Finding, Naming, rules_findings}

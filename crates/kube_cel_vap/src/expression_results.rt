@@ -1,5 +1,5 @@
 //! The result of one expression.
-ghost use Rattle.cel_patterns.specs.Book.{Extends, Book};
+ghost use Rattle.cel_patterns.specs.Book.{Extends};
 ghost use Rattle.cel_patterns.specs.Entries.{entries_of};
 ghost use Rattle.cel_patterns.specs.Extensions.{HoldsForExtensions};
 ghost use Rattle.cel_semantics.specs.Bindings.{bindings_of};

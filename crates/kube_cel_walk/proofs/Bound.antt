@@ -16,7 +16,7 @@ use Rattle.cel_value.specs.View.{items_of}
 use Rattle.cel_value.specs.Faults.{undeclared}
 use Rattle.kube_cel_walk.specs.Verdicts.{with_old, with_root}
 use Rattle.kube_schema_rules.specs.Visit.{Root}
-use Rattle.std.proofs.Common.{◌≡◌, ℕ, List, [], ◌∷◌, map, Bool, true, false, Option, Some, None, option_map, Ok, Err, codes, if◌then◌else◌, refl, sym, ap, ◌∙◌}
+use Rattle.std.proofs.Common.{◌≡◌, ℕ, List, ◌∷◌, map, Bool, true, false, Option, Some, None, Ok, Err, codes, if◌then◌else◌, refl, sym, ap, ◌∙◌}
 use Rattle.std.proofs.lemmas.Slice.Eq.{bytes_eq-Decides}
 use Rattle.std.specs.Option.{option_map_or}
 use Rattle.std.specs.Bool.{Decides}

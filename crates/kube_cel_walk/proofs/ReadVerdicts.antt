@@ -9,7 +9,6 @@ use Rattle.cel_patterns.specs.Book.{Book}
 use Rattle.cel_semantics.specs.Bindings.{Bindings, binding}
 use Rattle.cel_syntax_ast.specs.Term.{Term}
 use Rattle.cel_value.specs.Data.{Data, null, text}
-use Rattle.kube_cel_walk.specs.Errors.{ErrorData}
 use Rattle.kube_schema_rules.specs.Visit.{Root}
 use Rattle.kube_cel_walk.specs.Verdicts.{is_applicable, is_old_null, list_of_option, outcome_in, failed_message, outcome_error, bound_verdict, rule_bindings, verdict, with_root}
 use Rattle.kube_functions.specs.Kube.{all_library}

@@ -27,7 +27,7 @@ use Rattle.cel_value.specs.Data.{Data, text_key, list, map_of, no_entries}
 use Rattle.cel_value.specs.Faults.{no_overload}
 use Rattle.cel_value.specs.Same.{has_double}
 use Rattle.cel_value.specs.View.{items_of}
-use Rattle.kube_functions.specs.Kube.{added_answer, answer_by, kept_answer, kube_answer, kube_library}
+use Rattle.kube_functions.specs.Kube.{added_answer, answer_by, kube_answer, kube_library}
 use Rattle.kube_functions.specs.MethodCalls as methods
 use Rattle.kube_functions.specs.MethodCalls.{nth}
 use Rattle.kube_functions.specs.Methods.{method_named}
@@ -37,9 +37,9 @@ use Rattle.kube_functions.specs.declared.methods.Method.TheVariants as method
 use Rattle.kube_functions.specs.declared.sets.KubeFunctions.{KubeFunctions}
 use Rattle.kube_functions.specs.declared.sets.KubeFunctions.TheVariants.{Standard, All}
 use Rattle.kube_functions_strings.specs.Operands.{answer_with, optional_int_in, texts_in}
-use Rattle.kube_functions_strings.specs.Regex.{each_found, find_all_outcome, find_outcome, first_found, first_match, limit_of, match_texts, unless_refused}
+use Rattle.kube_functions_strings.specs.Regex.{find_all_outcome, find_outcome, first_match, limit_of, match_texts, unless_refused}
 use Rattle.kube_functions_types.specs.Strings.{string_of}
-use Rattle.std.proofs.Common.{◌≡◌, ◌↔◌, ℕ, List, ◌∷◌, ◌||◌, map, length, Bool, false, Option, Some, None, Ok, Err, codes, if◌then◌else◌, refl, ap}
+use Rattle.std.proofs.Common.{◌≡◌, ◌↔◌, ℕ, List, ◌∷◌, ◌||◌, map, length, false, Option, Some, None, Ok, Err, codes, if◌then◌else◌, refl, ap}
 use Rattle.std.specs.List.{list_any}
 use Rattle.std.specs.Option.{option_map_or, option_zip}
 use Rattle.std.specs.Prelude.{is_some}

@@ -1,5 +1,5 @@
 -- A sorted list is in order as `isSorted` says, and equal values stay as they stood.
-use Rattle.std.proofs.Common.{◌≡◌, ℕ, List, [], ◌∷◌, Bool, true, false, not, cond, ◌&&◌, Option, Some, None, is_some, unwrap_or, Ok, refl, ap, sym, ◌∙◌, if◌then◌else◌, filter, find}
+use Rattle.std.proofs.Common.{◌≡◌, List, [], ◌∷◌, Bool, true, false, not, cond, ◌&&◌, Option, Some, None, is_some, unwrap_or, Ok, refl, ap, sym, ◌∙◌, if◌then◌else◌, filter, find}
 use Rattle.std.proofs.lemmas.Bool.{eqb-true}
 use Rattle.std.specs.List.{list_all}
 use Rattle.std.specs.List.Sorted.{ties}

@@ -1,6 +1,5 @@
 //! `base64.encode` and `base64.decode`: bytes as texts.
 ghost use Rattle.std.specs.Prelude.{◌≡◌, IfOk, IfErr, Ok, option_map, string_bytes};
-ghost use Rattle.std.specs.Option.{option_map_or};
 ghost use Rattle.cel_value.specs.Data as plain;
 ghost use Rattle.cel_value.specs.View.{view};
 ghost use Rattle.cel_semantics.specs.Outcome.{outcome_view};

@@ -1,11 +1,11 @@
 //! `find` and `findAll`: what a pattern finds in a string.
-ghost use Rattle.std.specs.Prelude.{◌≡◌, ℕ, All, IfOk, IfErr, Some, map, option_map, string_bytes};
-ghost use Rattle.cel_patterns.specs.Book.{Extends, IsSpanIn, found_by};
+ghost use Rattle.std.specs.Prelude.{◌≡◌, All, IfOk, IfErr, Some, option_map};
+ghost use Rattle.cel_patterns.specs.Book.{Extends, IsSpanIn};
 ghost use Rattle.cel_patterns.specs.Entries.{entries_of};
 ghost use Rattle.cel_patterns.specs.Extensions.{HoldsForExtensions};
 ghost use Rattle.cel_value.specs.Data as plain;
 ghost use Rattle.cel_value.specs.Faults as fault;
-ghost use Rattle.cel_value.specs.View.{view, items_of};
+ghost use Rattle.cel_value.specs.View.{view};
 ghost use Rattle.cel_semantics.specs.Outcome.{outcome_view};
 ghost use Rattle.kube_functions_strings.specs.Regex as spec;
 

@@ -4,7 +4,6 @@ ghost use Rattle.cel_value.specs.Data as plain;
 ghost use Rattle.cel_value.specs.View.{view};
 ghost use Rattle.cel_semantics.specs.Outcome.{outcome_view};
 ghost use Rattle.kube_types_semver.specs.Reading.{version_of};
-ghost use Rattle.kube_types_semver.specs.Shown.{parts};
 ghost use Rattle.kube_functions_types.specs.Answers.{refusal, bool_answer, value_or};
 ghost use Rattle.kube_functions_types.specs.Semver as spec;
 

@@ -1,5 +1,5 @@
 //! Calls on URLs.
-ghost use Rattle.std.specs.Prelude.{◌≡◌, ◌∷◌, [], ℕ, List, Ok, map, codes, is_some, option_map, unwrap_or, string_bytes, OnOk, IfOk, IfErr};
+ghost use Rattle.std.specs.Prelude.{◌≡◌, ℕ, List, Ok, codes, is_some, option_map, string_bytes, OnOk, IfOk, IfErr};
 ghost use Rattle.std.specs.BTreeMap.{get_by_text};
 ghost use Rattle.cel_value.specs.Data as plain;
 ghost use Rattle.cel_value.specs.Keys.{put};
@@ -8,7 +8,7 @@ ghost use Rattle.cel_semantics.specs.Outcome.{outcome_view};
 ghost use Rattle.kube_types_url.specs.Query.{values_of};
 ghost use Rattle.kube_types_url.specs.Reading.{url_of};
 ghost use Rattle.kube_types_url.specs.Shown.{url_view, texts};
-ghost use Rattle.kube_functions_types.specs.Answers.{refusal, bool_answer, value_or};
+ghost use Rattle.kube_functions_types.specs.Answers.{refusal, value_or};
 ghost use Rattle.kube_functions_types.specs.Lists.{text_list};
 ghost use Rattle.kube_functions_types.specs.Url as spec;
 

@@ -1,9 +1,9 @@
 //! How many rules a schema has.
 ghost use Rattle.kube_cel_analysis.specs.Lint.{branches_of};
-ghost use Rattle.kube_manifests.specs.Rules.{saturated_count, rules_in, rules_in_maybe, rules_in_named, rules_in_nodes, rules_in_option};
+ghost use Rattle.kube_manifests.specs.Rules.{saturated_count, rules_in, rules_in_named, rules_in_nodes, rules_in_option};
 ghost use Rattle.kube_schema.specs.Shown.{node_tree, whole};
 ghost use Rattle.kube_schema.specs.Tree.{additional_of, items_of, named_of, nodes_length, nth_node};
-ghost use Rattle.std.specs.Prelude.{◌≡◌, ◌+◌, ◌<◌, ◌^◌, option_map};
+ghost use Rattle.std.specs.Prelude.{◌≡◌, ◌+◌, ◌<◌, option_map};
 
 use kube_cel::{CompiledSchema, SchemaNode};
 use kube_schema_rules::BranchKind;

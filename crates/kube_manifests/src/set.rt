@@ -1,7 +1,6 @@
 //! Sets of definitions, and what they answer for objects.
 ghost use Rattle.kube_manifests.specs.Sets.{all_compiled, with_tree, outcome_view, reason_of, rules_of, set_view, versions_of, why_not, IsJudgement};
 ghost use Rattle.kube_manifests.specs.Versions.{Version, chosen_version};
-ghost use Rattle.kube_schema.specs.Tree.{Node};
 ghost use Rattle.serde_json.specs.Data.{Data};
 ghost use Rattle.serde_json.specs.View.{items_view, view};
 ghost use Rattle.std.specs.Prelude.{◌≡◌, IfErr, IfOk, List, map, option_map};

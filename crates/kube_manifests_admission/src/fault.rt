@@ -1,6 +1,6 @@
 //! What is wrong with a document of another shape, and where.
 ghost use Rattle.kube_manifests_admission.specs.Faults.{fault_seen, fault_text, fault_view, kind_text};
-ghost use Rattle.std.specs.Prelude.{◌≡◌, IfErr, IfOk, Some};
+ghost use Rattle.std.specs.Prelude.{◌≡◌, IfOk, Some};
 
 use crate::location::{Location, pointer_of};
 use kube_types_refused::Refused;

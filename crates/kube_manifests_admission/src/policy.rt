@@ -1,6 +1,6 @@
 //! The document of a policy.
 ghost use Rattle.kube_manifests_admission.specs.Faults.{pointer_at};
-ghost use Rattle.kube_manifests_admission.specs.Policies.{entries_of, failure_policies, ignores_in, item_view, kinds, object_of, one_of, policy_of, policy_view, reading_view, spec_fields, spec_in, spec_of, unknown_field, unless_empty, versions};
+ghost use Rattle.kube_manifests_admission.specs.Policies.{entries_of, failure_policies, ignores_in, item_view, kinds, object_of, policy_of, policy_view, reading_view, spec_fields, spec_in, spec_of, unknown_field, unless_empty, versions};
 ghost use Rattle.serde_json.specs.Find.{get};
 ghost use Rattle.serde_json.specs.View.{view};
 ghost use Rattle.std.specs.List.{list_any};

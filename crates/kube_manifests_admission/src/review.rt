@@ -3,7 +3,7 @@ ghost use Rattle.kube_cel_vap.specs.Requests.{kind_view, request_view, resource_
 ghost use Rattle.kube_manifests_admission.specs.Faults.{pointer_at};
 ghost use Rattle.kube_manifests_admission.specs.Inputs.{inputs_view};
 ghost use Rattle.kube_manifests_admission.specs.Policies.{reading_view};
-ghost use Rattle.kube_manifests_admission.specs.Reviews.{bool_of, inputs_from, inputs_in, inputs_seen, items_of, kind_from, kind_in, object_in, parts_of, parts_view, request_from, request_in, request_of, request_with, resource_from, review_kinds, review_of, review_versions, required_text_in, resource_in, served_of, served_view, text_in, texts_after, user_in, user_of, user_view, value_or_null};
+ghost use Rattle.kube_manifests_admission.specs.Reviews.{bool_of, inputs_in, inputs_seen, items_of, kind_from, kind_in, object_in, parts_of, parts_view, request_from, request_in, request_of, resource_from, review_kinds, review_of, review_versions, required_text_in, resource_in, served_of, served_view, text_in, texts_after, user_in, user_of, user_view, value_or_null};
 ghost use Rattle.serde_json.specs.Find.{get};
 ghost use Rattle.serde_json.specs.View.{items_view, view};
 ghost use Rattle.std.specs.List.{list_any};

@@ -1,6 +1,6 @@
 //! What a policy comes to.
 ghost use Rattle.kube_manifests_policies.specs.Verdicts.{after_conditions, any_is, decision_of, decision_text, is_problem, result_view, report_text, report_view, with_report};
-ghost use Rattle.std.specs.Prelude.{◌≡◌, IfErr, IfOk, map, Some};
+ghost use Rattle.std.specs.Prelude.{◌≡◌, IfOk, map, Some};
 
 use crate::inputs::Input;
 use kube_types_refused::Refused;

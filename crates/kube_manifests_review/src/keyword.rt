@@ -1,8 +1,8 @@
 //! Keys that are one letter off a keyword.
-ghost use Rattle.std.specs.Prelude.{◌≡◌, IfOk, List, OnOk, map, option_map};
+ghost use Rattle.std.specs.Prelude.{◌≡◌, IfOk, OnOk, map, option_map};
 ghost use Rattle.std.specs.Str.{chars};
 ghost use Rattle.kube_manifests_review.specs.Candidates.{AddsCandidates};
-ghost use Rattle.kube_manifests_review.specs.Keywords.{key_candidates, keys_candidates, near, near_candidates, one_letter_off};
+ghost use Rattle.kube_manifests_review.specs.Keywords.{key_candidates, keys_candidates, near, one_letter_off};
 ghost use Rattle.serde_json.specs.View.{members_view};
 
 use crate::candidate::{Candidate, Condition};

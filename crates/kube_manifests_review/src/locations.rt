@@ -1,6 +1,6 @@
 //! The schemas within a schema.
 ghost use Rattle.std.specs.Prelude.{◌≡◌, OnOk, codes, option_map};
-ghost use Rattle.kube_manifests_review.specs.Locations.{AddsLocations, branch_locations, item_locations, locations_of, maybe_locations, named_locations};
+ghost use Rattle.kube_manifests_review.specs.Locations.{AddsLocations, branch_locations, locations_of, maybe_locations, named_locations};
 ghost use Rattle.kube_manifests_review.specs.Pointers.{keyword_pointer};
 ghost use Rattle.kube_schema_values.specs.DefaultsAccessors.{additional, declared_properties, members_or_none};
 ghost use Rattle.kube_schema.specs.View.{branches};

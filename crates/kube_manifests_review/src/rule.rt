@@ -1,5 +1,5 @@
 //! The candidate findings of the rules of a schema.
-ghost use Rattle.std.specs.Prelude.{◌≡◌, [], IfErr, OnOk, codes, map, option_map};
+ghost use Rattle.std.specs.Prelude.{◌≡◌, IfErr, OnOk, map, option_map};
 ghost use Rattle.cel.specs.Program.{program_term};
 ghost use Rattle.cel_syntax_ast.specs.Term.{term};
 ghost use Rattle.kube_manifests_review.specs.Calls.{text_view};

@@ -1,10 +1,10 @@
 -- Steps of one kind after another are in order.
-use Rattle.kube_schema_rules.proofs.Ordered.{all_append, all_map, sorted_append}
+use Rattle.kube_schema_rules.proofs.Ordered.{all_append, sorted_append}
 use Rattle.kube_schema_rules.proofs.Sorted.{less_than, key_cmp, keys_sorted, sorted_map, up_sorted}
 use Rattle.kube_schema_rules.specs.declared.branches.BranchKind.{BranchKind}
 use Rattle.kube_schema_rules.specs.Inside.{in_order, up_to}
 use Rattle.kube_schema_rules.specs.Step.{Step, property, item, additional_property, branch, branch_rank, step_rank, step_content, step_cmp}
-use Rattle.std.proofs.Common.{◌≡◌, ◌<◌, ◌≤◌, ℕ, suc, List, [], ◌∷◌, ◌++◌, map, Ordering, Less, Equal, nat_cmp, refl, ap, ◌∙◌, arith}
+use Rattle.std.proofs.Common.{◌≡◌, ◌<◌, ◌≤◌, ℕ, suc, List, [], ◌∷◌, ◌++◌, map, Less, Equal, nat_cmp, refl, ap, ◌∙◌, arith}
 use Rattle.std.proofs.lemmas.Cmp.{nat_cmp_total, tied_itself}
 use Rattle.std.specs.Cmp.Lexicographic.{slice_cmp}
 use Rattle.std.specs.List.{AllByRecursion}

@@ -1,5 +1,5 @@
 -- What rules read, rule by rule.
-use Rattle.std.proofs.Common.{◌≡◌, ◌<◌, ℕ, suc, List, ◌∷◌, map, drop, length, get_or, Option, Some, option_map, Result, Ok, Err, sym, ap, ◌∙◌, drop-cons}
+use Rattle.std.proofs.Common.{◌≡◌, ◌<◌, ℕ, suc, List, map, drop, length, get_or, Option, Some, option_map, Result, Ok, Err, sym, ap, ◌∙◌, drop-cons}
 use Rattle.cel_demand.specs.Part.{Part, both_read, part_read}
 use Rattle.cel_demand.specs.Reads.{reads_of}
 use Rattle.cel_syntax_ast.specs.Term.{Term}

@@ -1,6 +1,6 @@
 -- Trusted by the clauses of other library calls.
 -- What rules read of what a name is bound to.
-use Rattle.std.specs.Prelude.{◌≡◌, ℕ, List, [], ◌∷◌, Option, Some, None, option_map, Result, Ok, Err, codes}
+use Rattle.std.specs.Prelude.{◌≡◌, ℕ, List, [], ◌∷◌, Option, None, option_map, Result, Ok, Err, codes}
 use Rattle.cel_demand.specs.Demand.{part_of}
 use Rattle.cel_demand.specs.Part.{Part, both_read}
 use Rattle.kube_schema_rules.specs.Compilation.{Compiled, Malformed}

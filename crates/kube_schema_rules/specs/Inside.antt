@@ -1,6 +1,6 @@
 -- Trusted by the headline.
 -- What is inside a JSON value, as keys in order and as indices.
-use Rattle.serde_json.specs.Data.{Data, Items, no_items, Members, no_members, member}
+use Rattle.serde_json.specs.Data.{Data, no_items, Members, no_members, member}
 use Rattle.serde_json.specs.Events.{items_len}
 use Rattle.serde_json.specs.Find.{as_array, as_object}
 use Rattle.std.specs.Cmp.Lexicographic.{slice_cmp}

@@ -8,7 +8,7 @@ use Rattle.kube_types_address.proofs.Readings.{ip_of-is_answer}
 use Rattle.std.proofs.Common.{◌≡◌, ◌<◌, ◌≤◌, ◌+◌, ◌-◌, ◌*◌, ◌^◌, ℕ, zero, suc, Bool, true, false, List, [], ◌∷◌, ◌++◌, length, replicate, slice_index, inl, inr, Ok, refl, sym, ap, ◌∙◌, subst, arith, codes, length-append}
 use Rattle.std.proofs.lemmas.Int.Digits.{digits_value-lt}
 use Rattle.std.specs.Net.Addr.{segments_of}
-use Rattle.std.specs.Net.Grammar.{IsColonHex, IsDotted, IsElided, IsGroup, IsGroupsAfter}
+use Rattle.std.specs.Net.Grammar.{IsDotted, IsElided, IsGroup, IsGroupsAfter}
 use Rattle.std.specs.Str.Parse.{digits_value}
 
 -- ---- numbers below a bound

@@ -1,7 +1,7 @@
 //! Whether a text is the printed one of its address, by RFC 5952, section 4, without printing it.
 ghost use Rattle.std.specs.Char.{digit_char};
 ghost use Rattle.std.specs.Net.Text.{hex, groups_text, hex_groups_text, leading_zero_digits, longest_zero_run};
-ghost use Rattle.std.specs.Prelude.{◌≡◌, ◌+◌, ◌/◌, ◌%◌, ◌<◌, ◌≤◌, [], ◌∷◌, length, bytes_eq, option_copied};
+ghost use Rattle.std.specs.Prelude.{◌≡◌, ◌+◌, ◌/◌, ◌%◌, ◌<◌, ◌≤◌, [], length, bytes_eq, option_copied};
 ghost use Rattle.kube_types_address.specs.Matching.{rest_after, more_text, is_whole, test_answer};
 ghost use Rattle.kube_types_address.specs.Shown.{address};
 ghost use Rattle.kube_types_address.specs.Texts.{IsTextOf, address_text, canonical_of};

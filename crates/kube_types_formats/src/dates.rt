@@ -1,5 +1,5 @@
 //! Dates and date-times, by RFC 3339.
-ghost use Rattle.std.specs.Prelude.{◌≡◌, ◌+◌, ◌<◌, ◌≤◌, length, IfSome};
+ghost use Rattle.std.specs.Prelude.{◌≡◌, ◌+◌, ◌<◌, length, IfSome};
 ghost use Rattle.std.specs.List.{list_all};
 ghost use Rattle.std.specs.Char.{is_ascii_digit};
 ghost use Rattle.kube_types_formats.specs.Dates.{is_civil, date_fault, is_clock, is_fraction, is_time, is_offset, is_zone, last_sign, zone_start, time_fault, date_time_fault};

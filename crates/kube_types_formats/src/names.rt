@@ -1,5 +1,5 @@
 //! Qualified names and label values of Kubernetes.
-ghost use Rattle.std.specs.Prelude.{◌≡◌, ◌==◌, ◌++◌, length, OnOk, IfErr};
+ghost use Rattle.std.specs.Prelude.{◌≡◌, ◌++◌, OnOk, IfErr};
 ghost use Rattle.std.specs.List.{list_all};
 ghost use Rattle.kube_types_formats.specs.Found.{texts_of};
 ghost use Rattle.kube_types_formats.specs.Names.{is_name_byte, name_faults, name_prefix_faults, label_value_faults, qualified_name_faults};

@@ -1,5 +1,5 @@
 //! The texts of the faults found so far, in order.
-ghost use Rattle.std.specs.Prelude.{◌≡◌, [], ◌∷◌, ◌++◌, OnOk, IfErr, IfOk, map, string_bytes};
+ghost use Rattle.std.specs.Prelude.{◌≡◌, [], ◌∷◌, ◌++◌, OnOk, IfErr, map, string_bytes};
 ghost use Rattle.kube_types_formats.specs.Found.{fault_line, faults_found, only, texts_of};
 ghost use Rattle.kube_types_refused.specs.declared.Refused.{Refused};
 

@@ -1,15 +1,14 @@
 -- A text means a quantity by the definition that reads it exactly where it is spelled as one.
 use Rattle.std.proofs.Common.{◌≡◌, ℕ, suc, ◌+◌, ◌*◌, ◌^◌, ◌<◌, ◌&&◌, ◌||◌, ◌↔◌, Bool, true, false, cond, eqb, ltb, ℤ, pos, negsuc, ◌-ℤ◌, ◌⊎◌, List, [], ◌∷◌, ◌++◌, length, take, drop, get_or, codes, refl, sym, ap, subst, ◌∙◌, inl, inr, arith, one-add, append-nil, append_assoc}
-use Rattle.std.proofs.lemmas.Bool.{eqb-true, eqb-false, ne_eqb, eq-eqb, ltb-true, ltb-false, lt-ltb, cases_eq, and_from, and_right, and_parts, or_cases}
+use Rattle.std.proofs.lemmas.Bool.{eqb-true, eqb-false, ne_eqb, ltb-true, ltb-false, lt-ltb, cases_eq, and_from, and_right, and_parts, or_cases}
 use Rattle.std.proofs.lemmas.List.{take-append-drop}
 use Rattle.std.specs.Char.{is_ascii_digit}
-use Rattle.std.specs.Cmp.{first_so}
 use Rattle.std.specs.List.{list_all, prefix_len}
 use Rattle.std.specs.Option.{option_map}
 use Rattle.std.specs.Prelude.{Option, Some, None, option_and_then}
 use Rattle.std.specs.Str.{trim}
 use Rattle.std.specs.Str.Parse.{digits_value, starts_with_minus, without_leading_sign}
-use Rattle.kube_types_quantity.specs.Decimal.{Decimal, SameNumber, decimal_cmp, with_sign}
+use Rattle.kube_types_quantity.specs.Decimal.{Decimal, SameNumber, with_sign}
 use Rattle.kube_types_quantity.specs.Normal.{IsNormal, normal_form, fits, quantity_holding}
 use Rattle.kube_types_quantity.specs.NormalLaws.{normal_unique}
 use Rattle.kube_types_quantity.specs.OrderLaws.{tied_same, same_tied}

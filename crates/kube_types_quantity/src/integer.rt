@@ -1,5 +1,5 @@
 //! Why a quantity is given as no integer.
-ghost use Rattle.std.specs.Prelude.{Some, codes};
+ghost use Rattle.std.specs.Prelude.{Some};
 
 use std::fmt;
 

@@ -3,8 +3,8 @@
 //! Source: the grammar in the documentation of `Quantity`, `k8s.io/apimachinery/pkg/api/resource`.
 ghost use Rattle.std.specs.Char.{is_ascii_digit};
 ghost use Rattle.std.specs.List.{prefix_len};
-ghost use Rattle.std.specs.Option.{option_map, SomeIff};
-ghost use Rattle.std.specs.Prelude.{◌≡◌, ◌*◌, ◌^◌, ◌<◌, ◌++◌, ◌-ℤ◌, drop, pos, unsigned_abs, IfSome};
+ghost use Rattle.std.specs.Option.{SomeIff};
+ghost use Rattle.std.specs.Prelude.{◌≡◌, ◌*◌, ◌^◌, ◌<◌, ◌++◌, ◌-ℤ◌, pos, unsigned_abs, IfSome};
 ghost use Rattle.std.specs.Str.Parse.{starts_with_minus, without_leading_sign, digits_value, digits_value_after, AllDigits};
 ghost use Rattle.kube_types_quantity.specs.Reading.{leading_digits, after_digits, fraction_digits, suffix_of, decimal_suffix, binary_suffix, exponent_of, factor_of};
 

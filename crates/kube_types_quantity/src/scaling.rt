@@ -1,7 +1,7 @@
 //! Mantissas at a smaller scale.
 ghost use Rattle.std.specs.Int.{w128};
 ghost use Rattle.std.specs.Option.{SomeIff};
-ghost use Rattle.std.specs.Prelude.{◌≡◌, FitsSigned};
+ghost use Rattle.std.specs.Prelude.{FitsSigned};
 ghost use Rattle.kube_types_quantity.specs.Decimal.{times_ten_to, with_sign};
 
 /// The number with this sign and size, if 128 bits hold it.

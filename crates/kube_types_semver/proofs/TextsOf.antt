@@ -6,7 +6,7 @@ use Rattle.semver.specs.Order.{parts, strip_zeros}
 use Rattle.semver.specs.OrderLaws.{join-parts, join_dots}
 use Rattle.semver.specs.Parse.{Parts, version_parts}
 use Rattle.semver.specs.declared.error.Error.{Error}
-use Rattle.std.proofs.Common.{◌≡◌, ◌<◌, ◌^◌, ◌+◌, ◌*◌, ◌==◌, ◌&&◌, ◌||◌, ◌↔◌, ◌⊎◌, ℕ, Bool, List, [], ◌∷◌, ◌++◌, length, take, drop, get_or, true, false, cond, Option, Some, None, Result, Ok, Err, refl, sym, ◌∙◌, ap, arith, inl, inr, append-nil, append_assoc, subst}
+use Rattle.std.proofs.Common.{◌≡◌, ◌<◌, ◌^◌, ◌+◌, ◌==◌, ◌&&◌, ◌||◌, ◌↔◌, ◌⊎◌, ℕ, Bool, List, [], ◌∷◌, ◌++◌, length, drop, get_or, true, false, cond, Option, Some, None, Result, refl, sym, ◌∙◌, ap, arith, inl, inr, append-nil, append_assoc, subst}
 use Rattle.std.proofs.lemmas.Bool.{eqb-true, eqb-false, ne_eqb, and_parts, and_from, not-true}
 use Rattle.std.proofs.lemmas.Bool.Decides.{nat_tests}
 use Rattle.std.proofs.lemmas.Fmt.{decimal-digits_value, decimal_is_IsNumeral, decimal_digit}
@@ -14,9 +14,9 @@ use Rattle.std.proofs.lemmas.Str.Parse.{numerals_by_value, tells_digits}
 use Rattle.std.specs.Char.{is_ascii_digit, digit_value}
 use Rattle.std.specs.Fmt.{decimal}
 use Rattle.std.specs.List.{list_all}
-use Rattle.std.specs.Prelude.{not, option_and_then, codes}
+use Rattle.std.specs.Prelude.{not, option_and_then}
 use Rattle.std.specs.Result.{result_ok}
-use Rattle.std.specs.Str.Parse.{AllDigits, digits_value, digits_value_after}
+use Rattle.std.specs.Str.Parse.{AllDigits, digits_value}
 use Rattle.kube_types_semver.specs.LenientTexts.{IsVersionText, IsNumberText, AreNumbers, IsLooseText, IsAfterV, IsLenientText}
 use Rattle.kube_types_semver.specs.Reading.{strictly, without_v, core_of, tail_of, is_number, number_text, full_text, normal_text, version_of}
 use Rattle.kube_types_semver.proofs.Lenient.{AreDigits, decimal-digits, core-digits, tail-digits, core-dot, tail-dot, parts-dot, parts-one, dotted, dotted-core, dotted-tail, dotted-parts, hyphen-core, hyphen-tail, empty-core, empty-tail, version_stays, strict_reads}

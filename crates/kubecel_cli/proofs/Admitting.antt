@@ -12,7 +12,7 @@ use Rattle.kubecel_cli.specs.Runs.{instead}
 use Rattle.kubecel_cli.specs.Reports.{policy_item}
 use Rattle.serde_json.specs.Data.{Data}
 use Rattle.serde_json.specs.View.{view}
-use Rattle.std.proofs.Common.{◌≡◌, ℕ, List, [], ◌∷◌, Option, Ok, string_bytes, refl, ap, subst, ◌∙◌}
+use Rattle.std.proofs.Common.{◌≡◌, ℕ, List, [], ◌∷◌, Option, Ok, string_bytes, refl, subst, ◌∙◌}
 
 -- what was given besides went before what a review gives
 pub judged_so : (base : Variables) (inputs : PolicyInputs) (object old params namespace : Option Data) (d : Data) (v : PolicyVerdict)

@@ -14,7 +14,7 @@ use Rattle.kubecel_cli.specs.Commands.{CheckData}
 use Rattle.kubecel_cli.specs.Runs.{AreChecked, AreItems, AreReviewed, AreUnread, IsJudged, IsJudgedBy, IsReviewed, IsSetOf, UnlessAny}
 use Rattle.serde_json.specs.Data.{Data, Items}
 use Rattle.serde_json.specs.View.{items_of}
-use Rattle.std.proofs.Common.{◌≡◌, ℕ, ◌<◌, List, [], ◌∷◌, length, map, Option, Result, Ok, Err, refl, sym, ap, subst, arith, ◌∙◌}
+use Rattle.std.proofs.Common.{◌≡◌, ℕ, ◌<◌, List, [], ◌∷◌, length, map, Option, Result, Ok, Err, refl, subst, arith}
 
 -- ---- sets
 

@@ -20,7 +20,7 @@ use Rattle.kubecel_io.specs.declared.item.Verdict.{Verdict}
 use Rattle.kubecel_io.specs.declared.item.Verdict.TheVariants as verdict
 use Rattle.serde_json.specs.Data.{Data}
 use Rattle.std.specs.List.{flat_map}
-use Rattle.std.specs.Prelude.{ℕ, List, [], ◌∷◌, ◌++◌, map, Bool, true, false, Result, Ok, Err, if◌then◌else◌, codes}
+use Rattle.std.specs.Prelude.{ℕ, List, [], ◌∷◌, ◌++◌, map, Bool, true, false, Ok, Err, if◌then◌else◌, codes}
 
 -- an object by its kind, namespace and name, with what came of it
 abbrev pub item_of : Found → Verdict → List FindingData → ItemData

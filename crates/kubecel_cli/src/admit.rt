@@ -1,13 +1,12 @@
 //! `admit`: what a policy says of a request.
-ghost use Rattle.kube_cel_vap.specs.Variables.{Variables};
 ghost use Rattle.kube_manifests_admission.specs.Inputs.{inputs_view};
 ghost use Rattle.kube_manifests_policies.specs.Reports.{IsVerdictOf};
 ghost use Rattle.kube_manifests_policies.specs.Verdicts.{result_view, verdict_view};
-ghost use Rattle.kubecel_io.specs.Reads.{Found, document_view};
+ghost use Rattle.kubecel_io.specs.Reads.{document_view};
 ghost use Rattle.kubecel_io.specs.Items.{finding_view, item_view};
 ghost use Rattle.kubecel_cli.specs.Commands.{admit_view};
 ghost use Rattle.kubecel_cli.specs.Runs.{AreAdmitted, IsOneRead, IsOneReadWhereNamed, base_of, instead};
-ghost use Rattle.kubecel_cli.specs.Reports.{decision_verdict, is_quiet, policy_item, result_findings, verdict_findings};
+ghost use Rattle.kubecel_cli.specs.Reports.{decision_verdict, policy_item, result_findings, verdict_findings};
 ghost use Rattle.serde_json.specs.View.{view};
 ghost use Rattle.std.specs.List.{flat_map};
 ghost use Rattle.std.specs.Prelude.{◌≡◌, ◌++◌, ◌∷◌, [], IfOk, Ok, OnOk, map, option_map, string_bytes};

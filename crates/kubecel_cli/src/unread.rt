@@ -1,5 +1,4 @@
 //! Definitions of which something isn't read: no object is judged by them.
-ghost use Rattle.cel_patterns.specs.Book.{Book, IsBook};
 ghost use Rattle.kube_manifests_review.specs.Candidates as candidates;
 ghost use Rattle.kubecel_io.specs.Subjects.{subject_view};
 ghost use Rattle.kubecel_io.specs.Items.{finding_view, item_view};

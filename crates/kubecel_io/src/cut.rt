@@ -1,6 +1,6 @@
 //! Cutting a text into its documents, a byte at a time.
 ghost use Rattle.kubecel_io.specs.Documents.{closes, depth_after, ends, is_space, mode_after, opens};
-ghost use Rattle.std.specs.Prelude.{◌≡◌, ◌+◌, IfSome};
+ghost use Rattle.std.specs.Prelude.{◌≡◌, IfSome};
 
 /// Where a byte stands.
 #[derive(Clone, Copy, Drop, PartialEq, Eq)]

@@ -5,7 +5,7 @@ ghost use Rattle.kubecel_io.specs.declared.cut.Mode.TheVariants.{Outside};
 ghost use Rattle.serde_json.specs.View.{view};
 ghost use Rattle.std.specs.List.{list_all};
 ghost use Rattle.serde_json.specs.Read.{read};
-ghost use Rattle.std.specs.Prelude.{◌≡◌, ◌∷◌, ◌++◌, [], ℕ, List, Some, None, false, IfErr, IfOk, OnErr, OnOk, map};
+ghost use Rattle.std.specs.Prelude.{◌≡◌, ◌∷◌, [], ℕ, List, Some, None, false, IfErr, IfOk, OnErr, OnOk, map};
 ghost use Rattle.std.specs.Str.{IsUtf8};
 
 use crate::cut::{Mode, is_space};

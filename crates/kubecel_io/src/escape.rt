@@ -1,5 +1,5 @@
 //! Texts within XML, and within GitHub's commands.
-ghost use Rattle.kubecel_io.specs.Escapes.{byte_or, data_escape, escape_of, escaped_text, is_control, property_escape, xml_escape};
+ghost use Rattle.kubecel_io.specs.Escapes.{byte_or, data_escape, escape_of, escaped_text, property_escape, xml_escape};
 ghost use Rattle.std.specs.Io.KnownBytes.{Appends};
 ghost use Rattle.std.specs.Prelude.{◌≡◌, OnOk, option_map};
 

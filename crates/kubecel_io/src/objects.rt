@@ -1,8 +1,8 @@
 //! The objects of a document, and what they are called.
-ghost use Rattle.kubecel_io.specs.Objects.{each_item, group_in, identity_of, identity_view, is_same, list_items, metadata_at, objects_in, text_at};
+ghost use Rattle.kubecel_io.specs.Objects.{group_in, identity_of, identity_view, is_same, list_items, metadata_at, objects_in, text_at};
 ghost use Rattle.serde_json.specs.View.{items_view, view};
 ghost use Rattle.std.specs.List.{ends_with};
-ghost use Rattle.std.specs.Prelude.{◌≡◌, codes, map, nat_eq, option_map};
+ghost use Rattle.std.specs.Prelude.{◌≡◌, map, nat_eq, option_map};
 
 use serde_json::Value;
 use std::slice;

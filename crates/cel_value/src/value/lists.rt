@@ -2,7 +2,6 @@
 ghost use Rattle.std.specs.Prelude.{◌≡◌, ◌==◌, IfOk, IfErr, length, option_map, slice_get};
 ghost use Rattle.std.specs.Slice.Iter.{iter_rest};
 ghost use Rattle.cel_value.specs.Find.{list_of_items};
-ghost use Rattle.cel_value.specs.Levels.{items_levels};
 ghost use Rattle.cel_value.specs.Same.{items_have_double};
 ghost use Rattle.cel_value.specs.View.{view, items_view};
 

@@ -1,4 +1,4 @@
-use Rattle.std.proofs.Common.{rules, ◌≡◌, string_bytes, sym, ap, ◌∙◌, subst}
+use Rattle.std.proofs.Common.{rules, ◌≡◌, string_bytes, ap, ◌∙◌, subst}
 use Rattle.std.specs.Prelude.{false}
 use Rattle.cel_demand.specs.Demand.{part_of, members_view}
 use Rattle.cel_demand.specs.Part.{both}

@@ -1,4 +1,4 @@
-use Rattle.std.proofs.Common.{◌≡◌, ◌≤◌, ℕ, length, drop}
+use Rattle.std.proofs.Common.{◌≡◌, ◌≤◌, length, drop}
 use Rattle.cel_demand.specs.Demand.{part_of, members_view}
 use Rattle.cel_demand.specs.Part.{part_at}
 use Rattle.cel_demand.proofs.both.demand_at.Given as goal

@@ -6,7 +6,7 @@ use Rattle.kube_cel_walk.proofs.judge.context_at.Goals as goal
 use Rattle.kube_cel_walk.proofs.Judged.{placed}
 use Rattle.kube_cel_walk.specs.Visits.{visit_at}
 use Rattle.kube_schema_rules.specs.Demands.{rules_read}
-use Rattle.std.proofs.Common.{ℕ, List, [], option_map, codes, sym, ap, ◌∙◌, subst}
+use Rattle.std.proofs.Common.{ℕ, List, [], option_map, sym, ap, ◌∙◌, subst}
 
 pub returns-clause-bound : goal.returns-clause-bound
 returns-clause-bound g c = λ path.

@@ -3,7 +3,7 @@ use Rattle.kube_cel_walk.specs.Errors.{error_view}
 use Rattle.kube_cel_walk.proofs.judge.validate_at.Goals as goal
 use Rattle.kube_cel_walk.proofs.Judged.{deep_found, none_found, rules_found}
 use Rattle.kube_cel_walk.specs.Visits.{visit_at}
-use Rattle.std.proofs.Common.{rules, ◌≡◌, ◌==◌, ◌++◌, ◌∷◌, [], map, true, false, sym, ap, ◌∙◌, arith, append-nil}
+use Rattle.std.proofs.Common.{◌≡◌, ◌==◌, ◌++◌, ◌∷◌, [], map, true, false, sym, ap, ◌∙◌, arith, append-nil}
 use Rattle.std.proofs.lemmas.Bool.Decides.{nat_tests}
 use Rattle.std.proofs.lemmas.List.{map-append}
 

@@ -3,7 +3,7 @@ use Rattle.cel.proofs.program.Program.code.Goals as goal
 use Rattle.cel_vm_code.proofs.Sizes.{code_is_short}
 use Rattle.cel_vm_code.specs.Code.{code_of}
 use Rattle.cel_vm_code.specs.Op.{op}
-use Rattle.std.proofs.Common.{◌≡◌, ◌≤◌, length, sym, ap, ◌∙◌, arith}
+use Rattle.std.proofs.Common.{◌≡◌, length, sym, ap, ◌∙◌, arith}
 use Rattle.std.proofs.Math.ListN.{length-map}
 
 pub returns-clause-short : goal.returns-clause-short

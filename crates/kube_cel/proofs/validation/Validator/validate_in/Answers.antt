@@ -5,9 +5,9 @@ use Rattle.kube_cel.specs.Answers.{found_in, report_of}
 use Rattle.kube_cel.specs.Starts.{with_schema_defaults}
 use Rattle.kube_cel_walk.specs.Roots.{root_view}
 use Rattle.kube_cel.specs.Raw.{raw_accessors}
-use Rattle.kube_cel_walk.specs.Answers.{answer, IsAnswer}
+use Rattle.kube_cel_walk.specs.Answers.{answer}
 use Rattle.serde_json.specs.View.{view}
-use Rattle.std.proofs.Common.{Some, option_map, sym, subst, ap, ◌∙◌}
+use Rattle.std.proofs.Common.{Some, option_map, sym, ap, ◌∙◌}
 
 pub returns-in_default-clause-answer : goal.returns-in_default-clause-answer
 returns-in_default-clause-answer c = λ b h.
