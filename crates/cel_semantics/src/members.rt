@@ -177,6 +177,7 @@ fn is_key_of(value: &Value, entries: &Map) -> Result<bool, Refused>
 }
 
 /// Whether a value is an item of a list or a key of a map.
+#[inline(always)]
 pub(crate) fn is_in(alloc: Global, value: &Value, range: &Value) -> Result<Answer, Refused>
     ensures value { IfOk result (λ r. outcome_view r ≡ membership (view value.now) (view range.now)) }
     ensures memory { IfErr result (λ e. e ≡ Refused.Memory) }

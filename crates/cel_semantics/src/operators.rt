@@ -279,7 +279,9 @@ fn relate_texts(
     }
 }
 
-/// An operator on two values, either of which may hold a double.
+/// An operator on two values, either of which may hold a double. Membership, which is mostly asked of values of two kinds, is looked for
+/// first.
+#[inline(always)]
 fn operate_on_any(
     alloc: Global,
     operator: BinaryOperator,
@@ -292,6 +294,9 @@ fn operate_on_any(
 {
     if left.holds_double() || right.holds_double() {
         return Ok(Err(double_fault(alloc)?));
+    }
+    if let BinaryOperator::In = operator {
+        return is_in(alloc, left, right);
     }
     relate(alloc, operator, left, right)
 }

@@ -26,6 +26,7 @@ fn read_uint(text: &str) -> Option<u64>
     text.parse::<u64>().ok()
 }
 
+#[inline(always)]
 fn signed(number: u64) -> Answer
     ensures { outcome_view result ≡ int_or_overflow (pos number) }
 {
@@ -35,6 +36,7 @@ fn signed(number: u64) -> Answer
     }
 }
 
+#[inline(always)]
 fn unsigned(number: i64) -> Answer
     ensures { outcome_view result ≡ spec.natural number }
 {
@@ -90,6 +92,7 @@ pub(crate) fn uint(alloc: Global, value: &Value) -> Result<Answer, Refused>
     }
 }
 
+#[inline(always)]
 fn text_answer(alloc: Global, text: String) -> Result<Answer, Refused>
     ensures value { IfOk result (λ r. outcome_view r ≡ Ok (plain.text (string_bytes text))) }
     ensures memory { IfErr result (λ e. e ≡ Refused.Memory) }

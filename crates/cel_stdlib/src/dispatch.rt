@@ -24,6 +24,8 @@ use std::alloc::Global;
 #[derive(Clone, Copy, Debug, PartialEq, Eq)]
 pub struct StandardFunctions;
 
+// The layers of a call, this and those below, are inlined, since each of them would hand the answer on by a copy.
+#[inline(always)]
 fn answer_of_one(alloc: Global, function: OfOne, value: &Value) -> Result<Answer, Refused>
     ensures value { IfOk result (λ r. outcome_view r ≡ spec.answer_of_one function (view value.now)) }
     ensures memory { IfErr result (λ e. e ≡ Refused.Memory) }
@@ -41,6 +43,7 @@ fn answer_of_one(alloc: Global, function: OfOne, value: &Value) -> Result<Answer
     }
 }
 
+#[inline(always)]
 fn answer_of_two(
     alloc: Global,
     function: OfTwo,
@@ -61,8 +64,6 @@ fn answer_of_two(
     }
 }
 
-// The layers of a call, this and those below, are inlined,
-// since each of them would hand the answer on by a copy.
 #[inline(always)]
 fn nth(args: &[Value], index: usize) -> Option<&Value>
     ensures { option_map (λ v. view v.now) result ≡ nth_item index (items_view args.now) }

@@ -54,7 +54,8 @@ pub enum Function {
     Many(Extreme),
 }
 
-// The function, if that is its name.
+// The function, if that is its name. Inlined, so that the length of the name is a constant where it is compared.
+#[inline(always)]
 fn only(name: &str, wanted: &str, function: Function) -> Option<Function>
     ensures { result ≡ (if bytes_eq name.now wanted.now then Some function else None) }
 {

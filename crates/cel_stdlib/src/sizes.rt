@@ -39,6 +39,7 @@ fn entry_count(entries: &Map) -> usize
     entries.len()
 }
 
+#[inline(always)]
 fn counted(count: usize) -> Answer
     ensures { outcome_view result ≡ int_or_overflow (pos count) }
 {

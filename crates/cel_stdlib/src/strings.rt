@@ -14,6 +14,7 @@ use cel_semantics::operators::{Answer, no_such_overload};
 use cel_value::{ExecutionError, Refused, Value};
 use std::alloc::Global;
 
+#[inline(always)]
 fn both_texts<'a>(value: &'a Value, other: &'a Value) -> Option<(&'a str, &'a str)>
     ensures { option_map (λ p. (p.0.now, p.1.now)) result ≡ spec.texts_in (view value.now) (view other.now) }
 {

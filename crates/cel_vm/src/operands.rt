@@ -364,7 +364,7 @@ pub(crate) fn put_over_two(values: &mut Vec<Answer>, answer: Answer)
     ensures { (r : Outcome) (s : Outcome) (vs : List Outcome) → outcomes values.old.items ≡ r ∷ s ∷ vs
         → outcomes values.new.items ≡ outcome_view answer ∷ vs }
 {
-    let _ = pop_answer(values);
+    drop_answer(values);
     put_top(values, answer);
 }
 

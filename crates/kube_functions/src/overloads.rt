@@ -69,19 +69,15 @@ pub(crate) fn last_index_of(
     }
 }
 
+#[inline(always)]
 fn is_address(value: &Value) -> bool
     ensures { result ≡ spec.is_address (view value.now) }
 {
     matches!(value, Value::Ip(_) | Value::Cidr(_))
 }
 
-fn address_in(value: &Value) -> Option<&Value>
-    ensures { option_map (λ v. view v.now) result ≡ spec.address_in (view value.now) }
-{
-    if is_address(value) { Some(value) } else { None }
-}
-
-/// The operand of `string`, where it is an IP address or a CIDR.
+/// The operand of `string`, where it is an IP address or a CIDR. Few operands are, so the kind is looked at before the name.
+#[inline(always)]
 pub(crate) fn address_operand<'a>(
     name: &str,
     receiver: Option<&'a Value>,
@@ -90,11 +86,14 @@ pub(crate) fn address_operand<'a>(
     ensures { option_map (λ v. view v.now) result
         ≡ spec.address_operand name.now (option_map (λ v. view v.now) receiver.entry) (map view args.now) }
 {
-    if name != "string" {
-        return None;
-    }
     match first_operand(receiver, args) {
-        Some(value) => address_in(value),
+        Some(value) => {
+            if is_address(value) && name == "string" {
+                Some(value)
+            } else {
+                None
+            }
+        }
         None => None,
     }
 }

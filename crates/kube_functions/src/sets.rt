@@ -82,6 +82,8 @@ fn either_form(form: Form, other: Form) -> Form
     }
 }
 
+// A call that the standard doesn't know, kept apart so that calls that it knows take less room.
+#[inline(never)]
 fn added_answer(
     alloc: Global,
     name: &str,
@@ -107,7 +109,9 @@ fn added_answer(
     }
 }
 
-// The standard answer, but for the string of an address.
+// The standard answer, but for the string of an address. This and the calls below are inlined, since each of them would hand the answer
+// on by a copy.
+#[inline(always)]
 fn kept_answer(
     alloc: Global,
     function: Function,
@@ -146,6 +150,7 @@ impl Functions for AllFunctions {
         }
     }
 
+    #[inline(always)]
     fn call(
         &self,
         alloc: Global,
@@ -179,6 +184,7 @@ impl Functions for KubeFunctions {
         }
     }
 
+    #[inline(always)]
     fn call(
         &self,
         alloc: Global,
