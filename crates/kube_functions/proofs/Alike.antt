@@ -22,7 +22,7 @@ by_entries (Some false) None text h = sym (refused_none text (h.0 (inl refl)))
 by_entries (Some false) (Some true) text h = sym (built_is_not_refused text (h.0 (inl refl)))
 by_entries (Some false) (Some false) text h = refl
 
--- a text that both refuse or neither has one pattern under both
+-- a text that both books refuse, or that neither refuses, has the same pattern under both
 pub pattern_in-alike : (a b : Book) (text : List ℕ) → (IsRefused a text ↔ IsRefused b text) → pattern_in a text ≡ pattern_in b text
 pattern_in-alike a b text h = by_entries (a text) (b text) text h
 

@@ -1,4 +1,4 @@
--- Calls of the standard in the whole set.
+-- Calls that the standard knows, in the set of all functions.
 use Rattle.std.proofs.Common.{◌≡◌, ℕ, Bool, true, List, [], ◌∷◌, length, Option, Some, None, ap, ◌∙◌}
 use Rattle.std.specs.Prelude.{codes, is_some, if◌then◌else◌}
 use Rattle.std.specs.Option.{option_map_or}

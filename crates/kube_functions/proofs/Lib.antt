@@ -1,4 +1,5 @@
 pub mod Alike
+pub mod Dotted
 pub mod Forms
 pub mod Kept
 pub mod Names

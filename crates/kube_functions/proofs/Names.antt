@@ -2,15 +2,12 @@
 use Rattle.cel_semantics.specs.declared.functions.Form.{Form}
 use Rattle.cel_semantics.specs.declared.functions.Form.TheVariants.{Unknown, Wrong, Known}
 use Rattle.cel_stdlib.specs.Standard.{known_if, standard_form}
-use Rattle.cel_stdlib.specs.Table.{function_named, takes}
+use Rattle.cel_stdlib.specs.Table.{function_named as standard_function_named, takes}
 use Rattle.cel_stdlib.specs.declared.names.Function.{Function}
-use Rattle.kube_functions.specs.Globals.{global_named}
-use Rattle.kube_functions.specs.Globals as globals
 use Rattle.kube_functions.specs.Kube.{added_form, either_form, is_added, kube_form, kube_library}
-use Rattle.kube_functions.specs.Methods.{method_named}
-use Rattle.kube_functions.specs.Methods as methods
-use Rattle.kube_functions.specs.declared.globals.GlobalFunction.{GlobalFunction}
-use Rattle.kube_functions.specs.declared.methods.Method.{Method}
+use Rattle.kube_functions.specs.Table.{function_named}
+use Rattle.kube_functions.specs.Table as table
+use Rattle.kube_functions.specs.declared.functions.Declaration.{Declaration}
 use Rattle.kube_functions.specs.declared.sets.KubeFunctions.{KubeFunctions}
 use Rattle.kube_functions.specs.declared.sets.KubeFunctions.TheVariants.{Standard, All}
 use Rattle.std.proofs.Common.{◌≡◌, ℕ, List, Bool, true, false, ◌||◌, Option, Some, None, if◌then◌else◌, refl, ap, ◌∙◌}
@@ -22,7 +19,7 @@ never_unknown true h = cc
 never_unknown false h = cc
 
 pub standard_unknown : (name : List ℕ) (receiver other : Bool) (count number : ℕ) → standard_form name receiver count ≡ Unknown → standard_form name other number ≡ Unknown
-standard_unknown name receiver other count number h = by (function_named name) h
+standard_unknown name receiver other count number h = by (standard_function_named name) h
   where
     by : (o : Option Function) → option_map_or (λ f. known_if (takes f receiver count)) o Unknown ≡ Unknown → option_map_or (λ f. known_if (takes f other number)) o Unknown ≡ Unknown
     by None h = refl
@@ -34,17 +31,17 @@ not_added false true h = cc
 not_added false false h = refl
 
 added_unknown : (name : List ℕ) (other : Bool) (number : ℕ) → is_added name ≡ false → added_form name other number ≡ Unknown
-added_unknown name true number h = by (method_named name) (global_named name) h
+added_unknown name true number h = by (function_named name true) (function_named name false) h
   where
-    by : (m : Option Method) (g : Option GlobalFunction) → (is_some m || is_some g) ≡ false
-        → (if option_map_or (λ f. methods.takes f number) m false then Known else (if is_some m || is_some g then Wrong else Unknown)) ≡ Unknown
+    by : (m g : Option Declaration) → (is_some m || is_some g) ≡ false
+        → (if option_map_or (λ d. table.takes d number) m false then Known else (if is_some m || is_some g then Wrong else Unknown)) ≡ Unknown
     by None None h = refl
     by None (Some g) h = cc
     by (Some m) g h = cc
-added_unknown name false number h = by (method_named name) (global_named name) h
+added_unknown name false number h = by (function_named name true) (function_named name false) h
   where
-    by : (m : Option Method) (g : Option GlobalFunction) → (is_some m || is_some g) ≡ false
-        → (if option_map_or (λ f. globals.takes f number) g false then Known else (if is_some m || is_some g then Wrong else Unknown)) ≡ Unknown
+    by : (m g : Option Declaration) → (is_some m || is_some g) ≡ false
+        → (if option_map_or (λ d. table.takes d number) g false then Known else (if is_some m || is_some g then Wrong else Unknown)) ≡ Unknown
     by None None h = refl
     by None (Some g) h = cc
     by (Some m) g h = cc

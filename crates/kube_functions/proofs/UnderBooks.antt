@@ -1,6 +1,6 @@
 -- What trees mean under books that refuse the same texts.
 use Rattle.kube_functions.proofs.Alike.{found_by-alike, matched_by-alike}
-use Rattle.cel_patterns.specs.Book.{Book, IsRefused, found_by, matched_by}
+use Rattle.cel_patterns.specs.Book.{Book, IsRefused}
 use Rattle.cel_semantics.specs.Bindings.{Bindings}
 use Rattle.cel_semantics.specs.Calls.{receiver_of, by_form, call_outcome}
 use Rattle.cel_syntax_ast.specs.Term.{is_there, Term, literal, ident, select, has, index, unary, binary, conditional, list_of, map_with, call, qualified, macro, Terms, no_terms, term_and, count_of, Pairs, no_pairs, pair_and}
@@ -18,7 +18,7 @@ use Rattle.cel_stdlib.specs.Standard as standard
 use Rattle.cel_stdlib.specs.Standard.{standard_form, standard_answer, first_operand, second_operand}
 use Rattle.cel_stdlib.specs.Strings as strings
 use Rattle.cel_stdlib.specs.Strings.{pattern_found}
-use Rattle.cel_stdlib.specs.Table.{function_named}
+use Rattle.cel_stdlib.specs.Table.{function_named as standard_function_named}
 use Rattle.cel_stdlib.specs.declared.names.Function.{Function}
 use Rattle.cel_stdlib.specs.declared.names.Function.TheVariants.{One, Two, Many}
 use Rattle.cel_stdlib.specs.declared.names.OfTwo.{OfTwo}
@@ -27,13 +27,16 @@ use Rattle.cel_value.specs.Data.{Data, text_key, list, map_of, no_entries}
 use Rattle.cel_value.specs.Faults.{no_overload}
 use Rattle.cel_value.specs.Same.{has_double}
 use Rattle.cel_value.specs.View.{items_of}
+use Rattle.kube_functions.specs.Calls.{answer_of}
 use Rattle.kube_functions.specs.Kube.{added_answer, answer_by, kube_answer, kube_library}
-use Rattle.kube_functions.specs.MethodCalls as methods
-use Rattle.kube_functions.specs.MethodCalls.{nth}
-use Rattle.kube_functions.specs.Methods.{method_named}
+use Rattle.kube_functions.specs.Operands.{third_operand}
 use Rattle.kube_functions.specs.Overloads.{address_operand}
-use Rattle.kube_functions.specs.declared.methods.Method.{Method}
-use Rattle.kube_functions.specs.declared.methods.Method.TheVariants as method
+use Rattle.kube_functions.specs.Regex as regex
+use Rattle.kube_functions.specs.Table.{function_named}
+use Rattle.kube_functions.specs.declared.functions.Function as function
+use Rattle.kube_functions.specs.declared.functions.Function.TheVariants.{Strings, Lists, Math, Sets, Encoders, Regex, Net, Semver, Quantity, Url, Format}
+use Rattle.kube_functions.specs.declared.libraries.regex.RegexFunction.{RegexFunction}
+use Rattle.kube_functions.specs.declared.libraries.regex.RegexFunction.TheVariants.{Find, FindAll}
 use Rattle.kube_functions.specs.declared.sets.KubeFunctions.{KubeFunctions}
 use Rattle.kube_functions.specs.declared.sets.KubeFunctions.TheVariants.{Standard, All}
 use Rattle.kube_functions_strings.specs.Operands.{answer_with, optional_int_in, texts_in}
@@ -44,7 +47,7 @@ use Rattle.std.specs.List.{list_any}
 use Rattle.std.specs.Option.{option_map_or, option_zip}
 use Rattle.std.specs.Prelude.{is_some}
 
--- ---- a tree, where all calls answer alike
+-- ---- a tree means the same if all calls have the same answers
 
 module _ (library : Library) (a b : Book) (same : (name : List ℕ) (receiver : Option Data) (args : List Data) → library.answer_of name receiver args a ≡ library.answer_of name receiver args b) where
   call_same : (name : List ℕ) (receiver : Option Data) (args : List Data) → call_outcome library a name receiver args ≡ call_outcome library b name receiver args
@@ -78,7 +81,7 @@ module _ (library : Library) (a b : Book) (same : (name : List ℕ) (receiver : 
     map_meaning_same no_pairs e m = refl
     map_meaning_same (pair_and k v ps) e m = λ i. and_then (entry_of (meaning_same k e i) (meaning_same v e i) m) (λ n. map_meaning_same ps e n i)
 
--- ---- both sets answer alike under books that refuse the same texts
+-- ---- both sets have the same answers under books that refuse the same texts
 
 module _ (a b : Book) (alike : (text : List ℕ) → IsRefused a text ↔ IsRefused b text) where
   matches_same : (v w : Data) → strings.matches v w a ≡ strings.matches v w b
@@ -93,7 +96,7 @@ module _ (a b : Book) (alike : (text : List ℕ) → IsRefused a text ↔ IsRefu
   both_same Matches name (Some v) (Some w) = matches_same v w
 
   standard_same : (name : List ℕ) (receiver : Option Data) (args : List Data) → standard_answer name receiver args a ≡ standard_answer name receiver args b
-  standard_same name receiver args = by (function_named name)
+  standard_same name receiver args = by (standard_function_named name)
     where
       by : (o : Option Function) → option_map_or (λ f. standard.answer_of f name receiver args a) o (Err (no_overload name))
           ≡ option_map_or (λ f. standard.answer_of f name receiver args b) o (Err (no_overload name))
@@ -109,19 +112,29 @@ module _ (a b : Book) (alike : (text : List ℕ) → IsRefused a text ↔ IsRefu
   find_all_same v w n = λ i. answer_with (codes "findAll")
       (λ p. unless_refused (codes "findAll") (match_texts p.0.0) (found_by-alike a b p.0.1 p.0.0 (limit_of p.1) (alike p.0.1) i)) (option_zip (texts_in v w) (optional_int_in n))
 
-  method_same : (f : Method) (name : List ℕ) (v : Data) (args : List Data) → methods.answer_of f name v args a ≡ methods.answer_of f name v args b
-  method_same (method.One f) name v args = refl
-  method_same (method.OneOrTwo f) name v args = refl
-  method_same (method.Two f) name v args = refl
-  method_same (method.TwoOrThree f) name v args = refl
-  method_same method.Find name v args = λ i. answer_with name (λ w. find_same v w i) (nth 0 args)
-  method_same method.FindAll name v args = λ i. answer_with name (λ w. find_all_same v w (nth 1 args) i) (nth 0 args)
-  method_same method.Slice name v args = refl
-  method_same method.Replace name v args = refl
+  regex_same : (f : RegexFunction) (name : List ℕ) (v w x : Option Data) → regex.answer f name v w x a ≡ regex.answer f name v w x b
+  regex_same Find name None w x = refl
+  regex_same Find name (Some v) None x = refl
+  regex_same Find name (Some v) (Some w) x = find_same v w
+  regex_same FindAll name None w x = refl
+  regex_same FindAll name (Some v) None x = refl
+  regex_same FindAll name (Some v) (Some w) x = find_all_same v w x
+
+  function_same : (f : function.Function) (name : List ℕ) (receiver : Option Data) (args : List Data) → answer_of f name receiver args a ≡ answer_of f name receiver args b
+  function_same (Strings f) name receiver args = refl
+  function_same (Lists f) name receiver args = refl
+  function_same (Math f) name receiver args = refl
+  function_same (Sets f) name receiver args = refl
+  function_same (Encoders f) name receiver args = refl
+  function_same (Regex f) name receiver args = regex_same f name (first_operand receiver args) (second_operand receiver args) (third_operand receiver args)
+  function_same (Net f) name receiver args = refl
+  function_same (Semver f) name receiver args = refl
+  function_same (Quantity f) name receiver args = refl
+  function_same (Url f) name receiver args = refl
+  function_same (Format f) name receiver args = refl
 
   added_same : (name : List ℕ) (receiver : Option Data) (args : List Data) → added_answer name receiver args a ≡ added_answer name receiver args b
-  added_same name None args = refl
-  added_same name (Some v) args = λ i. option_map_or (λ f. method_same f name v args i) (method_named name) (Err (no_overload name))
+  added_same name receiver args = λ i. option_map_or (λ d. function_same d.function name receiver args i) (function_named name (is_some receiver)) (Err (no_overload name))
 
   all_same : (name : List ℕ) (receiver : Option Data) (args : List Data) → kube_answer name receiver args a ≡ kube_answer name receiver args b
   all_same name receiver args = by (standard_form name (is_some receiver) (length args))

@@ -1,7 +1,8 @@
 -- Trusted by the headline.
--- Functions of one name on operands of different kinds (Kubernetes documentation, "CEL in Kubernetes",
--- extended string library, list library, IP address library; documentation of CEL-Go, "Strings", "Lists"): on
--- lists, and on strings; the strings of addresses, and of other values.
+-- Functions that take operands of different kinds under one name: `reverse`, `indexOf`
+-- and `lastIndexOf` of lists and of strings; `string` of addresses and of other values
+-- (Kubernetes documentation, "CEL in Kubernetes", extended string library, list
+-- library, IP address library; documentation of CEL-Go, "Strings", "Lists").
 use Rattle.std.specs.Prelude.{ℕ, List, codes, Bool, true, false, Option, Some, None, is_some, Err, if◌then◌else◌}
 use Rattle.std.specs.Option.{option_map_or}
 use Rattle.std.specs.Str.{bytes_eq}
@@ -21,7 +22,7 @@ is_list v = is_some (items_in v)
 abbrev pub reverse_overload : Data → Outcome
 reverse_overload v = if is_list v then lists.reverse v else letters.reverse_outcome v
 
--- on a list, with no index to start from
+-- the answer for a list, on which the function takes no start
 abbrev pub unless_started : List ℕ → Outcome → Option Data → Outcome
 unless_started name answer None = answer
 unless_started name answer (Some start) = Err (no_overload name)
@@ -36,7 +37,7 @@ last_index_of v w start =
     if is_list v then unless_started (codes "lastIndexOf") (indices.last_index_of v w) start
     else offsets.last_index_of v w start
 
--- ---- strings of addresses
+-- ---- `string` of addresses
 
 abbrev pub is_address : Data → Bool
 is_address (ip a) = true
@@ -46,7 +47,8 @@ is_address _ = false
 abbrev pub address_in : Data → Option Data
 address_in v = if is_address v then Some v else None
 
--- the operand of `string`, where it is an IP address or a CIDR
+-- the operand of `string` if it is an IP address or a
+-- CIDR; none for other operands and other functions
 abbrev pub address_operand : List ℕ → Option Data → List Data → Option Data
 address_operand name receiver args =
     if bytes_eq name (codes "string")

@@ -1,4 +1,4 @@
-//! The contexts of rules.
+//! The context in which rules are evaluated, and the trait that adds Kubernetes' functions to it.
 ghost use Rattle.std.specs.Prelude.{◌≡◌};
 ghost use Rattle.cel_semantics.specs.Bindings.{Bindings, bindings_of, functions_of};
 ghost use Rattle.kube_functions.specs.declared.sets.KubeFunctions.{KubeFunctions};
@@ -6,32 +6,33 @@ ghost use Rattle.kube_functions.specs.declared.sets.KubeFunctions.TheVariants.{A
 
 use crate::sets::KubeFunctions;
 
-/// What the names of a rule are bound to, and which functions it may call:
-/// at first those of the CEL standard.
+/// The bindings of a rule's names, and the set of functions that it
+/// may call. A context begins with the functions of the CEL standard.
 pub type Context<'a> = cel_semantics::Context<'a, KubeFunctions>;
 
 mod sealed {
-    /// The contexts of rules alone have it.
+    /// Only `Context` implements it, so no other type can implement `KubeCelExt`.
     pub trait Sealed {}
 }
 
 impl<'a> sealed::Sealed for Context<'a> {}
 
-/// Contexts to which the functions of Kubernetes can be added.
+/// Adds the functions of Kubernetes to a [`Context`].
 ///
-/// `functions` is the set of functions of a context, `variables` what its names are bound to.
+/// In contracts, `functions` is the context's set of functions, and `variables` are its bindings.
 pub trait KubeCelExt: sealed::Sealed {
     ghost functions: { Self → KubeFunctions };
 
     ghost variables: { Self → Bindings };
 
-    /// Adds all functions of Kubernetes. No name is bound otherwise than before.
+    /// Adds all functions of Kubernetes, and returns
+    /// the same context. The bindings stay as they are.
     fn register_all(&mut self) -> &mut Self
         ensures same { result.ghost_name ≡ self.entry.ghost_name }
         ensures functions { functions result.now ≡ All }
         ensures variables { variables result.now ≡ variables self.old };
 
-    /// The context with all functions of Kubernetes.
+    /// Returns the context with all functions of Kubernetes added. The bindings stay as they are.
     fn with_all(self) -> Self
         ensures functions { functions result ≡ All }
         ensures variables { variables result ≡ variables self };

@@ -1,4 +1,5 @@
-//! Functions of one name on operands of different kinds.
+//! Functions that take operands of different kinds under one name: `reverse`,
+//! `indexOf` and `lastIndexOf` of strings and lists, and `string` of addresses.
 ghost use Rattle.std.specs.Prelude.{◌≡◌, IfOk, IfErr, Some, map, option_map};
 ghost use Rattle.cel_value.specs.View.{view};
 ghost use Rattle.cel_semantics.specs.Outcome.{outcome_view};
@@ -17,7 +18,7 @@ fn is_list(value: &Value) -> bool
     value.as_list().is_some()
 }
 
-/// `reverse`: a string's characters, or a list's items, backwards.
+/// `reverse`: returns the characters of a string, or the items of a list, in reverse order.
 pub(crate) fn reverse(alloc: Global, value: &Value) -> Result<Answer, Refused>
     ensures value { IfOk result (λ r. outcome_view r ≡ spec.reverse_overload (view value.now)) }
     ensures memory { IfErr result (λ e. e ≡ Refused.Memory) }
@@ -29,7 +30,8 @@ pub(crate) fn reverse(alloc: Global, value: &Value) -> Result<Answer, Refused>
     }
 }
 
-/// `indexOf`: the first index of an item in a list, or the first offset of a part in a string.
+/// `indexOf`: returns the first index of an item in a list, or the first offset of one string
+/// in another, at or after `start`; -1 if there is none. With a list, a `start` is an error.
 pub(crate) fn index_of(
     alloc: Global,
     value: &Value,
@@ -49,7 +51,8 @@ pub(crate) fn index_of(
     }
 }
 
-/// `lastIndexOf`: the last index of an item in a list, or the last offset of a part in a string.
+/// `lastIndexOf`: returns the last index of an item in a list, or the last offset of one string
+/// in another, at or before `start`; -1 if there is none. With a list, a `start` is an error.
 pub(crate) fn last_index_of(
     alloc: Global,
     value: &Value,
@@ -69,15 +72,14 @@ pub(crate) fn last_index_of(
     }
 }
 
-#[inline(always)]
 fn is_address(value: &Value) -> bool
     ensures { result ≡ spec.is_address (view value.now) }
 {
     matches!(value, Value::Ip(_) | Value::Cidr(_))
 }
 
-/// The operand of `string`, where it is an IP address or a CIDR. Few operands are, so the kind is looked at before the name.
-#[inline(always)]
+/// Returns the operand of `string` if it is an IP address or a CIDR, and None for other operands
+/// and other functions. Few operands are addresses, so the kind is tested before the name.
 pub(crate) fn address_operand<'a>(
     name: &str,
     receiver: Option<&'a Value>,

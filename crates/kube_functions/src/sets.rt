@@ -1,4 +1,4 @@
-//! The sets of functions.
+//! The sets of functions: which calls each of them knows, and what it answers.
 ghost use Rattle.std.specs.Prelude.{◌≡◌, Some, map, option_map, IfOk, IfErr};
 ghost use Rattle.cel_patterns.specs.Book.{Extends};
 ghost use Rattle.cel_patterns.specs.Entries.{entries_of};
@@ -8,11 +8,10 @@ ghost use Rattle.cel_semantics.specs.Outcome.{outcome_view};
 ghost use Rattle.cel_stdlib.specs.Table.{function_named};
 ghost use Rattle.kube_functions.specs.Kube as spec;
 
-use crate::global_calls::answer_of_global;
-use crate::globals::{global_named, global_takes};
-use crate::method_calls::answer_of_method;
-use crate::methods::{method_named, method_takes};
+use crate::calls::answer_of;
+use crate::functions::takes;
 use crate::overloads::address_operand;
+use crate::table::function_named;
 use cel_patterns::PatternBook;
 use cel_semantics::operators::{Answer, no_such_overload};
 use cel_semantics::{Form, Functions};
@@ -21,11 +20,11 @@ use cel_value::{Refused, Value};
 use kube_functions_types::strings;
 use std::alloc::Global;
 
-/// The functions of the CEL standard and all those of Kubernetes.
+/// The set of all functions: those of the CEL standard and those of Kubernetes.
 #[derive(Clone, Copy, Debug, PartialEq, Eq)]
 pub struct AllFunctions;
 
-/// The functions that a context knows: it begins with those of the standard.
+/// The set of functions of a context, which begins as `Standard`.
 #[derive(Clone, Copy, Debug, PartialEq, Eq)]
 pub enum KubeFunctions {
     /// The functions of the CEL standard.
@@ -34,27 +33,21 @@ pub enum KubeFunctions {
     All,
 }
 
-// Whether a function that Kubernetes adds is called so.
+// Reports whether Kubernetes adds a function that may be called by
+// this name, with or without a receiver, and with `count` arguments.
 fn is_taken(name: &str, receiver: bool, count: usize) -> bool
     ensures { result ≡ spec.is_taken name.now receiver count }
 {
-    if receiver {
-        match method_named(name) {
-            Some(method) => method_takes(method, count),
-            None => false,
-        }
-    } else {
-        match global_named(name) {
-            Some(global) => global_takes(global, count),
-            None => false,
-        }
+    match function_named(name, receiver) {
+        Some(declaration) => takes(declaration, count),
+        None => false,
     }
 }
 
 fn is_added(name: &str) -> bool
     ensures { result ≡ spec.is_added name.now }
 {
-    method_named(name).is_some() || global_named(name).is_some()
+    function_named(name, true).is_some() || function_named(name, false).is_some()
 }
 
 fn added_form(name: &str, receiver: bool, count: usize) -> Form
@@ -82,7 +75,8 @@ fn either_form(form: Form, other: Form) -> Form
     }
 }
 
-// A call that the standard doesn't know, kept apart so that calls that it knows take less room.
+// Answers a call that the standard doesn't know. It is never
+// inlined, so that calls that the standard knows take less room.
 #[inline(never)]
 fn added_answer(
     alloc: Global,
@@ -97,21 +91,14 @@ fn added_answer(
         (option_map (λ v. view v.now) receiver.entry) (map view args.now) b)) }
     ensures memory { IfErr result (λ e. e ≡ Refused.Memory) }
 {
-    match receiver {
-        Some(value) => match method_named(name) {
-            Some(method) => answer_of_method(alloc, method, name, value, args, book),
-            None => Ok(Err(no_such_overload(alloc, name)?)),
-        },
-        None => match global_named(name) {
-            Some(global) => answer_of_global(alloc, global, name, args),
-            None => Ok(Err(no_such_overload(alloc, name)?)),
-        },
+    match function_named(name, receiver.is_some()) {
+        Some(declaration) => answer_of(alloc, declaration.function, name, receiver, args, book),
+        None => Ok(Err(no_such_overload(alloc, name)?)),
     }
 }
 
-// The standard answer, but for the string of an address. This and the calls below are inlined, since each of them would hand the answer
-// on by a copy.
-#[inline(always)]
+// Answers a call that the standard knows as the standard does, except for
+// `string` of an IP address or a CIDR.
 fn kept_answer(
     alloc: Global,
     function: Function,
@@ -150,7 +137,6 @@ impl Functions for AllFunctions {
         }
     }
 
-    #[inline(always)]
     fn call(
         &self,
         alloc: Global,
@@ -184,7 +170,6 @@ impl Functions for KubeFunctions {
         }
     }
 
-    #[inline(always)]
     fn call(
         &self,
         alloc: Global,
