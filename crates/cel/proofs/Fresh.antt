@@ -1,4 +1,5 @@
--- What is settled by a book that is gone is settled by some book.
+-- What holds for the entries of a `PatternBook` holds for
+-- some book, even after the `PatternBook` is gone.
 use Rattle.std.proofs.Common.{Result, Ok, Err, IfOk}
 use Rattle.cel_patterns.specs.Book.{Book, IsBook}
 use Rattle.cel_patterns.specs.Entries.{entries_of}

@@ -1,4 +1,4 @@
--- A meaning depends only on what the free names are bound to.
+-- The meaning of a tree depends only on what its free names are bound to.
 use Rattle.cel_patterns.specs.Book.{Book}
 use Rattle.cel_semantics.specs.Bindings.{Bindings, binding}
 use Rattle.cel_semantics.specs.Decisions.{truth, branch_outcome}
@@ -20,7 +20,7 @@ use Rattle.std.proofs.lemmas.Slice.Eq.{bytes_eq-Decides}
 use Rattle.std.specs.Option.{option_map_or}
 use Rattle.std.specs.Str.{bytes_eq}
 
--- these names are bound alike
+-- the two bindings agree on each of these names
 abbrev Alike : (List ℕ → Bool) → Bindings → Bindings → Type 0
 Alike p e f = (x : List ℕ) → p x ≡ true → binding x e ≡ binding x f
 
@@ -41,7 +41,7 @@ unless : (t q : Bool) (d : Data) (o p : Option Data) → ((not t && q) ≡ true 
 unless true q d o p h k = refl
 unless false q d o p h k = h k
 
--- where one more name is bound
+-- the same with one more name bound, to the same value in both
 inside : (q : List ℕ → Bool) (y : List ℕ) (d : Data) (e f : Bindings) → Alike (λ x. not (bytes_eq x y) && q x) e f → Alike q ((y, d) ∷ e) ((y, d) ∷ f)
 inside q y d e f h x k = unless (bytes_eq x y) (q x) d (binding x e) (binding x f) (h x) k
 

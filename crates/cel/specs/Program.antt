@@ -8,7 +8,7 @@ use Rattle.cel.specs.declared.program.Program.{Program}
 abbrev pub program_term : Program → Term
 program_term p = term p.expression
 
--- the tree that a text was read as, if it was read
+-- the tree of the program, or None if the text was not parsed
 abbrev pub program_seen : Result Program ParseErrors → Option Term
 program_seen (Ok p) = Some (program_term p)
 program_seen (Err e) = None

@@ -1,14 +1,14 @@
-//! CEL expressions: read, compiled to flat code, and run.
+//! Parses CEL expressions, compiles them to flat code and runs the code.
 //!
-//! [`Program::compile`] reads a text, [`Program::execute`] runs it in a [`Context`], which binds names to
-//! values and has a set of functions. Of the two results of a call the outer one says whether there was
-//! memory, the inner one what was found.
+//! [`Program::compile`] parses and compiles an expression, and [`Program::execute`] runs it in a
+//! [`Context`], which holds the variables and the set of functions. Both calls return nested
+//! results: the outer error says that memory was refused, the inner result is the outcome.
 //!
 //! ```rust
 //! use cel::{Answer, Context, Program, Refused, StandardFunctions, Value};
 //! use std::alloc::Global;
 //!
-//! /// What a text comes to where `n` is 3; `None` where it isn't read.
+//! /// Evaluates an expression with `n` bound to 3. Returns `None` if it can't be parsed.
 //! fn evaluated(alloc: Global, text: &str) -> Result<Option<Answer>, Refused> {
 //!     let Ok(program) = Program::compile(alloc, text)? else {
 //!         return Ok(None);
@@ -19,13 +19,13 @@
 //! }
 //! ```
 //!
-//! A [`PatternBook`] remembers what `regex` answered to each pattern; lent to several calls,
-//! it lets them answer alike.
+//! A [`PatternBook`] remembers what `regex` answered to each pattern. Calls that share one treat
+//! every pattern alike.
 //!
-//! Proved: a program has the tree that its text derives, and an execution ends with what the tree means
-//! (`Meaning.antt` of `cel_semantics`) under the context's names and functions, for every set of functions
-//! that keeps the law of [`Functions`]. There is no evaluator of trees: that the code's run ends with the
-//! tree's meaning is a theorem.
+//! Proved: the tree of a program is the one that its text derives, and an execution ends with what
+//! that tree means (`Meaning.antt` of `cel_semantics`) under the context's variables and functions,
+//! for every set of functions that keeps the law of [`Functions`]. There is no evaluator of trees:
+//! that running the code ends with the tree's meaning is a theorem.
 #![tactic(auto)]
 
 pub mod laws;

@@ -1,4 +1,4 @@
-//! Programs: an expression with its code.
+//! Programs: expressions together with their code.
 ghost use Rattle.std.specs.Prelude.{◌≡◌, ◌≤◌, ◌+◌, ◌*◌, IfOk, IfErr, MatchResult, length, map};
 ghost use Rattle.cel_patterns.specs.Book.{Book, IsBook, Extends};
 ghost use Rattle.cel_patterns.specs.Entries.{entries_of};
@@ -27,7 +27,7 @@ use cel_vm::run_code;
 use cel_vm_code::{Instr, compile_tree};
 use std::alloc::Global;
 
-/// An expression, ready to be run.
+/// A parsed expression and its code, ready to run.
 #[derive(Debug, Drop)]
 pub struct Program {
     expression: Expr,
@@ -38,10 +38,10 @@ pub struct Program {
 impl Program {
     ghost use Rattle.cel.specs.Program.{program_term, program_seen};
 
-    /// The program of a text.
+    /// Parses an expression and compiles it.
     ///
     /// # Errors
-    /// [`ParseErrors`] where the text derives no tree. The outer error is `Memory` alone.
+    /// [`ParseErrors`] if the text derives no tree. The outer error is only [`Refused::Memory`].
     pub fn compile(alloc: Global, text: &str) -> Result<Result<Program, ParseErrors>, Refused>
         ensures grammar { IfOk result
             (λ answer. MatchResult answer (λ p. TextDerives text.now (program_term p))
@@ -55,10 +55,10 @@ impl Program {
         }
     }
 
-    /// The program of a tree.
+    /// Compiles a tree.
     ///
     /// # Errors
-    /// `Memory` alone.
+    /// Only [`Refused::Memory`], if memory is refused.
     pub fn from_expression(alloc: Global, expression: Expr) -> Result<Program, Refused>
         ensures value { IfOk result (λ p. program_term p ≡ term expression) }
         ensures memory { IfErr result (λ e. e ≡ Memory) }
@@ -67,14 +67,14 @@ impl Program {
         Ok(Program { expression, code })
     }
 
-    /// Its tree.
+    /// The program's tree.
     pub fn expression(&self) -> &Expr
         ensures { term result.now ≡ program_term self.now }
     {
         &self.expression
     }
 
-    /// Its code: that of its tree, with fewer than five instructions for each node.
+    /// The program's code: that of its tree, with fewer than five instructions per node.
     pub fn code(&self) -> &[Instr]
         ensures code { map op result.now ≡ code_of (program_term self.now) }
         ensures short { length result.now + 2 ≤ 5 * nodes (program_term self.now) }
@@ -82,17 +82,18 @@ impl Program {
         self.code.as_slice()
     }
 
-    /// Whether the name is free in its tree: a variable that it reads.
+    /// Reports whether the name is a free variable of the program's tree.
     pub fn has_variable(&self, name: &str) -> bool
         ensures { result ≡ is_free name.now (program_term self.now) }
     {
         self.expression.has_free_name(name)
     }
 
-    /// The names that it refers to: exactly its free names, and exactly the names of its calls.
+    /// Returns the names that the program refers to: exactly its free variables and the names of
+    /// the functions that it calls.
     ///
     /// # Errors
-    /// `Memory` alone.
+    /// Only [`Refused::Memory`], if memory is refused.
     pub fn references(&self, alloc: Global) -> Result<References, Refused>
         ensures variables { IfOk result
             (λ r. AreNames (variable_names r) (λ x. is_free x (program_term self.now))) }
@@ -103,11 +104,11 @@ impl Program {
         References::of(alloc, &self.expression)
     }
 
-    /// What it means in the context: a value, or why there is none. What the patterns in it mean is settled
-    /// by a book of this call alone.
+    /// Runs the program in the context. Returns what its tree means there: a value or an error.
+    /// Patterns are settled by a book of this call alone.
     ///
     /// # Errors
-    /// `Memory` alone.
+    /// Only [`Refused::Memory`], if memory is refused.
     pub fn execute<F: Functions>(
         &self,
         alloc: Global,
@@ -123,11 +124,11 @@ impl Program {
         self.execute_with(alloc, context, &mut book)
     }
 
-    /// What it means in the context, with what the book knows of patterns. The book keeps its entries,
-    /// also where memory is refused.
+    /// Runs the program in the context, with what the book knows of patterns. Returns what the tree
+    /// means there: a value or an error. The book keeps its entries, even if memory is refused.
     ///
     /// # Errors
-    /// `Memory` alone.
+    /// Only [`Refused::Memory`], if memory is refused.
     pub fn execute_with<F: Functions>(
         &self,
         alloc: Global,

@@ -1,4 +1,4 @@
--- A name is looked up among the names of its length alone.
+-- It is enough to look a name up among the names of its length.
 use Rattle.std.proofs.Common.{◌≡◌, ℕ, Bool, true, false, cond, List, [], ◌∷◌, length, Some, refl, sym, ap, ◌∙◌}
 use Rattle.std.proofs.lemmas.Bool.{eq-eqb}
 use Rattle.std.proofs.lemmas.Slice.Eq.{bytes_eq-Decides}
@@ -11,7 +11,7 @@ refuted true h = sym (h refl)
 refuted false h = refl
 
 module _ {A : Type 0} (test : List ℕ → Bool) where
-  -- an entry of another length may be left out, if it does not pass
+  -- an entry of another length may be left out, since it can't match
   left_out : (same : Bool) (e : List ℕ × A) (fs es : List (List ℕ × A)) → (test e.0 ≡ true → same ≡ true)
       → lookup test fs ≡ lookup test es → lookup test (cond same (e ∷ fs) fs) ≡ lookup test (e ∷ es)
   left_out true e fs es h k = ap (λ o. cond (test e.0) (Some e.1) o) k

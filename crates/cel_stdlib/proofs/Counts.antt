@@ -1,4 +1,4 @@
--- How many items and entries a value has.
+-- The numbers of items and entries of a value.
 use Rattle.std.proofs.Common.{◌≡◌, suc, length, refl, ap}
 use Rattle.cel_value.specs.Data.{Items, no_items, item, Entries, no_entries, entry}
 use Rattle.cel_value.specs.Find.{list_of_items, list_of_entries}

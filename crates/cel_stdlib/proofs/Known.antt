@@ -1,4 +1,4 @@
--- What the look-up of a called function says of its name and of the form of the call.
+-- What the lookup of a called function tells about its name and the form of the call.
 use Rattle.std.proofs.Common.{◌≡◌, ℕ, Bool, true, false, List, Option, Some, None, refl, sym}
 use Rattle.std.proofs.lemmas.Option.{none-some}
 use Rattle.std.specs.Prelude.{if◌then◌else◌}
@@ -46,7 +46,7 @@ known_is_named name receiver count f h = named receiver count f (function_named 
 pub known_is_known : (name : List ℕ) (receiver : Bool) (count : ℕ) (f : Function) → known_function name receiver count ≡ Some f → standard_form name receiver count ≡ Known
 known_is_known name receiver count f h = known receiver count f (function_named name) h
 
--- a call that no standard function takes is of a wrong form, or of no such name
+-- a call that no standard function allows has a wrong form or an unknown name
 pub unless_known : (name : List ℕ) (receiver : Bool) (count : ℕ) (P : Form → Type 0) → known_function name receiver count ≡ None
     → P Wrong → P Unknown → P (standard_form name receiver count)
 unless_known name receiver count P h wrong unknown = other receiver count P wrong unknown (function_named name) h

@@ -1,4 +1,4 @@
--- Which of some values is the first of the least or of the greatest.
+-- Which of several values is the first least or greatest one.
 use Rattle.std.proofs.Common.{◌≡◌, ℕ, ◌+◌, ◌<◌, ◌≤◌, ℤ, length, map, take, drop, get_or, option_map, arith, List, [], ◌∷◌, ◌++◌, Bool, true, false, cond, not, ◌&&◌, Option, Some, None, is_some, refl, ap, sym, ◌∙◌, subst, append_assoc}
 use Rattle.std.specs.Prelude.{◌==◌}
 use Rattle.std.specs.Cmp.{IsTotalOrder}
@@ -76,7 +76,7 @@ alike_none d e h = at (alike d e) refl
     at false k = k
     at true k = let some : Some (rank d e) ≡ None = sym (compares_if d e true k) ∙ h in absurd (cc)
 
--- ---- the order towards one end
+-- ---- the order in which the extreme comes first
 
 abbrev order : Extreme → Data → Data → Ordering
 order Least = rank
@@ -132,7 +132,7 @@ same_back k l h = same_trans k l k h (nat_eq_equiv.refl k)
 ordered_at : (k l : ℕ) → (k == l) ≡ true → is_ordered k ≡ true → is_ordered l ≡ true
 ordered_at k l h g = subst (λ n. is_ordered n ≡ true) (eqb-true k l h) g
 
--- two values of the class of d
+-- two values of the class of d can be compared
 alike_by : (d a b : Data) → is_ordered (class d) ≡ true → (class d == class a) ≡ true → (class d == class b) ≡ true → alike a b ≡ true
 alike_by d a b o h k = and_true _ _ (same_trans (class d) (class a) (class b) h k) (ordered_at (class d) (class a) h o)
 
@@ -173,7 +173,7 @@ find_past p (e ∷ es) d ys h k =
 
 -- ---- the first of the values so far
 
--- d is the first of v and xs before which none stands
+-- d is the first of v and xs that none of them precedes
 pub record Leads (end : Extreme) (d v : Data) (xs : List Data) : Type 0 where
   pub before : List Data
   pub after : List Data
@@ -211,7 +211,7 @@ module _ (end : Extreme) (d v x : Data) (xs : List Data) (l : Leads end d v xs) 
     same_in : (list_all (λ e. class d == class e) l.before ≡ true) × (list_all (λ e. class d == class e) (d ∷ l.after) ≡ true)
     same_in = all_split _ l.before (d ∷ l.after) (sym (ap (list_all (λ e. class d == class e)) l.split) ∙ l.same)
 
-    -- x stands before d, and so before all
+    -- x precedes d, and so precedes all
     module _ (lt : stands_before end x d ≡ true) where
       lt_d : is_lt (order end x d) ≡ true
       lt_d = sym (stands end x d like) ∙ lt
@@ -258,7 +258,7 @@ module _ (end : Extreme) (d v x : Data) (xs : List Data) (l : Leads end d v xs) 
       ordered = λ w ws e. d_ordered;
     }
 
-  -- x has no order with d
+  -- x can't be compared with d
   module _ (ys : List Data) (apart : comparison x d ≡ None) where
     none_with_x : list_all (λ b. is_some (comparison x b)) ((v ∷ xs) ++ (x ∷ ys)) ≡ false
     none_with_x =
@@ -271,7 +271,7 @@ module _ (end : Extreme) (d v x : Data) (xs : List Data) (l : Leads end d v xs) 
 none_first : (end : Extreme) (vs : List Data) → all_compare vs ≡ false → first_extreme end vs ≡ None
 none_first end vs h = ap (λ b. cond b (find (is_extreme end vs) vs) None) h
 
--- ---- what the loop rests on
+-- ---- the loop's invariant
 
 step_with : (end : Extreme) (d v x n : Data) (xs : List Data) (o : Ordering) (b : Bool) → Leads end d v xs → comparison x d ≡ Some o → goes_before end o ≡ b → n ≡ cond b x d → Leads end n v (xs ++ (x ∷ []))
 step_with end d v x n xs o true l is h e =
@@ -301,7 +301,7 @@ stuck_at : (end : Extreme) (d v x : Data) (xs ys : List Data) → Leads end d v 
 stuck_at end d v x [] ys l h = sym (none_first end (v ∷ x ∷ ys) (not_all end d v x [] l ys h))
 stuck_at end d v x (w ∷ ws) ys l h = sym (none_first end ((v ∷ w ∷ ws) ++ (x ∷ ys)) (not_all end d v x (w ∷ ws) l ys h))
 
--- the same of a list's values up to one of them
+-- the same for a list's values up to one of them
 taken : (xs : List Value) (i : ℕ) (x : Value) → i < length xs → x ≡ get_or xs i x → map view (take (i + 1) xs) ≡ map view (take i xs) ++ (view x ∷ [])
 taken xs i x lt is = ap (map view) (take_more xs i x lt ∙ ap (λ y. take i xs ++ (y ∷ [])) (sym is)) ∙ map_push view (take i xs) x
 

@@ -1,4 +1,4 @@
--- What std reads as a number.
+-- Which texts std parses as numbers.
 use Rattle.std.proofs.Common.{◌≡◌, ℕ, ℤ, pos, negsuc, ◌^◌, List, length, Bool, true, false, cond, ◌&&◌, Some, None, refl}
 use Rattle.std.specs.Prelude.{nat_lt, FitsSigned}
 use Rattle.std.specs.Int.{w64}
@@ -39,7 +39,7 @@ int_from : (z : ℤ) → FitsSigned w64 z → is_int z ≡ true
 int_from (pos n) h = lt-ltb n (2 ^ 63) h.sfits
 int_from (negsuc n) h = lt-ltb n (2 ^ 63) h.sfits
 
--- an answer that is there exactly where a test holds
+-- a result that is Ok exactly if a test holds
 ok_where : {A E : Type 0} (r : Result A E) (P : Type 0) (x : A) (t : Bool) → (t ≡ true → P) → (P → t ≡ true) → OkIff r P x → result_ok r ≡ cond t (Some x) None
 ok_where (Ok y) P x true to from h = rw h.1
 ok_where (Ok y) P x false to from h = let e : false ≡ true = from h.0 in absurd (cc)

@@ -1,4 +1,4 @@
--- Texts that stand in texts.
+-- Texts contained in texts.
 use Rattle.std.proofs.Common.{◌≡◌, ℕ, List, [], ◌∷◌, ◌++◌, length, drop, Bool, true, false, refl, ap, subst}
 use Rattle.std.specs.Prelude.{◌||◌, ◌↔◌, nat_eq}
 use Rattle.std.specs.Bool.{Decides}
@@ -12,7 +12,7 @@ use Rattle.cel_stdlib.specs.Strings.{has_part}
 decides : (a b : ℕ) → Decides (nat_eq a b) (a ≡ b)
 decides a b = (eqb-true a b, λ e. subst (λ c. nat_eq a c ≡ true) e (nat_eq_equiv.refl a))
 
--- the text begins with the part just where the part stands first in it
+-- a text starts with the part exactly if the part is its first piece
 starts : (s part : List ℕ) → (starts_with nat_eq s part ≡ true → s ≡ part ++ drop (length part) s) × ((rest : List ℕ) → s ≡ part ++ rest → starts_with nat_eq s part ≡ true)
 starts s part = starts_is decides s part _ refl
 

@@ -1,8 +1,8 @@
 -- Trusted by the headline.
--- Values of one kind as values of another (CEL language definition, "List of Standard Definitions", `int`,
--- `uint`, `string`, `bytes`, `timestamp`, `duration`). A number that is out of its kind's range is an
--- overflow, and a text that means no such number or time a fault of the function. Bytes that are no UTF-8
--- become U+FFFD, one for each maximal piece.
+-- Conversions of values (CEL language definition, "List of Standard Definitions", `int`, `uint`,
+-- `string`, `bytes`, `timestamp`, `duration`). A number out of the range of its new kind is an
+-- overflow. A text that isn't such a number or time is an error of the function. Bytes that are no
+-- UTF-8 become U+FFFD, one for each maximal invalid piece.
 use Rattle.std.specs.Prelude.{ℕ, ◌^◌, ℤ, pos, negsuc, nat_lt, ◌&&◌, List, length, codes, Bool, Option, Some, None, Ok, Err, decimal, if◌then◌else◌}
 use Rattle.std.specs.Fmt.{signed_decimal}
 use Rattle.std.specs.Option.{option_map_or}
@@ -16,31 +16,31 @@ use Rattle.cel_value_times.specs.TextFunctions as times
 use Rattle.cel_semantics.specs.Arithmetic.{is_int, int_or_overflow}
 use Rattle.cel_semantics.specs.Outcome.{Outcome}
 
--- digits, one or more
+-- one or more digits
 abbrev pub is_numeral : List ℕ → Bool
 is_numeral ds = nat_lt 0 (length ds) && all_ascii_digits ds
 
--- the int that a text writes: `-`, `+` or no sign, and digits
+-- the int that a text denotes: `-`, `+` or no sign, then digits
 abbrev pub int_text : List ℕ → Option ℤ
 int_text s =
     if is_numeral (without_leading_sign s) && is_int (signed_digits_value 10 s)
     then Some (signed_digits_value 10 s) else None
 
--- the uint that a text writes: `+` or no sign, and digits
+-- the uint that a text denotes: `+` or no sign, then digits
 abbrev pub uint_text : List ℕ → Option ℕ
 uint_text s =
     if is_numeral (without_leading_plus s) && nat_lt (digits_value 10 (without_leading_plus s)) (2 ^ 64)
     then Some (digits_value 10 (without_leading_plus s)) else None
 
--- why a text is no number
+-- the error for a text that is no number
 abbrev pub not_integer : List ℕ → Fault
 not_integer name = function_error name (codes "invalid integer text")
 
--- the value of a number that a text writes
+-- the number that a text denotes, or the error if it denotes none
 abbrev pub or_not_integer : {A : Type 0} → List ℕ → (A → Data) → Option A → Outcome
 or_not_integer name f o = option_map_or (λ n. Ok (f n)) o (Err (not_integer name))
 
--- a number that no int is below, as a uint
+-- an int as a uint; a negative one is an overflow
 abbrev pub natural : ℤ → Outcome
 natural (pos n) = Ok (uint n)
 natural (negsuc n) = Err overflow
@@ -71,7 +71,7 @@ bytes_of (bytes s) = Ok (bytes s)
 bytes_of (text s) = Ok (bytes s)
 bytes_of _ = Err (no_overload (codes "bytes"))
 
--- the value of a time that a text means, or why it means none
+-- the time that a text denotes, or the error if it denotes none
 abbrev pub or_no_time : {A : Type 0} → Fault → (A → Data) → Option A → Outcome
 or_no_time fault f o = option_map_or (λ t. Ok (f t)) o (Err fault)
 

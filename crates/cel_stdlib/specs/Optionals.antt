@@ -1,6 +1,6 @@
 -- Trusted by the headline.
--- Whether an optional value holds one, and which (documentation of CEL-Go,
--- "Optional types", `hasValue`, `value`).
+-- Whether an optional holds a value, and that value (documentation of
+-- CEL-Go, "Optional types", `hasValue`, `value`).
 use Rattle.std.specs.Prelude.{codes, is_some, Ok, Err}
 use Rattle.std.specs.Option.{option_map_or}
 use Rattle.cel_value.specs.Data.{Data, bool, optional, Items}
@@ -12,7 +12,7 @@ abbrev pub has_value : Data → Outcome
 has_value (optional ds) = Ok (bool (is_some (first_item ds)))
 has_value _ = Err (no_overload (codes "hasValue"))
 
--- the value that is there
+-- the value held, or an error if there is none
 abbrev pub value_held : Items → Outcome
 value_held ds =
     option_map_or Ok (first_item ds) (Err (function_error (codes "value") (codes "optional has no value")))

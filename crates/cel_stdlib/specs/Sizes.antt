@@ -1,7 +1,7 @@
 -- Trusted by the headline.
--- How large a value is (CEL language definition, "List of Standard Definitions", `size`): a string by its
--- code points, bytes by their bytes, a list by its items, a map by its entries. A size is an int; one that no
--- int is would be an overflow.
+-- The size of a value (CEL language definition, "List of Standard Definitions", `size`): the
+-- number of a string's code points, of bytes, of a list's items or of a map's entries. A size is
+-- an int; one out of range would be an overflow.
 use Rattle.std.specs.Prelude.{ℕ, suc, pos, length, codes, Err}
 use Rattle.std.specs.Str.{chars}
 use Rattle.cel_value.specs.Data.{Data, text, bytes, list, map_of, Items, no_items, item, Entries, no_entries, entry}

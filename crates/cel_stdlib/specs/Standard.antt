@@ -1,5 +1,5 @@
 -- Trusted by the headline.
--- The set of the standard functions: how each is called, and what it answers.
+-- The standard functions: the forms in which each may be called, and its answers.
 use Rattle.std.specs.Prelude.{ℕ, List, Bool, Option, Some, None, Err, if◌then◌else◌}
 use Rattle.std.specs.Option.{option_map_or}
 use Rattle.cel_patterns.specs.Book.{Book}
@@ -48,7 +48,7 @@ answer_of_two StartsWith v w book = begins v w
 answer_of_two EndsWith v w book = ends v w
 answer_of_two Matches v w book = matches v w book
 
--- the receiver stands before the arguments
+-- the operands are the receiver, if any, then the arguments
 abbrev pub first_operand : Option Data → List Data → Option Data
 first_operand (Some v) args = Some v
 first_operand None args = nth_item 0 (items_of args)
@@ -57,7 +57,7 @@ abbrev pub second_operand : Option Data → List Data → Option Data
 second_operand (Some v) args = nth_item 0 (items_of args)
 second_operand None args = nth_item 1 (items_of args)
 
--- the answer, where both values are there
+-- the answer, if both operands are there
 abbrev pub answer_of_both : OfTwo → List ℕ → Option Data → Option Data → Book → Outcome
 answer_of_both f name (Some v) (Some w) book = answer_of_two f v w book
 answer_of_both f name _ _ book = Err (no_overload name)

@@ -1,6 +1,6 @@
 -- Trusted by the headline.
--- The standard functions: their names, and with which receiver and how many arguments each is called (CEL
--- language definition, "List of Standard Definitions"; documentation of CEL-Go, "Optional types" for
+-- The standard functions: their names, and the forms in which each may be called (CEL language
+-- definition, "List of Standard Definitions"; documentation of CEL-Go, "Optional types" for
 -- `hasValue` and `value`, "Math" and "Lists" for `min` and `max`).
 use Rattle.std.specs.Prelude.{ℕ, ◌==◌, nat_eq, nat_lt, ◌&&◌, ◌||◌, not, List, [], ◌∷◌, length, codes, Bool, Option, Some, None, if◌then◌else◌}
 use Rattle.std.specs.List.{filter}
@@ -15,7 +15,7 @@ use Rattle.cel_stdlib.specs.declared.names.Function.{Function}
 use Rattle.cel_stdlib.specs.declared.names.Function.TheVariants.{One, Two, Many}
 use Rattle.cel_stdlib.specs.declared.extremes.Extreme.TheVariants.{Least, Greatest}
 
--- the entries of a table whose names have this number of bytes
+-- the entries of a table whose names have n bytes
 abbrev pub of_length : {A : Type 0} → ℕ → List (List ℕ × A) → List (List ℕ × A)
 of_length n es = filter (λ e. nat_eq (length e.0) n) es
 
@@ -41,7 +41,7 @@ standard_functions =
 abbrev pub function_named : List ℕ → Option Function
 function_named name = lookup (bytes_eq name) standard_functions
 
--- called as v.f(..), or as f(..), with this number of arguments
+-- a call v.f(..) with this number of arguments; below, a call f(..)
 abbrev pub method : ℕ → Bool → ℕ → Bool
 method n receiver count = receiver && (count == n)
 
@@ -65,7 +65,7 @@ takes_two StartsWith receiver count = method 1 receiver count
 takes_two EndsWith receiver count = method 1 receiver count
 takes_two Matches receiver count = method 1 receiver count || global 2 receiver count
 
--- one value or more
+-- one or more arguments
 abbrev pub takes_many : Bool → ℕ → Bool
 takes_many receiver count = not receiver && nat_lt 0 count
 
@@ -74,7 +74,7 @@ takes (One f) receiver count = takes_one f receiver count
 takes (Two f) receiver count = takes_two f receiver count
 takes (Many end) receiver count = takes_many receiver count
 
--- the function that is called so, if one is
+-- the function that may be called by this name and in this form, if any
 abbrev pub known_function : List ℕ → Bool → ℕ → Option Function
 known_function name receiver count =
     option_and_then (λ f. if takes f receiver count then Some f else None) (function_named name)

@@ -1,4 +1,4 @@
-//! `int`, `uint`, `string` and `bytes`: values of one kind as values of another.
+//! The conversions `int`, `uint`, `string` and `bytes`.
 ghost use Rattle.std.specs.Fmt.{decimal, signed_decimal};
 ghost use Rattle.std.specs.Prelude.{◌≡◌, Ok, pos, IfOk, IfErr, string_bytes};
 ghost use Rattle.cel_value.specs.Data as plain;
@@ -26,7 +26,6 @@ fn read_uint(text: &str) -> Option<u64>
     text.parse::<u64>().ok()
 }
 
-#[inline(always)]
 fn signed(number: u64) -> Answer
     ensures { outcome_view result ≡ int_or_overflow (pos number) }
 {
@@ -36,7 +35,6 @@ fn signed(number: u64) -> Answer
     }
 }
 
-#[inline(always)]
 fn unsigned(number: i64) -> Answer
     ensures { outcome_view result ≡ spec.natural number }
 {
@@ -66,7 +64,7 @@ fn uint_from_text(alloc: Global, text: &str) -> Result<Answer, Refused>
     }
 }
 
-/// The int of an int, a uint or a text.
+/// Converts an int, a uint or a string to an int.
 pub(crate) fn int(alloc: Global, value: &Value) -> Result<Answer, Refused>
     ensures value { IfOk result (λ r. outcome_view r ≡ spec.int_of (view value.now)) }
     ensures memory { IfErr result (λ e. e ≡ Refused.Memory) }
@@ -79,7 +77,7 @@ pub(crate) fn int(alloc: Global, value: &Value) -> Result<Answer, Refused>
     }
 }
 
-/// The uint of a uint, an int or a text.
+/// Converts a uint, an int or a string to a uint.
 pub(crate) fn uint(alloc: Global, value: &Value) -> Result<Answer, Refused>
     ensures value { IfOk result (λ r. outcome_view r ≡ spec.uint_of (view value.now)) }
     ensures memory { IfErr result (λ e. e ≡ Refused.Memory) }
@@ -92,7 +90,6 @@ pub(crate) fn uint(alloc: Global, value: &Value) -> Result<Answer, Refused>
     }
 }
 
-#[inline(always)]
 fn text_answer(alloc: Global, text: String) -> Result<Answer, Refused>
     ensures value { IfOk result (λ r. outcome_view r ≡ Ok (plain.text (string_bytes text))) }
     ensures memory { IfErr result (λ e. e ≡ Refused.Memory) }
@@ -100,7 +97,7 @@ fn text_answer(alloc: Global, text: String) -> Result<Answer, Refused>
     Ok(Ok(Value::from_text(alloc, text)?))
 }
 
-/// The decimal digits of an int, with a minus sign where it is negative.
+/// Returns the decimal digits of an int, after a minus sign if it is negative.
 fn int_text(alloc: Global, number: i64) -> Result<String, AllocError>
     ensures { IfOk result (λ t. string_bytes t ≡ signed_decimal number) }
 {
@@ -109,7 +106,7 @@ fn int_text(alloc: Global, number: i64) -> Result<String, AllocError>
     String::from_str(alloc, text)
 }
 
-/// The decimal digits of a uint.
+/// Returns the decimal digits of a uint.
 fn uint_text(alloc: Global, number: u64) -> Result<String, AllocError>
     ensures { IfOk result (λ t. string_bytes t ≡ decimal number) }
 {
@@ -118,7 +115,7 @@ fn uint_text(alloc: Global, number: u64) -> Result<String, AllocError>
     String::from_str(alloc, text)
 }
 
-/// The string of a string, an int, a uint, bytes, a timestamp or a duration.
+/// Converts a string, an int, a uint, bytes, a timestamp or a duration to a string.
 pub(crate) fn string(alloc: Global, value: &Value) -> Result<Answer, Refused>
     ensures value { IfOk result (λ r. outcome_view r ≡ spec.string_of (view value.now)) }
     ensures memory { IfErr result (λ e. e ≡ Refused.Memory) }
@@ -145,7 +142,7 @@ fn bytes_answer(alloc: Global, bytes: &[u8]) -> Result<Answer, Refused>
     Ok(Ok(Value::Bytes(Rc::new(alloc, copy)?)))
 }
 
-/// The bytes of bytes or of a string in UTF-8.
+/// Converts bytes or a string to bytes, the string as UTF-8.
 pub(crate) fn bytes(alloc: Global, value: &Value) -> Result<Answer, Refused>
     ensures value { IfOk result (λ r. outcome_view r ≡ spec.bytes_of (view value.now)) }
     ensures memory { IfErr result (λ e. e ≡ Refused.Memory) }

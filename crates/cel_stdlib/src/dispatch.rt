@@ -1,4 +1,4 @@
-//! The set of the standard functions.
+//! The set of standard functions.
 ghost use Rattle.std.specs.Prelude.{◌≡◌, Some, Err, IfOk, IfErr, map, option_map};
 ghost use Rattle.std.specs.Option.{option_map_or};
 ghost use Rattle.cel_patterns.specs.Book.{Extends};
@@ -20,12 +20,10 @@ use cel_semantics::{Form, Functions};
 use cel_value::{Refused, Value};
 use std::alloc::Global;
 
-/// The functions of the CEL standard.
+/// The set of functions of the CEL standard.
 #[derive(Clone, Copy, Debug, PartialEq, Eq)]
 pub struct StandardFunctions;
 
-// The layers of a call, this and those below, are inlined, since each of them would hand the answer on by a copy.
-#[inline(always)]
 fn answer_of_one(alloc: Global, function: OfOne, value: &Value) -> Result<Answer, Refused>
     ensures value { IfOk result (λ r. outcome_view r ≡ spec.answer_of_one function (view value.now)) }
     ensures memory { IfErr result (λ e. e ≡ Refused.Memory) }
@@ -43,7 +41,6 @@ fn answer_of_one(alloc: Global, function: OfOne, value: &Value) -> Result<Answer
     }
 }
 
-#[inline(always)]
 fn answer_of_two(
     alloc: Global,
     function: OfTwo,
@@ -64,6 +61,9 @@ fn answer_of_two(
     }
 }
 
+// This and the following layers of a call are inlined, since
+// each of them would otherwise copy the answer. The functions
+// above are not: the call as a whole takes longer with them.
 #[inline(always)]
 fn nth(args: &[Value], index: usize) -> Option<&Value>
     ensures { option_map (λ v. view v.now) result ≡ nth_item index (items_view args.now) }
@@ -161,10 +161,11 @@ fn answer_of(
     }
 }
 
-/// The answer of the function of that name, once it is found. The book keeps its entries in any case.
+/// Returns the answer of a standard function that was found by its
+/// name. The book keeps its entries in any case.
 ///
 /// # Errors
-/// `Memory` alone.
+/// Only [`Refused::Memory`], if memory is refused.
 #[inline(always)]
 pub fn answer_of_function(
     alloc: Global,

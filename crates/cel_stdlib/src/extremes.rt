@@ -1,4 +1,4 @@
-//! `min` and `max`: the first of the least or of the greatest values.
+//! `min` and `max`: the first of several least or greatest values.
 ghost use Rattle.std.specs.Prelude.{◌≡◌, ◌∷◌, IfOk, IfErr, map, option_map};
 ghost use Rattle.cel_value.specs.Faults.{fault_view};
 ghost use Rattle.cel_value.specs.Parts.{items_in};
@@ -13,7 +13,7 @@ use cel_value::{ExecutionError, Refused, Value};
 use std::alloc::Global;
 use std::cmp::Ordering;
 
-/// One end of the order of values.
+/// Which extreme is asked for.
 #[derive(Clone, Copy, Debug, PartialEq, Eq)]
 pub enum Extreme {
     /// `min`.
@@ -48,7 +48,8 @@ fn no_items(alloc: Global, end: Extreme) -> Result<ExecutionError, Refused>
     }
 }
 
-// The value if it goes before the best one so far, else that one. `None` where they have no order.
+// Returns the value if it precedes the best one so far, and
+// otherwise that one. None if the two can't be compared.
 fn better<'a>(end: Extreme, best: &'a Value, value: &'a Value) -> Option<&'a Value>
     ensures { option_map (λ v. view v.now) result ≡ spec.better end (view best.now) (view value.now) }
 {
@@ -64,7 +65,7 @@ fn better<'a>(end: Extreme, best: &'a Value, value: &'a Value) -> Option<&'a Val
     }
 }
 
-// `None` where two of the values have no order.
+// Returns None if two of the values can't be compared.
 fn choose<'a>(end: Extreme, first: &'a Value, rest: &'a [Value]) -> Option<&'a Value>
     ensures { option_map (λ v. view v.now) result
         ≡ spec.least_or_greatest end (view first.now) (map view rest.now) }
@@ -95,10 +96,11 @@ fn least_or_greatest(
     }
 }
 
-/// The first of the least or of the greatest values. A single one is compared with nothing.
+/// Returns the least or the greatest value, the first one if
+/// several are equal. A single value is not compared.
 ///
 /// # Errors
-/// `Memory` alone.
+/// Only [`Refused::Memory`], if memory is refused.
 pub fn extreme_of(alloc: Global, end: Extreme, values: &[Value]) -> Result<Answer, Refused>
     ensures value { IfOk result (λ r. outcome_view r ≡ spec.extreme_of end (map view values.now)) }
     ensures memory { IfErr result (λ e. e ≡ Refused.Memory) }
@@ -138,10 +140,11 @@ fn extreme_from(
     }
 }
 
-/// The same of the arguments of `min` and `max`: a single list stands for its items.
+/// Returns the least or the greatest of the arguments of `min` or `max`. If the only
+/// argument is a list, it returns that of its items.
 ///
 /// # Errors
-/// `Memory` alone.
+/// Only [`Refused::Memory`], if memory is refused.
 pub fn extreme_among(alloc: Global, end: Extreme, args: &[Value]) -> Result<Answer, Refused>
     ensures value { IfOk result
         (λ r. outcome_view r ≡ spec.extreme_of end (spec.values_among (map view args.now))) }

@@ -1,14 +1,14 @@
-//! The fault that a function reports of its own.
+//! The error by which a function rejects its arguments.
 ghost use Rattle.std.specs.Prelude.{◌≡◌, IfOk, IfErr};
 ghost use Rattle.cel_value.specs.Faults as fault;
 
 use cel_value::{ExecutionError, Refused};
 use std::alloc::Global;
 
-/// The fault of a function that refuses its arguments, with its message.
+/// Returns the error of a function that rejects its arguments, with this message.
 ///
 /// # Errors
-/// `Memory` alone.
+/// Only [`Refused::Memory`], if memory is refused.
 pub fn function_error(
     alloc: Global,
     function: &str,

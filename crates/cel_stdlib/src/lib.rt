@@ -1,4 +1,4 @@
-//! The functions of the CEL standard, which every context knows.
+//! The functions of the CEL standard, which every context has.
 #![tactic(auto)]
 
 mod conversions;

@@ -1,4 +1,4 @@
-//! The names of the standard functions, and how they are called.
+//! The names of the standard functions, and the forms in which they may be called.
 ghost use Rattle.std.specs.Prelude.{◌≡◌, Some, None, if◌then◌else◌};
 ghost use Rattle.std.specs.Map.{lookup};
 ghost use Rattle.std.specs.Str.{bytes_eq};
@@ -7,7 +7,7 @@ ghost use Rattle.cel_stdlib.specs.Table as spec;
 
 use crate::extremes::Extreme;
 
-/// A function of one value.
+/// A function of one value: its receiver or its only argument.
 #[derive(Clone, Copy, Debug, PartialEq, Eq)]
 pub enum OfOne {
     /// `size`.
@@ -30,7 +30,7 @@ pub enum OfOne {
     Value,
 }
 
-/// A function of two values.
+/// A function of two values: its receiver and its argument, or its two arguments.
 #[derive(Clone, Copy, Debug, PartialEq, Eq)]
 pub enum OfTwo {
     /// `contains`.
@@ -50,12 +50,11 @@ pub enum Function {
     One(OfOne),
     /// A function of two values.
     Two(OfTwo),
-    /// A function of one value or more.
+    /// A function of one or more arguments.
     Many(Extreme),
 }
 
-// The function, if that is its name. Inlined, so that the length of the name is a constant where it is compared.
-#[inline(always)]
+// Returns the function if the name is `wanted`.
 fn only(name: &str, wanted: &str, function: Function) -> Option<Function>
     ensures { result ≡ (if bytes_eq name.now wanted.now then Some function else None) }
 {
@@ -105,7 +104,7 @@ fn functions_of_eight(name: &str) -> Option<Function>
     }
 }
 
-/// The function of that name, looked for among the names of its length.
+/// Returns the function with this name. It compares only with the names of the same length.
 pub(crate) fn function_named(name: &str) -> Option<Function>
     ensures { result ≡ spec.function_named name.now }
 {
@@ -122,7 +121,7 @@ pub(crate) fn function_named(name: &str) -> Option<Function>
     }
 }
 
-// As `v.f(..)`, with this number of arguments.
+// Whether a call has the form `v.f(..)` with this number of arguments.
 #[inline(always)]
 fn is_method(wanted: usize, receiver: bool, count: usize) -> bool
     ensures { result ≡ spec.method wanted receiver count }
@@ -130,7 +129,7 @@ fn is_method(wanted: usize, receiver: bool, count: usize) -> bool
     receiver && count == wanted
 }
 
-// As `f(..)`.
+// Whether a call has the form `f(..)` with this number of arguments.
 #[inline(always)]
 fn is_global(wanted: usize, receiver: bool, count: usize) -> bool
     ensures { result ≡ spec.global wanted receiver count }
@@ -170,7 +169,8 @@ fn many_takes(receiver: bool, count: usize) -> bool
     !receiver && count > 0
 }
 
-/// Whether the function is called so, with a receiver or without, with this number of arguments.
+/// Reports whether the function may be called with or
+/// without a receiver and with `count` arguments.
 #[inline(always)]
 pub(crate) fn takes(function: Function, receiver: bool, count: usize) -> bool
     ensures { result ≡ spec.takes function receiver count }
@@ -182,7 +182,7 @@ pub(crate) fn takes(function: Function, receiver: bool, count: usize) -> bool
     }
 }
 
-/// The function that is called so, if one is.
+/// Returns the function that may be called by this name and in this form, if any.
 pub fn known_function(name: &str, receiver: bool, count: usize) -> Option<Function>
     ensures { result ≡ spec.known_function name.now receiver count }
 {

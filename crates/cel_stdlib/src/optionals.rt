@@ -1,4 +1,4 @@
-//! `hasValue` and `value`: what an optional holds.
+//! `hasValue` and `value` of optionals.
 ghost use Rattle.std.specs.Prelude.{◌≡◌, IfOk, IfErr, is_some};
 ghost use Rattle.cel_value.specs.Find.{first_item};
 ghost use Rattle.cel_value.specs.View.{view};
@@ -16,7 +16,7 @@ fn is_there(optional: &OptionalValue) -> bool
     optional.value().is_some()
 }
 
-/// Whether an optional holds a value.
+/// Reports whether an optional holds a value.
 pub(crate) fn has_value(alloc: Global, value: &Value) -> Result<Answer, Refused>
     ensures value { IfOk result (λ r. outcome_view r ≡ spec.has_value (view value.now)) }
     ensures memory { IfErr result (λ e. e ≡ Refused.Memory) }
@@ -37,7 +37,7 @@ fn value_held(alloc: Global, optional: &OptionalValue) -> Result<Answer, Refused
     }
 }
 
-/// The value that an optional holds.
+/// Returns the value that an optional holds. An empty optional is an error.
 pub(crate) fn value(alloc: Global, value: &Value) -> Result<Answer, Refused>
     ensures value { IfOk result (λ r. outcome_view r ≡ spec.value_of (view value.now)) }
     ensures memory { IfErr result (λ e. e ≡ Refused.Memory) }

@@ -1,4 +1,4 @@
-//! `size`: how large a value is.
+//! `size` of strings, bytes, lists and maps.
 ghost use Rattle.std.specs.Prelude.{◌≡◌, IfOk, IfErr, length, pos};
 ghost use Rattle.std.specs.Str.{chars};
 ghost use Rattle.cel_value.specs.View.{view};
@@ -16,7 +16,8 @@ fn counted_characters(text: &str) -> usize
     text.chars().count()
 }
 
-/// How many characters a text has. In one of ASCII alone each byte is one, so that no character is read.
+/// The number of characters in a text. An ASCII text isn't
+/// decoded, since each of its bytes is one character.
 fn character_count(text: &str) -> usize
     ensures { result ≡ length (chars text.now) }
 {
@@ -39,7 +40,6 @@ fn entry_count(entries: &Map) -> usize
     entries.len()
 }
 
-#[inline(always)]
 fn counted(count: usize) -> Answer
     ensures { outcome_view result ≡ int_or_overflow (pos count) }
 {
@@ -49,7 +49,7 @@ fn counted(count: usize) -> Answer
     }
 }
 
-/// The size of a string, bytes, a list or a map.
+/// Returns the size of a string (in characters), of bytes, of a list or of a map.
 pub(crate) fn size(alloc: Global, value: &Value) -> Result<Answer, Refused>
     ensures value { IfOk result (λ r. outcome_view r ≡ size_outcome (view value.now)) }
     ensures memory { IfErr result (λ e. e ≡ Refused.Memory) }

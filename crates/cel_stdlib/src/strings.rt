@@ -1,4 +1,4 @@
-//! `contains`, `startsWith`, `endsWith` and `matches`: what strings have in them.
+//! The string tests `contains`, `startsWith`, `endsWith` and `matches`.
 ghost use Rattle.std.specs.Prelude.{◌≡◌, nat_eq, IfOk, IfErr, option_map};
 ghost use Rattle.std.specs.List.{starts_with, ends_with};
 ghost use Rattle.cel_patterns.specs.Book.{Extends, matched_by};
@@ -14,7 +14,6 @@ use cel_semantics::operators::{Answer, no_such_overload};
 use cel_value::{ExecutionError, Refused, Value};
 use std::alloc::Global;
 
-#[inline(always)]
 fn both_texts<'a>(value: &'a Value, other: &'a Value) -> Option<(&'a str, &'a str)>
     ensures { option_map (λ p. (p.0.now, p.1.now)) result ≡ spec.texts_in (view value.now) (view other.now) }
 {
@@ -45,7 +44,7 @@ fn has_end(text: &str, part: &str) -> bool
     text.ends_with(part)
 }
 
-/// Whether a string has another one in it.
+/// Reports whether a string contains another one.
 pub(crate) fn contains(alloc: Global, value: &Value, part: &Value) -> Result<Answer, Refused>
     ensures value { IfOk result (λ r. outcome_view r ≡ spec.contains (view value.now) (view part.now)) }
     ensures memory { IfErr result (λ e. e ≡ Refused.Memory) }
@@ -56,7 +55,7 @@ pub(crate) fn contains(alloc: Global, value: &Value, part: &Value) -> Result<Ans
     }
 }
 
-/// Whether a string starts with another one.
+/// Reports whether a string starts with another one.
 pub(crate) fn starts_with(alloc: Global, value: &Value, part: &Value) -> Result<Answer, Refused>
     ensures value { IfOk result (λ r. outcome_view r ≡ spec.begins (view value.now) (view part.now)) }
     ensures memory { IfErr result (λ e. e ≡ Refused.Memory) }
@@ -67,7 +66,7 @@ pub(crate) fn starts_with(alloc: Global, value: &Value, part: &Value) -> Result<
     }
 }
 
-/// Whether a string ends with another one.
+/// Reports whether a string ends with another one.
 pub(crate) fn ends_with(alloc: Global, value: &Value, part: &Value) -> Result<Answer, Refused>
     ensures value { IfOk result (λ r. outcome_view r ≡ spec.ends (view value.now) (view part.now)) }
     ensures memory { IfErr result (λ e. e ≡ Refused.Memory) }
@@ -105,7 +104,7 @@ fn find(alloc: Global, text: &str, pattern: &str, book: &mut PatternBook) -> Res
     found(alloc, answer)
 }
 
-/// Whether a pattern matches somewhere in a string. The book keeps its entries in any case.
+/// Reports whether a pattern matches anywhere in a string. The book keeps its entries in any case.
 pub(crate) fn matches(
     alloc: Global,
     value: &Value,

@@ -1,4 +1,4 @@
-//! `timestamp` and `duration`: times that texts mean.
+//! The conversions `timestamp` and `duration`.
 ghost use Rattle.std.specs.Prelude.{◌≡◌, IfOk, IfErr};
 ghost use Rattle.cel_value.specs.Data as plain;
 ghost use Rattle.cel_value.specs.View.{view};
@@ -30,7 +30,7 @@ fn duration_from_text(alloc: Global, text: &str) -> Result<Answer, Refused>
     }
 }
 
-/// The timestamp of a timestamp or a text.
+/// Converts a timestamp or a string to a timestamp.
 pub(crate) fn timestamp(alloc: Global, value: &Value) -> Result<Answer, Refused>
     ensures value { IfOk result (λ r. outcome_view r ≡ spec.timestamp_of (view value.now)) }
     ensures memory { IfErr result (λ e. e ≡ Refused.Memory) }
@@ -42,7 +42,7 @@ pub(crate) fn timestamp(alloc: Global, value: &Value) -> Result<Answer, Refused>
     }
 }
 
-/// The duration of a duration or a text.
+/// Converts a duration or a string to a duration.
 pub(crate) fn duration(alloc: Global, value: &Value) -> Result<Answer, Refused>
     ensures value { IfOk result (λ r. outcome_view r ≡ spec.duration_of (view value.now)) }
     ensures memory { IfErr result (λ e. e ≡ Refused.Memory) }

@@ -1,4 +1,4 @@
--- Reading an operand and what follows it, level by level.
+-- Parsing an operand and what follows it, level by level.
 use Rattle.std.proofs.Common.{◌≡◌, ℕ, zero, suc, refl, ap, ◌∙◌, false, Option, Some, None, List, [], ◌∷◌}
 use Rattle.std.specs.Prelude.{is_some}
 use Rattle.cel_syntax_lexer.specs.Token.{Token}
@@ -37,7 +37,7 @@ unfolding turns
 no_turn limit sub operand k zero x ts e = rw e
 no_turn limit sub operand k (suc n) x ts e = rw e
 
--- where no operator follows, nothing is read
+-- if no operator follows, nothing is taken
 pub nothing_climbs : (limit : ℕ) (sub : Parser Found) (level : ℕ) (x : Found) (ts : List Token) → sees_operator ts ≡ false → climb limit sub level x ts ≡ Some (x, ts)
 unfolding climb
 nothing_climbs limit sub zero x ts e = refl

@@ -1,4 +1,4 @@
--- What the grammar derives, the parser reads.
+-- The parser reads whatever the grammar derives.
 use Rattle.std.proofs.Common.{◌≡◌, ℕ, suc, zero, ◌+◌, ◌<◌, ◌≤◌, refl, sym, ◌∙◌, ap, arith, Bool, true, false, Some, None, List, [], ◌∷◌, length, ◌&&◌, add-one, add-zero}
 use Rattle.std.specs.Prelude.{nat_le, nat_eq, max}
 use Rattle.std.proofs.lemmas.Bool.{le-leb}
@@ -29,7 +29,7 @@ comma_takes : {ts rest : List Token} → OptionalComma ts rest → length rest �
 comma_takes without = omega arith
 comma_takes with_comma = omega arith
 
--- Each derivation takes a token.
+-- Each derivation takes at least one token.
 mutual
   pub expression_takes : {ts rest : List Token} {t : Term} {l : ℕ} → Expression ts rest t l → length rest < length ts
   expression_takes (plain d) = chain_takes d
@@ -136,7 +136,7 @@ some_entries_first : {ts rest : List Token} {ps : List (Term × Term)} {l : ℕ}
 some_entries_first (last_entry d) = pair_first d
 some_entries_first (more_entries d ds) = pair_first d
 
--- A member doesn't begin with a sign, unless it is the minus of a number.
+-- A member doesn't begin with a sign, except the minus of a number.
 literal_sign : (s : UnaryOperator) (k : Token) (ts : List Token) (v : Data) → literal_value false k ≡ Some v → sees_sign s (k ∷ ts) ≡ false
 unfolding sees_sign
 literal_sign s (word w) ts v e = refl
@@ -172,7 +172,7 @@ member_not : {ts rest : List Token} {t : Term} {l : ℕ} → Member ts rest t l 
 unfolding sees_sign
 member_not {ts} d = first_true (sees m.Not ts) (member_sign u.Not d)
 
--- each sign before its operand
+-- every sign comes before its operand
 sees_one : (s : UnaryOperator) (ts : List Token) → is_operator_before s ts ≡ true → sees_sign s (punctuator (sign s) ∷ ts) ≡ true
 unfolding sees_sign
 sees_one s ts h = rw (sees_itself (sign s) ts, h)
@@ -195,14 +195,14 @@ wrapped_at limit s (suc n) t l ts h =
     let fits : nat_le (l + suc n) limit ≡ true = le-leb _ _ (omega arith) in
     rw (no, fits)
 
--- Nothing of the first levels goes on here.
+-- Nothing of the first k levels continues here.
 pub record Ends (k : ℕ) (ts : List Token) : Type 0 where
   pub dot : sees m.Dot ts ≡ false
   pub bracket : sees m.OpenRound ts ≡ false
   pub square : sees m.OpenSquare ts ≡ false
   pub operators : (j : ℕ) → j ≤ k → operator_at j ts ≡ None
 
--- No expression goes on here.
+-- No expression continues here.
 pub record Closes (ts : List Token) : Type 0 where
   pub ends : Ends 5 ts
   pub question : sees m.Question ts ≡ false
@@ -254,7 +254,7 @@ ends_operator k (quoted q) ts op e = absurd (cc)
 fewer : (k : ℕ) (ts : List Token) → Ends (suc k) ts → Ends k ts
 fewer k ts ends = record { dot = ends.dot; bracket = ends.bracket; square = ends.square; operators = λ j h. ends.operators j (omega arith) }
 
--- What stands before a closing bracket, or before a comma and it, goes on no more.
+-- Nothing continues before a closing bracket, or before a comma and a closing bracket.
 record Over (ts : List Token) : Type 0 where
   closes : Closes ts
   no_more : goes_on ts ≡ false
@@ -338,7 +338,7 @@ module _ (limit : ℕ) (sub : Parser Found)
   complete_primary (literal e) h ends = rw e
   complete_primary (negative takes is) h ends = rw (takes, is)
 
-  -- Up to a link in the middle, the parser gets to the links that are left there.
+  -- From a link in the middle, the parser continues with the remaining links.
   abbrev Reaches : List Token → List Token → Term → ℕ → Type 0
   Reaches ts rest t l = (n : ℕ) × (limit + 1 ≤ n + l) × (p.member limit sub ts ≡ p.links limit sub n t l rest)
 
@@ -404,7 +404,7 @@ module _ (limit : ℕ) (sub : Parser Found)
   complete_prefixed (unary_expression (signed_member {s = u.Not} before d)) h ends = complete_signed (signed_member before d) h ends
   complete_prefixed (unary_expression (signed_member {s = u.Negate} before d)) h ends = complete_signed (signed_member before d) h ends
 
-  -- the same for a chain of operators of one level, where the tighter ones are read
+  -- the same for a chain of operators of one level, given that the lower levels are read
   module _ (k : ℕ)
       (tighter_ones : (ts rest : List Token) (t : Term) (l : ℕ) → Chain k ts rest t l → l ≤ limit + slack t → Ends k rest → p.chain limit sub k ts ≡ Some ((t, l), rest)) where
     abbrev Turns : List Token → List Token → Term → ℕ → Type 0
@@ -446,7 +446,7 @@ module _ (limit : ℕ) (sub : Parser Found)
         above_at {t = tree.conditional c a b} limit (max lc (max la lb)) rest h,
       )
 
--- What is an expression of a level within the limit is read as that.
+-- An expression of a level within the limit is read as such.
 pub complete : (limit : ℕ) (ts rest : List Token) (t : Term) (l : ℕ) → Expression ts rest t l → l ≤ limit + slack t → Closes rest → p.expr limit ts ≡ Some ((t, l), rest)
 unfolding p.expr
 complete zero ts rest t l d h closes =

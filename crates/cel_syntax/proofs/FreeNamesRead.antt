@@ -1,4 +1,4 @@
--- The walk's words against the free names.
+-- The names that the traversal collects are the free names.
 use Rattle.std.proofs.Common.{◌≡◌, ℕ, List, [], ◌∷◌, Bool, true, false, not, ◌||◌, ◌&&◌, refl, ap, ◌∙◌}
 use Rattle.std.specs.List.{list_any}
 use Rattle.std.specs.Str.{bytes_eq}
@@ -61,6 +61,6 @@ and_true : (f : Bool) → (f && true) ≡ f
 and_true true = refl
 and_true false = refl
 
--- outside all macros the two are one
+-- outside all macros the two are the same
 pub read_is_free_outside : (x : List ℕ) (t : Term) → is_read x [] t ≡ is_free x t
 read_is_free_outside x t = read_is_free x [] t ∙ and_true (is_free x t)

@@ -1,4 +1,4 @@
--- The whole of the tokens.
+-- Parsing all the tokens.
 use Rattle.std.proofs.Common.{◌≡◌, ℕ, ◌<◌, zero, suc, refl, sym, arith, cond, Option, Some, None, List, [], ◌∷◌, length}
 use Rattle.std.specs.Prelude.{nat_le, Result, Ok, Err, MatchResult, MatchOption, option_map}
 use Rattle.kube_types_refused.specs.declared.Refused.{Refused}
@@ -24,7 +24,7 @@ pub if_some_left : (x : Found) (ts : List Token) → 0 < length ts → if_last (
 if_some_left x [] h = absurd (omega arith)
 if_some_left x (t ∷ ts) h = refl
 
--- what the tokens derive, by the parser's function
+-- the parser's function gives what the tokens derive
 pub derives_of : (ts : List Token) (o : Option Expr) → option_map term o ≡ tree_of_tokens ts
     → MatchOption o ((t : Term) → Derives ts t → ⊥) (λ e. Derives ts (term e))
 derives_of ts None e = λ t d. absurd (cc (complete_parse ts t d))

@@ -1,4 +1,4 @@
--- How far over a limit a tree may be.
+-- How many levels a tree may be over a limit.
 use Rattle.std.proofs.Common.{◌≡◌, ℕ, ◌+◌, ◌-◌, ◌≤◌, refl, sym, subst, arith, Bool, true, false, cond, Option, Some, None, List, [], ◌∷◌, length, ◌&&◌}
 use Rattle.std.specs.Prelude.{nat_eq, codes}
 use Rattle.std.specs.Str.{bytes_eq}

@@ -1,4 +1,4 @@
--- Items with commas between them, by what a parser reads for each.
+-- Items separated by commas, given a parser for one item.
 use Rattle.std.proofs.Common.{◌≡◌, ℕ, suc, zero, ◌≤◌, refl, sym, ◌∙◌, ap, arith, Bool, true, false, Option, Some, List, [], ◌∷◌, ◌++◌, drop, cond, length, ◌&&◌, ◌⊎◌, inl, inr, append_assoc}
 use Rattle.std.specs.Prelude.{max, not}
 use Rattle.cel_syntax_lexer.specs.declared.punctuator.Punctuator.TheVariants as m

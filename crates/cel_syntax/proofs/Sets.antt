@@ -43,7 +43,7 @@ no_change true e h = refl
 no_change false true h = h refl
 no_change false false h = refl
 
--- a name that is there adds nothing
+-- adding a name that is there changes nothing
 pub already_there : (name : List ℕ) (s : BTreeSet (String Global)) → contains_text s name ≡ true → (x : List ℕ) → contains_text s x ≡ (contains_text s x || bytes_eq x name)
 already_there name s there x = no_change (contains_text s x) (bytes_eq x name) (λ e. ap (contains_text s) ((bytes_eq-Decides x name).0 e) ∙ there)
 
@@ -78,7 +78,7 @@ none_more : (name x : List ℕ) (bs : List (List ℕ)) (s e : Bool) → (e ≡ t
 none_more name x bs s true h is = or_false s ∙ ap (λ c. s || not c) (sym (ap (λ y. list_any (bytes_eq y) bs) (h refl) ∙ is))
 none_more name x bs s false h is = or_false s
 
--- a bound name adds nothing
+-- adding a bound name changes nothing
 pub bound_adds_nothing : (name x : List ℕ) (bs : List (List ℕ)) (s : Bool) → list_any (bytes_eq name) bs ≡ true → s ≡ (s || (bytes_eq x name && not (list_any (bytes_eq x) bs)))
 bound_adds_nothing name x bs s is = none_more name x bs s (bytes_eq x name) ((bytes_eq-Decides x name).0) is
 
@@ -86,14 +86,14 @@ one_more : (name x : List ℕ) (bs : List (List ℕ)) (s e : Bool) → (e ≡ tr
 one_more name x bs s true h is = ap (λ c. s || not c) (sym (ap (λ y. list_any (bytes_eq y) bs) (h refl) ∙ is))
 one_more name x bs s false h is = refl
 
--- another name adds itself
+-- another name is added
 pub other_adds_itself : (name x : List ℕ) (bs : List (List ℕ)) (s n : Bool) → list_any (bytes_eq name) bs ≡ false → n ≡ (s || bytes_eq x name) → n ≡ (s || (bytes_eq x name && not (list_any (bytes_eq x) bs)))
 other_adds_itself name x bs s n is e = e ∙ one_more name x bs s (bytes_eq x name) ((bytes_eq-Decides x name).0) is
 
--- names with one property are names with another that is the same
+-- names with a property are names with an equal property
 pub same_names : (ns : List (List ℕ)) (p q : List ℕ → Bool) → AreNames ns p → ((x : List ℕ) → p x ≡ q x) → AreNames ns q
 same_names ns p q h e = record { ascending = h.ascending; exactly = λ x. h.exactly x ∙ e x }
 
--- what was added to no names
+-- what is in a set that started empty
 pub from_none : (s n : BTreeSet (String Global)) (q : Bool) (x : List ℕ) → s.keys ≡ [] → contains_text n x ≡ (contains_text s x || q) → contains_text n x ≡ q
 from_none s n q x none e = e ∙ ap (λ ks. list_any (is_at (λ k. slice_cmp nat_cmp x (string_bytes k))) ks || q) none

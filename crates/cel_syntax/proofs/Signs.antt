@@ -15,7 +15,7 @@ unfolding signs sees_sign
 one_left s [] h = absurd (cc)
 one_left s (t ∷ ts) h = (rw h, omega arith)
 
--- where no sign comes next, in the parts that a loop keeps
+-- if no sign comes next, for both parts of the loop's state
 pub stops : (s : UnaryOperator) (ts : List Token) → sees_sign s ts ≡ false → ((signs s ts).0 ≡ 0) × ((signs s ts).1 ≡ ts)
 stops s ts h = let n = none_left s ts h in (ap (λ (p : ℕ × List Token). p.0) n, ap (λ (p : ℕ × List Token). p.1) n)
 

@@ -1,4 +1,4 @@
--- What the parser reads, the grammar derives.
+-- The grammar derives whatever the parser reads.
 use Rattle.std.proofs.Common.{◌≡◌, ℕ, suc, zero, ◌+◌, ◌≤◌, refl, sym, subst, arith, Bool, true, false, Option, Some, None, List, [], ◌∷◌, drop, cond, ◌&&◌, ◌⊎◌, inl, inr, add-one, add-zero}
 use Rattle.std.specs.Prelude.{nat_le, nat_eq, max, if◌then◌else◌}
 use Rattle.std.proofs.lemmas.Bool.{leb-true}
@@ -55,7 +55,7 @@ some_call : {x : Found} {rest : List Token} (limit l : ℕ) (o : Option Term) (t
 some_call limit l None ts e = absurd (cc)
 some_call limit l (Some t) ts e = (t, refl, e)
 
--- before a test without which it refuses
+-- a test that has to hold
 when : {A : Type 0} {x : A} {rest : List Token} (b : Bool) (f : Parser A) (ts : List Token) → (if b then f else p.refuse) ts ≡ Some (x, rest)
     → (b ≡ true) × (f ts ≡ Some (x, rest))
 when true f ts e = (refl, e)
@@ -83,7 +83,7 @@ eaten_by : {A : Type 0} {x : A} {rest : List Token} (b : Bool) (f h : Parser A) 
 eaten_by true f h ts e = inl (refl, e)
 eaten_by false f h ts e = inr (refl, e)
 
--- where a punctuator may come, and one way goes on with it and one without it
+-- a punctuator that may come, with one continuation for each case
 eaten : {A : Type 0} {x : A} {rest : List Token} (k : Punctuator) (f h : Parser A) (ts : List Token)
     → (if sees k ts then f else h) (if sees k ts then drop 1 ts else ts) ≡ Some (x, rest)
     → ((mid : List Token) × (ts ≡ punctuator k ∷ mid) × (f mid ≡ Some (x, rest))) ⊎ (h ts ≡ Some (x, rest))
@@ -97,12 +97,12 @@ expected_by : {A B : Type 0} {x : B} {rest : List Token} (b : Bool) (a : A) (f :
 expected_by true a f ts e = (refl, e)
 expected_by false a f ts e = absurd (cc)
 
--- where a punctuator has to come
+-- a punctuator that has to come
 expected : {A : Type 0} {x : A} {rest : List Token} (k : Punctuator) (f : Parser A) (ts : List Token) → p.◌>>◌ (p.expect k) f ts ≡ Some (x, rest)
     → (mid : List Token) × (ts ≡ punctuator k ∷ mid) × (f mid ≡ Some (x, rest))
 expected k f ts e = let h = expected_by (sees k ts) tt (λ _. f) (drop 1 ts) e in (drop 1 ts, sees_punctuator k ts h.0, h.1)
 
--- a comma that may be there
+-- an optional comma
 optional : (ts : List Token) → OptionalComma ts (ahead.after m.Comma ts)
 optional ts = by_test (sees m.Comma ts) refl
   where
@@ -177,7 +177,7 @@ module _ (limit : ℕ) (sub : Parser Found)
       pure_gives (λ rest x. Items ts (punctuator m.CloseRound ∷ rest) x.0 x.1) r.0 x close.0 rest close.2
       (subst (λ z. Items ts z r.0.0 r.0.1) close.1 (items_sound ts r.1 r.0 r.2))
 
-  -- what a parser of trees reads, from where on and in what relation
+  -- the relation R holds of what a parser of trees reads
   abbrev Sound : (List Token → List Token → Term → ℕ → Type 0) → List Token → Outcome Found → Type 0
   Sound R ts o = (rest : List Token) (x : Found) → o ≡ Some (x, rest) → R ts rest x.0 x.1 × (x.1 ≤ limit + slack x.0)
 

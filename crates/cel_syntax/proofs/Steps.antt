@@ -1,4 +1,4 @@
--- What the steps of the parser do.
+-- The steps of the parser.
 use Rattle.std.proofs.Common.{◌≡◌, ℕ, suc, ◌+◌, ◌<◌, ◌≤◌, refl, sym, ap, arith, Bool, true, false, Option, Some, None, List, [], ◌∷◌, drop, ◌&&◌, ◌||◌}
 use Rattle.std.specs.Prelude.{nat_lt, nat_eq, not, codes}
 use Rattle.std.specs.List.{list_any}
@@ -62,7 +62,7 @@ pub token_operator_at : (k : ℕ) (o : Token) (ts : List Token) (op : BinaryOper
 unfolding operator_at
 token_operator_at k o ts op e = rw (e, eq-eqb k k refl)
 
--- A token that is an operator is no other mark.
+-- A token that is an operator is no other punctuator.
 pub no_operator : (m k : Punctuator) (o : ℕ × BinaryOperator) → operator_of m ≡ Some o → operator_of k ≡ None → same_punctuator m k ≡ false
 unfolding same_punctuator
 no_operator m k o e none = false_same the_type (Prim.search) m k (λ same. absurd (cc (ap operator_of same)))
@@ -74,7 +74,7 @@ no_end k [] is h = refl
 no_end k (punctuator n ∷ ts) is h = false_same the_type (Prim.search) n k (λ same. absurd (cc (ap is_end same)))
 no_end k (_ ∷ ts) is h = refl
 
--- An operator doesn't bind more tightly than it does.
+-- An operator of level k + 1 is none of a lower level.
 pub no_tighter : (j k : ℕ) (o : Token) (ts : List Token) (op : BinaryOperator) → operator o ≡ Some (suc k, op) → j ≤ k → operator_at j (o ∷ ts) ≡ None
 unfolding operator_at
 no_tighter j k o ts op e h = let differ : nat_eq (suc k) j ≡ false = grind (arith, nat_tests) in rw (e, differ)

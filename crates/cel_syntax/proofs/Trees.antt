@@ -1,4 +1,4 @@
--- The tree of a text is the one that it derives.
+-- The tree computed from a text is the one that it derives.
 use Rattle.std.proofs.Common.{◌≡◌, ℕ, refl, sym, ◌∙◌, Option, Some, None, List}
 use Rattle.std.specs.Prelude.{Result, Ok, Err, IfOk, MatchResult, MatchOption, option_map}
 use Rattle.kube_types_refused.specs.declared.Refused.{Refused}
@@ -33,7 +33,7 @@ some_same e = cc
 pub one_tree : (z : List ℕ) (t u : Term) → TextDerives z t → TextDerives z u → t ≡ u
 one_tree z t u a b = some_same (sym (complete_text z t a) ∙ complete_text z u b)
 
--- the tree of a text that cuts into these tokens
+-- the tree of a text that splits into these tokens
 pub of_tokens : (z : List ℕ) (ts : List Token) → CutsInto z ts → tree_of_tokens ts ≡ tree_of z
 unfolding tree_of
 of_tokens z ts cuts = rw (cut_of_cuts z ts cuts.0)
@@ -46,7 +46,7 @@ pub of_no_tokens : (z : List ℕ) → CutsIntoNone z → tree_of z ≡ None
 unfolding tree_of
 of_no_tokens z none = none_by z (tokens_of_text z) refl none
 
--- what an answer that is the text's tree says of the grammar
+-- an answer that is the text's tree is derived by the grammar
 pub some_derives : (z : List ℕ) (t : Term) → Some t ≡ tree_of z → TextDerives z t
 some_derives z t e = sound_text z t (sym e)
 

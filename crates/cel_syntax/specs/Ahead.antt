@@ -1,5 +1,5 @@
 -- Trusted by the headline.
--- What comes first in the tokens that are left.
+-- Tests of the first tokens of those that are left.
 use Rattle.std.specs.Prelude.{ℕ, ◌+◌, nat_eq, Bool, true, false, ◌&&◌, not, if◌then◌else◌, List, [], ◌∷◌, drop, map, Option, Some, None, is_some}
 use denote.Enum.Bare.{sameb}
 use Rattle.cel_syntax_lexer.specs.contracts.punctuator.Punctuator.{the_type}
@@ -18,11 +18,11 @@ abbrev pub sees : Punctuator → List Token → Bool
 sees m (punctuator k ∷ ts) = same_punctuator k m
 sees m _ = false
 
--- the tokens behind such a mark, if it comes first
+-- the tokens after this punctuator, if it comes first
 abbrev pub after : Punctuator → List Token → List Token
 after m ts = if sees m ts then drop 1 ts else ts
 
--- the operator that comes first, if it binds so loosely
+-- the binary operator, if it is of level k
 abbrev pub if_level : ℕ → Option (ℕ × BinaryOperator) → Option BinaryOperator
 if_level k None = None
 if_level k (Some o) = if nat_eq o.0 k then Some o.1 else None
@@ -31,12 +31,12 @@ unfoldable pub operator_at : ℕ → List Token → Option BinaryOperator
 operator_at k [] = None
 operator_at k (t ∷ ts) = if_level k (operator t)
 
--- whether any operator on two values comes first
+-- whether a binary operator comes first
 abbrev pub sees_operator : List Token → Bool
 sees_operator [] = false
 sees_operator (t ∷ ts) = is_some (operator t)
 
--- A comma or a closing bracket ends the items, or comes before the first of them.
+-- A comma or a closing bracket follows the last item, or comes first if there are no items.
 abbrev pub is_end : Punctuator → Bool
 is_end m.CloseRound = true
 is_end m.CloseSquare = true
@@ -48,19 +48,19 @@ abbrev pub sees_end : List Token → Bool
 sees_end (punctuator k ∷ ts) = is_end k
 sees_end _ = false
 
--- whether another item comes first, behind a comma
+-- whether a comma comes first and another item follows it
 abbrev pub goes_on : List Token → Bool
 goes_on ts = sees m.Comma ts && not (sees_end (drop 1 ts))
 
 unfoldable pub sees_sign : UnaryOperator → List Token → Bool
 sees_sign s ts = sees (sign s) ts && is_operator_before s (drop 1 ts)
 
--- how many of the sign come first, and the tokens after them
+-- the number of these signs that come first, and the tokens after them
 unfoldable pub signs : UnaryOperator → List Token → ℕ × List Token
 signs s [] = (0, [])
 signs s (t ∷ ts) = if sees_sign s (t ∷ ts) then ((signs s ts).0 + 1, (signs s ts).1) else (0, t ∷ ts)
 
--- ---- what the code's values stand for
+-- ---- the code's values as contracts see them
 
 abbrev pub tokens_left : Cursor → List Token
 tokens_left t = map token_of t.rest.now

@@ -1,5 +1,5 @@
 -- Scaffolding: only proofs and private clauses cite it.
--- The names that the macros around an expression bind, the innermost first.
+-- The names that enclosing macros bind, the innermost first.
 use Rattle.std.specs.Prelude.{ℕ, List, [], ◌∷◌}
 use Rattle.cel_syntax.specs.declared.bound.Bound.{Bound, fold-Bound}
 use Rattle.cel_syntax.specs.declared.bound.Bound.TheOpen.{Bound-F}

@@ -1,11 +1,11 @@
 -- Trusted by the clauses of analysis and linter.
--- The names of the calls in an expression, qualified ones whole. A macro is no call.
+-- The names of the functions that an expression calls, qualified ones in full. A macro is no call.
 use Rattle.std.specs.Prelude.{ℕ, List, Bool, false, ◌||◌}
 use Rattle.std.specs.Str.{bytes_eq}
 use Rattle.cel_syntax_ast.specs.Term.{Term, literal, ident, select, has, index, unary, binary, conditional, list_of, map_with, call, qualified, macro, Terms, no_terms, term_and, Pairs, no_pairs, pair_and}
 
 abbrev mutual
-  -- whether x is the name of a call in the term
+  -- whether the term calls a function named x
   pub is_called : List ℕ → Term → Bool
   is_called x (literal v) = false
   is_called x (ident y) = false

@@ -1,5 +1,6 @@
 -- Scaffolding: only proofs and private clauses cite it.
--- The operators that follow an operand, level by level: what `chain` reads after its first operand.
+-- The operators that follow an operand, level by
+-- level: the rest of `chain` after its first operand.
 use Rattle.std.specs.Prelude.{ℕ, zero, suc}
 use Rattle.cel_syntax.specs.Parser.{Parser, Found, ◌>>=◌, pure, chain, turns}
 

@@ -1,9 +1,10 @@
 -- Trusted by the clauses of other library calls.
--- Which tokens derive which tree, with a case for each production. Source: section "Syntax" of the CEL
--- language definition. `X before after tree level` says that the tokens `before` are an X and then the tokens
--- `after`, that X is this tree, and that its parts nest to this level: an identifier and a literal have level
--- 0, everything else one more than the greatest of its parts, and 1 where it has none.
--- Round brackets leave no node, but they count.
+-- The grammar: which tokens derive which tree, with a case for each production. Source:
+-- section "Syntax" of the CEL language definition. `X before after tree level` says
+-- that the tokens `before` are an X followed by the tokens `after`, that the X is this
+-- tree, and that it nests to this level: an identifier and a literal have level 0,
+-- everything else has one more than the highest of its parts, or 1 if it has none.
+-- Round brackets make no node, but they count as a level.
 use Rattle.std.specs.Prelude.{◌≡◌, ℕ, zero, suc, ◌+◌, ◌≤◌, max, true, false, List, [], ◌∷◌, Some}
 use Rattle.cel_value.specs.Data.{Data}
 use Rattle.cel_syntax_lexer.specs.Token.{Token, word, punctuator}
@@ -17,7 +18,7 @@ use Rattle.cel_syntax_nodes.specs.Words.{is_identifier, is_selector}
 use Rattle.cel_syntax.specs.Operator.{sign, operator, is_operator_before}
 use Rattle.cel_syntax_nodes.specs.Calls.{call_of, method_of, parts_level}
 
--- a comma that may be there
+-- an optional comma
 pub data OptionalComma : List Token → List Token → Type 0 where
   without : {ts : List Token} → OptionalComma ts ts
   with_comma : {ts : List Token} → OptionalComma (punctuator m.Comma ∷ ts) ts
@@ -31,8 +32,8 @@ mutual
         → Chain 5 when_true (punctuator m.Colon ∷ when_false) t lt → Expression when_false rest f lf
         → Expression ts rest (tree.conditional c t f) (max lc (max lt lf) + 1)
 
-  -- ConditionalOr, ConditionalAnd, Relation, Addition, Multiplication: operators that bind as loosely as the
-  -- number says, or tighter. They group to the left.
+  -- ConditionalOr, ConditionalAnd, Relation, Addition, Multiplication: operators
+  -- of this level or below. They group to the left.
   pub data Chain : ℕ → List Token → List Token → Term → ℕ → Type 0 where
     operand : {ts rest : List Token} {t : Term} {l : ℕ} → Prefixed ts rest t l → Chain zero ts rest t l
     tighter : {k : ℕ} {ts rest : List Token} {t : Term} {l : ℕ}
@@ -41,12 +42,12 @@ mutual
         → Chain (suc k) ts (o ∷ right) a la → operator o ≡ Some (suc k, op) → Chain k right rest b lb
         → Chain (suc k) ts rest (tree.binary op a b) (max la lb + 1)
 
-  -- Unary: a member behind any number of signs of one kind
+  -- Unary: a member after any number of signs of one kind
   pub data Prefixed : List Token → List Token → Term → ℕ → Type 0 where
     unary_expression : {s : UnaryOperator} {ts rest : List Token} {t : Term} {l : ℕ}
         → Signed s ts rest t l → Prefixed ts rest t l
 
-  -- A minus right before an int or a double is no operator, but part of the literal.
+  -- A minus directly before an int or a double is part of the literal, not an operator.
   pub data Signed : UnaryOperator → List Token → List Token → Term → ℕ → Type 0 where
     unsigned : {s : UnaryOperator} {ts rest : List Token} {t : Term} {l : ℕ}
         → Member ts rest t l → Signed s ts rest t l
@@ -91,7 +92,7 @@ mutual
         → takes_minus k ≡ true → literal_value true k ≡ Some v
         → Primary (punctuator m.Minus ∷ k ∷ rest) rest (tree.literal v) 0
 
-  -- expressions with commas between them, or none
+  -- expressions separated by commas, possibly none
   pub data Items : List Token → List Token → List Term → ℕ → Type 0 where
     no_items : {ts : List Token} → Items ts ts [] 0
     items : {ts rest : List Token} {us : List Term} {l : ℕ} → SomeItems ts rest us l → Items ts rest us l
@@ -103,7 +104,7 @@ mutual
         → Expression ts (punctuator m.Comma ∷ next) t l → SomeItems next rest us lm
         → SomeItems ts rest (t ∷ us) (max l lm)
 
-  -- pairs with commas between them, or none
+  -- pairs separated by commas, possibly none
   pub data Entries : List Token → List Token → List (Term × Term) → ℕ → Type 0 where
     no_entries : {ts : List Token} → Entries ts ts [] 0
     entries : {ts rest : List Token} {ps : List (Term × Term)} {l : ℕ}
@@ -121,6 +122,6 @@ mutual
         → Expression ts (punctuator m.Colon ∷ values) a la → Expression values rest b lb
         → Pair ts rest a b (max la lb)
 
--- The tokens, all of them, derive the tree. What nests past level 250 isn't read.
+-- All the tokens together derive the tree. A tree that nests past level 250 isn't derived.
 abbrev pub Derives : List Token → Term → Type 0
 Derives ts t = (l : ℕ) × Expression ts [] t l × (l ≤ 250)

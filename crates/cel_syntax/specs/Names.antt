@@ -1,5 +1,5 @@
 -- Trusted by the clauses of analysis and linter.
--- A list of names: each once, in the order of their bytes.
+-- Lists of names without duplicates, sorted by their bytes.
 use Rattle.std.specs.Prelude.{◌≡◌, ℕ, List, Bool, map, string_bytes, String}
 use Rattle.std.specs.List.{list_any}
 use Rattle.std.specs.List.Sorted.{IsStrictlySortedBy}
@@ -11,7 +11,7 @@ use Rattle.std.specs.declared.alloc.Global.{Global}
 abbrev pub names_of : List (String Global) → List (List ℕ)
 names_of ns = map string_bytes ns
 
--- exactly the names with this property, each once, in order
+-- the list holds exactly the names with this property, sorted and without duplicates
 pub record AreNames (names : List (List ℕ)) (has : List ℕ → Bool) : Type 0 where
   pub ascending : IsStrictlySortedBy (slice_cmp nat_cmp) names
   pub exactly : (x : List ℕ) → list_any (bytes_eq x) names ≡ has x

@@ -1,5 +1,5 @@
 -- Scaffolding: only proofs and private clauses cite it.
--- A function value that parses expressions below a limit.
+-- Function values that parse expressions below a limit.
 use Rattle.std.specs.Prelude.{◌≡◌, ℕ, ◌+◌, Result}
 use Rattle.std.specs.declared.alloc.Global.{Global}
 use denote.Ref.{MutBor}

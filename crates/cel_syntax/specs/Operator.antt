@@ -1,6 +1,6 @@
 -- Trusted by the headline.
--- The operators. Source: section "Syntax" of the CEL language definition (table of
--- precedence and associativity).
+-- The operators. Source: section "Syntax" of the CEL language
+-- definition (table of precedence and associativity).
 use Rattle.std.specs.Prelude.{ℕ, Bool, true, false, not, if◌then◌else◌, List, [], ◌∷◌, Option, Some, None, codes}
 use Rattle.std.specs.Str.{bytes_eq}
 use Rattle.cel_syntax_lexer.specs.Token.{Token, word, number, quoted, punctuator}
@@ -12,7 +12,7 @@ use Rattle.cel_syntax_ast.specs.declared.expr.BinaryOperator.{BinaryOperator}
 use Rattle.cel_syntax_ast.specs.declared.expr.BinaryOperator.TheVariants as b
 use Rattle.cel_syntax_lexer.specs.Literal.{takes_minus}
 
--- how an operator on one value is written
+-- the punctuator of a unary operator
 abbrev pub sign : UnaryOperator → Punctuator
 sign u.Not = m.Not
 sign u.Negate = m.Minus
@@ -22,14 +22,14 @@ abbrev pub begins_number : List Token → Bool
 begins_number [] = false
 begins_number (k ∷ ts) = takes_minus k
 
--- Whether the sign before these tokens is an operator:
--- a minus right before an int or a double belongs to that literal.
+-- Whether the sign before these tokens is an operator: a minus directly
+-- before an int or a double is part of the literal.
 abbrev pub is_operator_before : UnaryOperator → List Token → Bool
 is_operator_before u.Not ts = true
 is_operator_before u.Negate ts = not (begins_number ts)
 
--- How loosely an operator on two values binds, and which it is: 1 for products, 2 for sums,
--- 3 for relations, 4 for "and", 5 for "or".
+-- The level of a binary operator, and the operator. A larger level binds more loosely: 1 for
+-- products, 2 for sums, 3 for relations, 4 for "and", 5 for "or".
 abbrev pub operator_of : Punctuator → Option (ℕ × BinaryOperator)
 operator_of m.Star = Some (1, b.Multiply)
 operator_of m.Slash = Some (1, b.Divide)
@@ -46,7 +46,7 @@ operator_of m.And = Some (4, b.And)
 operator_of m.Or = Some (5, b.Or)
 operator_of _ = None
 
--- `in` is a relation that is written as a word.
+-- `in` is a relation written as a word.
 abbrev pub word_operator : List ℕ → Option (ℕ × BinaryOperator)
 word_operator w = if bytes_eq w (codes "in") then Some (3, b.In) else None
 

@@ -1,12 +1,12 @@
 -- Scaffolding: only proofs and private clauses cite it.
--- The free names of an expression, but for some that macros around it bind.
+-- The free names of an expression, except some that enclosing macros bind.
 use Rattle.std.specs.Prelude.{ℕ, List, ◌∷◌, Bool, false, not, ◌&&◌, ◌||◌}
 use Rattle.std.specs.List.{list_any}
 use Rattle.std.specs.Str.{bytes_eq}
 use Rattle.cel_syntax_ast.specs.Term.{Term, literal, ident, select, has, index, unary, binary, conditional, list_of, map_with, call, qualified, macro, Terms, no_terms, term_and, Pairs, no_pairs, pair_and}
 
 abbrev mutual
-  -- whether x is free in the term and none of the bound names
+  -- whether x is free in the term and not one of the bound names
   pub is_read : List ℕ → List (List ℕ) → Term → Bool
   is_read x bs (literal v) = false
   is_read x bs (ident y) = bytes_eq x y && not (list_any (bytes_eq x) bs)

@@ -39,7 +39,7 @@ pure a = λ ts. Some (a, ts)
 abbrev pub refuse : {A : Type 0} → Parser A
 refuse = λ ts. None
 
--- takes a punctuator, if it comes next
+-- takes a punctuator if it comes next; the result is whether it did
 abbrev pub eat : Punctuator → Parser Bool
 eat m = λ ts. Some (sees m ts, after m ts)
 
@@ -58,7 +58,8 @@ next = λ ts. next_of ts
 abbrev pub Found : Type 0
 Found = Term × ℕ
 
--- A selection may be one level over a limit, since `has` counts what it selects from alone.
+-- A selection may be one level over a limit, since the argument of `has`
+-- doesn't count as a level, only its operand does.
 abbrev pub slack : Term → ℕ
 slack (tree.select t w) = 1
 slack _ = 0
@@ -67,12 +68,12 @@ slack _ = 0
 unfoldable pub above : ℕ → ℕ → Term → Parser Found
 above limit l t = λ ts. if nat_lt l (limit + slack t) then Some ((t, l + 1), ts) else None
 
--- the same of a tree that there may be none of
+-- the same for an optional tree
 abbrev pub above_if : ℕ → ℕ → Option Term → Parser Found
 above_if limit l None = refuse
 above_if limit l (Some t) = above limit l t
 
--- and of a call's tree, by the level of its arguments
+-- the same for the optional tree of a call, from the level of its arguments
 abbrev pub above_call : ℕ → ℕ → Option Term → Parser Found
 above_call limit l None = refuse
 above_call limit l (Some t) = above limit (parts_level t l) t
@@ -85,25 +86,25 @@ unfoldable pub wrap : UnaryOperator → ℕ → Term → Term
 wrap s zero t = t
 wrap s (suc n) t = tree.unary s (wrap s n t)
 
--- a tree behind a number of signs, if the limit allows it
+-- a tree with n signs applied, if the limit allows it
 unfoldable pub with_signs : ℕ → UnaryOperator → ℕ → Found → Parser Found
 with_signs limit s n x = λ ts.
     if nat_eq n 0 then Some (x, ts)
     else (if nat_le (x.1 + n) limit then Some ((wrap s n x.0, x.1 + n), ts) else None)
 
--- what an operator makes of a tree and the operand after it
+-- parses the right operand of an operator and applies the operator
 abbrev pub with_operand : ℕ → Parser Found → BinaryOperator → Term → ℕ → Parser Found
 with_operand limit operand op t l = operand >>= λ x. above limit (max l x.1) (tree.binary op t x.0)
 
--- a tree whose last part was read, up to the closing punctuator
+-- parses the closing punctuator of a tree whose parts were parsed
 unfoldable pub up_to_mark : ℕ → Punctuator → Term → ℕ → Parser Found
 up_to_mark limit k t l = expect k >> above limit l t
 
--- a comma may stand before the closing punctuator
+-- the same after an optional comma
 unfoldable pub up_to_comma_and_mark : ℕ → Punctuator → Term → ℕ → Parser Found
 up_to_comma_and_mark limit k t l = eat m.Comma >>= λ _. up_to_mark limit k t l
 
--- what is read for each item, and commas between the items, with the items so far and their level
+-- parses items separated by commas; us and l are the items so far and their level
 unfoldable pub items_from : {A : Type 0} → Parser (A × ℕ) → ℕ → List A → ℕ → Parser (List A × ℕ)
 items_from item zero us l = refuse
 items_from item (suc n) us l = do
@@ -111,11 +112,11 @@ items_from item (suc n) us l = do
   λ ts. if goes_on ts then items_from item n (us ++ x.0 ∷ []) (max l x.1) (drop 1 ts)
       else Some ((us ++ x.0 ∷ [], max l x.1), ts)
 
--- Each turn takes a token.
+-- Each iteration takes a token, so the number of tokens bounds them.
 unfoldable pub items_of : {A : Type 0} → Parser (A × ℕ) → Parser (List A × ℕ)
 items_of item = λ ts. if sees_end ts then Some (([], 0), ts) else items_from item (length ts) [] 0 ts
 
--- The limit is that of the levels, and sub reads an expression in brackets.
+-- The limit is that of the levels; sub parses a nested expression.
 module _ (limit : ℕ) (sub : Parser Found) where
   unfoldable pub items : Parser (List Term × ℕ)
   items = items_of sub
@@ -128,7 +129,7 @@ module _ (limit : ℕ) (sub : Parser Found) where
   unfoldable pub entries : Parser (List (Term × Term) × ℕ)
   entries = items_of pair
 
-  -- up to the closing bracket
+  -- up to and including the closing bracket
   unfoldable pub arguments : Parser (List Term × ℕ)
   arguments = items >>= λ us. expect m.CloseRound >> pure us
 
@@ -181,7 +182,7 @@ module _ (limit : ℕ) (sub : Parser Found) where
   unfoldable pub primary : Parser Found
   primary = next >>= (λ k. value_or (literal_value false k) (primary_by k))
 
-  -- a method's name was read, and an opening bracket
+  -- the method's name and an opening bracket were taken
   unfoldable pub method : Term → ℕ → List ℕ → Parser Found
   method t l w = arguments >>= λ us. above_if limit (max l us.1) (method_of t w us.0)
 
@@ -202,7 +203,7 @@ module _ (limit : ℕ) (sub : Parser Found) where
     i ← sub
     up_to_mark limit m.CloseSquare (tree.index t i.0) (max l i.1)
 
-  -- The number counts the turns that are left. Each adds a level, so one more than the limit is enough.
+  -- The number bounds the iterations. Each adds a level, so one more than the limit is enough.
   unfoldable pub links : ℕ → Term → ℕ → Parser Found
   links zero t l =
       λ ts. if sees m.Dot ts then None else (if sees m.OpenSquare ts then None else Some ((t, l), ts))
@@ -223,7 +224,7 @@ module _ (limit : ℕ) (sub : Parser Found) where
   unfoldable pub unary_expression : Parser Found
   unary_expression = λ ts. if sees m.Not ts then signed_member u.Not ts else signed_member u.Negate ts
 
-  -- Each turn adds a level here too.
+  -- Each iteration adds a level here, too.
   unfoldable pub turns : Parser Found → ℕ → ℕ → Term → ℕ → Parser Found
   turns operand k zero t l = λ ts. by_operator (operator_at k ts) (Some ((t, l), ts)) (λ op. None)
   turns operand k (suc n) t l = λ ts. by_operator (operator_at k ts) (Some ((t, l), ts))
@@ -235,7 +236,7 @@ module _ (limit : ℕ) (sub : Parser Found) where
     x ← chain k
     turns (chain k) (suc k) limit x.0 x.1
 
-  -- the two branches of a condition
+  -- the two branches of a conditional
   unfoldable pub branches : Term → ℕ → Parser Found
   branches c l = do
     a ← chain 5
@@ -265,6 +266,6 @@ if_last None = None
 if_last (Some (x, [])) = if nat_le x.1 max_level then Some x.0 else None
 if_last (Some (x, t ∷ ts)) = None
 
--- the tree of the tokens, all of them
+-- the tree of all the tokens together
 unfoldable pub tree_of_tokens : List Token → Option Term
 tree_of_tokens ts = if_last (expr max_level ts)

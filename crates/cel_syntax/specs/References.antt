@@ -1,5 +1,5 @@
 -- Trusted by the clauses of other library calls.
--- The names that references show.
+-- The names that `References` hold.
 use Rattle.std.specs.Prelude.{ℕ, List}
 use Rattle.cel_syntax.specs.Names.{names_of}
 use Rattle.cel_syntax.specs.declared.references.References.{References}

@@ -1,10 +1,10 @@
-//! What the macros around an expression bind.
+//! The variables that enclosing macros bind.
 ghost use Rattle.std.specs.Prelude.{◌≡◌};
 ghost use Rattle.std.specs.List.{list_any};
 ghost use Rattle.std.specs.Str.{bytes_eq};
 ghost use Rattle.cel_syntax.specs.Bound.{bound_names};
 
-/// The variables of the macros around, the innermost first.
+/// The variables of the enclosing macros, the innermost first.
 #[derive(Drop)]
 pub enum Bound<'a> {
     Nothing,
@@ -12,7 +12,7 @@ pub enum Bound<'a> {
 }
 
 impl Bound<'_> {
-    /// Whether a macro around binds the name.
+    /// Reports whether an enclosing macro binds the name.
     pub fn has(&self, name: &str) -> bool
         ensures { result ≡ list_any (bytes_eq name.now) (bound_names self.now) }
     {

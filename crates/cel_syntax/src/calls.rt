@@ -11,7 +11,7 @@ use kube_types_refused::Refused;
 use std::alloc::Global;
 use std::collections::BTreeSet;
 
-/// Adds the names of the calls in an expression.
+/// Adds the names of the functions that an expression calls.
 #[cycle(calls)]
 pub(crate) fn add_calls(
     alloc: Global,
@@ -70,7 +70,7 @@ pub(crate) fn add_calls(
     }
 }
 
-/// Adds the names of the calls in them all.
+/// Adds the names of the functions that the expressions call.
 #[cycle(calls)]
 fn add_from_all(
     alloc: Global,
@@ -87,7 +87,7 @@ fn add_from_all(
     Ok(())
 }
 
-/// Adds the names of the calls in all keys and values.
+/// Adds the names of the functions that the keys and values call.
 #[cycle(calls)]
 fn add_from_pairs(
     alloc: Global,

@@ -12,10 +12,10 @@ use cel_syntax_lexer::punctuator::Punctuator;
 use cel_syntax_lexer::takes_minus;
 use cel_syntax_lexer::token::Token;
 
-/// The tokens that are left.
+/// The tokens that are left to parse.
 #[derive(Clone, Copy)]
 pub struct Cursor<'a> {
-    /// The tokens that aren't consumed yet, the next one first.
+    /// The tokens that aren't consumed yet, in order.
     pub rest: &'a [Token<'a>],
 }
 
@@ -39,7 +39,7 @@ fn is_end(punctuator: Punctuator) -> bool
 }
 
 impl<'a> Cursor<'a> {
-    /// Takes the next token, if any is left.
+    /// Takes the next token, if there is one.
     pub fn next(&mut self) -> Option<Token<'a>>
         ensures token { MatchOption result ((tokens_left self.old ≡ []) × (tokens_left self.new ≡ []))
             (λ t. tokens_left self.old ≡ token_of t ∷ tokens_left self.new) }
@@ -53,14 +53,14 @@ impl<'a> Cursor<'a> {
         Some(tokens[0])
     }
 
-    /// How many tokens are left.
+    /// The number of tokens left.
     pub fn len(&self) -> usize
         ensures { result ≡ length (tokens_left self.now) }
     {
         self.rest.len()
     }
 
-    /// Whether this punctuator comes next.
+    /// Reports whether the next token is this punctuator.
     pub fn sees(&self, punctuator: Punctuator) -> bool
         ensures { result ≡ spec.sees punctuator (tokens_left self.now) }
     {
@@ -70,7 +70,7 @@ impl<'a> Cursor<'a> {
         }
     }
 
-    /// The operator that comes next, if it binds as loosely as that.
+    /// The next token's operator, if it is a binary operator of this level.
     #[tactic(auto, unfolding(crate::specs::Ahead::operator_at))]
     pub fn operator(&self, level: u8) -> Option<BinaryOperator>
         ensures { result ≡ spec.operator_at level (tokens_left self.now) }
@@ -84,7 +84,7 @@ impl<'a> Cursor<'a> {
         }
     }
 
-    /// Whether any operator on two values comes next.
+    /// Reports whether the next token is a binary operator.
     pub fn sees_operator(&self) -> bool
         ensures { result ≡ spec.sees_operator (tokens_left self.now) }
     {
@@ -94,7 +94,7 @@ impl<'a> Cursor<'a> {
         }
     }
 
-    /// Whether a comma or a closing bracket comes next.
+    /// Reports whether the next token is a comma or a closing bracket.
     pub fn sees_end(&self) -> bool
         ensures { result ≡ spec.sees_end (tokens_left self.now) }
     {
@@ -104,7 +104,7 @@ impl<'a> Cursor<'a> {
         }
     }
 
-    /// Whether another item comes next, behind a comma.
+    /// Reports whether a comma is next and another item follows it.
     pub fn goes_on(&self) -> bool
         ensures { result ≡ spec.goes_on (tokens_left self.now) }
     {
@@ -116,7 +116,7 @@ impl<'a> Cursor<'a> {
         !ahead.sees_end()
     }
 
-    /// Whether an int or a double comes next.
+    /// Reports whether the next token is an int or a double.
     pub fn begins_number(&self) -> bool
         ensures { result ≡ begins_number (tokens_left self.now) }
     {
@@ -126,7 +126,7 @@ impl<'a> Cursor<'a> {
         }
     }
 
-    /// Takes the punctuator, if it comes next, and answers whether it did.
+    /// Takes the next token if it is this punctuator. Returns whether it was.
     pub fn eat(&mut self, punctuator: Punctuator) -> bool
         ensures found { result ≡ spec.sees punctuator (tokens_left self.old) }
         ensures after { tokens_left self.new ≡ spec.after punctuator (tokens_left self.old) }
@@ -138,7 +138,8 @@ impl<'a> Cursor<'a> {
         found
     }
 
-    /// Whether the sign before these tokens is an operator, and no part of a literal.
+    /// Reports whether the sign before the tokens that are left
+    /// is an operator, rather than part of a literal.
     fn is_operator_before(&self, sign: UnaryOperator) -> bool
         ensures { result ≡ is_operator_before sign (tokens_left self.now) }
     {
@@ -148,7 +149,7 @@ impl<'a> Cursor<'a> {
         }
     }
 
-    /// Whether such a sign comes next, as an operator.
+    /// Reports whether the next token is this sign, as an operator.
     #[tactic(auto, unfolding(crate::specs::Ahead::sees_sign))]
     fn sees_sign(&self, sign: UnaryOperator) -> bool
         ensures { result ≡ spec.sees_sign sign (tokens_left self.now) }
@@ -161,7 +162,8 @@ impl<'a> Cursor<'a> {
         ahead.is_operator_before(sign)
     }
 
-    /// Takes all such signs that come next, and counts them. A minus that belongs to a literal is none.
+    /// Takes all such signs that come next and returns their number.
+    /// A minus that belongs to a literal isn't taken.
     pub fn signs(&mut self, sign: UnaryOperator) -> usize
         ensures count { result ≡ (spec.signs sign (tokens_left self.old)).0 }
         ensures rest { tokens_left self.new ≡ (spec.signs sign (tokens_left self.old)).1 }

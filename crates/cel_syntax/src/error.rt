@@ -1,10 +1,10 @@
-//! Why a text is no expression.
+//! The error for a text that can't be parsed.
 
 ghost use Rattle.std.specs.Prelude.{Some, codes};
 
 use std::fmt;
 
-/// A text that derives no tree.
+/// The error for a text that derives no tree.
 #[derive(Clone, Copy, Debug, PartialEq, Eq)]
 pub struct ParseErrors;
 

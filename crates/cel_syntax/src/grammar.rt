@@ -1,4 +1,5 @@
-//! Expressions, by recursive descent. Each rule takes the parser of what stands in brackets as a parameter.
+//! The recursive descent parser of expressions. Each rule is given
+//! the parser of nested expressions as a parameter.
 
 ghost use Rattle.std.specs.Prelude.{◌≡◌, ◌+◌, ◌<◌, MatchResult, List, drop, map, max};
 ghost use Rattle.cel_syntax_lexer.specs.Token.{Token as SpecToken};
@@ -25,7 +26,7 @@ use cel_syntax_nodes::{
 };
 use std::alloc::Global;
 
-/// How far over a limit the tree may be.
+/// How many levels the tree may be over a limit.
 fn slack(tree: &Expr) -> usize
     ensures { result ≡ spec.slack (term tree.now) }
 {
@@ -49,14 +50,14 @@ fn wrap(alloc: Global, sign: UnaryOperator, count: usize, inside: Expr) -> Resul
 #[derive(Clone, Copy)]
 pub struct Grammar<F> {
     pub alloc: Global,
-    /// The highest level of a tree.
+    /// The largest level of a tree.
     pub limit: u8,
-    /// Reads an expression of at most that level.
+    /// Parses an expression of at most the given level.
     pub expr: F,
 }
 
 impl<F: Fn(Global, &mut Cursor<'_>, u8) -> Result<(Expr, usize), SyntaxError>> Grammar<F> {
-    /// What stands in brackets.
+    /// Parses a nested expression.
     #[tactic(auto, unfolding(crate::specs::Parser::below))]
     fn sub(&self, tokens: &mut Cursor<'_>) -> Result<(Expr, usize), SyntaxError>
         requires { Nests self.now.limit (F.pre self.now.expr) (F.post self.now.expr) }
@@ -68,7 +69,7 @@ impl<F: Fn(Global, &mut Cursor<'_>, u8) -> Result<(Expr, usize), SyntaxError>> G
         (self.expr)(self.alloc, tokens, self.limit - 1)
     }
 
-    /// The tree, one level above the highest of its parts.
+    /// Returns the tree at one level above the highest of its parts, if the limit allows it.
     #[tactic(auto, unfolding(crate::specs::Parser::above))]
     fn above(&self, level: usize, tree: Expr) -> Result<(Expr, usize), SyntaxError>
         ensures { (ts : List SpecToken) → Reads (spec.above self.now.limit level (term tree) ts) result ts }
@@ -80,7 +81,7 @@ impl<F: Fn(Global, &mut Cursor<'_>, u8) -> Result<(Expr, usize), SyntaxError>> G
         }
     }
 
-    /// The items of a list or a call, which may be none.
+    /// Parses the items of a list or the arguments of a call, possibly none.
     fn items(&self, tokens: &mut Cursor<'_>) -> Result<(Vec<Expr>, usize), SyntaxError>
         requires { Nests self.now.limit (F.pre self.now.expr) (F.post self.now.expr) }
         ensures { ReadsItems (spec.items self.now.limit (spec.below self.now.limit) (tokens_left tokens.old))
@@ -103,7 +104,7 @@ impl<F: Fn(Global, &mut Cursor<'_>, u8) -> Result<(Expr, usize), SyntaxError>> G
         Err(SyntaxError::Invalid)
     }
 
-    /// A key and its value.
+    /// Parses a key and its value.
     #[tactic(auto, unfolding(crate::specs::Parser::pair))]
     fn pair(&self, tokens: &mut Cursor<'_>) -> Result<((Expr, Expr), usize), SyntaxError>
         requires { Nests self.now.limit (F.pre self.now.expr) (F.post self.now.expr) }
@@ -118,7 +119,7 @@ impl<F: Fn(Global, &mut Cursor<'_>, u8) -> Result<(Expr, usize), SyntaxError>> G
         Ok(((key.0, value.0), key.1.max(value.1)))
     }
 
-    /// The entries of a map, which may be none.
+    /// Parses the entries of a map, possibly none.
     fn entries(&self, tokens: &mut Cursor<'_>) -> Result<(Vec<(Expr, Expr)>, usize), SyntaxError>
         requires { Nests self.now.limit (F.pre self.now.expr) (F.post self.now.expr) }
         ensures { ReadsEntries (spec.entries self.now.limit (spec.below self.now.limit)
@@ -141,7 +142,7 @@ impl<F: Fn(Global, &mut Cursor<'_>, u8) -> Result<(Expr, usize), SyntaxError>> G
         Err(SyntaxError::Invalid)
     }
 
-    /// The arguments of a call, up to the closing bracket.
+    /// Parses the arguments of a call and the closing bracket.
     #[tactic(auto, unfolding(crate::specs::Parser::arguments))]
     fn arguments(&self, tokens: &mut Cursor<'_>) -> Result<(Vec<Expr>, usize), SyntaxError>
         requires { Nests self.now.limit (F.pre self.now.expr) (F.post self.now.expr) }
@@ -166,7 +167,7 @@ impl<F: Fn(Global, &mut Cursor<'_>, u8) -> Result<(Expr, usize), SyntaxError>> G
         self.up_to_mark(tokens, Punctuator::CloseRound, inside)
     }
 
-    /// A tree whose last part was read, up to the closing punctuator.
+    /// Parses the closing punctuator of a tree whose parts were parsed.
     #[tactic(auto, unfolding(crate::specs::Parser::up_to_mark))]
     fn up_to_mark(
         &self,
@@ -184,7 +185,7 @@ impl<F: Fn(Global, &mut Cursor<'_>, u8) -> Result<(Expr, usize), SyntaxError>> G
         }
     }
 
-    /// The same where a comma may stand before the closing punctuator.
+    /// Parses an optional comma and the closing punctuator of a tree whose parts were parsed.
     #[tactic(auto, unfolding(crate::specs::Parser::up_to_comma_and_mark))]
     fn up_to_comma_and_mark(
         &self,
@@ -227,7 +228,7 @@ impl<F: Fn(Global, &mut Cursor<'_>, u8) -> Result<(Expr, usize), SyntaxError>> G
         )
     }
 
-    /// The call of a global function with these arguments.
+    /// Returns the call of a global function with these arguments.
     fn global(
         &self,
         name: &str,
@@ -276,7 +277,7 @@ impl<F: Fn(Global, &mut Cursor<'_>, u8) -> Result<(Expr, usize), SyntaxError>> G
         }
     }
 
-    /// A number with the minus before it, which was taken.
+    /// Parses a negative number. The minus was taken.
     #[tactic(auto, unfolding(crate::specs::Parser::negative))]
     fn negative(&self, tokens: &mut Cursor<'_>) -> Result<(Expr, usize), SyntaxError>
         ensures { Reads (spec.negative self.now.limit (spec.below self.now.limit) (tokens_left tokens.old))
@@ -316,7 +317,7 @@ impl<F: Fn(Global, &mut Cursor<'_>, u8) -> Result<(Expr, usize), SyntaxError>> G
         }
     }
 
-    /// The call of a method with these arguments.
+    /// Returns the call of a method with these arguments.
     fn method_with(
         &self,
         target: (Expr, usize),
@@ -333,7 +334,7 @@ impl<F: Fn(Global, &mut Cursor<'_>, u8) -> Result<(Expr, usize), SyntaxError>> G
         }
     }
 
-    /// A method's call. Its name and the opening bracket were taken.
+    /// Parses the arguments of a method call. The name and the opening bracket were taken.
     #[tactic(auto, unfolding(crate::specs::Parser::method))]
     fn method(
         &self,
@@ -349,7 +350,7 @@ impl<F: Fn(Global, &mut Cursor<'_>, u8) -> Result<(Expr, usize), SyntaxError>> G
         self.method_with(target, name, arguments)
     }
 
-    /// The field of that name.
+    /// Returns the selection of this field.
     fn select(&self, target: (Expr, usize), name: &str) -> Result<(Expr, usize), SyntaxError>
         ensures { (ts : List SpecToken)
             → Reads (spec.above self.now.limit target.1 (tree.select (term target.0) name.now) ts) result ts }
@@ -358,7 +359,7 @@ impl<F: Fn(Global, &mut Cursor<'_>, u8) -> Result<(Expr, usize), SyntaxError>> G
         self.above(target.1, tree)
     }
 
-    /// A field or a method of the target, by its name, which was taken.
+    /// Parses the rest of a field selection or a method call. The name was taken.
     #[tactic(auto, unfolding(crate::specs::Parser::selection_or_method))]
     fn selection_or_method(
         &self,
@@ -382,7 +383,7 @@ impl<F: Fn(Global, &mut Cursor<'_>, u8) -> Result<(Expr, usize), SyntaxError>> G
         }
     }
 
-    /// A field or a method of the target. The dot was taken.
+    /// Parses a field selection or a method call. The dot was taken.
     #[tactic(auto, unfolding(crate::specs::Parser::field))]
     fn field(
         &self,
@@ -399,7 +400,7 @@ impl<F: Fn(Global, &mut Cursor<'_>, u8) -> Result<(Expr, usize), SyntaxError>> G
         }
     }
 
-    /// The target at an index that was read.
+    /// Parses the closing bracket of an index expression. The index was parsed.
     #[tactic(auto, unfolding(crate::specs::Parser::up_to_mark))]
     fn at_index(
         &self,
@@ -415,7 +416,7 @@ impl<F: Fn(Global, &mut Cursor<'_>, u8) -> Result<(Expr, usize), SyntaxError>> G
         self.up_to_mark(tokens, Punctuator::CloseSquare, (tree, level))
     }
 
-    /// An item of the target by its index. The opening bracket was taken.
+    /// Parses an index expression. The opening bracket was taken.
     #[tactic(auto, unfolding(crate::specs::Parser::index))]
     fn index(
         &self,
@@ -430,7 +431,7 @@ impl<F: Fn(Global, &mut Cursor<'_>, u8) -> Result<(Expr, usize), SyntaxError>> G
         self.at_index(tokens, target, at)
     }
 
-    /// The selections, methods and indices that follow a primary.
+    /// Parses the field selections, method calls and indices that follow a primary.
     fn links(
         &self,
         tokens: &mut Cursor<'_>,
@@ -465,7 +466,7 @@ impl<F: Fn(Global, &mut Cursor<'_>, u8) -> Result<(Expr, usize), SyntaxError>> G
         self.links(tokens, found)
     }
 
-    /// The operand behind a number of signs.
+    /// Applies `count` signs to an operand.
     #[tactic(auto, unfolding(crate::specs::Parser::with_signs))]
     fn with_signs(
         &self,
@@ -515,7 +516,7 @@ impl<F: Fn(Global, &mut Cursor<'_>, u8) -> Result<(Expr, usize), SyntaxError>> G
         }
     }
 
-    /// An operator with its two operands.
+    /// Applies a binary operator to its operands.
     fn with_operator(
         &self,
         operator: BinaryOperator,
@@ -530,7 +531,7 @@ impl<F: Fn(Global, &mut Cursor<'_>, u8) -> Result<(Expr, usize), SyntaxError>> G
         self.above(level, tree)
     }
 
-    /// The operand after an operator, joined with the one before it.
+    /// Parses the right operand of an operator and applies the operator.
     #[cycle(operators)]
     fn with_operand(
         &self,
@@ -549,8 +550,8 @@ impl<F: Fn(Global, &mut Cursor<'_>, u8) -> Result<(Expr, usize), SyntaxError>> G
         self.with_operator(operator, left, right)
     }
 
-    /// The operators of one level that follow an operand, from the left.
-    /// Their operands are of the levels below.
+    /// Parses the operators of one level that follow an operand, grouping to the
+    /// left. Their operands are of the levels below.
     #[cycle(operators)]
     fn turns(
         &self,
@@ -576,7 +577,7 @@ impl<F: Fn(Global, &mut Cursor<'_>, u8) -> Result<(Expr, usize), SyntaxError>> G
         }
     }
 
-    /// The operators that follow an operand and bind as loosely as the level says, or tighter.
+    /// Parses the operators up to this level that follow an operand.
     #[cycle(operators)]
     fn climb(
         &self,
@@ -595,7 +596,7 @@ impl<F: Fn(Global, &mut Cursor<'_>, u8) -> Result<(Expr, usize), SyntaxError>> G
         self.turns(tokens, level - 1, found)
     }
 
-    /// Operators that bind as loosely as the level says, or tighter.
+    /// Parses an expression whose operators are of this level or below.
     #[cycle(operators)]
     fn chain(&self, tokens: &mut Cursor<'_>, level: u8) -> Result<(Expr, usize), SyntaxError>
         requires { Nests self.now.limit (F.pre self.now.expr) (F.post self.now.expr) }
@@ -609,7 +610,7 @@ impl<F: Fn(Global, &mut Cursor<'_>, u8) -> Result<(Expr, usize), SyntaxError>> G
         self.climb(tokens, level, found)
     }
 
-    /// A condition with its branches.
+    /// Returns the conditional with these branches.
     fn with_branches(
         &self,
         test: (Expr, usize),
@@ -624,7 +625,7 @@ impl<F: Fn(Global, &mut Cursor<'_>, u8) -> Result<(Expr, usize), SyntaxError>> G
         self.above(level, tree)
     }
 
-    /// The branches of a condition. The question mark was taken.
+    /// Parses the branches of a conditional. The question mark was taken.
     #[tactic(auto, unfolding(crate::specs::Parser::branches))]
     fn branches(
         &self,
@@ -658,7 +659,7 @@ impl<F: Fn(Global, &mut Cursor<'_>, u8) -> Result<(Expr, usize), SyntaxError>> G
     }
 }
 
-/// An expression of at most this level.
+/// Parses an expression of at most this level.
 pub fn expr(alloc: Global, tokens: &mut Cursor<'_>, limit: u8) -> Result<(Expr, usize), SyntaxError>
     ensures { Reads (spec.expr limit (tokens_left tokens.old)) result (tokens_left tokens.new) }
 {

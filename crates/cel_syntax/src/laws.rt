@@ -1,4 +1,4 @@
-//! Laws of the syntax and of its grammar.
+//! Laws of the grammar and of the parser.
 ghost use Rattle.cel_syntax.specs.Grammar.{Derives};
 ghost use Rattle.cel_syntax.specs.Parser.{tree_of_tokens};
 ghost use Rattle.cel_syntax.specs.Reading.{TextDerives, tree_of};
@@ -6,7 +6,7 @@ ghost use Rattle.cel_syntax_ast.specs.Term.{Term};
 ghost use Rattle.cel_syntax_lexer.specs.Token.{Token};
 ghost use Rattle.std.specs.Prelude.{◌≡◌, List, Some, ℕ};
 
-/// Tokens have a tree exactly where they derive it.
+/// `tree_of_tokens` gives a tree exactly if the tokens derive it.
 pub fn tree_is_grammar()
     ensures complete { (ts : List Token) (t : Term) → Derives ts t → tree_of_tokens ts ≡ Some t }
     ensures sound { (ts : List Token) (t : Term) → tree_of_tokens ts ≡ Some t → Derives ts t }
@@ -22,7 +22,7 @@ pub fn text_derives_one_tree()
     ensures { (z : List ℕ) (t u : Term) → TextDerives z t → TextDerives z u → t ≡ u }
 {}
 
-/// A text has a tree exactly where it derives it.
+/// `tree_of` gives a tree exactly if the text derives it.
 pub fn tree_is_derived()
     ensures complete { (z : List ℕ) (t : Term) → TextDerives z t → tree_of z ≡ Some t }
     ensures sound { (z : List ℕ) (t : Term) → tree_of z ≡ Some t → TextDerives z t }

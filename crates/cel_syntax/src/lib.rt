@@ -1,11 +1,12 @@
-//! Reads CEL texts: [`parse`] answers the tree of a text, nested up to level 250, or that it has none.
+//! Parses CEL expressions. [`parse`] returns the tree
+//! of a text, nested up to level 250, or an error.
 //!
 //! ```rust
 //! use cel_syntax::parse;
 //! use kube_types::Refused;
 //! use std::alloc::Global;
 //!
-//! /// Whether a rule reads the old object; `None` where its text isn't read.
+//! /// Reports whether a rule reads the old object. Returns `None` if it can't be parsed.
 //! fn reads_old_self(alloc: Global, rule: &str) -> Result<Option<bool>, Refused> {
 //!     match parse(alloc, rule)? {
 //!         Ok(tree) => Ok(Some(tree.has_free_name("oldSelf"))),
@@ -14,12 +15,12 @@
 //! }
 //! ```
 //!
-//! [`References`] has all free names of a tree and the names of all its calls.
-//! The outer error says that there was no memory.
+//! [`References`] holds all free names of a tree and the names of all functions that it calls.
+//! The outer error means that memory was refused.
 //!
-//! Proved: `parse` answers a tree exactly where the text derives it by the grammar of the CEL language
-//! definition, and that tree (`specs/Reading.antt`). Laws: a text derives at most one tree, and the tree as a
-//! function of the text is the grammar's.
+//! Proved: `parse` returns a tree exactly if the text derives it by the grammar of the CEL language
+//! definition (`specs/Reading.antt`). Laws: a text derives at most one tree, and the tree computed
+//! from the text is the one that the grammar derives.
 #![tactic(auto)]
 
 mod bound;

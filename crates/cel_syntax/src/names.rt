@@ -9,7 +9,7 @@ use kube_types_refused::Refused;
 use std::alloc::Global;
 use std::collections::BTreeSet;
 
-/// Adds a name, unless it is there.
+/// Adds a name, unless it is there already.
 pub(crate) fn add(alloc: Global, name: &str, names: &mut BTreeSet<String>) -> Result<(), Refused>
     ensures added { OnOk result ((x : List ℕ)
         → contains_text names.new x ≡ (contains_text names.old x || bytes_eq x name.now)) }
@@ -22,7 +22,7 @@ pub(crate) fn add(alloc: Global, name: &str, names: &mut BTreeSet<String>) -> Re
     Ok(())
 }
 
-/// The names of a set, in their order.
+/// Returns the names of a set in order.
 pub(crate) fn in_order(alloc: Global, names: BTreeSet<String>) -> Result<Vec<String>, Refused>
     ensures names { IfOk result (λ v. AreNames (names_of v.items) (λ x. contains_text names x)) }
     ensures memory { IfErr result (λ e. e ≡ Memory) }

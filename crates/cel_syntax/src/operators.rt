@@ -1,4 +1,4 @@
-//! Which tokens are operators.
+//! The tokens that are operators.
 
 ghost use Rattle.std.specs.Prelude.{◌≡◌};
 ghost use Rattle.cel_syntax_lexer.specs.Token.{token_of};
@@ -8,7 +8,7 @@ use cel_syntax_ast::{BinaryOperator, UnaryOperator};
 use cel_syntax_lexer::punctuator::Punctuator;
 use cel_syntax_lexer::token::Token;
 
-/// The punctuator that the sign is written with.
+/// The punctuator that denotes the sign.
 pub(crate) fn sign_punctuator(sign: UnaryOperator) -> Punctuator
     ensures { result ≡ spec.sign sign }
 {
@@ -18,7 +18,8 @@ pub(crate) fn sign_punctuator(sign: UnaryOperator) -> Punctuator
     }
 }
 
-/// The operator that the punctuator is, and how loosely it binds.
+/// The binary operator that the punctuator denotes, if any, and
+/// its level. A larger level binds more loosely.
 fn operator_of(punctuator: Punctuator) -> Option<(u8, BinaryOperator)>
     ensures { result ≡ spec.operator_of punctuator }
 {
@@ -40,7 +41,7 @@ fn operator_of(punctuator: Punctuator) -> Option<(u8, BinaryOperator)>
     }
 }
 
-/// The operator that a word is, and how loosely it binds.
+/// The binary operator that the word denotes, if any, and its level.
 fn word_operator(word: &[u8]) -> Option<(u8, BinaryOperator)>
     ensures { result ≡ spec.word_operator word.now }
 {
@@ -52,7 +53,7 @@ fn word_operator(word: &[u8]) -> Option<(u8, BinaryOperator)>
     }
 }
 
-/// The operator that a token is, and how loosely it binds.
+/// The binary operator that the token denotes, if any, and its level.
 pub(crate) fn token_operator(token: Token<'_>) -> Option<(u8, BinaryOperator)>
     ensures { result ≡ spec.operator (token_of token.entry) }
 {

@@ -1,4 +1,4 @@
-//! The tree of tokens.
+//! Parses tokens to trees.
 
 ghost use Rattle.std.specs.Prelude.{◌≡◌, MatchResult, MatchOption, IfOk, map, option_map};
 ghost use Rattle.kube_types_refused.specs.declared.Refused.TheVariants.{Memory};
@@ -15,7 +15,7 @@ use cel_syntax_lexer::token::Token;
 use kube_types_refused::Refused;
 use std::alloc::Global;
 
-/// The highest level of a tree that is read.
+/// The largest level of a tree that is parsed.
 const MAX_LEVEL: u8 = 250;
 
 #[tactic(auto, using(crate::proofs::Last::if_none_left, crate::proofs::Last::if_some_left), unfolding(crate::specs::Parser::tree_of_tokens))]
@@ -35,10 +35,10 @@ fn read(alloc: Global, tokens: &[Token<'_>]) -> Result<Option<Expr>, Refused>
     }
 }
 
-/// The tree that the tokens derive, or `None` where they derive none.
+/// Returns the tree that the tokens derive, or `None` if they derive none.
 ///
-/// Its parts may nest up to level 250. The only error is [`Refused::Memory`]. Source: the section "Syntax" of
-/// the CEL language definition.
+/// The tree may nest up to level 250. The only error is [`Refused::Memory`]. Source: the
+/// section "Syntax" of the CEL language definition.
 pub fn parse_tokens(alloc: Global, tokens: &[Token<'_>]) -> Result<Option<Expr>, Refused>
     ensures grammar { MatchResult result
         (λ answer. MatchOption answer ((t : Term) → Derives (map token_of tokens.now) t → ⊥)

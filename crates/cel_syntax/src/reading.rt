@@ -1,4 +1,4 @@
-//! The tree of a text.
+//! Parses texts to trees.
 
 ghost use Rattle.std.specs.Prelude.{◌≡◌, MatchResult, IfOk, option_map};
 ghost use Rattle.kube_types_refused.specs.declared.Refused.TheVariants.{Memory};
@@ -12,7 +12,7 @@ use cel_syntax_lexer::lexer::tokens;
 use kube_types_refused::Refused;
 use std::alloc::Global;
 
-/// The tree of a text, or `None` where it derives none.
+/// Returns the tree that a text derives, or `None` if it derives none.
 #[tactic(auto, using(crate::proofs::Trees::of_no_tokens))]
 fn read(alloc: Global, text: &[u8]) -> Result<Option<Expr>, Refused>
     ensures { MatchResult result (λ answer. option_map term answer ≡ tree_of text.now)
@@ -24,13 +24,13 @@ fn read(alloc: Global, text: &[u8]) -> Result<Option<Expr>, Refused>
     }
 }
 
-/// The tree that the text derives.
+/// Parses a text. Returns the tree that it derives.
 ///
 /// # Errors
 ///
-/// [`ParseErrors`] where it derives none. The outer error is always [`Refused::Memory`].
+/// [`ParseErrors`] if it derives none. The outer error is always [`Refused::Memory`].
 ///
-/// Its parts may nest up to level 250. Source: the section "Syntax" of the CEL language definition.
+/// The tree may nest up to level 250. Source: the section "Syntax" of the CEL language definition.
 #[tactic(auto, using(crate::proofs::Trees::some_derives, crate::proofs::Trees::none_derives))]
 pub fn parse(alloc: Global, text: &str) -> Result<Result<Expr, ParseErrors>, Refused>
     ensures grammar { MatchResult result

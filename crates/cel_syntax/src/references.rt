@@ -26,10 +26,11 @@ pub struct References {
 }
 
 impl References {
-    /// The names that an expression refers to: exactly its free names, and exactly the names of its calls.
+    /// Returns the names that an expression refers to: exactly its free names
+    /// and the names of the functions that it calls.
     ///
     /// # Errors
-    /// `Memory` alone.
+    /// Only [`Refused::Memory`], if memory is refused.
     pub fn of(alloc: Global, expr: &Expr) -> Result<References, Refused>
         ensures variables { IfOk result (λ r. AreNames (variable_names r) (λ x. is_free x (term expr.now))) }
         ensures functions { IfOk result
@@ -46,14 +47,14 @@ impl References {
         })
     }
 
-    /// The free names, each once, in name order.
+    /// The free names, without duplicates, sorted by name.
     pub fn variables(&self) -> &[String]
         ensures { names_of result.now ≡ variable_names self.now }
     {
         self.variables.as_slice()
     }
 
-    /// Whether the name is a free one.
+    /// Reports whether the name is one of the free names.
     pub fn has_variable(&self, name: &str) -> bool
         ensures { result ≡ list_any (bytes_eq name.now) (variable_names self.now) }
     {
@@ -65,7 +66,8 @@ impl References {
         false
     }
 
-    /// The names of all calls, qualified ones whole, each once, in name order.
+    /// The names of the called functions, qualified ones
+    /// in full, without duplicates, sorted by name.
     pub fn functions(&self) -> &[String]
         ensures { names_of result.now ≡ function_names self.now }
     {

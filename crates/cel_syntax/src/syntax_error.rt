@@ -1,4 +1,4 @@
-//! Why tokens give no tree.
+//! The errors of the parser.
 
 ghost use Rattle.std.specs.Prelude.{◌≡◌};
 ghost use Rattle.cel_syntax.specs.declared.syntax_error.SyntaxError.TheVariants.{Memory};
@@ -10,7 +10,7 @@ use std::alloc::AllocFailed;
 pub enum SyntaxError {
     /// Memory was refused.
     Memory,
-    /// The tokens derive none.
+    /// The tokens derive no tree.
     Invalid,
 }
 

@@ -13,7 +13,7 @@ use kube_types_refused::Refused;
 use std::alloc::Global;
 use std::collections::BTreeSet;
 
-/// Adds a name, unless a macro around binds it.
+/// Adds a name, unless an enclosing macro binds it.
 fn add_unbound(
     alloc: Global,
     name: &str,
@@ -30,7 +30,7 @@ fn add_unbound(
     add(alloc, name, names)
 }
 
-/// Adds the free names of an expression, but for those that macros around bind.
+/// Adds the free names of an expression, except those that enclosing macros bind.
 #[cycle(variables)]
 pub(crate) fn add_variables(
     alloc: Global,
@@ -91,7 +91,7 @@ pub(crate) fn add_variables(
     }
 }
 
-/// Adds the free names of them all.
+/// Adds the free names of the expressions.
 #[cycle(variables)]
 fn add_from_all(
     alloc: Global,
@@ -110,7 +110,7 @@ fn add_from_all(
     Ok(())
 }
 
-/// Adds the free names of all keys and values.
+/// Adds the free names of the keys and values.
 #[cycle(variables)]
 fn add_from_pairs(
     alloc: Global,

@@ -1,4 +1,4 @@
-//! The items of loops, which change in place.
+//! The items of loops, updated in place.
 ghost use Rattle.std.specs.Prelude.{◌≡◌, ◌∷◌, [], List, OnOk, MatchOption, Some, None, slice_get};
 ghost use Rattle.cel_value.specs.View.{view};
 ghost use Rattle.cel_vm.specs.Machine.{Loop, with_more};
@@ -9,7 +9,7 @@ use crate::state::LoopState;
 use cel_value::Value;
 use std::alloc::AllocError;
 
-/// The item of a loop.
+/// The current item of a loop.
 #[inline(always)]
 pub fn item_of(state: &LoopState) -> &Value
     ensures { view result.now ≡ (loop_view state.now).item }
@@ -20,7 +20,7 @@ pub fn item_of(state: &LoopState) -> &Value
     }
 }
 
-/// The item of the innermost loop.
+/// The current item of the innermost loop.
 pub fn top_item(loops: &Vec<LoopState>) -> Option<&Value>
     ensures { MatchOption result (loops_view loops.now.items ≡ [])
         (λ v. (l : Loop) × (ls : List Loop) × (loops_view loops.now.items ≡ l ∷ ls) × (view v.now ≡ l.item)) }
@@ -31,7 +31,8 @@ pub fn top_item(loops: &Vec<LoopState>) -> Option<&Value>
     }
 }
 
-/// The item of the loop that is `outward` loops further out, if there is such a loop.
+/// The current item of the loop `outward` levels out from the
+/// innermost one, or None if there are fewer loops.
 #[inline(always)]
 pub fn outer_item(loops: &Vec<LoopState>, outward: usize) -> Option<&Value>
     ensures { MatchOption result (slice_get (loops_view loops.now.items) outward ≡ None)
@@ -46,7 +47,7 @@ pub fn outer_item(loops: &Vec<LoopState>, outward: usize) -> Option<&Value>
     }
 }
 
-/// The innermost loop goes on with its next item, if there is one.
+/// Moves the innermost loop to its next item. Returns false if there is none.
 #[inline(always)]
 pub fn go_on(loops: &mut Vec<LoopState>) -> bool
     ensures { GoesOn result (loops_view loops.old.items) (loops_view loops.new.items) }
@@ -65,7 +66,7 @@ pub fn go_on(loops: &mut Vec<LoopState>) -> bool
     }
 }
 
-/// One more value that the items of the innermost loop gave.
+/// Adds a value to the results of the innermost loop.
 #[inline(always)]
 pub fn give(loops: &mut Vec<LoopState>, value: Value) -> Result<(), AllocError>
     ensures { OnOk result ((l : Loop) (ls : List Loop) → loops_view loops.old.items ≡ l ∷ ls

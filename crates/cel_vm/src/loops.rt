@@ -1,4 +1,4 @@
-//! What the start and the end of a loop do.
+//! The instructions that begin and end loops.
 ghost use Rattle.std.specs.Prelude.{◌≡◌, ◌≢◌, ◌∷◌, [], ◌<◌, ◌+◌, ℕ, IfOk, IfErr, IfSome, List, Option, Ok, Some, false, option_map, map, nat_lt, MatchOption};
 ghost use Rattle.cel_value.specs.Data.{bool};
 ghost use Rattle.cel_value.specs.Faults.{Fault, fault_view};
@@ -28,14 +28,14 @@ use cel_value::{ExecutionError, Refused, Value};
 use cel_vm_code::Instr;
 use std::alloc::{AllocError, Global};
 
-/// The name of the macro whose loop stops at this bool.
+/// The name of the macro that stops at this bool, for error messages.
 fn loop_text(stop: bool) -> &'static str
     ensures { result.now ≡ loop_name stop }
 {
     if stop { "exists" } else { "all" }
 }
 
-/// Pushes an outcome and jumps over a loop, if the jump goes no further than the end.
+/// Pushes an outcome and jumps over a loop. Returns `OutOfRange` if the jump would go past the end.
 fn leave(
     answer: Answer,
     offset: usize,
@@ -56,7 +56,7 @@ fn leave(
     }
 }
 
-/// The outcome of a macro over no items.
+/// Returns the outcome of a macro over no items.
 fn answer_over_none(alloc: Global, kind: MacroKind) -> Result<Answer, Refused>
     ensures value { IfOk result (λ r. outcome_view r ≡ over_none kind) }
     ensures memory { IfErr result (λ e. e ≡ Refused.Memory) }
@@ -70,8 +70,8 @@ fn answer_over_none(alloc: Global, kind: MacroKind) -> Result<Answer, Refused>
     }
 }
 
-/// Enters a loop over these items: pushes its state, at the first item, and a slot for a pending error.
-/// With no items, pushes the macro's outcome and jumps over the loop.
+/// Enters a loop over these items: pushes its state, at the first item, and an empty slot for a
+/// pending error. If there are no items, pushes the macro's outcome and jumps over the loop.
 fn enter(
     alloc: Global,
     kind: MacroKind,
@@ -116,8 +116,8 @@ fn enter(
     }
 }
 
-/// Starts a loop: pops its range and enters it. An error, or the fault of a value that is no range, is pushed
-/// in place of the macro's outcome, and the loop jumped over.
+/// Begins a loop: pops its range and enters it. An error, or the error for a value that is no
+/// range, is pushed as the macro's outcome, and the loop is jumped over.
 #[inline(never)]
 pub(crate) fn begin(
     alloc: Global,
@@ -147,7 +147,7 @@ pub(crate) fn begin(
     }
 }
 
-/// The outcome of a macro after its items, with the pending error and their results.
+/// Returns the outcome of a macro once all items are done, from the pending error and the results.
 fn outcome_after(
     alloc: Global,
     rule: ResultRule,
@@ -164,7 +164,8 @@ fn outcome_after(
     }
 }
 
-/// Ends the innermost loop early: pops it with its slot for a pending error, and pushes this outcome.
+/// Ends the innermost loop early: pops it and its slot
+/// for a pending error, and pushes this outcome.
 #[inline(never)]
 fn close(answer: Answer, stacks: &mut Stacks) -> Result<LoopStep, AllocError>
     ensures { IfOk result (λ e. (k : Option Fault) (ab : List (Option Fault)) (l : Loop) (ls : List Loop)
@@ -178,8 +179,8 @@ fn close(answer: Answer, stacks: &mut Stacks) -> Result<LoopStep, AllocError>
     Ok(LoopStep::AfterLoop)
 }
 
-/// Ends the innermost loop after its last item: pops it with its slot for a pending
-/// error, and pushes its outcome.
+/// Ends the innermost loop after its last item: pops it and its slot for a
+/// pending error, and pushes the macro's outcome.
 #[inline(never)]
 fn end_loop(alloc: Global, rule: ResultRule, stacks: &mut Stacks) -> Result<LoopStep, Refused>
     ensures value { IfOk result
@@ -202,7 +203,7 @@ fn end_loop(alloc: Global, rule: ResultRule, stacks: &mut Stacks) -> Result<Loop
     }
 }
 
-/// Goes to the next item of the innermost loop, or ends it.
+/// Moves the innermost loop to its next item, or ends it.
 #[inline(always)]
 fn next_item(
     alloc: Global,
@@ -224,8 +225,8 @@ fn next_item(
     }
 }
 
-/// Takes the outcome at an item of `all` or `exists`: the bool `stop` ends the loop; else its error is kept
-/// pending, and the next item follows.
+/// Handles the outcome at an item of `all` or `exists`. The bool `stop` ends the loop. Otherwise
+/// its error, if any, is kept pending and the loop moves to its next item.
 #[inline(never)]
 fn take_outcome(
     alloc: Global,
@@ -257,7 +258,8 @@ fn take_outcome(
     }
 }
 
-/// Adds what an item gives to the innermost loop, and goes to the next item. An error ends the loop.
+/// Adds the result at an item to the innermost loop, if there is one, and
+/// moves to the next item. An error ends the loop.
 fn gather(
     alloc: Global,
     kind: MacroKind,
@@ -283,8 +285,8 @@ fn gather(
     }
 }
 
-/// Takes the outcome at an item of a macro that collects: adds what the item gives,
-/// and goes to the next item.
+/// Handles the outcome at an item of a macro that collects: adds the result at
+/// the item, if any, and moves to the next item.
 #[inline(never)]
 fn collect(
     alloc: Global,
@@ -310,7 +312,8 @@ fn collect(
     }
 }
 
-/// After a filter's bool, under which the image stands if it is true.
+/// Handles the bool that a filter left: adds the value below
+/// it if it is true, adds nothing if it is false.
 #[inline(always)]
 fn take_filtered_value(
     alloc: Global,
@@ -335,7 +338,7 @@ fn take_filtered_value(
     }
 }
 
-/// After an item of a `map` with a filter.
+/// Handles the outcome at an item of a `map` with a filter.
 #[inline(always)]
 fn take_filtered(
     alloc: Global,
@@ -356,8 +359,8 @@ fn take_filtered(
     }
 }
 
-/// Takes the outcome at an item of `map` without a filter: adds it,
-/// and goes to the next item. An error ends the loop.
+/// Handles the outcome at an item of a `map` without a filter: adds it and
+/// moves to the next item. An error ends the loop.
 #[inline(always)]
 fn take_image(
     alloc: Global,
@@ -382,7 +385,7 @@ fn take_image(
     }
 }
 
-/// Takes the outcome at an item of a macro of any kind.
+/// Handles the outcome at an item of a macro of any kind.
 #[inline(always)]
 fn turn_back(
     alloc: Global,
@@ -414,7 +417,7 @@ fn turn_back(
     }
 }
 
-/// How a macro that keeps items comes to its outcome, where this bool gives none to it.
+/// Returns how a macro that collects makes its outcome, if this bool adds no result; else None.
 #[inline(always)]
 fn passing_by(kind: MacroKind, outcome: bool) -> Option<ResultRule>
     ensures { IfSome result (λ rule. (rule ≡ Collected kind) × (outcome ≡ false)) }
@@ -426,7 +429,8 @@ fn passing_by(kind: MacroKind, outcome: bool) -> Option<ResultRule>
     }
 }
 
-/// How a loop comes to its outcome, where this bool at an item neither decides it nor gives anything to it.
+/// Returns how a loop makes its outcome, if this bool at an item
+/// neither decides it nor adds a result; else None.
 #[inline(always)]
 fn passing(end: End, outcome: bool) -> Option<ResultRule>
     ensures { IfSome result (λ rule.
@@ -461,8 +465,8 @@ fn passing(end: End, outcome: bool) -> Option<ResultRule>
     }
 }
 
-/// How the loop comes to its outcome, where its end finds a bool that neither decides
-/// it nor gives anything to it.
+/// Returns how the innermost loop makes its outcome, if the top of the stack is a bool that
+/// neither decides it nor adds a result; else None.
 #[inline(always)]
 fn passing_on_top(end: End, stacks: &Stacks) -> Option<ResultRule>
     ensures { IfSome result (λ rule. (pending_of stacks.now ≢ [])
@@ -483,7 +487,8 @@ fn passing_on_top(end: End, stacks: &Stacks) -> Option<ResultRule>
     }
 }
 
-/// The end of a loop's body.
+/// Runs the instruction at the end of a loop's body. A bool that neither decides
+/// the loop nor adds a result takes a fast path.
 #[inline(always)]
 pub(crate) fn advance(
     alloc: Global,
@@ -507,7 +512,7 @@ pub(crate) fn advance(
     }
 }
 
-/// The end of a loop's body, whatever it finds.
+/// Runs the instruction at the end of a loop's body, for any outcome on top.
 #[inline(always)]
 fn take_item(alloc: Global, end: End, pc: usize, stacks: &mut Stacks) -> Result<LoopStep, Refused>
     ensures value { IfOk result (λ e. (body : ℕ) → Top body pc (loops_of stacks.old) →
@@ -529,7 +534,7 @@ fn take_item(alloc: Global, end: End, pc: usize, stacks: &mut Stacks) -> Result<
     }
 }
 
-/// Which loop's end an instruction is, if any.
+/// The loop that an instruction ends, if any.
 pub(crate) fn end_of(instr: &Instr) -> Option<End>
     ensures { MatchOption result ((p m : ℕ) → may_lead_to (op instr.now) p m ≡ nat_lt p m)
         (λ end. op instr.now ≡ next end.kind end.filtered) }

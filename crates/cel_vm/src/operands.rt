@@ -19,7 +19,7 @@ use cel_value::{ExecutionError, Refused, Value};
 use cel_vm_code::Test;
 use std::alloc::{AllocError, Global};
 
-/// The program counter after a jump over `offset` instructions, if it is no later than the end.
+/// The program counter after a jump over `offset` instructions, or None if it is past the end.
 #[inline(always)]
 pub(crate) fn jump(pc: usize, offset: usize, end: usize) -> Option<usize>
     requires { pc < end }
@@ -32,14 +32,14 @@ pub(crate) fn jump(pc: usize, offset: usize, end: usize) -> Option<usize>
     }
 }
 
-/// The text of the operator that this bool decides.
+/// The operator that this bool decides, for error messages.
 fn logic_text(stop: bool) -> &'static str
     ensures { result.now ≡ logic_name stop }
 {
     if stop { "||" } else { "&&" }
 }
 
-/// Drops `count` answers from the top.
+/// Drops the `count` topmost answers.
 fn drop_top(values: &mut Vec<Answer>, count: usize)
     ensures { outcomes values.new.items ≡ drop count (outcomes values.old.items) }
 {
@@ -47,7 +47,8 @@ fn drop_top(values: &mut Vec<Answer>, count: usize)
     values.truncate(kept);
 }
 
-/// A test for an error that finds one: drops what is under it.
+/// Handles an error that a guard finds: drops the `depth` answers
+/// below it and jumps over `offset` instructions.
 #[inline(never)]
 fn fail(
     depth: usize,
@@ -76,7 +77,7 @@ fn fail(
     }
 }
 
-/// A test for an error. A value stays where it is.
+/// Runs a guard: a value stays where it is, an error jumps over `offset` instructions.
 #[inline(always)]
 pub(crate) fn guard(
     depth: usize,
@@ -96,7 +97,7 @@ pub(crate) fn guard(
     }
 }
 
-/// The name that the fault of a test bears.
+/// The name by which errors refer to a test.
 fn test_text(test: Test) -> &'static str
     ensures { result.now ≡ test_name test }
 {
@@ -106,7 +107,7 @@ fn test_text(test: Test) -> &'static str
     }
 }
 
-/// What a test says of a value: its bool, or the fault that it is none.
+/// Returns the bool of a tested value, or the error if it is no bool.
 fn truth_of(
     alloc: Global,
     test: Test,
@@ -122,7 +123,7 @@ fn truth_of(
     }
 }
 
-/// A test of whatever is on top.
+/// Runs a test of any outcome on top of the stack.
 #[inline(never)]
 fn branch_on_any(
     alloc: Global,
@@ -157,8 +158,8 @@ fn branch_on_any(
     }
 }
 
-/// A test, whose bool is looked at where it lies.
-#[inline(always)]
+/// Runs a test. A bool is read where it lies on the stack.
+#[inline(never)]
 pub(crate) fn branch(
     alloc: Global,
     test: Test,
@@ -186,7 +187,7 @@ pub(crate) fn branch(
     }
 }
 
-/// The left operand of && and ||, whatever it is.
+/// Handles the left operand of `&&` or `||`, for any outcome.
 #[inline(never)]
 fn absorb_left(
     alloc: Global,
@@ -218,7 +219,7 @@ fn absorb_left(
     }
 }
 
-/// The left operand of && and ||. The bool that decides nothing is looked at where it lies.
+/// Handles the left operand of `&&` or `||`. A bool that doesn't decide is read where it lies.
 #[inline(always)]
 pub(crate) fn take_left(
     alloc: Global,
@@ -243,7 +244,7 @@ pub(crate) fn take_left(
     absorb_left(alloc, stop, offset, pc, end, values, kept)
 }
 
-/// The right operand of && and ||, whatever it is.
+/// Handles the right operand of `&&` or `||`, for any outcome.
 #[inline(never)]
 fn absorb_right(
     alloc: Global,
@@ -276,9 +277,9 @@ fn absorb_right(
     }
 }
 
-/// The right operand of && and ||. The bool that decides nothing stays where it is,
-/// unless an error is pending.
-#[inline(always)]
+/// Handles the right operand of `&&` or `||`. A bool that doesn't decide stays on the
+/// stack as the result, unless an error is pending.
+#[inline(never)]
 pub(crate) fn take_right(
     alloc: Global,
     stop: bool,
@@ -299,7 +300,7 @@ pub(crate) fn take_right(
     absorb_right(alloc, stop, pc, end, values, kept)
 }
 
-/// The topmost value, unless it is an error.
+/// Pops the topmost value. Returns None if the stack is empty or an error is on top.
 pub(crate) fn pop_operand(values: &mut Vec<Answer>) -> Option<Value>
     ensures { MatchOption result (Lacks (outcomes values.old.items))
         (λ v. outcomes values.old.items ≡ Ok (view v) ∷ outcomes values.new.items) }
@@ -313,7 +314,8 @@ pub(crate) fn pop_operand(values: &mut Vec<Answer>) -> Option<Value>
     }
 }
 
-/// The two topmost values, the lower one first.
+/// Pops the two topmost values and returns the lower one first. Returns None
+/// if there are fewer, or one of them is an error.
 pub(crate) fn pop_two(values: &mut Vec<Answer>) -> Option<(Value, Value)>
     ensures { MatchOption result ((ds : List Data) → taken 2 (outcomes values.old.items) ds ≡ None)
         (λ p. outcomes values.old.items ≡ Ok (view p.1) ∷ Ok (view p.0) ∷ outcomes values.new.items) }
@@ -327,7 +329,7 @@ pub(crate) fn pop_two(values: &mut Vec<Answer>) -> Option<(Value, Value)>
     }
 }
 
-/// The topmost value, unless it is an error.
+/// The topmost value, or None if the stack is empty or an error is on top.
 #[inline(always)]
 pub(crate) fn top_value(values: &Vec<Answer>) -> Option<&Value>
     ensures { MatchOption result (Lacks (outcomes values.now.items))
@@ -340,7 +342,8 @@ pub(crate) fn top_value(values: &Vec<Answer>) -> Option<&Value>
     }
 }
 
-/// The two topmost values, the lower one first.
+/// The two topmost values, the lower one first, or None
+/// if there are fewer or one of them is an error.
 #[inline(always)]
 pub(crate) fn top_two(values: &Vec<Answer>) -> Option<(&Value, &Value)>
     ensures { MatchOption result ((ds : List Data) → taken 2 (outcomes values.now.items) ds ≡ None)
@@ -358,7 +361,7 @@ pub(crate) fn top_two(values: &Vec<Answer>) -> Option<(&Value, &Value)>
     }
 }
 
-/// This answer in place of the two topmost ones.
+/// Replaces the two topmost answers by this one.
 #[inline(always)]
 pub(crate) fn put_over_two(values: &mut Vec<Answer>, answer: Answer)
     ensures { (r : Outcome) (s : Outcome) (vs : List Outcome) → outcomes values.old.items ≡ r ∷ s ∷ vs
@@ -368,8 +371,8 @@ pub(crate) fn put_over_two(values: &mut Vec<Answer>, answer: Answer)
     put_top(values, answer);
 }
 
-/// Pops `count` values into `found`, the lowest first.
-/// Answers false if fewer are there or one of them is an error.
+/// Pops `count` values into `found`, the lowest first. Returns false
+/// if there are fewer, or one of them is an error.
 pub(crate) fn take_values(
     count: usize,
     values: &mut Vec<Answer>,

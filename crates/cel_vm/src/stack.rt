@@ -1,4 +1,4 @@
-//! Stacks of values, of absorbed errors and of loops, the topmost last.
+//! The stacks of values, of pending errors and of loops. The topmost element is last.
 ghost use Rattle.std.specs.Prelude.{◌≡◌, ◌≢◌, ◌∷◌, ◌++◌, [], List, Ok, OnOk, IfErr, IsTrue, MatchBool, MatchOption, None, Option, option_map};
 ghost use Rattle.cel_value.specs.Data.{bool};
 ghost use Rattle.cel_value.specs.Faults.{Fault, fault_view};
@@ -11,9 +11,9 @@ use cel_semantics::operators::Answer;
 use cel_value::{ExecutionError, Refused, Value};
 use std::alloc::AllocError;
 
-/// Pushes one more element.
-// Where there is room, this is no more than some stores, so it is inlined,
-// as all is that each item of a loop needs.
+/// Pushes an element.
+// With spare capacity this takes only a few stores, so it is inlined, as
+// is everything that each item of a loop needs.
 #[inline(always)]
 pub fn push_last<T: Drop>(list: &mut Vec<T>, last: T) -> Result<(), AllocError>
     ensures { OnOk result (list.new.items ≡ list.old.items ++ last ∷ []) }
@@ -32,9 +32,9 @@ pub fn push_answer(values: &mut Vec<Answer>, answer: Answer) -> Result<(), Alloc
     push_last(values, answer)
 }
 
-/// A copy of a value, of any kind.
+/// Pushes a copy of a value of any kind.
 #[inline(never)]
-fn push_any(values: &mut Vec<Answer>, value: &Value) -> Result<(), Refused>
+pub fn push_any(values: &mut Vec<Answer>, value: &Value) -> Result<(), Refused>
     ensures value { OnOk result
         (outcomes values.new.items ≡ Ok (view value.now) ∷ outcomes values.old.items) }
     ensures memory { IfErr result (λ e. e ≡ Refused.Memory) }
@@ -43,21 +43,24 @@ fn push_any(values: &mut Vec<Answer>, value: &Value) -> Result<(), Refused>
     Ok(())
 }
 
-/// A copy of a value. Of an int, a bool, a string, a list or a map it takes a few steps, which are inlined.
+/// Pushes a copy of a value. The cheap kinds (int, bool, string, list, map) are inlined,
+/// with one push for all of them.
 #[inline(always)]
 pub fn push_copy(values: &mut Vec<Answer>, value: &Value) -> Result<(), Refused>
     ensures value { OnOk result
         (outcomes values.new.items ≡ Ok (view value.now) ∷ outcomes values.old.items) }
     ensures memory { IfErr result (λ e. e ≡ Refused.Memory) }
 {
-    match value {
-        Value::Int(n) => Ok(push_answer(values, Ok(Value::Int(*n)))?),
-        Value::Bool(b) => Ok(push_answer(values, Ok(Value::Bool(*b)))?),
-        Value::String(text) => Ok(push_answer(values, Ok(Value::String(text.clone()?)))?),
-        Value::List(items) => Ok(push_answer(values, Ok(Value::List(items.clone()?)))?),
-        Value::Map(entries) => Ok(push_answer(values, Ok(Value::Map(entries.clone()?)))?),
-        _ => push_any(values, value),
-    }
+    let copy = match value {
+        Value::Int(n) => Value::Int(*n),
+        Value::Bool(b) => Value::Bool(*b),
+        Value::String(text) => Value::String(text.clone()?),
+        Value::List(items) => Value::List(items.clone()?),
+        Value::Map(entries) => Value::Map(entries.clone()?),
+        _ => return push_any(values, value),
+    };
+    push_answer(values, Ok(copy))?;
+    Ok(())
 }
 
 pub fn pop_answer(values: &mut Vec<Answer>) -> Option<Answer>
@@ -67,7 +70,7 @@ pub fn pop_answer(values: &mut Vec<Answer>) -> Option<Answer>
     values.pop()
 }
 
-/// The topmost answer.
+/// The topmost answer, if any.
 #[inline(always)]
 pub fn top(values: &Vec<Answer>) -> Option<&Answer>
     ensures { MatchOption result (outcomes values.now.items ≡ [])
@@ -79,7 +82,7 @@ pub fn top(values: &Vec<Answer>) -> Option<&Answer>
     }
 }
 
-/// Whether the topmost answer is this bool.
+/// Reports whether the topmost answer is this bool.
 #[inline(always)]
 pub fn is_on_top(values: &Vec<Answer>, sought: bool) -> bool
     ensures { IsTrue result → (vs : List Outcome) × (outcomes values.now.items ≡ Ok (bool sought) ∷ vs) }
@@ -102,7 +105,7 @@ pub fn drop_answer(values: &mut Vec<Answer>)
     }
 }
 
-/// This answer in place of the topmost one.
+/// Replaces the topmost answer.
 #[inline(always)]
 pub fn put_top(values: &mut Vec<Answer>, answer: Answer)
     ensures { (r : Outcome) (vs : List Outcome)
@@ -132,7 +135,7 @@ pub fn pop_pending(absorbed: &mut Vec<Option<ExecutionError>>) -> Option<Option<
     absorbed.pop()
 }
 
-/// Whether the topmost slot for an error holds none.
+/// Reports whether there is a slot for a pending error and the topmost one is empty.
 #[inline(always)]
 pub fn is_clear(absorbed: &Vec<Option<ExecutionError>>) -> bool
     ensures { IsTrue result → (ks : List (Option Fault)) × (pending absorbed.now.items ≡ None ∷ ks) }
@@ -143,7 +146,7 @@ pub fn is_clear(absorbed: &Vec<Option<ExecutionError>>) -> bool
     }
 }
 
-/// Drops the topmost slot for an error.
+/// Drops the topmost slot for a pending error.
 #[inline(always)]
 pub fn drop_pending(absorbed: &mut Vec<Option<ExecutionError>>)
     ensures { (k : Option Fault) (ks : List (Option Fault))
@@ -155,7 +158,7 @@ pub fn drop_pending(absorbed: &mut Vec<Option<ExecutionError>>)
     }
 }
 
-/// Whether no error is pending, nor a slot for one is there.
+/// Reports whether there is no slot for a pending error.
 pub fn keeps_none(absorbed: &Vec<Option<ExecutionError>>) -> bool
     ensures { MatchBool result (pending absorbed.now.items ≡ []) (pending absorbed.now.items ≢ []) }
 {

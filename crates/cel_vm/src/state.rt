@@ -7,8 +7,8 @@ use cel_semantics::ranges::Range;
 use cel_syntax_ast::MacroKind;
 use cel_value::{ExecutionError, Value};
 
-/// A loop: what it goes over, the index of the item that its variable is bound to, what the items so far gave
-/// to its result, and the program counters where its body starts and ends.
+/// A loop: its range, the index of the current item, the results so far, and the
+/// program counters where its body starts and ends.
 #[derive(Drop)]
 pub struct LoopState {
     pub range: Range,
@@ -19,7 +19,7 @@ pub struct LoopState {
     ghost inside: { index < length (range_list range) },
 }
 
-/// The values, the absorbed errors and the loops, and room for the arguments of a call.
+/// The stacks of values, of pending errors and of loops, and a buffer for the arguments of a call.
 #[derive(Drop)]
 pub struct Stacks {
     pub values: Vec<Answer>,
@@ -28,22 +28,22 @@ pub struct Stacks {
     pub args: Vec<Value>,
 }
 
-/// The end of a loop's body: its macro, and whether what the body leaves went through a filter.
+/// The end of a loop's body: the macro, and whether its body has a filter.
 #[derive(Clone, Copy, Debug, PartialEq, Eq)]
 pub struct End {
     pub kind: MacroKind,
     pub filtered: bool,
 }
 
-/// How a macro comes to its outcome: an item that is this bool decides it,
-/// or it is made of what the items gave.
+/// How a macro makes its outcome: an item that is this bool decides
+/// it, or it is made of the results at all items.
 #[derive(Clone, Copy)]
 pub enum ResultRule {
     Decided(bool),
     Collected(MacroKind),
 }
 
-/// Where an instruction of a loop leads: to an item, past the loop, or out of all that it may reach.
+/// Where an instruction of a loop leads: into the body at an item, past the loop, or out of range.
 #[derive(Clone, Copy, Debug, PartialEq, Eq)]
 pub enum LoopStep {
     Inside,
