@@ -1,4 +1,4 @@
-//! Rows of what is found of a rule without an object: names that aren't there, costs, and both.
+//! Answers rows about the analysis of a rule without an object: unknown names, costs, and both.
 
 use crate::schemas::compiled_given;
 use crate::types::{put_and_read, scope_of};
@@ -9,7 +9,7 @@ use kube_cel::{AnalysisWarning, analyze_rule, check_rule_scope, estimate_rule_co
 use kube_cel_analysis::{Sizes, estimated_cost};
 use std::alloc::Global;
 
-/// Writes a warning of a rule: its kind and message. A copy is equal to it.
+/// Writes a warning about a rule: its kind and message. A copy of it must be equal.
 fn put_warning(warning: &AnalysisWarning, rule: &str, out: &mut String) -> Result<(), Stop> {
     let (kind, message) = (warning.kind, warning.message.as_str());
     push_line(out, "")?;
@@ -24,7 +24,8 @@ fn put_warning(warning: &AnalysisWarning, rule: &str, out: &mut String) -> Resul
     }
 }
 
-/// What the row's rule is warned of by the call that a key names, where it stands in the scope that the row gives, else in a schema.
+/// Returns the warnings about the row's rule from the call that a key names, in the row's scope or,
+/// by default, that of a schema.
 fn warnings_of(
     alloc: Global,
     given: &[Field],
@@ -43,7 +44,7 @@ fn warnings_of(
     }
 }
 
-/// Writes what the row's rule is warned of by the call that a key names.
+/// Writes the warnings about the row's rule from the call that a key names.
 fn put_warnings(alloc: Global, given: &[Field], key: &str, out: &mut String) -> Result<(), Stop> {
     let rule = rows::needed(given, "rule")?;
     let warnings = warnings_of(alloc, given, rule, key)?;
@@ -53,10 +54,10 @@ fn put_warnings(alloc: Global, given: &[Field], key: &str, out: &mut String) -> 
     Ok(())
 }
 
-/// How long lists and texts are at most where the row gives no other number.
+/// The greatest length of lists and texts if the row gives no other.
 const USUAL: u64 = 1_000;
 
-/// Writes what the row's expression is estimated to cost.
+/// Writes the estimated cost of the row's expression.
 fn put_cost(alloc: Global, given: &[Field], out: &mut String) -> Result<(), Stop> {
     let items = rows::number_or(given, "list size", USUAL)?;
     let length = rows::number_or(given, "text length", USUAL)?;
@@ -69,7 +70,8 @@ fn put_cost(alloc: Global, given: &[Field], out: &mut String) -> Result<(), Stop
     }
 }
 
-/// Finds what a field asks of the row's rule or expression. What `analyze_rule` warns of is what its names are warned of, and then its cost.
+/// Answers a field about the row's rule or expression. The warnings of `analyze_rule` must be those
+/// about its names, followed by those about its cost.
 pub(crate) fn find(
     alloc: Global,
     given: &[Field],

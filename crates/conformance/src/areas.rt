@@ -1,10 +1,10 @@
-//! What rows ask, by area.
+//! Dispatches the fields of rows by area.
 
 use crate::{analysis, case, causes, commands, findings, policies, types, verdicts};
 use conformance_rows::{Field, Found, Stop};
 use std::alloc::Global;
 
-/// What is asked: of a verdict, a command, a policy, a rule or a value that serde writes.
+/// What a field asks about: a verdict, a command, a policy, a rule or a value that serde writes.
 #[derive(Clone, Copy)]
 enum Area {
     Verdict,
@@ -18,7 +18,7 @@ enum Area {
     Differ,
 }
 
-/// The keys that ask something, by area.
+/// The keys of fields that state an answer, with their areas.
 const AREAS: [(&str, Area); 24] = [
     ("errors", Area::Verdict),
     ("error parts", Area::Verdict),
@@ -46,7 +46,10 @@ const AREAS: [(&str, Area); 24] = [
     ("differ", Area::Differ),
 ];
 
-/// The area of a key that asks something here.
+/// The area of a key.
+///
+/// # Errors
+/// [`Stop::Unfit`] if the key isn't known.
 fn area_of(key: &str) -> Result<Area, Stop> {
     for &(name, area) in AREAS.iter() {
         if name == key {
@@ -56,7 +59,7 @@ fn area_of(key: &str) -> Result<Area, Stop> {
     Err(Stop::Unfit("a key that is known here"))
 }
 
-/// Finds what a field asks of a verdict, a command, a policy, a rule or a value that serde writes.
+/// Answers a field about a verdict, a command, a policy, a rule or a value that serde writes.
 pub(crate) fn find(
     alloc: Global,
     given: &[Field],

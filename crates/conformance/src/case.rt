@@ -1,4 +1,4 @@
-//! What is judged.
+//! The cases that rows give to judge.
 
 use conformance_rows::nested::{object_given, schema_given, value_given};
 use conformance_rows::{Field, Stop, given as rows};
@@ -6,7 +6,7 @@ use kube_cel::RootContext;
 use serde_json::Value;
 use std::alloc::{AllocError, Global};
 
-/// A schema, an object and its old state, and what is known of the whole object.
+/// A schema, an object with its old state, and the root context.
 #[derive(Drop)]
 pub(crate) struct Case {
     pub(crate) schema: Value,
@@ -15,7 +15,7 @@ pub(crate) struct Case {
     pub(crate) root: Option<RootContext>,
 }
 
-/// Puts a member's text into a field, if there is one.
+/// Appends a member's text to a field, if there is one.
 fn fill(field: &mut String, value: &Value, key: &str) -> Result<(), AllocError> {
     match value.get(key).and_then(Value::as_str) {
         Some(text) => field.push_str(text),
@@ -23,7 +23,7 @@ fn fill(field: &mut String, value: &Value, key: &str) -> Result<(), AllocError> 
     }
 }
 
-/// A copy of the root context that JSON gives. What the JSON leaves out is as by default.
+/// Returns a copy of the root context in JSON. Members that the JSON leaves out have their default.
 fn root_of(alloc: Global, reported: &Value) -> Result<RootContext, Stop> {
     let mut root = RootContext::default(alloc);
     fill(&mut root.api_version, reported, "apiVersion")?;
@@ -32,7 +32,7 @@ fn root_of(alloc: Global, reported: &Value) -> Result<RootContext, Stop> {
     Ok(root.try_clone()?)
 }
 
-/// The root context that a row gave last.
+/// Reads the root context that a row gave last.
 fn root_given(alloc: Global, given: &[Field]) -> Result<Option<RootContext>, Stop> {
     match rows::json(alloc, given, "root context")? {
         Some(reported) => Ok(Some(root_of(alloc, &reported)?)),
@@ -40,7 +40,7 @@ fn root_given(alloc: Global, given: &[Field]) -> Result<Option<RootContext>, Sto
     }
 }
 
-/// What a row gave.
+/// Reads the case that a row gives.
 pub(crate) fn given(alloc: Global, given: &[Field]) -> Result<Case, Stop> {
     Ok(Case {
         schema: schema_given(alloc, given)?,

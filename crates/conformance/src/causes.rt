@@ -1,4 +1,4 @@
-//! Rows of what serde writes of a validation's errors, and of their causes.
+//! Answers rows about the causes of validation errors, and about what serde writes of the errors.
 
 use crate::schemas::errors_given;
 use crate::types::{put_and_read, read};
@@ -7,7 +7,7 @@ use conformance_rows::{Field, Found, Stop, given as rows};
 use kube_cel::{ValidationError, ValidationErrors};
 use std::alloc::Global;
 
-/// Writes the text of an error's cause in a line, `none` where it has none.
+/// Writes the text of an error's cause on a line, or `none` if it has none.
 fn put_cause(error: &ValidationError, out: &mut String) -> Result<(), Stop> {
     push_line(out, "")?;
     match error.cause() {
@@ -17,14 +17,14 @@ fn put_cause(error: &ValidationError, out: &mut String) -> Result<(), Stop> {
     Ok(())
 }
 
-/// Writes the cause of a copy of an error, and whether the copy is equal to it.
+/// Writes the cause of a copy of an error. Returns whether the copy equals the error.
 fn put_copied(error: &ValidationError, out: &mut String) -> Result<bool, Stop> {
     let copy = error.try_clone()?;
     put_cause(&copy, out)?;
     Ok(copy == *error)
 }
 
-/// Finds the causes of errors, a line each. A copy of each error has the same.
+/// Answers with the causes of errors, one a line. A copy of each error must have the same cause.
 fn find_causes(errors: &[ValidationError], found: &mut Found) -> Result<(), Stop> {
     for error in errors {
         put_cause(error, &mut found.text)?;
@@ -35,7 +35,7 @@ fn find_causes(errors: &[ValidationError], found: &mut Found) -> Result<(), Stop
     Ok(())
 }
 
-/// Finds the causes of a copy of the errors of the row's object.
+/// Answers with the causes in a copy of the errors of the row's object.
 fn find_copied(alloc: Global, given: &[Field], found: &mut Found) -> Result<(), Stop> {
     let errors = errors_given(alloc, given)?;
     let copy = errors.try_clone()?;
@@ -45,7 +45,8 @@ fn find_copied(alloc: Global, given: &[Field], found: &mut Found) -> Result<(), 
     find_causes(copy.as_slice(), found)
 }
 
-/// Finds the causes of the errors of the row's object, or of those that are read from its JSON, or what serde writes of them.
+/// Answers with the causes of the errors of the row's object, or of errors read from JSON, or with
+/// what serde writes of the errors.
 pub(crate) fn find(
     alloc: Global,
     given: &[Field],

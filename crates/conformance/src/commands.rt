@@ -1,4 +1,5 @@
-//! Rows of the programs: each command over files in memory, also where files can't be read and where writes are refused.
+//! Answers rows about the programs: runs commands over files in memory, also with reads and writes
+//! that fail.
 
 use crate::kubecel;
 use crate::memory::Files;
@@ -7,7 +8,8 @@ use conformance_rows::texts::words_of;
 use conformance_rows::{Field, Found, MANY, Narrow, Ran, Stop, given as rows};
 use std::alloc::Global;
 
-/// Runs a row's command line of `celcheck`, with a standard output that takes `writes` writes and refuses each further one.
+/// Runs a row's command line of `celcheck`. Standard output accepts `writes` writes and refuses
+/// further ones.
 fn run_line(alloc: Global, given: &[Field], line: &str, writes: u64) -> Result<Ran, Stop> {
     let failing = rows::number_or(given, "failing read", MANY)?;
     let refused = rows::number_or(given, "refused read", MANY)?;
@@ -30,8 +32,8 @@ fn run_line(alloc: Global, given: &[Field], line: &str, writes: u64) -> Result<R
     })
 }
 
-/// Runs a row's command, of `celcheck` by a command line and else of `kubecel`, with a standard output that takes `writes` writes and refuses each
-/// further one.
+/// Runs a row's command: a command line of `celcheck` if it gives one, otherwise a command of
+/// `kubecel`. Standard output accepts `writes` writes and refuses further ones.
 fn run_given(alloc: Global, given: &[Field], writes: u64) -> Result<Ran, Stop> {
     match rows::text(given, "command") {
         Some(line) => run_line(alloc, given, line, writes),
@@ -39,7 +41,7 @@ fn run_given(alloc: Global, given: &[Field], writes: u64) -> Result<Ran, Stop> {
     }
 }
 
-/// Finds the status of a row's command, or what it wrote to one stream.
+/// Answers with the exit status of a row's command, or with what it wrote to one stream.
 pub(crate) fn find(
     alloc: Global,
     given: &[Field],
@@ -51,8 +53,9 @@ pub(crate) fn find(
     ran.find(alloc, field, found)
 }
 
-/// Finds the status 2, where each write of a row's command to standard output is refused in turn, until a run meets no refusal: each run with a
-/// refused write is cut short, and the last one is as the whole run.
+/// Answers with the status 2 if a row's command handles refused writes to standard output: it runs
+/// again and again, each time with one more write accepted. Each run with a refused write must be
+/// cut short, until one has the same results as the whole run.
 pub(crate) fn refuse_each_write(
     alloc: Global,
     given: &[Field],

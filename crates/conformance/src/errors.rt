@@ -1,14 +1,14 @@
-//! What the errors of a verdict say.
+//! Prints and compares the errors of a verdict.
 
 use conformance_rows::Stop;
 use conformance_rows::texts::{push_line, push_member};
 use kube_cel::{ErrorKind, ValidationError, ValidationErrors};
 use std::alloc::Global;
 
-/// What validation answers of an object.
+/// The answer of validation for an object.
 pub(crate) type Verdict = Result<(), ValidationErrors>;
 
-/// Writes an error behind others, as a JSON object on a line.
+/// Appends an error as a JSON object on a line.
 fn push_error(alloc: Global, error: &ValidationError, out: &mut String) -> Result<(), Stop> {
     let kind = error.kind;
     push_line(out, "{")?;
@@ -25,7 +25,7 @@ fn push_error(alloc: Global, error: &ValidationError, out: &mut String) -> Resul
     Ok(out.push('}')?)
 }
 
-/// Writes all parts of all errors, an error on a line.
+/// Appends all fields of all errors, one error a line.
 pub(crate) fn push_parts(alloc: Global, verdict: &Verdict, out: &mut String) -> Result<(), Stop> {
     let Err(errors) = verdict else {
         return Ok(());
@@ -39,12 +39,12 @@ pub(crate) fn push_parts(alloc: Global, verdict: &Verdict, out: &mut String) -> 
     Ok(())
 }
 
-/// The changes of a list of errors.
+/// The ways in which a copy of a list of errors is changed.
 const CHANGES: [&str; 7] = [
     "nothing", "kind", "path", "rule", "reason", "message", "count",
 ];
 
-/// Changes an error in one field.
+/// Changes one field of an error.
 fn change(alloc: Global, error: &mut ValidationError, what: &str) -> Result<(), Stop> {
     match what {
         "kind" => {
@@ -65,7 +65,8 @@ fn change(alloc: Global, error: &mut ValidationError, what: &str) -> Result<(), 
     Ok(())
 }
 
-/// Whether `==` distinguishes a list of errors, and its last error, from a copy that is changed in one field, or has one error less.
+/// Reports whether `==` distinguishes a list of errors, and its last error, from a copy that is
+/// changed in one field of the last error or lacks it.
 fn distinguishes(alloc: Global, errors: &ValidationErrors, what: &str) -> Result<bool, Stop> {
     let mut copies = errors.try_clone()?.into_vec();
     if what == "count" {
@@ -81,7 +82,8 @@ fn distinguishes(alloc: Global, errors: &ValidationErrors, what: &str) -> Result
     Ok(*errors != ValidationErrors::from(copies) && !is_last_equal)
 }
 
-/// Writes the changes by which `==` distinguishes a list of errors, and its last error, from a copy.
+/// Writes the changes by which `==` distinguishes a list of errors, and its last error, from a
+/// copy.
 fn put_changes(alloc: Global, errors: &ValidationErrors, out: &mut String) -> Result<(), Stop> {
     for &what in CHANGES.iter() {
         if distinguishes(alloc, errors, what)? {
@@ -92,7 +94,7 @@ fn put_changes(alloc: Global, errors: &ValidationErrors, out: &mut String) -> Re
     Ok(())
 }
 
-/// Writes all parts of the errors of a copy, an error on a line.
+/// Appends all fields of these errors, one error a line.
 fn push_copied(alloc: Global, errors: ValidationErrors, out: &mut String) -> Result<(), Stop> {
     for error in errors {
         push_error(alloc, &error, out)?;
@@ -100,7 +102,7 @@ fn push_copied(alloc: Global, errors: ValidationErrors, out: &mut String) -> Res
     Ok(())
 }
 
-/// Writes errors as they are printed, an error on a line.
+/// Writes errors as they print themselves, one a line.
 fn put_printed(errors: &[ValidationError], out: &mut String) -> Result<(), Stop> {
     for error in errors {
         push_line(out, "")?;
@@ -109,7 +111,7 @@ fn put_printed(errors: &[ValidationError], out: &mut String) -> Result<(), Stop>
     Ok(())
 }
 
-/// Writes what a field asks of a verdict.
+/// Writes what a field asks about a verdict.
 pub(crate) fn put_verdict(
     alloc: Global,
     asked: &str,

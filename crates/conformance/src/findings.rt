@@ -1,4 +1,4 @@
-//! Rows of the linter.
+//! Answers rows about the linter.
 
 use crate::schemas::compiled_given;
 use conformance_rows::texts::push_line;
@@ -7,7 +7,7 @@ use kube_cel::{LintFinding, LintKind, lint_schema};
 use serde_json::Value;
 use std::alloc::Global;
 
-/// The kind of findings of a name.
+/// The kind of findings with this name.
 pub(crate) fn lint_kind_of(name: &str) -> Result<LintKind, Stop> {
     match name {
         "Compile" => Ok(LintKind::Compile),
@@ -28,7 +28,7 @@ fn member<'v>(object: &'v Value, key: &'static str) -> Result<&'v str, Stop> {
     }
 }
 
-/// The finding that an object states.
+/// Reads a finding from a JSON object.
 pub(crate) fn finding_of(alloc: Global, object: &Value) -> Result<LintFinding, Stop> {
     let kind = lint_kind_of(member(object, "kind")?)?;
     let pointer = member(object, "pointer")?;
@@ -42,7 +42,8 @@ pub(crate) fn finding_of(alloc: Global, object: &Value) -> Result<LintFinding, S
     })
 }
 
-/// Writes a finding: its pointer behind a number sign, its rule, where it has one, and its kind and message.
+/// Writes a finding: its pointer after a number sign, its rule if it has one, and its kind and
+/// message.
 fn put_finding(finding: &LintFinding, out: &mut String) -> Result<(), Stop> {
     let (kind, message) = (finding.kind, finding.message.as_str());
     push_line(out, "#")?;
@@ -54,7 +55,7 @@ fn put_finding(finding: &LintFinding, out: &mut String) -> Result<(), Stop> {
     Ok(write!(out, "\n  {kind:?}: {message}")?)
 }
 
-/// Writes what the linter finds in the row's schema.
+/// Writes the linter's findings about the row's schema.
 pub(crate) fn find(alloc: Global, given: &[Field], out: &mut String) -> Result<(), Stop> {
     let compiled = compiled_given(alloc, given)?;
     let findings = lint_schema(alloc, &compiled)?;

@@ -1,4 +1,4 @@
-//! Commands of `kubecel` that rows give, over files in memory.
+//! Runs the commands of `kubecel` that rows give, over files in memory.
 
 use conformance_rows::keys::file_given;
 use conformance_rows::{Field, MANY, Narrow, Ran, Stop, given as rows};
@@ -6,7 +6,7 @@ use kubecel_cli::{Admit, Check, Command, Output, Refused, ReportFormat, Sources,
 use std::alloc::Global;
 use std::io;
 
-/// The files that a row gives, by their paths.
+/// The files that a row gives, by path.
 #[derive(Drop)]
 struct Files<'g> {
     given: &'g [Field],
@@ -42,14 +42,14 @@ struct Paths<'g> {
     reviewed: Vec<&'g str>,
 }
 
-/// Whether a row gives a command.
+/// Reports whether a row gives a command.
 fn names_command(given: &[Field]) -> bool {
     rows::text(given, "check").is_some()
         || rows::text(given, "review").is_some()
         || rows::text(given, "admit").is_some()
 }
 
-/// A row's command, by what it gives and these paths.
+/// Returns a row's command with these paths.
 fn command_of<'l, 'g>(given: &'g [Field], paths: &'l Paths<'g>) -> Command<'l, 'g> {
     match rows::text(given, "admit") {
         Some(policy) => Command::Admit(Admit {
@@ -69,7 +69,7 @@ fn command_of<'l, 'g>(given: &'g [Field], paths: &'l Paths<'g>) -> Command<'l, '
     }
 }
 
-/// Runs a command over a row's files and two writers, the first of which takes a number of writes.
+/// Runs a command over a row's files, with two writers. The first one accepts `writes` writes.
 fn run_command(
     alloc: Global,
     command: Command<'_, '_>,
@@ -89,7 +89,7 @@ fn run_command(
     }
 }
 
-/// Runs a row's command, with a standard output that takes `writes` writes and refuses each further one.
+/// Runs a row's command. Standard output accepts `writes` writes and refuses further ones.
 pub(crate) fn run_given(alloc: Global, given: &[Field], writes: u64) -> Result<Ran, Stop> {
     if !names_command(given) {
         return Err(Stop::Unfit("command"));

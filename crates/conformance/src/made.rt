@@ -1,5 +1,6 @@
-//! What holds of each expression, schema with objects, name and text that is made of a grammar. Of a schema: all calls that judge an object
-//! answer alike, and defaults that are filled twice are those filled once.
+//! Checks properties of every expression, case, name and text made from a grammar. A case is a
+//! schema with objects: all calls that judge an object must agree on it, and filling defaults twice
+//! must be the same as filling them once.
 
 use crate::case::Case;
 use crate::verdicts::judged;
@@ -10,10 +11,10 @@ use conformance_rows::{Found, Stop, given};
 use serde_json::Value;
 use std::alloc::Global;
 
-/// How many schemas are made.
+/// The number of schemas that are made.
 const SCHEMAS: usize = 20_000;
 
-/// The case that a JSON list states: a schema, an object and an old object.
+/// Reads a case from a JSON list: a schema, an object and an old object.
 fn case_of(parts: Value) -> Option<Case> {
     let Value::Array(mut parts) = parts else {
         return None;
@@ -29,7 +30,8 @@ fn case_of(parts: Value) -> Option<Case> {
     })
 }
 
-/// Fills the defaults of a case's object in each way, and judges the case in each: how many errors there are.
+/// Fills the defaults of a case's object and judges the case, in all ways. Returns the number of
+/// errors.
 fn judge_case(alloc: Global, case: &Case, found: &mut Found) -> Result<usize, Stop> {
     found.clear();
     fill_all(alloc, &case.schema, &case.object, found)?;
@@ -40,7 +42,7 @@ fn judge_case(alloc: Global, case: &Case, found: &mut Found) -> Result<usize, St
     }
 }
 
-/// The same of the case that a text states.
+/// Like `judge_case`, for the case in a text.
 fn judge_text(alloc: Global, text: &str, found: &mut Found) -> Result<usize, Stop> {
     match case_of(given::json_of(alloc, "case", text)?) {
         Some(case) => judge_case(alloc, &case, found),
@@ -48,7 +50,7 @@ fn judge_text(alloc: Global, text: &str, found: &mut Found) -> Result<usize, Sto
     }
 }
 
-/// Judges objects by schemas.
+/// Makes cases and judges them.
 fn run_schemas(
     alloc: Global,
     maker: &mut Maker,
@@ -67,7 +69,7 @@ fn run_schemas(
     Ok(())
 }
 
-/// Makes all, asks what holds of each, and writes how much of it does. Where something doesn't, that is reported by `found`.
+/// Makes and checks everything, and writes how much was made. On a failure, `found` has the report.
 pub(crate) fn run(
     alloc: Global,
     maker: &mut Maker,

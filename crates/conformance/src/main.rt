@@ -1,6 +1,8 @@
-//! Runs rows (docs/ROWS.md) about the language, schemas with objects, the commands of both programs, policies and the analysis, each in every
-//! way that the library has for it; and what a grammar makes. The words name the files. The one word `measure` asks for a run that `bench/run` times
-//! and `refusals/run` refuses the growths of ([`measure`]): it stands here since each program costs the gate many minutes.
+//! Runs rows (docs/ROWS.md) about the language, schemas with objects, the commands of both
+//! programs, policies and the analysis, each in every way that the library offers, and checks texts
+//! made from a grammar. The arguments name the files. The single argument `measure` makes a run
+//! that `bench/run` times and whose allocations `refusals/run` refuses ([`measure`]); it is part of
+//! this program since each further program costs the gate many minutes.
 #![tactic(auto)]
 
 mod analysis;
@@ -25,7 +27,7 @@ use std::process::ExitCode;
 use std::{env, io};
 use subject::Rows;
 
-/// Whether the one word asks for a measured run.
+/// Reports whether the single argument asks for a measured run.
 fn is_measured(rt: &HostRuntime) -> io::Result<bool> {
     let given: Vec<String> = env::args(rt)?.collect(rt.alloc())?;
     Ok(matches!(given.as_slice(), [_, word] if word.as_str() == "measure"))

@@ -1,6 +1,7 @@
-//! Makes one run of the library twice on the same values. The first line of standard input names the run, and each further line is a text
-//! that it is made on. Standard output gets a line of what each of the two came to, `refused` where memory was refused, and standard error
-//! a line of the nanoseconds that each took. `bench/run` and `refusals/run` start it.
+//! Makes one run of the library twice on the same values. The first line of standard input names
+//! the run; each further line is a text that it works on. For each of the two, standard output gets
+//! a line with the result, or `refused` if memory was refused, and standard error a line with the
+//! time it took, in nanoseconds. `bench/run` and `refusals/run` start it.
 
 mod runs;
 mod twice;

@@ -6,11 +6,12 @@ use kube_cel::Refused;
 use std::alloc::Global;
 use std::io;
 
-/// The files that a row gives: a path is the key of its text. Reads from the first failing one on fail, and the refused one finds no memory.
+/// The files that a row gives: the key of a file's text is its path. Reads fail from the one
+/// numbered `failing` on, and the one numbered `refused` gets no memory; they count from 1.
 #[derive(Drop)]
 pub(crate) struct Files<'g> {
     pub(crate) given: &'g [Field],
-    /// How many reads there were.
+    /// The number of reads so far.
     pub(crate) reads: u64,
     pub(crate) failing: u64,
     pub(crate) refused: u64,

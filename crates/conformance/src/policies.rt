@@ -1,4 +1,5 @@
-//! Rows of policies: what is reported of expressions over an object, an old object, parameters, a namespace and a request.
+//! Answers rows about policies: the results of expressions over an object, an old object,
+//! parameters, a namespace and a request.
 
 use crate::types::{put_and_read, read};
 use conformance_rows::texts::push_line;
@@ -10,14 +11,14 @@ use kube_cel::{
 use serde_json::Value;
 use std::alloc::Global;
 
-/// Whether a copy of a request is equal to it, and copies of its parts to them.
+/// Reports whether a copy of a request equals it, and copies of its parts equal them.
 fn is_copied(request: &AdmissionRequest, copy: &AdmissionRequest) -> Result<bool, Stop> {
     let kind = copy.kind.try_clone()?;
     let resource = copy.resource.try_clone()?;
     Ok(copy == request && kind == request.kind && resource == request.resource)
 }
 
-/// A copy of a request, which has to be equal to it.
+/// Returns a copy of a request, which must be equal.
 fn copy_of(request: &AdmissionRequest) -> Result<AdmissionRequest, Stop> {
     let copy = request.try_clone()?;
     if is_copied(request, &copy)? {
@@ -27,7 +28,7 @@ fn copy_of(request: &AdmissionRequest) -> Result<AdmissionRequest, Stop> {
     }
 }
 
-/// A copy of the request that the row gives, if it gives one.
+/// Returns a copy of the request that the row gives, if it gives one.
 fn request_given(alloc: Global, given: &[Field]) -> Result<Option<AdmissionRequest>, Stop> {
     let Some(text) = rows::text(given, "request") else {
         return Ok(None);
@@ -39,7 +40,7 @@ fn request_given(alloc: Global, given: &[Field]) -> Result<Option<AdmissionReque
     }
 }
 
-/// Sets the value of a key, where there is one.
+/// Sets the value of a key, if there is one.
 fn set(builder: VapEvaluatorBuilder, key: &str, value: Option<Value>) -> VapEvaluatorBuilder {
     match (key, value) {
         ("object", Some(value)) => builder.object(value),
@@ -50,7 +51,7 @@ fn set(builder: VapEvaluatorBuilder, key: &str, value: Option<Value>) -> VapEval
     }
 }
 
-/// Sets the value that the row gives by a key, if it gives one.
+/// Sets the value that the row gives under a key, if any.
 fn with_value(
     alloc: Global,
     given: &[Field],
@@ -61,7 +62,7 @@ fn with_value(
     Ok(set(builder, key, value))
 }
 
-/// Sets the request that the row gives, if it gives one.
+/// Sets the request that the row gives, if any.
 fn with_request(
     alloc: Global,
     given: &[Field],
@@ -73,7 +74,8 @@ fn with_request(
     }
 }
 
-/// The evaluator that has what the row sets over what a builder has.
+/// Builds an evaluator from a builder and the values that the row gives, which replace the
+/// builder's.
 fn built(
     alloc: Global,
     given: &[Field],
@@ -87,7 +89,7 @@ fn built(
     Ok(builder.build())
 }
 
-/// A builder by which is set already what stands for an object, an old object and a request that aren't set.
+/// Returns a builder with the values that an unset object, old object and request stand for.
 fn filled_builder(alloc: Global) -> VapEvaluatorBuilder {
     VapEvaluatorBuilder::default(alloc)
         .object(Value::Null)
@@ -95,7 +97,7 @@ fn filled_builder(alloc: Global) -> VapEvaluatorBuilder {
         .request(AdmissionRequest::default(alloc))
 }
 
-/// A copy of the text that the row gives by a key, if it gives one.
+/// Returns a copy of the text that the row gives under a key, if any.
 fn text_given(alloc: Global, given: &[Field], key: &str) -> Result<Option<String>, Stop> {
     match rows::text(given, key) {
         Some(text) => Ok(Some(String::from_str(alloc, text)?)),
@@ -103,7 +105,7 @@ fn text_given(alloc: Global, given: &[Field], key: &str) -> Result<Option<String
     }
 }
 
-/// The expression that the row gives, with its messages.
+/// Reads the expression that the row gives, with its messages.
 fn expression_given(alloc: Global, given: &[Field]) -> Result<VapExpression, Stop> {
     let text = rows::needed(given, "expression")?;
     Ok(VapExpression {
@@ -113,7 +115,7 @@ fn expression_given(alloc: Global, given: &[Field]) -> Result<VapExpression, Sto
     })
 }
 
-/// The expressions that the row gives: a JSON list of them, else one.
+/// Reads the expressions that the row gives: a JSON list of them, or a single one.
 fn expressions_given(alloc: Global, given: &[Field]) -> Result<Vec<VapExpression>, Stop> {
     if let Some(text) = rows::text(given, "expressions") {
         return match read(alloc, text)? {
@@ -127,7 +129,8 @@ fn expressions_given(alloc: Global, given: &[Field]) -> Result<Vec<VapExpression
     Ok(expressions)
 }
 
-/// Writes the result of an expression: `pass` or `fail`, and its message, if it has one. Copies of both are equal to them.
+/// Writes the result of an expression: `pass` or `fail`, and its message if it has one. Copies of
+/// both must be equal to them.
 fn put_result(reported: &VapResult, of: &VapExpression, out: &mut String) -> Result<(), Stop> {
     push_line(out, if reported.passed { "pass" } else { "fail" })?;
     if let Some(message) = &reported.message {
@@ -159,7 +162,7 @@ fn put_results(
     Ok(())
 }
 
-/// Finds the results of expressions by `evaluate`.
+/// Writes the results of expressions by `evaluate`.
 fn evaluate(
     alloc: Global,
     evaluator: &VapEvaluator,
@@ -170,7 +173,7 @@ fn evaluate(
     put_results(results.as_slice(), expressions, out)
 }
 
-/// Finds the results of expressions that an evaluator compiles by another one.
+/// Writes the results of expressions that one evaluator compiles and another evaluates.
 fn evaluate_compiled(
     alloc: Global,
     compiler: &VapEvaluator,
@@ -183,7 +186,8 @@ fn evaluate_compiled(
     put_results(results.as_slice(), expressions, out)
 }
 
-/// Finds the results of expressions by an evaluator: all at once, compiled first, and each alone.
+/// Answers with the results of expressions by one evaluator: all at once, compiled first, and each
+/// alone.
 fn find_by(
     alloc: Global,
     evaluator: &VapEvaluator,
@@ -200,7 +204,8 @@ fn find_by(
     found.end("evaluate, each alone")
 }
 
-/// Finds the results of expressions that an evaluator with nothing set compiles by another one.
+/// Answers with the results of expressions that an evaluator without values compiles and another
+/// one evaluates.
 fn find_by_other(
     alloc: Global,
     evaluator: &VapEvaluator,
@@ -212,7 +217,9 @@ fn find_by_other(
     found.end("evaluate_compiled of what another compiled")
 }
 
-/// Finds the results of the row's expressions, also by an evaluator on which was more set before, of what one with nothing set compiled.
+/// Answers with the results of the row's expressions from two evaluators: one with the row's
+/// values, and one built on `filled_builder` for which an evaluator without values compiled the
+/// expressions.
 fn find_results(
     alloc: Global,
     given: &[Field],
@@ -229,7 +236,8 @@ fn find_results(
     find_by_other(alloc, &other, expressions, found)
 }
 
-/// Writes what compiling an expression comes to: `compiled`, or the error's text, the text that isn't read, and that of the expression.
+/// Writes the result of compiling an expression: `compiled`, or the error with the text that
+/// doesn't parse and the whole expression.
 fn put_compiled(
     compiled: &Result<CompiledVapExpression, VapError>,
     out: &mut String,
@@ -245,7 +253,7 @@ fn put_compiled(
     Ok(())
 }
 
-/// Writes what compiling expressions comes to.
+/// Writes the results of compiling expressions.
 fn put_all_compiled(
     alloc: Global,
     expressions: &[VapExpression],
@@ -259,7 +267,8 @@ fn put_all_compiled(
     Ok(())
 }
 
-/// Finds what serde writes of the results of expressions, and reads of that.
+/// Answers with what serde writes of the results of expressions, and checks that it reads that
+/// back.
 fn find_results_written(
     alloc: Global,
     given: &[Field],
@@ -274,7 +283,7 @@ fn find_results_written(
     found.end_expected(field, is_read)
 }
 
-/// Finds what a field asks of the row's expressions.
+/// Answers a field about the row's expressions.
 pub(crate) fn find(
     alloc: Global,
     given: &[Field],

@@ -1,4 +1,4 @@
-//! What is found for the fields of rows.
+//! Answers the fields of rows.
 
 use crate::{areas, made};
 use conformance_rows::grammar::Maker;
@@ -6,14 +6,14 @@ use conformance_rows::{Field, Found, Stop, Subject, keys};
 use kube_cel::cel::PatternBook;
 use std::alloc::Global;
 
-/// Rows, with one book of patterns for the whole of the one that is run.
+/// The state of a row: one book of patterns, shared by all its fields.
 #[derive(Drop)]
 pub(crate) struct Rows {
     book: PatternBook,
 }
 
 impl Rows {
-    /// No row is begun.
+    /// Returns the state before the first row.
     pub(crate) fn new(alloc: Global) -> Rows {
         Rows {
             book: PatternBook::new(alloc),

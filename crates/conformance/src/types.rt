@@ -1,4 +1,4 @@
-//! Rows of types: what serde writes of their values, and which values are equal.
+//! Answers rows about types: what serde writes of their values, and which values are equal.
 
 use crate::findings::{finding_of, lint_kind_of};
 use conformance_rows::{Field, Found, Stop, given as rows};
@@ -11,7 +11,7 @@ use serde::{Deserialize, Serialize};
 use serde_json::Value;
 use std::alloc::{AllocError, Global};
 
-/// What serde reads of a text, if it is read.
+/// Reads a value from a text by serde. `None` if the text isn't such a value.
 pub(crate) fn read<'t, T: Deserialize<'t>>(
     alloc: Global,
     text: &'t str,
@@ -32,7 +32,7 @@ fn put<T: Serialize>(alloc: Global, value: &T, out: &mut String) -> Result<(), A
     }
 }
 
-/// Writes what serde writes of a value; whether it reads an equal one of a text.
+/// Writes what serde writes of a value. Returns whether it reads an equal value from `text`.
 pub(crate) fn put_and_read<'t, T: Serialize + Deserialize<'t> + PartialEq + Drop>(
     alloc: Global,
     value: &T,
@@ -47,7 +47,7 @@ pub(crate) fn put_and_read<'t, T: Serialize + Deserialize<'t> + PartialEq + Drop
     }
 }
 
-/// Writes what is written of what is read of a text, or `unread`.
+/// Reads a value from a text by serde and writes it again, or writes `unread`.
 fn put_again<'t, T: Deserialize<'t> + Serialize + Drop>(
     alloc: Global,
     text: &'t str,
@@ -60,7 +60,7 @@ fn put_again<'t, T: Deserialize<'t> + Serialize + Drop>(
     }
 }
 
-/// Writes what the row's JSON, read as the row's type, is written as.
+/// Reads the row's JSON as the row's type and writes it again.
 fn put_as(alloc: Global, of: &str, text: &str, out: &mut String) -> Result<(), AllocError> {
     match of {
         "ErrorKind" => put_again::<ErrorKind>(alloc, text, out),
@@ -77,7 +77,8 @@ fn put_as(alloc: Global, of: &str, text: &str, out: &mut String) -> Result<(), A
     }
 }
 
-/// Finds the field's text where the row's JSON, read as the row's type, is written so, but for white space outside strings.
+/// Answers with the field's text if that is what serde writes of the row's JSON, read as the row's
+/// type. White space outside strings isn't compared.
 pub(crate) fn written(
     alloc: Global,
     given: &[Field],
@@ -90,7 +91,8 @@ pub(crate) fn written(
     found.end_expected(field, true)
 }
 
-/// Whether two values of a list are compared as their places are: equal in one place, and in no other. Where they aren't, this is written.
+/// Reports whether two values of a list compare as they should: equal if their indices are, and
+/// unequal if not. If they don't, writes which values they are.
 fn is_compared(
     (i, k): (usize, usize),
     is_equal: bool,
@@ -104,7 +106,8 @@ fn is_compared(
     Ok(false)
 }
 
-/// Whether each value of a list is equal to itself, read once more, and to none of the others.
+/// Reports whether each value of a list equals itself, read a second time, and no other. There must
+/// be at least two.
 fn differ_in<T: PartialEq>(
     values: &[T],
     again: &[T],
@@ -121,7 +124,7 @@ fn differ_in<T: PartialEq>(
     Ok(values.len() > 1)
 }
 
-/// The same of a JSON list of a type that serde reads.
+/// Like `differ_in`, for a JSON list of a type that serde reads.
 fn differ_of<'t, T: Deserialize<'t> + PartialEq + Drop>(
     alloc: Global,
     text: &'t str,
@@ -135,7 +138,7 @@ fn differ_of<'t, T: Deserialize<'t> + PartialEq + Drop>(
     }
 }
 
-/// The findings that JSON states, if it is a list.
+/// Reads the findings in a JSON value, if it is a list.
 fn findings_in(alloc: Global, json: &Value) -> Result<Vec<LintFinding>, Stop> {
     let mut findings = Vec::new(alloc);
     if let Some(items) = json.as_array() {
@@ -146,20 +149,20 @@ fn findings_in(alloc: Global, json: &Value) -> Result<Vec<LintFinding>, Stop> {
     Ok(findings)
 }
 
-/// The findings of a JSON list.
+/// Reads the findings of a JSON list.
 fn findings_of(alloc: Global, text: &str) -> Result<Vec<LintFinding>, Stop> {
     let json = rows::json_of(alloc, "differ", text)?;
     findings_in(alloc, &json)
 }
 
-/// The same of a JSON list of findings.
+/// Like `differ_in`, for a JSON list of findings.
 fn differ_of_findings(alloc: Global, text: &str, out: &mut String) -> Result<bool, Stop> {
     let values = findings_of(alloc, text)?;
     let again = findings_of(alloc, text)?;
     Ok(differ_in(values.as_slice(), again.as_slice(), out)?)
 }
 
-/// The scope of a name.
+/// The scope with this name.
 pub(crate) fn scope_of(name: &str) -> Result<ScopeContext, Stop> {
     match name {
         "CrdValidation" => Ok(ScopeContext::CrdValidation),
@@ -168,7 +171,7 @@ pub(crate) fn scope_of(name: &str) -> Result<ScopeContext, Stop> {
     }
 }
 
-/// Whether the scopes of two names, or the linter's kinds, are equal, and whether they are unequal.
+/// Returns whether `==` and `!=` hold of two scopes, or of two kinds of the linter, given by name.
 fn compare_by_name(of: &str, left: &str, right: &str) -> Result<(bool, bool), Stop> {
     if of == "ScopeContext" {
         let (left, right) = (scope_of(left)?, scope_of(right)?);
@@ -178,7 +181,7 @@ fn compare_by_name(of: &str, left: &str, right: &str) -> Result<(bool, bool), St
     Ok((left == right, left != right))
 }
 
-/// The same of a JSON list of the names of scopes, or of the linter's kinds.
+/// Like `differ_in`, for a JSON list of the names of scopes, or of the linter's kinds.
 fn differ_of_names(alloc: Global, of: &str, text: &str, out: &mut String) -> Result<bool, Stop> {
     let Some(names): Option<Vec<String>> = read(alloc, text)? else {
         return Ok(false);
@@ -195,7 +198,8 @@ fn differ_of_names(alloc: Global, of: &str, text: &str, out: &mut String) -> Res
     Ok(names.len() > 1)
 }
 
-/// The same of a JSON list of a type that serde reads, by its name. None where it is the name of none.
+/// Like `differ_in`, for a JSON list of a type that serde reads, given its name. `None` if there is
+/// no such type.
 fn differ_as(
     alloc: Global,
     of: &str,
@@ -218,7 +222,8 @@ fn differ_as(
     Ok(Some(differ))
 }
 
-/// Finds the field's text, a JSON list of values of the row's type, where each is equal to itself, read once more, and to none of the others.
+/// Answers with the field's text, a JSON list of values of the row's type, if each value equals
+/// itself, read a second time, and no other.
 pub(crate) fn differ(
     alloc: Global,
     given: &[Field],

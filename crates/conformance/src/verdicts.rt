@@ -1,4 +1,4 @@
-//! The calls that judge an object, which all answer alike.
+//! Judges an object by all calls that can, which must all agree.
 
 use crate::case::Case;
 use crate::errors::{Verdict, push_parts, put_verdict};
@@ -7,7 +7,7 @@ use kube_cel::cel::PatternBook;
 use kube_cel::{CompiledSchema, Validator, compile_schema, validate, validate_compiled};
 use std::alloc::Global;
 
-/// Whether two verdicts are equal.
+/// Reports whether two verdicts are equal.
 fn is_equal(first: &Verdict, second: &Verdict) -> bool {
     match (first, second) {
         (Ok(()), Ok(())) => true,
@@ -16,7 +16,7 @@ fn is_equal(first: &Verdict, second: &Verdict) -> bool {
     }
 }
 
-/// Compares a verdict with the first one: by `==`, and each part of each error.
+/// Compares a verdict with the first one: by `==`, and by every field of every error.
 fn hold(
     alloc: Global,
     first: &Verdict,
@@ -32,7 +32,7 @@ fn hold(
     }
 }
 
-/// By the calls that take no root context.
+/// Compares the verdicts of the calls that take no root context.
 fn hold_plain(
     alloc: Global,
     case: &Case,
@@ -54,7 +54,8 @@ fn hold_plain(
     hold(alloc, first, verdict, "validate_compiled", found)
 }
 
-/// By both forms of the schema with one book lent to both, and where it comes back.
+/// Compares the verdicts by both forms of the schema with one book lent to all calls. The JSON form
+/// is judged again at the end.
 fn hold_lent(
     alloc: Global,
     case: &Case,
@@ -73,7 +74,8 @@ fn hold_lent(
     hold(alloc, first, verdict, "validate_in, again", found)
 }
 
-/// By both forms of the schema, with a book of each call's own.
+/// Compares the verdicts by both forms of the schema, with a new book for each call, and those of
+/// the calls with a lent book or without a root context.
 fn hold_all(
     alloc: Global,
     case: &Case,
@@ -96,7 +98,7 @@ fn hold_all(
     Ok(())
 }
 
-/// The verdict on a case, which is the same by each call.
+/// Returns the verdict on a case, which must be the same by each call.
 pub(crate) fn judged(alloc: Global, case: &Case, found: &mut Found) -> Result<Verdict, Stop> {
     let (old, root) = (case.old.as_ref(), case.root.as_ref());
     let judge = Validator::new();
@@ -108,7 +110,7 @@ pub(crate) fn judged(alloc: Global, case: &Case, found: &mut Found) -> Result<Ve
     Ok(first)
 }
 
-/// Finds what a field asks of the verdict on a case.
+/// Answers a field about the verdict on a case.
 pub(crate) fn find(
     alloc: Global,
     case: &Case,

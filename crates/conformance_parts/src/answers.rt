@@ -1,14 +1,15 @@
-//! What answers show.
+//! Prints the outcomes of expressions.
 
 use cel::{Answer, Refused, Value};
 use conformance_rows::texts::push_refused;
 use conformance_rows::{Found, Stop};
 use std::alloc::Global;
 
-/// What running an expression comes to.
+/// The outcome of running an expression: a value or an error, or a refusal.
 pub(crate) type Ran = Result<Answer, Refused>;
 
-/// Writes the text of a value, as `%s` shows it, or else what stands for a text and the value's kind.
+/// Writes a value as `%s` formats it. If `%s` can't format it, writes `instead` and the kind that
+/// it can't format.
 pub(crate) fn put_text(
     alloc: Global,
     value: &Value,
@@ -22,7 +23,8 @@ pub(crate) fn put_text(
     Ok(())
 }
 
-/// Writes what a value of a type that prints itself prints. False where it is of none.
+/// Writes what a value of a type with its own `Display` or `text` prints. Returns false if it has
+/// another type.
 pub(crate) fn put_printed(alloc: Global, value: &Value, out: &mut String) -> Result<bool, Stop> {
     match value {
         Value::Quantity(quantity) => write!(out, "{}", quantity.as_ref())?,
@@ -36,7 +38,7 @@ pub(crate) fn put_printed(alloc: Global, value: &Value, out: &mut String) -> Res
     Ok(true)
 }
 
-/// Writes what is asked of a value, or else what the value is.
+/// Writes what is asked about a value, or what the value is if that doesn't apply.
 fn put_value(alloc: Global, asked: &str, value: &Value, out: &mut String) -> Result<(), Stop> {
     match asked {
         "value" => return put_text(alloc, value, "of kind ", out),
@@ -54,7 +56,7 @@ fn put_value(alloc: Global, asked: &str, value: &Value, out: &mut String) -> Res
     Ok(())
 }
 
-/// Writes what is asked of an answer, or else what the answer is.
+/// Writes what is asked about an outcome, or what the outcome is if that doesn't apply.
 pub(crate) fn put_answer(
     alloc: Global,
     asked: &str,
@@ -75,7 +77,7 @@ pub(crate) fn put_answer(
     }
 }
 
-/// Ends a call that ran an expression, of whose answer something is asked.
+/// Ends a call that ran an expression: its answer is what is asked about the outcome.
 pub(crate) fn end_ran(
     alloc: Global,
     asked: &str,

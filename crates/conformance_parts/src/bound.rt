@@ -1,4 +1,4 @@
-//! Objects bound by their schema, and what expressions of them give.
+//! Answers expressions over objects bound by their schema.
 
 use crate::answers::end_ran;
 use crate::ways::compiled;
@@ -9,7 +9,7 @@ use kube_schema::{bind, bind_node, compile_schema};
 use serde_json::Value as Json;
 use std::alloc::Global;
 
-/// Finds what a program gives in a context where `self` is bound to a value.
+/// Runs a program in a context with `self` bound to a value.
 fn run_in(
     alloc: Global,
     program: &Program,
@@ -23,7 +23,7 @@ fn run_in(
     end_ran(alloc, "bound", &ran, call, found)
 }
 
-/// Finds what a program gives where `self` is bound to a value.
+/// Runs a program with `self` bound to a value.
 fn run(
     alloc: Global,
     program: &Program,
@@ -35,13 +35,13 @@ fn run(
     run_in(alloc, program, &mut context, value, call, found)
 }
 
-/// An object that is bound by its compiled schema, at a depth.
+/// Binds an object by its compiled schema, at a depth.
 fn bound_by_node(alloc: Global, schema: &Json, object: &Json, depth: usize) -> Result<Value, Stop> {
     let compiled = compile_schema(alloc, schema)?;
     Ok(bind_node(alloc, &compiled.root(), object, depth)?)
 }
 
-/// Finds what a program gives of an object that is bound by its schema, as JSON and compiled, at a depth.
+/// Runs a program over an object bound by its schema, both as JSON and compiled, at a depth.
 fn run_both(
     alloc: Global,
     program: &Program,
@@ -58,7 +58,7 @@ fn run_both(
     run(alloc, program, by_node, "bind_node", found)
 }
 
-/// Finds what a text of CEL gives of an object that is bound by its schema, at a depth.
+/// Runs a CEL text over an object bound by its schema, at a depth.
 fn run_text(
     alloc: Global,
     text: &str,
@@ -70,7 +70,7 @@ fn run_text(
     run_both(alloc, &program, bound, depth, found)
 }
 
-/// Finds what a row's expression gives of its object, which is bound by its schema.
+/// Runs a row's expression over its object, bound by its schema.
 pub(crate) fn find(alloc: Global, given: &[Field], found: &mut Found) -> Result<(), Stop> {
     let depth = rows::number_or(given, "depth", 0)? as usize;
     let text = rows::needed(given, "expression")?;

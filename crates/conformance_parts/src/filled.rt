@@ -1,4 +1,4 @@
-//! Objects with their defaults.
+//! Fills objects with their defaults.
 
 use conformance_rows::nested::{find_nested, object_given, schema_given};
 use conformance_rows::{Field, Found, Stop};
@@ -6,7 +6,7 @@ use kube_schema::{CompiledSchema, apply_defaults, compile_schema, fill_node};
 use serde_json::Value;
 use std::alloc::Global;
 
-/// By the schema as JSON, once and twice.
+/// Fills an object by its schema as JSON, once and then again.
 fn fill(alloc: Global, schema: &Value, object: &Value, found: &mut Found) -> Result<(), Stop> {
     let once = apply_defaults(alloc, schema, object)?;
     found.end_json(&once, "apply_defaults")?;
@@ -14,7 +14,7 @@ fn fill(alloc: Global, schema: &Value, object: &Value, found: &mut Found) -> Res
     found.end_json(&twice, "apply_defaults twice")
 }
 
-/// By the compiled schema, once and twice.
+/// Fills an object by its compiled schema, once and then again.
 fn fill_compiled(
     alloc: Global,
     compiled: &CompiledSchema,
@@ -28,7 +28,8 @@ fn fill_compiled(
     found.end_json(&twice, "fill_node twice")
 }
 
-/// Fills an object once and twice, by both forms of its schema: each has to come to what was found before, if something was.
+/// Fills an object by both forms of its schema, each time once and then again. Every result must be
+/// the same, and equal to an earlier answer if there is one.
 pub fn fill_all(
     alloc: Global,
     schema: &Value,
@@ -40,7 +41,8 @@ pub fn fill_all(
     fill_compiled(alloc, &compiled, object, found)
 }
 
-/// Finds the field's JSON, nested as the row says, where it is the object with its defaults.
+/// Answers with the field's text if its JSON, nested as the row says, is the object with its
+/// defaults.
 pub(crate) fn find(
     alloc: Global,
     given: &[Field],

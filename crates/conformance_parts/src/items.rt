@@ -1,4 +1,5 @@
-//! Values of all types, each made of a text by an expression, and what expressions and the values' own calls answer of them.
+//! Answers questions about values of all types. An expression makes each value from a text;
+//! expressions and the values' own methods give the answers.
 
 use crate::answers::{put_printed, put_text};
 use crate::values;
@@ -22,7 +23,7 @@ pub(crate) fn bind_text(
     Ok(context.add_variable(name, value)?)
 }
 
-/// What a field's text is made into, which `written` is bound to then.
+/// Binds `written` to a field's text, and makes the field's value from it.
 fn make(alloc: Global, context: &mut KubeContext<'_>, field: &Field) -> Result<Answer, Stop> {
     bind_text(alloc, context, "written", field.text.as_str())?;
     match maker(item_type(field.key.as_str()).0) {
@@ -31,7 +32,7 @@ fn make(alloc: Global, context: &mut KubeContext<'_>, field: &Field) -> Result<A
     }
 }
 
-/// Binds the other item and the text that a row gave.
+/// Binds `other` and `text` to what the row gave, if it did.
 fn bind_others(alloc: Global, context: &mut KubeContext<'_>, fields: &[Field]) -> Result<(), Stop> {
     if let Some(text) = rows::text(fields, "text") {
         bind_text(alloc, context, "text", text)?;
@@ -44,7 +45,7 @@ fn bind_others(alloc: Global, context: &mut KubeContext<'_>, fields: &[Field]) -
     Ok(())
 }
 
-/// Writes how a value is reported: `yes` or `no`, what it prints, or its text.
+/// Writes a value: a Boolean as `yes` or `no`, otherwise what it prints or its text.
 fn put_value(alloc: Global, value: &Value, out: &mut String) -> Result<(), Stop> {
     match value {
         Value::Bool(holds) => Ok(out.push_str(yes_or_no(*holds))?),
@@ -53,7 +54,7 @@ fn put_value(alloc: Global, value: &Value, out: &mut String) -> Result<(), Stop>
     }
 }
 
-/// Writes how an error is reported where a field has this key: by its message, or by `no`.
+/// Writes an error: `no` for the key `valid`, otherwise the word for its message.
 fn put_error(
     alloc: Global,
     key: &str,
@@ -72,7 +73,7 @@ fn put_error(
     }
 }
 
-/// Writes how an answer to what a field of this key asks is reported.
+/// Writes the answer to the question of this key.
 fn put_reported(alloc: Global, key: &str, answer: &Answer, out: &mut String) -> Result<(), Stop> {
     match answer {
         Ok(_) if key == "integer error" => Ok(out.push_str("none")?),
@@ -81,7 +82,7 @@ fn put_reported(alloc: Global, key: &str, answer: &Answer, out: &mut String) -> 
     }
 }
 
-/// Finds what a field asks of an item, by an expression.
+/// Answers a question about an item by an expression.
 fn ask(
     alloc: Global,
     context: &KubeContext<'_>,
@@ -93,7 +94,8 @@ fn ask(
     put_reported(alloc, key, &answer, out)
 }
 
-/// Finds what a field asks of an item that is a value: by the value's own calls, or else by an expression.
+/// Answers a question about an item that is a value: by the value's own methods if possible,
+/// otherwise by an expression.
 fn ask_value(
     alloc: Global,
     context: &KubeContext<'_>,
@@ -118,7 +120,7 @@ fn ask_value(
     }
 }
 
-/// Finds what a field asks of an item, in a context of all functions.
+/// Answers a question about an item, in a context with all functions.
 fn find_in(
     alloc: Global,
     context: &mut KubeContext<'_>,
@@ -140,7 +142,7 @@ fn find_in(
     ask_value(alloc, context, key, types, out)
 }
 
-/// Finds what a field asks of an item.
+/// Answers a question about an item.
 pub(crate) fn find(
     alloc: Global,
     fields: &[Field],

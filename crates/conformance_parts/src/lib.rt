@@ -1,8 +1,9 @@
-//! Rows (docs/ROWS.md) of the parts that validation stands on: of the language, texts, expressions, patterns, names of fields and values of all
-//! types; of schemas, the nodes that they are compiled to, rules, defaults, and objects bound by their schema.
+//! Answers rows (docs/ROWS.md) about the parts that validation is built on. For the language:
+//! texts, expressions, patterns, names of fields, and values of all types. For schemas: compiled
+//! nodes, rules, defaults, and objects bound by their schema.
 //!
-//! [`find`] answers the fields of these rows. [`made`] makes expressions, names and texts from a grammar, and asks of them what a row's fields
-//! ask, by the same functions.
+//! [`find`] answers the fields of these rows. [`made`] makes expressions, names and texts from a
+//! grammar, and asks about them what the fields of rows ask, by the same functions.
 #![tactic(auto)]
 
 mod answers;
@@ -26,7 +27,8 @@ use conformance_rows::keys::item_given;
 use conformance_rows::{Field, Found, Stop};
 use std::alloc::Global;
 
-/// Finds what a field asks of the language or of a schema, with the row's book of patterns. False where it asks something else.
+/// Answers a field about the language or a schema, with the row's book of patterns. Returns false
+/// if the field asks something else.
 pub fn find(
     alloc: Global,
     given: &[Field],
@@ -51,7 +53,8 @@ pub fn find(
     Ok(true)
 }
 
-/// Finds what a field asks of a schema, or of an object with it. False where it asks something else.
+/// Answers a field about a schema, or an object with it. Returns false if the field asks something
+/// else.
 fn find_of_schemas(
     alloc: Global,
     given: &[Field],
@@ -70,10 +73,11 @@ fn find_of_schemas(
     Ok(true)
 }
 
-/// The keys of what is asked of an expression.
+/// The keys of questions about an expression.
 const OF_EXPRESSIONS: [&str; 5] = ["value", "kind", "prints", "error", "refused"];
 
-/// Finds what a field asks of an item, or else of an expression or a schema. False where it asks something else.
+/// Answers a field about an item if the row gives one, otherwise about an expression or a schema.
+/// Returns false if the field asks something else.
 fn find_of_values(
     alloc: Global,
     given: &[Field],

@@ -1,5 +1,6 @@
-//! What holds of each expression, name and text that is made of a grammar: all runs of a program answer alike, a name that is escaped comes
-//! back, and so does what is printed of a value.
+//! Checks properties of every expression, name and text made from a grammar: all runs of a program
+//! agree, unescaping an escaped name gives the name back, and parsing a printed value gives the
+//! value back.
 
 use crate::items::bind_text;
 use crate::names::put_escaped;
@@ -11,20 +12,20 @@ use conformance_rows::{Found, Stop};
 use kube_functions::{Context as KubeContext, KubeCelExt};
 use std::alloc::Global;
 
-/// How many expressions are made.
+/// The number of expressions that are made.
 const EXPRESSIONS: usize = 100_000;
 
-/// How many names are made, and how many texts of each type.
+/// The number of names that are made, and of texts of each type.
 const TEXTS: usize = 50_000;
 
-/// What `self` is bound to in expressions.
+/// The value of `self` in expressions.
 const SELF: &str =
     r#"{"a":1,"b":{"c":"x"},"l":[3,1,2],"s":"text","t":true,"n":null,"f":0.5,"a.b":2,"in":3}"#;
 
-/// The calls that run an expression, twice.
+/// The calls that run an expression. Each is made twice.
 const CALLS: Calls = ["execute", "run_code", "execute_with"];
 
-/// What holds of an item of a type that is printed and read.
+/// For types that are printed and parsed, the expression that must be true of an item.
 const COMES_BACK: [(&str, &str); 4] = [
     ("timestamp", "timestamp(string(item)) == item"),
     ("duration", "duration(string(item)) == item"),
@@ -32,7 +33,7 @@ const COMES_BACK: [(&str, &str); 4] = [
     ("cidr", "cidr(string(item)) == item"),
 ];
 
-/// Runs a program in each way, twice: whether it has a value.
+/// Runs a program in each way, twice. Returns whether it has a value.
 fn run_twice(
     alloc: Global,
     context: &KubeContext<'_>,
@@ -44,7 +45,8 @@ fn run_twice(
     Ok(found.text.as_str().starts_with("a value"))
 }
 
-/// Runs an expression in each way, twice: whether it has a value. None where it isn't read.
+/// Runs an expression in each way, twice. Returns whether it has a value, or `None` if it doesn't
+/// parse.
 fn run_expression(
     alloc: Global,
     context: &KubeContext<'_>,
@@ -58,7 +60,7 @@ fn run_expression(
     }
 }
 
-/// Runs expressions in a context.
+/// Makes and runs expressions in a context.
 fn run_expressions_in(
     alloc: Global,
     context: &KubeContext<'_>,
@@ -81,7 +83,7 @@ fn run_expressions_in(
     Ok(())
 }
 
-/// Runs expressions.
+/// Makes and runs expressions.
 pub fn run_expressions(
     alloc: Global,
     maker: &mut Maker,
@@ -95,7 +97,7 @@ pub fn run_expressions(
     run_expressions_in(alloc, &context, maker, found, report)
 }
 
-/// Escapes names, and takes the escaping back.
+/// Escapes names, and checks that unescaping gives them back.
 fn run_names(
     alloc: Global,
     maker: &mut Maker,
@@ -114,7 +116,8 @@ fn run_names(
     Ok(())
 }
 
-/// Whether a text is read. What is printed of it has to be read as the same.
+/// Reports whether a text is read as an item. If it is, printing the item and reading that must
+/// give the item back.
 fn comes_back(
     alloc: Global,
     context: &mut KubeContext<'_>,
@@ -133,7 +136,8 @@ fn comes_back(
     }
 }
 
-/// Reads texts of a type in a context, and reads back what is printed of them.
+/// Makes texts of a type, reads them in a context, and checks that what is printed of them reads
+/// back.
 fn run_texts_in(
     alloc: Global,
     context: &mut KubeContext<'_>,
@@ -156,7 +160,7 @@ fn run_texts_in(
     Ok(())
 }
 
-/// Reads texts of a type by an expression in a context, and reads back what is printed of them by another one.
+/// Like `run_texts_in`, with the two expressions compiled from their texts.
 fn run_texts_by(
     alloc: Global,
     context: &mut KubeContext<'_>,
@@ -169,7 +173,7 @@ fn run_texts_by(
     run_texts_in(alloc, context, maker, of, (&read, &again), report)
 }
 
-/// The same where all functions are known.
+/// Like `run_texts_by`, in a context with all functions.
 fn run_texts(
     alloc: Global,
     maker: &mut Maker,
@@ -180,7 +184,7 @@ fn run_texts(
     run_texts_by(alloc, &mut context, maker, item, report)
 }
 
-/// Escapes names and takes the escaping back, and reads back what is printed of the texts of types.
+/// Checks that escaped names and printed items of each type read back.
 pub fn run_names_and_texts(
     alloc: Global,
     maker: &mut Maker,

@@ -1,11 +1,11 @@
-//! The names of fields in CEL.
+//! Answers questions about the CEL names of fields.
 
 use conformance_rows::texts::{push_quoted, yes_or_no};
 use conformance_rows::{Field, Found, Stop, given};
 use kube_schema_values::{escape_field_name, unescape_field_name};
 use std::alloc::Global;
 
-/// Writes a field's name in CEL, from which the name has to come back.
+/// Writes a field's CEL name, and checks that unescaping gives the field back.
 pub(crate) fn put_escaped(alloc: Global, name: &str, out: &mut String) -> Result<(), Stop> {
     let escaped = escape_field_name(alloc, name)?;
     out.push_str(escaped.as_str())?;
@@ -15,7 +15,7 @@ pub(crate) fn put_escaped(alloc: Global, name: &str, out: &mut String) -> Result
     }
 }
 
-/// Finds a field's name in CEL: of a `field` as it is, and of a `name` as JSON.
+/// Answers with a field's CEL name: as it is for a `field`, as JSON for a `name`.
 pub(crate) fn escaped(alloc: Global, given: &[Field], found: &mut Found) -> Result<(), Stop> {
     match given::text(given, "field") {
         Some(field) => put_escaped(alloc, field, &mut found.text),
@@ -26,7 +26,7 @@ pub(crate) fn escaped(alloc: Global, given: &[Field], found: &mut Found) -> Resu
     }
 }
 
-/// Writes the name of the field that a name in CEL means, as JSON.
+/// Writes the field that a CEL name stands for, as JSON.
 fn put_unescaped(alloc: Global, name: &str, out: &mut String) -> Result<(), Stop> {
     match unescape_field_name(alloc, name)? {
         Some(field) => Ok(push_quoted(alloc, out, field.as_str())?),
@@ -34,7 +34,8 @@ fn put_unescaped(alloc: Global, name: &str, out: &mut String) -> Result<(), Stop
     }
 }
 
-/// Finds the name of the field that a name in CEL means: of a `name in cel` as it is, and of a `name` as JSON.
+/// Answers with the field that a CEL name stands for: as it is for a `name in cel`, as JSON for a
+/// `name`.
 pub(crate) fn unescaped(alloc: Global, given: &[Field], found: &mut Found) -> Result<(), Stop> {
     let Some(name) = given::text(given, "name in cel") else {
         return put_unescaped(alloc, given::needed(given, "name")?, &mut found.text);
@@ -45,7 +46,7 @@ pub(crate) fn unescaped(alloc: Global, given: &[Field], found: &mut Found) -> Re
     }
 }
 
-/// Finds whether a name in CEL means a field.
+/// Answers whether a CEL name stands for a field.
 pub(crate) fn means_a_field(alloc: Global, given: &[Field], found: &mut Found) -> Result<(), Stop> {
     let field = unescape_field_name(alloc, given::needed(given, "name in cel")?)?;
     Ok(found.say(yes_or_no(field.is_some()))?)

@@ -1,4 +1,4 @@
-//! Compiled schemas and their nodes.
+//! Answers questions about compiled schemas and their nodes.
 
 use crate::rules::put_compiled;
 use crate::shown::{put_children, put_keywords, shows_its_root};
@@ -9,8 +9,8 @@ use kube_schema::{CompiledSchema, SchemaNode, compile_schema, rules_of};
 use serde_json::Value;
 use std::alloc::Global;
 
-/// The node that a step leads to: `items`, `additionalProperties`, `properties NAME`, or a number behind `property`, `allOf`, `oneOf`
-/// or `anyOf`.
+/// The node that a step leads to, if any: `items`, `additionalProperties`, `properties NAME`, or
+/// `property`, `allOf`, `oneOf` or `anyOf` followed by a number.
 fn step<'a>(node: &SchemaNode<'a>, line: &str) -> Option<SchemaNode<'a>> {
     let Some((keyword, rest)) = line.split_once(' ') else {
         return match line {
@@ -32,8 +32,8 @@ fn step<'a>(node: &SchemaNode<'a>, line: &str) -> Option<SchemaNode<'a>> {
     }
 }
 
-/// The node that the steps lead to, from the schema that was nested so. None where there is no such node, or where a node above that
-/// schema has rules.
+/// The node that the steps lead to, starting inside the nesting. `None` if there is no such node,
+/// or if one of the nesting's own nodes has rules.
 fn node_at<'a>(
     compiled: &'a CompiledSchema,
     nesting: Nesting,
@@ -52,7 +52,7 @@ fn node_at<'a>(
     Some(node)
 }
 
-/// Writes why rules of a node weren't compiled, one on a line.
+/// Writes why rules of a node didn't compile, one a line.
 fn put_errors(alloc: Global, node: &SchemaNode<'_>, out: &mut String) -> Result<(), Stop> {
     let errors = node.compilation_errors(alloc)?;
     for index in 0..errors.len() {
@@ -64,7 +64,7 @@ fn put_errors(alloc: Global, node: &SchemaNode<'_>, out: &mut String) -> Result<
     Ok(())
 }
 
-/// Finds what a field asks of a node.
+/// Answers a question about a node.
 fn find_of(
     alloc: Global,
     compiled: &CompiledSchema,
@@ -89,7 +89,8 @@ fn find_of(
     }
 }
 
-/// Compares what a compiled schema shows with its root, and what `rules_of` gives for it with the rules there.
+/// Checks that a compiled schema has the keywords of its root, and that `rules_of` gives the root's
+/// rules.
 fn compare(
     alloc: Global,
     schema: &Value,
@@ -108,7 +109,7 @@ fn compare(
     Ok(())
 }
 
-/// Finds what a field asks of the node that a row's steps lead to.
+/// Answers a question about the node that a row's steps lead to.
 fn find_in(
     alloc: Global,
     given: &[Field],
@@ -123,7 +124,7 @@ fn find_in(
     find_of(alloc, compiled, node, key, &mut found.text)
 }
 
-/// Finds what a field asks of a node of the row's schema.
+/// Answers a question about a node of the row's schema.
 pub(crate) fn find(
     alloc: Global,
     given: &[Field],

@@ -1,10 +1,11 @@
-//! Trees as outlines: each node in a line of its own, and its parts below it, two blanks further in.
+//! Prints trees as outlines: one line for each node, with its parts below it, indented by two
+//! blanks.
 
 use cel::{BinaryOperator, Expr, MacroKind, UnaryOperator, Value};
 use conformance_rows::texts::{push_all, push_bytes, push_indented};
 use std::alloc::AllocError;
 
-/// How an operator on two values is written.
+/// The symbol of a binary operator.
 fn operator_text(operator: BinaryOperator) -> &'static str {
     match operator {
         BinaryOperator::Or => "||",
@@ -24,7 +25,7 @@ fn operator_text(operator: BinaryOperator) -> &'static str {
     }
 }
 
-/// The name of a macro, behind the word `macro`.
+/// The words of a macro's line before the variable: `macro` and the macro's name.
 fn macro_name(kind: MacroKind) -> &'static str {
     match kind {
         MacroKind::All => "macro all ",
@@ -35,7 +36,8 @@ fn macro_name(kind: MacroKind) -> &'static str {
     }
 }
 
-/// The words of the line of a node: what it is, and the name that it has. The line of a literal has more.
+/// The words of a node's line: what it is, and its name. The line of a literal is written
+/// separately.
 fn words_of(expr: &Expr) -> (&str, &str) {
     match expr {
         Expr::Literal(_) => ("", ""),
@@ -60,7 +62,7 @@ fn words_of(expr: &Expr) -> (&str, &str) {
     }
 }
 
-/// Writes a literal. A double shows no number.
+/// Writes a literal. For a double no number is written.
 fn write_literal(value: &Value, out: &mut String) -> Result<(), AllocError> {
     match value {
         Value::Null => out.push_str("null"),
@@ -133,7 +135,7 @@ pub(crate) fn write_node(expr: &Expr, depth: usize, out: &mut String) -> Result<
     }
 }
 
-/// Writes nodes, one after another.
+/// Writes nodes in order.
 #[cycle(outline)]
 fn write_nodes(items: &Vec<Expr>, depth: usize, out: &mut String) -> Result<(), AllocError> {
     for item in items {
@@ -142,7 +144,7 @@ fn write_nodes(items: &Vec<Expr>, depth: usize, out: &mut String) -> Result<(), 
     Ok(())
 }
 
-/// Writes the entries of a map: the key of each, and then its value.
+/// Writes the entries of a map: for each the key, then the value.
 #[cycle(outline)]
 fn write_entries(
     pairs: &Vec<(Expr, Expr)>,

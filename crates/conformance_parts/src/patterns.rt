@@ -1,10 +1,11 @@
-//! What a book of patterns answers, to a pattern that it is asked of for the first time and to one that it holds.
+//! Answers what a book of patterns answers, both for a pattern that is new to it and for one that
+//! it holds.
 
 use cel::PatternBook;
 use conformance_rows::given::{needed, number};
 use conformance_rows::{Field, Found, Stop};
 
-/// Finds whether a pattern has a match in a text.
+/// Finds whether a pattern matches in a text, for one call.
 fn find_match(
     book: &mut PatternBook,
     (pattern, text): (&str, &str),
@@ -18,7 +19,7 @@ fn find_match(
     found.end(call)
 }
 
-/// Finds whether a pattern has a match in a text, asked twice.
+/// Answers whether a pattern matches in a text. The book is asked twice.
 pub(crate) fn matches(
     book: &mut PatternBook,
     given: &[Field],
@@ -29,7 +30,7 @@ pub(crate) fn matches(
     find_match(book, asked, "matches again", found)
 }
 
-/// Finds the spans in bytes of the first matches.
+/// Finds the spans of the first matches, in bytes, for one call.
 fn find_spans(
     book: &mut PatternBook,
     (pattern, text): (&str, &str),
@@ -44,7 +45,7 @@ fn find_spans(
     found.end(call)
 }
 
-/// Finds the spans in bytes of the first matches, asked twice.
+/// Answers with the spans of the first matches, in bytes. The book is asked twice.
 pub(crate) fn spans(
     book: &mut PatternBook,
     given: &[Field],

@@ -1,4 +1,4 @@
-//! What is read and compiled of a node's rules.
+//! Prints the rules of nodes, as they are read and as they are compiled.
 
 use conformance_rows::nested::schema_given;
 use conformance_rows::texts::{push_bool, push_line, push_member, push_optional_member};
@@ -7,7 +7,7 @@ use kube_schema::{CompilationError, CompilationResult, Rule, rule_values};
 use serde_json::Value;
 use std::alloc::Global;
 
-/// Writes the fields of a rule.
+/// Writes the fields of a rule as members of an unfinished JSON object.
 fn put_fields(alloc: Global, rule: &Rule, out: &mut String) -> Result<(), Stop> {
     push_member(alloc, out, "rule", rule.rule.as_str())?;
     push_optional_member(alloc, out, "message", &rule.message)?;
@@ -20,7 +20,7 @@ fn put_fields(alloc: Global, rule: &Rule, out: &mut String) -> Result<(), Stop> 
     }
 }
 
-/// Writes a rule as it is read, copied, as an object on a line.
+/// Reads and copies a rule, and writes it as an object on a line.
 fn put_read(alloc: Global, value: &Value, out: &mut String) -> Result<(), Stop> {
     push_line(out, "{")?;
     match Rule::from_json(alloc, value)? {
@@ -30,7 +30,7 @@ fn put_read(alloc: Global, value: &Value, out: &mut String) -> Result<(), Stop> 
     Ok(out.push('}')?)
 }
 
-/// Writes the rules of a row's schema as they are read, an object on a line.
+/// Writes the rules of a row's schema as they are read, one object a line.
 pub(crate) fn read(alloc: Global, given: &[Field], out: &mut String) -> Result<(), Stop> {
     let schema = schema_given(alloc, given)?;
     for value in rule_values(&schema) {
@@ -39,7 +39,7 @@ pub(crate) fn read(alloc: Global, given: &[Field], out: &mut String) -> Result<(
     Ok(())
 }
 
-/// Writes what rules came to, an object on a line.
+/// Writes compiled rules, or why they didn't compile, one object a line.
 pub(crate) fn put_compiled(
     alloc: Global,
     rules: &[Result<CompilationResult, CompilationError>],

@@ -1,10 +1,10 @@
-//! What the nodes of a compiled schema show.
+//! Prints the nodes of compiled schemas.
 
 use conformance_rows::Stop;
 use conformance_rows::texts::{push_count, push_flag, push_line, push_number};
 use kube_schema::{CompiledSchema, SchemaFormat, SchemaNode};
 
-/// Writes a line for each keyword of a node that is there.
+/// Writes a line for each keyword that a node has.
 pub(crate) fn put_keywords(node: &SchemaNode<'_>, out: &mut String) -> Result<(), Stop> {
     let format = node.format();
     if *format != SchemaFormat::None {
@@ -44,7 +44,7 @@ pub(crate) fn put_children(node: &SchemaNode<'_>, out: &mut String) -> Result<()
     Ok(push_count(out, "any of", node.any_of_count())?)
 }
 
-/// Whether a schema shows the keywords of its root.
+/// Reports whether a compiled schema has the same keywords and children as its root.
 pub(crate) fn shows_its_root(compiled: &CompiledSchema, root: &SchemaNode<'_>) -> bool {
     compiled.property_count() == root.property_count()
         && compiled.is_map() == root.is_map()
@@ -59,7 +59,7 @@ pub(crate) fn shows_its_root(compiled: &CompiledSchema, root: &SchemaNode<'_>) -
         && shows_its_children(compiled, root)
 }
 
-/// Whether a schema has the children of its root.
+/// Reports whether a compiled schema has the same children and default as its root.
 fn shows_its_children(compiled: &CompiledSchema, root: &SchemaNode<'_>) -> bool {
     compiled.default() == root.default()
         && compiled.property(0).is_some() == root.property(0).is_some()

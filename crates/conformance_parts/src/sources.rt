@@ -1,4 +1,4 @@
-//! What texts of CEL answer: whether they are read, their tokens, their trees and their names.
+//! Answers questions about CEL texts: whether they parse, their tokens, ASTs and names.
 
 use crate::outline::write_node;
 use crate::tokens::put_tokens;
@@ -8,7 +8,8 @@ use conformance_rows::texts::{push_names, yes_or_no};
 use conformance_rows::{Field, Found, Stop};
 use std::alloc::Global;
 
-/// Finds what a field asks of a program: that it is read, its tree, or the names that it refers to. A name is free where the program and the list say so.
+/// Answers a question about a program: that its text parses, its AST, or the names that it refers
+/// to. Whether a name is free must be the same by the program and by the list of its names.
 fn find_of_program(
     alloc: Global,
     given: &[Field],
@@ -36,7 +37,7 @@ fn find_of_program(
     }
 }
 
-/// Finds what a field asks of a text of CEL.
+/// Answers a question about a CEL text.
 fn find_of(
     alloc: Global,
     given: &[Field],
@@ -59,7 +60,7 @@ fn find_of(
     }
 }
 
-/// Finds what a field asks of the text of CEL that the row gave last.
+/// Answers a question about the CEL text that the row gave last.
 pub(crate) fn find(
     alloc: Global,
     given: &[Field],

@@ -1,4 +1,4 @@
-//! Tokens as lines of text.
+//! Prints tokens as lines of text.
 
 use cel_syntax_lexer::lexer::tokens;
 use cel_syntax_lexer::punctuator::Punctuator;
@@ -7,7 +7,7 @@ use conformance_rows::Stop;
 use conformance_rows::texts::{push_line, text_of};
 use std::alloc::Global;
 
-/// How a symbol is written.
+/// The spelling of a punctuator.
 fn symbol(punctuator: Punctuator) -> &'static str {
     match punctuator {
         Punctuator::OpenRound => "(",
@@ -37,7 +37,7 @@ fn symbol(punctuator: Punctuator) -> &'static str {
     }
 }
 
-/// Writes what a token is, and how it is written, in a line of its own.
+/// Writes the class and the spelling of a token on a line.
 fn put_token(token: &Token<'_>, out: &mut String) -> Result<(), Stop> {
     let (class, spelling) = match token {
         Token::Word(spelling) => ("word ", text_of(spelling)),
@@ -49,7 +49,7 @@ fn put_token(token: &Token<'_>, out: &mut String) -> Result<(), Stop> {
     Ok(out.push_str(spelling)?)
 }
 
-/// Writes the tokens of a text, each in a line of its own, or `invalid` where it can't be cut into tokens.
+/// Writes the tokens of a text, one a line, or `invalid` if it can't be cut into tokens.
 pub(crate) fn put_tokens(alloc: Global, text: &str, out: &mut String) -> Result<(), Stop> {
     match tokens(alloc, text.as_bytes())? {
         Some(list) => {

@@ -1,4 +1,4 @@
-//! What values answer by their own calls, whatever their kinds.
+//! Answers questions about values by their own methods, whatever their kinds.
 
 use cel::{Key, Kind, OptionalValue, Value};
 use conformance_rows::texts::{push_line, yes_or_no};
@@ -29,7 +29,7 @@ const KINDS: [Kind; 18] = [
     Kind::Format,
 ];
 
-/// Finds the names of all kinds, each in a line of its own.
+/// Answers with the names of all kinds, one a line.
 pub(crate) fn kinds(found: &mut Found) -> Result<(), Stop> {
     for kind in KINDS.iter() {
         push_line(&mut found.text, "")?;
@@ -38,13 +38,13 @@ pub(crate) fn kinds(found: &mut Found) -> Result<(), Stop> {
     Ok(())
 }
 
-/// Whether a key is equal to its copy.
+/// Reports whether a key equals its copy.
 fn is_key_kept(key: &Key) -> Result<bool, Stop> {
     let copy = key.try_clone()?;
     Ok(copy == *key)
 }
 
-/// Finds whether a key of each kind is equal to its copy.
+/// Answers whether a key of each kind equals its copy.
 pub(crate) fn keys_are_kept(alloc: Global, found: &mut Found) -> Result<(), Stop> {
     let text = Key::String(Rc::new(alloc, String::from_str(alloc, "a")?)?);
     let are_kept = is_key_kept(&text)?
@@ -54,20 +54,21 @@ pub(crate) fn keys_are_kept(alloc: Global, found: &mut Found) -> Result<(), Stop
     Ok(found.say(yes_or_no(are_kept))?)
 }
 
-/// Finds whether an optional is equal to its copy.
+/// Answers whether an optional equals its copy.
 pub(crate) fn optionals_are_kept(alloc: Global, found: &mut Found) -> Result<(), Stop> {
     let held = OptionalValue::of(alloc, Value::Int(7))?;
     let copy = Value::Optional(held.try_clone()?);
     Ok(found.say(yes_or_no(copy == Value::Optional(held)))?)
 }
 
-/// Whether a value is equal to its copy.
+/// Reports whether a value equals its copy.
 fn is_kept(value: &Value) -> Result<bool, Stop> {
     let copy = value.try_clone()?;
     Ok(copy == *value)
 }
 
-/// Whether two values are equal, from both sides, and each to its copy.
+/// Returns whether two values are equal, if that is the same from both sides and each equals its
+/// copy. Otherwise returns what is wrong.
 fn equality(left: &Value, right: &Value) -> Result<&'static str, Stop> {
     let is_equal = left == right;
     if (right == left) != is_equal {
@@ -80,7 +81,8 @@ fn equality(left: &Value, right: &Value) -> Result<&'static str, Stop> {
     }
 }
 
-/// The word for an order that was found from both sides, where the sides and equality agree.
+/// Returns the word for the order of two values, if that is the same from both sides and agrees
+/// with equality. Otherwise returns what is wrong.
 fn order(left: &Value, right: &Value) -> &'static str {
     let (Some(order), Some(reversed)) = (left.compare(right), right.compare(left)) else {
         return "none";
@@ -95,7 +97,8 @@ fn order(left: &Value, right: &Value) -> &'static str {
     }
 }
 
-/// Writes what a field asks of a value, or of two. False where the values' own calls don't answer it.
+/// Answers a question about a value, or about two. Returns false if the values' own methods don't
+/// answer it.
 pub(crate) fn put(
     key: &str,
     value: &Value,

@@ -1,4 +1,4 @@
-//! The ways to run an expression.
+//! Runs expressions in all ways in which they can be run.
 
 use crate::answers::{Ran, end_ran, put_answer};
 use cel::{Answer, Context, Functions, PatternBook, Program, StandardFunctions, Value, run_code};
@@ -8,7 +8,7 @@ use kube_functions::{Context as KubeContext, KubeCelExt};
 use kube_schema_values::bind_plain;
 use std::alloc::Global;
 
-/// The calls that run a program, each in one context.
+/// The names of the three calls that run a program in a context.
 pub(crate) type Calls = [&'static str; 3];
 
 const IN_STANDARD: Calls = [
@@ -35,7 +35,8 @@ const IN_ALL: Calls = [
     "execute_with, with_all",
 ];
 
-/// Whether two runs came to the same: equal values, unless a double is in them, or an error each.
+/// Reports whether two runs had the same outcome: equal values (any values if the first holds a
+/// double), two errors, or two refusals.
 fn is_same(first: &Ran, other: &Ran) -> bool {
     match (first, other) {
         (Ok(Ok(first)), Ok(Ok(other))) => first == other || first.holds_double(),
@@ -44,7 +45,7 @@ fn is_same(first: &Ran, other: &Ran) -> bool {
     }
 }
 
-/// Compares a run with the first one, and what is asked of it with what was found before.
+/// Compares a run with the first one, and what is asked about it with the earlier answer.
 fn hold(
     alloc: Global,
     asked: &str,
@@ -61,7 +62,8 @@ fn hold(
     }
 }
 
-/// Compares with a program's first run its code's with a new book, and the program's with the book of that run.
+/// Runs a program's code with a new book, and then the program with that book. Compares both with
+/// the program's first run.
 fn run_again<F: Functions>(
     alloc: Global,
     asked: &str,
@@ -80,6 +82,7 @@ fn run_again<F: Functions>(
 }
 
 /// Executes a program, runs its code with a new book, and executes it with the book of that run.
+/// All outcomes must be the same.
 pub(crate) fn run_program<F: Functions>(
     alloc: Global,
     asked: &str,
@@ -92,7 +95,7 @@ pub(crate) fn run_program<F: Functions>(
     run_again(alloc, asked, program, context, &first, calls, found)
 }
 
-/// The program of a text that has to be read.
+/// Compiles a text that must parse.
 pub(crate) fn compiled(alloc: Global, text: &str) -> Result<Program, Stop> {
     match Program::compile(alloc, text)? {
         Ok(program) => Ok(program),
@@ -100,7 +103,7 @@ pub(crate) fn compiled(alloc: Global, text: &str) -> Result<Program, Stop> {
     }
 }
 
-/// What a text comes to in a context.
+/// Runs a text in a context.
 pub(crate) fn executed(
     alloc: Global,
     context: &KubeContext<'_>,
@@ -110,13 +113,14 @@ pub(crate) fn executed(
     Ok(program.execute(alloc, context)?)
 }
 
-/// The value of a JSON text, as where no schema says more.
+/// Binds a JSON text as a value, without a schema.
 pub(crate) fn plain_value(alloc: Global, text: &str) -> Result<Value, Stop> {
     let json = given::json_of(alloc, "self", text)?;
     Ok(bind_plain(alloc, &json)?)
 }
 
-/// What a field binds its name to: `self` to a JSON value, and each other name to what an expression comes to.
+/// Returns the value that a field binds its name to: `self` to a JSON value, any other name to the
+/// value of an expression.
 fn bound_value(alloc: Global, context: &KubeContext<'_>, field: &Field) -> Result<Value, Stop> {
     let text = field.text.as_str();
     if field.key.as_str() == "self" {
@@ -128,7 +132,7 @@ fn bound_value(alloc: Global, context: &KubeContext<'_>, field: &Field) -> Resul
     }
 }
 
-/// Binds the names that a row gave, where all functions are known.
+/// Binds the names that a row gave, in a context with all functions.
 fn bind_names(alloc: Global, context: &mut KubeContext<'_>, given: &[Field]) -> Result<(), Stop> {
     for field in given {
         if let Some(name) = bound_name(field.key.as_str()) {
@@ -139,7 +143,7 @@ fn bind_names(alloc: Global, context: &mut KubeContext<'_>, given: &[Field]) -> 
     Ok(())
 }
 
-/// Binds the names that a row gave to what they are bound to in another context.
+/// Binds the names that a row gave to their values in another context.
 fn copy_names<F: Functions>(
     context: &mut Context<'_, F>,
     bound: &KubeContext<'_>,
@@ -155,7 +159,7 @@ fn copy_names<F: Functions>(
     Ok(())
 }
 
-/// Runs a program where the standard functions alone are known, by the type of the context.
+/// Runs a program in a context whose type has only the standard functions.
 fn run_in_standard(
     alloc: Global,
     asked: &str,
@@ -169,7 +173,7 @@ fn run_in_standard(
     run_program(alloc, asked, program, &context, &IN_STANDARD, found)
 }
 
-/// Runs a program in a context of all functions, before these are registered or after it.
+/// Runs a program in a context of all functions, before or after they are registered.
 fn run_in_kubernetes(
     alloc: Global,
     asked: &str,
@@ -192,7 +196,7 @@ fn run_in_kubernetes(
     run_program(alloc, asked, program, &context, calls, found)
 }
 
-/// Runs a program in each way where the functions are known that the row names.
+/// Runs a program in each way with the functions that the row names.
 fn run_each(
     alloc: Global,
     asked: &str,
@@ -213,7 +217,7 @@ fn run_each(
     Ok(())
 }
 
-/// Runs a text in each way, where the names that a row gave are bound in a context.
+/// Binds the names that a row gave in a context, and runs a text in each way.
 fn run_text(
     alloc: Global,
     asked: &str,
@@ -227,7 +231,7 @@ fn run_text(
     run_each(alloc, asked, &program, bound, given, found)
 }
 
-/// Finds what a row's expression comes to, in each way to run it.
+/// Runs a row's expression in each way, and answers with what is asked about the outcome.
 pub(crate) fn find(
     alloc: Global,
     given: &[Field],

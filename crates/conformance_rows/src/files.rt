@@ -1,4 +1,4 @@
-//! The files that a program's arguments name.
+//! Runs the files that a program's arguments name.
 
 use crate::found::Found;
 use crate::grammar::Maker;
@@ -10,10 +10,10 @@ use std::io::Write;
 use std::process::ExitCode;
 use std::{env, fs, io};
 
-/// Where the sequence of numbers begins by which texts are made.
+/// The seed of the random numbers that choose the texts of grammars.
 const SEED: u64 = 20_261_125;
 
-/// Judges what is made of the grammar of a file. Where something doesn't hold, the text that was made last is reported.
+/// Judges the texts made from a grammar file. On a failure, the report shows the last text made.
 fn judge_grammar<S: Subject>(
     alloc: Global,
     text: &str,
@@ -34,7 +34,7 @@ fn judge_grammar<S: Subject>(
     }
 }
 
-/// Judges a file's text: that of a grammar, where its name ends so, or else of rows.
+/// Judges the contents of a file: a grammar if the file's name ends in `.grammar`, otherwise rows.
 fn judge_file<S: Subject>(
     alloc: Global,
     text: &str,
@@ -49,7 +49,7 @@ fn judge_file<S: Subject>(
     Ok(tally)
 }
 
-/// Judges a file, and writes what comes of it.
+/// Judges a file and writes its report.
 fn run_file<S: Subject>(
     rt: &HostRuntime,
     file: &str,
@@ -75,7 +75,8 @@ fn run_file<S: Subject>(
     }
 }
 
-/// Judges the files that a program's arguments name, and writes what comes of them. The status is 0 where each check holds and there is one.
+/// Judges the files that a program's arguments name, and writes the report. The exit code is a
+/// success if all checks hold and there is at least one.
 pub fn run_files<S: Subject>(rt: &HostRuntime, subject: &mut S) -> io::Result<ExitCode> {
     let mut out = rt.stdout();
     let mut all = Tally::default();

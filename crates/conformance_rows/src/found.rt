@@ -1,11 +1,12 @@
-//! What is found for a field.
+//! The answers found for a field.
 
 use crate::row::{Field, Stop};
 use crate::texts::push_compact;
 use serde_json::Value;
 use std::alloc::{AllocError, Global};
 
-/// What was found by the first call that answers a field, and what the next call finds.
+/// The answer of the first call that answers a field (`text`), and that of the current call
+/// (`other`).
 #[derive(Drop)]
 pub struct Found {
     alloc: Global,
@@ -15,7 +16,7 @@ pub struct Found {
 }
 
 impl Found {
-    /// Nothing.
+    /// Returns an empty answer.
     pub fn new(alloc: Global) -> Found {
         Found {
             alloc,
@@ -25,12 +26,16 @@ impl Found {
         }
     }
 
-    /// Forgets what was found.
+    /// Discards all answers.
     pub fn clear(&mut self) {
         *self = Found::new(self.alloc);
     }
 
-    /// Ends what a call finds, which is written in `other`: each call has to find what the first one found.
+    /// Ends a call whose answer is in `other`. Each call must give the same answer as the first
+    /// one.
+    ///
+    /// # Errors
+    /// [`Stop::Differs`] with the name of the call if its answer differs.
     pub fn end(&mut self, call: &'static str) -> Result<(), Stop> {
         if !self.is_answered {
             self.is_answered = true;
@@ -42,25 +47,29 @@ impl Found {
         Ok(())
     }
 
-    /// Has this found in place of all else.
+    /// Replaces the answer.
     pub fn say(&mut self, text: &str) -> Result<(), AllocError> {
         self.text = String::from_str(self.alloc, text)?;
         Ok(())
     }
 
-    /// Ends a call that finds JSON.
+    /// Ends a call whose answer is JSON.
     pub fn end_json(&mut self, json: &Value, call: &'static str) -> Result<(), Stop> {
         write!(self.other, "{json}")?;
         self.end(call)
     }
 
-    /// Begins to find a field's text, as JSON that is written: white space outside strings isn't compared.
+    /// Takes a field's JSON as the first answer, without the white space outside its strings.
     pub fn expect(&mut self, field: &Field) -> Result<(), Stop> {
         push_compact(&mut self.other, field.text.as_str())?;
         self.end("what is expected")
     }
 
-    /// Finds a field's text, where it was written, and read as it has to be.
+    /// Ends a call that printed JSON, and takes the field's own text as the answer.
+    ///
+    /// # Errors
+    /// [`Stop::Differs`] if what was printed differs, or if `is_read` is false: it wasn't read back
+    /// as it should be.
     pub fn end_expected(&mut self, field: &Field, is_read: bool) -> Result<(), Stop> {
         self.end("to_string")?;
         if !is_read {

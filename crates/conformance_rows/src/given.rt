@@ -1,11 +1,11 @@
-//! What a row gives.
+//! Reads the values that a row gives.
 
 use crate::row::{Field, Stop};
 use crate::texts::push_times;
 use serde_json::Value;
 use std::alloc::{AllocError, Global};
 
-/// The text that was given last by a key.
+/// The text last given under a key, if any.
 pub fn text<'a>(given: &'a [Field], key: &str) -> Option<&'a str> {
     for field in given.iter().rev() {
         if field.key.as_str() == key {
@@ -15,7 +15,7 @@ pub fn text<'a>(given: &'a [Field], key: &str) -> Option<&'a str> {
     None
 }
 
-/// The text that was given last by a key, which has to be there.
+/// The text last given under a key, which is required.
 pub fn needed<'a>(given: &'a [Field], key: &'static str) -> Result<&'a str, Stop> {
     match text(given, key) {
         Some(text) => Ok(text),
@@ -23,7 +23,7 @@ pub fn needed<'a>(given: &'a [Field], key: &'static str) -> Result<&'a str, Stop
     }
 }
 
-/// The lines of what was given last by a key, none where nothing was.
+/// The lines of the text last given under a key. Empty if there is none.
 pub fn lines<'a>(alloc: Global, given: &'a [Field], key: &str) -> Result<Vec<&'a str>, AllocError> {
     match text(given, key) {
         Some(text) => text.lines().collect(alloc),
@@ -31,7 +31,7 @@ pub fn lines<'a>(alloc: Global, given: &'a [Field], key: &str) -> Result<Vec<&'a
     }
 }
 
-/// The number that was given last by a key, if any was.
+/// The number last given under a key, if any.
 pub fn number(given: &[Field], key: &'static str) -> Result<Option<u64>, Stop> {
     match text(given, key) {
         Some(text) => match text.parse::<u64>() {
@@ -42,12 +42,12 @@ pub fn number(given: &[Field], key: &'static str) -> Result<Option<u64>, Stop> {
     }
 }
 
-/// The number that was given last by a key, and another one where none was.
+/// The number last given under a key, or `other` if there is none.
 pub fn number_or(given: &[Field], key: &'static str, other: u64) -> Result<u64, Stop> {
     Ok(number(given, key)?.unwrap_or(other))
 }
 
-/// Whether the standard functions are known, and whether those of Kubernetes are.
+/// Reports whether the standard functions are known, and whether those of Kubernetes are.
 pub fn function_sets(given: &[Field]) -> Result<(bool, bool), Stop> {
     match text(given, "functions") {
         Some("standard") => Ok((true, false)),
@@ -57,7 +57,7 @@ pub fn function_sets(given: &[Field]) -> Result<(bool, bool), Stop> {
     }
 }
 
-/// The JSON that was given last by a key, if any was.
+/// Parses the JSON last given under a key, if any.
 pub fn json(alloc: Global, given: &[Field], key: &'static str) -> Result<Option<Value>, Stop> {
     match text(given, key) {
         Some(text) => Ok(Some(json_of(alloc, key, text)?)),
@@ -65,12 +65,12 @@ pub fn json(alloc: Global, given: &[Field], key: &'static str) -> Result<Option<
     }
 }
 
-/// The JSON that was given last by a key, which has to be there.
+/// Parses the JSON last given under a key, which is required.
 pub fn json_needed(alloc: Global, given: &[Field], key: &'static str) -> Result<Value, Stop> {
     json_of(alloc, key, needed(given, key)?)
 }
 
-/// The value of a JSON text, which has this key.
+/// Parses a JSON text. `key` is the key that it was given under.
 pub fn json_of(alloc: Global, key: &'static str, text: &str) -> Result<Value, Stop> {
     match Value::from_str(alloc, text) {
         Ok(value) => Ok(value),
@@ -79,7 +79,7 @@ pub fn json_of(alloc: Global, key: &'static str, text: &str) -> Result<Value, St
     }
 }
 
-/// Writes a text of as many levels as a row gave, each of which puts `before` and `after` around what stands `within`.
+/// Appends the text `within`, with `before` and `after` around it as many times as `levels` says.
 fn push_levels(given: &[Field], out: &mut String) -> Result<(), Stop> {
     let levels = number_or(given, "levels", 0)? as usize;
     push_times(out, needed(given, "before")?, levels)?;
@@ -87,7 +87,7 @@ fn push_levels(given: &[Field], out: &mut String) -> Result<(), Stop> {
     Ok(push_times(out, needed(given, "after")?, levels)?)
 }
 
-/// Writes the text of CEL that a row gave last, whole or by its levels.
+/// Appends the CEL text that a row gave last, as a whole or by its levels.
 pub fn push_source(given: &[Field], out: &mut String) -> Result<(), Stop> {
     for field in given.iter().rev() {
         match field.key.as_str() {

@@ -1,42 +1,43 @@
-//! Texts made from a grammar, by a sequence of numbers.
+//! Makes texts from a grammar, chosen by a sequence of random numbers.
 //!
-//! A grammar is a text. A line `NAME = TEXT` says that `⟨NAME⟩` may become `TEXT`, in which further names stand in such brackets. Empty
-//! lines and lines that begin with `#` say nothing.
+//! A grammar is a text. A line `NAME = TEXT` states that `⟨NAME⟩` may be replaced by `TEXT`, which
+//! may contain further names in such brackets. Empty lines and lines that begin with `#` are
+//! ignored.
 
 use crate::random::Random;
 use crate::row::Stop;
 use std::alloc::{AllocError, Global};
 
-/// The texts that a name may become.
+/// The texts that may replace a name.
 #[derive(Drop)]
 struct Symbol {
     name: String,
-    /// Those that name others.
+    /// The texts that contain names.
     forms: Vec<String>,
-    /// Those that don't.
+    /// The texts that contain no names.
     leaves: Vec<String>,
 }
 
-/// A grammar.
+/// The names of a grammar with their texts.
 #[derive(Drop)]
 struct Grammar {
     symbols: Vec<Symbol>,
 }
 
-/// Texts that are made of a grammar, one after another.
+/// Makes texts from a grammar, one after another.
 #[derive(Drop)]
 pub struct Maker {
     grammar: Grammar,
     random: Random,
-    /// The text that was made last.
+    /// The text made last.
     pub text: String,
 }
 
-/// How many names a text may become texts of, before it has to end.
+/// The number of names that may be replaced in a text before it must be complete.
 const LIMIT: usize = 5_000;
 
 impl Symbol {
-    /// Puts a text to the others.
+    /// Adds a text that may replace the name.
     fn put(&mut self, alloc: Global, text: &str) -> Result<(), AllocError> {
         let texts = if text.contains('⟨') {
             &mut self.forms
@@ -47,7 +48,7 @@ impl Symbol {
         Ok(())
     }
 
-    /// One of its texts: one without names where there is no more to spend.
+    /// Chooses a text. Unless `may_grow` is true, chooses one without names, if there is any.
     fn choose(&self, random: &mut Random, may_grow: bool) -> Option<&String> {
         let grows = may_grow && random.below(5) > 0;
         let texts = if self.leaves.is_empty() || grows && !self.forms.is_empty() {
@@ -60,7 +61,7 @@ impl Symbol {
 }
 
 impl Grammar {
-    /// The grammar that a text writes.
+    /// Parses a grammar.
     fn read(alloc: Global, text: &str) -> Result<Grammar, Stop> {
         let mut grammar = Grammar {
             symbols: Vec::new(alloc),
@@ -76,7 +77,7 @@ impl Grammar {
         Ok(grammar)
     }
 
-    /// Puts a text to those of a name.
+    /// Adds a text that may replace a name.
     fn put(&mut self, alloc: Global, name: &str, text: &str) -> Result<(), AllocError> {
         for symbol in self.symbols.iter_mut() {
             if symbol.name.as_str() == name {
@@ -94,7 +95,7 @@ impl Grammar {
         }
     }
 
-    /// What a name becomes.
+    /// Chooses a text that replaces a name.
     fn choose(&self, random: &mut Random, name: &str, may_grow: bool) -> Result<&str, Stop> {
         for symbol in self.symbols.iter() {
             if symbol.name.as_str() == name {
@@ -106,7 +107,7 @@ impl Grammar {
         Err(Stop::Unfit("a name of the grammar"))
     }
 
-    /// What a text becomes that begins with a name and the bracket that closes it.
+    /// Replaces the name that a text begins with. The text starts inside the name's brackets.
     fn expanded(
         &self,
         alloc: Global,
@@ -122,7 +123,8 @@ impl Grammar {
         Ok(next)
     }
 
-    /// A text of a name, in which at most a number of names, and then as few as can be, become texts that name others.
+    /// Makes a text from a name. Only the first `most` names in it may be replaced by texts that
+    /// contain names, unless a name has no other texts.
     fn made(
         &self,
         alloc: Global,
@@ -145,7 +147,7 @@ impl Grammar {
 }
 
 impl Maker {
-    /// No text is made yet of the grammar that a text writes.
+    /// Creates a maker from the text of a grammar. No text is made yet.
     pub(crate) fn new(alloc: Global, grammar: &str, seed: u64) -> Result<Maker, Stop> {
         Ok(Maker {
             grammar: Grammar::read(alloc, grammar)?,
@@ -154,7 +156,8 @@ impl Maker {
         })
     }
 
-    /// Makes the next text of a name, in which at most a number of names become texts that name others.
+    /// Makes the next text from a name. Only the first `most` names in it may be replaced by texts
+    /// that contain names, unless a name has no other texts.
     pub fn make(&mut self, alloc: Global, name: &str, most: usize) -> Result<(), Stop> {
         self.text = self.grammar.made(alloc, &mut self.random, name, most)?;
         Ok(())

@@ -1,4 +1,4 @@
-//! Running rows.
+//! Judges rows.
 
 use crate::found::Found;
 use crate::grammar::Maker;
@@ -7,15 +7,16 @@ use crate::row::{Fault, Field, Stop};
 use crate::texts::push_all;
 use std::alloc::Global;
 
-/// What rows are about.
+/// What rows are about: answers their fields.
 pub trait Subject {
-    /// Begins a row.
+    /// Starts a row.
     fn begin(&mut self, alloc: Global);
 
-    /// Whether a field of this key gives something.
+    /// Reports whether fields with this key give a value, rather than state an answer.
     fn gives(&self, key: &str) -> bool;
 
-    /// Finds what a field asks, by the fields before it in its row. It holds where that is the field's text.
+    /// Finds the answer to a field, given the fields before it in its row. The check holds if the
+    /// answer is the field's text.
     fn find(
         &mut self,
         alloc: Global,
@@ -24,7 +25,8 @@ pub trait Subject {
         found: &mut Found,
     ) -> Result<(), Stop>;
 
-    /// Judges what is made of a grammar, and writes how much of it holds. Where something doesn't, that is reported by `found`.
+    /// Judges texts made from a grammar, and writes how many hold. On a failure, `found` has the
+    /// report.
     fn generate(
         &mut self,
         alloc: Global,
@@ -34,7 +36,7 @@ pub trait Subject {
     ) -> Result<(), Stop>;
 }
 
-/// How many checks were made, and how many of them failed.
+/// The number of checks that were made, and how many failed.
 #[derive(Clone, Copy, Default)]
 pub(crate) struct Tally {
     pub(crate) rows: usize,
@@ -42,14 +44,14 @@ pub(crate) struct Tally {
     pub(crate) failures: usize,
 }
 
-/// A row without a check.
+/// A row without checks.
 const ROW: Tally = Tally {
     rows: 1,
     checks: 0,
     failures: 0,
 };
 
-/// Something that isn't a row and failed.
+/// A failure outside of rows.
 pub(crate) const FAILURE: Tally = Tally {
     rows: 0,
     checks: 0,
@@ -57,7 +59,7 @@ pub(crate) const FAILURE: Tally = Tally {
 };
 
 impl Tally {
-    /// This and another, added up.
+    /// Returns the sum of two tallies.
     pub(crate) fn with(self, other: Tally) -> Tally {
         Tally {
             rows: self.rows.saturating_add(other.rows),
@@ -96,7 +98,7 @@ impl Report<'_> {
         Ok(push_all(&mut self.text, &[what, "\n"])?)
     }
 
-    /// Writes what a field expects, and what was found.
+    /// Writes what a field expects and what was found.
     fn report_found(&mut self, name: &str, field: &Field, found: &str) -> Result<(), Stop> {
         self.write_report(field.line, name)?;
         let (key, expected) = (field.key.as_str(), field.text.as_str());
@@ -115,7 +117,10 @@ impl Report<'_> {
     }
 }
 
-/// Reports why there is no one answer in place of what was found.
+/// Replaces the answer in `found` by a message that says why there is no single answer.
+///
+/// # Errors
+/// [`Stop::Memory`] if memory was refused.
 pub(crate) fn report_stop(stop: Stop, found: &mut Found) -> Result<(), Stop> {
     match stop {
         Stop::Memory => return Err(Stop::Memory),
@@ -129,7 +134,7 @@ pub(crate) fn report_stop(stop: Stop, found: &mut Found) -> Result<(), Stop> {
     Ok(())
 }
 
-/// Whether a field holds. Where it doesn't, what was found is reported by `found`.
+/// Reports whether a field holds. If it doesn't, `found` has the answer or the reason.
 fn holds<S: Subject>(
     alloc: Global,
     given: &[Field],
@@ -147,7 +152,7 @@ fn holds<S: Subject>(
     }
 }
 
-/// Judges a row, by the fields behind the one that begins it, and counts.
+/// Judges a row by the fields after the one that begins it. Returns its tally.
 fn judge_row<S: Subject>(
     alloc: Global,
     row: &Field,
@@ -174,7 +179,7 @@ fn judge_row<S: Subject>(
     Ok(tally)
 }
 
-/// Judges rows in order, reports what fails, and counts.
+/// Judges rows in order and reports failures. Returns the tally.
 fn judge_rows<S: Subject>(
     alloc: Global,
     fields: &[Field],
@@ -200,7 +205,7 @@ fn judge_rows<S: Subject>(
     Ok(all)
 }
 
-/// Judges the rows of a file's text, reports what fails, and counts.
+/// Judges the rows of a file's contents and reports failures. Returns the tally.
 pub(crate) fn judge_text<S: Subject>(
     alloc: Global,
     text: &str,

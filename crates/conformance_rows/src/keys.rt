@@ -1,9 +1,9 @@
-//! The keys of fields that give something.
+//! The keys of fields that give a value.
 
 use crate::questions::maker;
 use crate::row::Field;
 
-/// The keys of what is given, but for names that are bound, items and files.
+/// The keys of fields that give a value, except those for bound names, items and files.
 const GIVEN: [&str; 53] = [
     "admit",
     "after",
@@ -60,7 +60,7 @@ const GIVEN: [&str; 53] = [
     "within",
 ];
 
-/// The name that a field of this key binds.
+/// The name that a field with this key binds, if any.
 pub fn bound_name(key: &str) -> Option<&str> {
     if key == "self" {
         Some(key)
@@ -69,7 +69,8 @@ pub fn bound_name(key: &str) -> Option<&str> {
     }
 }
 
-/// The text of the file at a path that was given last: the key of such a field is `file` and the path.
+/// The contents last given for the file at a path. The key of such a field is `file` followed by
+/// the path.
 pub fn file_given<'g>(given: &'g [Field], path: &str) -> Option<&'g str> {
     for field in given.iter().rev() {
         if let Some(name) = field.key.as_str().strip_prefix("file ") {
@@ -81,7 +82,7 @@ pub fn file_given<'g>(given: &'g [Field], path: &str) -> Option<&'g str> {
     None
 }
 
-/// The type of the item that a field of this key gives, and whether it is the other one.
+/// The type of the item that a field with this key gives, and whether it is the other item.
 pub fn item_type(key: &str) -> (&str, bool) {
     match key.strip_prefix("other ") {
         Some(of) => (of, true),
@@ -89,7 +90,7 @@ pub fn item_type(key: &str) -> (&str, bool) {
     }
 }
 
-/// Whether a field of this key gives something.
+/// Reports whether fields with this key give a value.
 pub fn gives(key: &str) -> bool {
     GIVEN.contains(&key)
         || key.starts_with("file ")
@@ -97,7 +98,7 @@ pub fn gives(key: &str) -> bool {
         || maker(item_type(key).0).is_some()
 }
 
-/// The field that gave the item, or the other one, last.
+/// The field that last gave the item, or the other item.
 pub fn item_given(given: &[Field], wants_other: bool) -> Option<&Field> {
     for field in given.iter().rev() {
         let (of, is_other) = item_type(field.key.as_str());

@@ -1,8 +1,9 @@
-//! Rows: text files that state what the library and the program have to answer (docs/ROWS.md).
+//! Rows: text files that state the answers of the library and the programs (docs/ROWS.md).
 //!
-//! [`run_files`] is all that a program of rows does: it reads the files that its arguments name, asks a [`Subject`] what each field finds, and
-//! prints how many checks hold and each that doesn't. What a row gave, the questions that its keys stand for, and the texts, schemas
-//! and sequences that rows and grammars make, have modules of their own.
+//! A program of rows just calls [`run_files`]: it reads the files that its arguments name, asks a
+//! [`Subject`] for the answer to each field, and prints how many checks hold and which don't.
+//! Further modules have the values that a row gives, the questions that its keys stand for, and the
+//! texts, schemas and sequences that rows and grammars make.
 #![tactic(auto)]
 
 mod files;

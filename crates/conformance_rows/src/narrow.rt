@@ -3,10 +3,10 @@
 use std::alloc::Global;
 use std::io;
 
-/// A number that no count of reads or writes comes to.
+/// A limit that no number of reads or writes reaches.
 pub const MANY: u64 = 1_000_000;
 
-/// A writer that takes a number of writes, and refuses each further one.
+/// A writer that accepts a number of writes and refuses further ones.
 #[derive(Drop)]
 pub struct Narrow {
     room: u64,
@@ -14,7 +14,7 @@ pub struct Narrow {
 }
 
 impl Narrow {
-    /// A writer that takes this number of writes.
+    /// Creates a writer that accepts `room` writes.
     pub fn new(alloc: Global, room: u64) -> Narrow {
         Narrow {
             room,

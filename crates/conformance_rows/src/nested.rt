@@ -1,4 +1,5 @@
-//! Schemas and values of many levels. JSON texts nest 127 levels at most, and a level of `properties` or of branches takes two.
+//! Deeply nested schemas and values. JSON texts nest at most 127 levels, and each level of
+//! `properties` or of branches takes two.
 
 use crate::found::Found;
 use crate::given::{json, json_of};
@@ -6,14 +7,14 @@ use crate::row::{Field, Stop};
 use serde_json::{Map, Value};
 use std::alloc::{AllocError, Global};
 
-/// A number of levels, and the step that leads from one to the next.
+/// A number of levels, and the step from each level to the next.
 #[derive(Clone, Copy)]
 pub struct Nesting {
     pub step: &'static str,
     pub levels: u64,
 }
 
-/// The steps from a level to the next, by the keys that give how many levels there are.
+/// The steps between levels, by the keys that give the number of levels.
 const STEPS: [(&str, &str); 6] = [
     ("nested items", "items"),
     ("nested properties", "properties a"),
@@ -23,7 +24,7 @@ const STEPS: [(&str, &str); 6] = [
     ("nested any of", "anyOf 0"),
 ];
 
-/// The step from a level to the next, by the key that gives how many levels there are.
+/// The step between levels for a key that gives their number.
 fn step_of(key: &str) -> Option<&'static str> {
     for &(name, step) in STEPS.iter() {
         if name == key {
@@ -33,7 +34,7 @@ fn step_of(key: &str) -> Option<&'static str> {
     None
 }
 
-/// The levels that a row gave last, and none where it gave none.
+/// The nesting that a row gave last. Zero levels if it gave none.
 pub fn nesting_given(given: &[Field]) -> Result<Nesting, Stop> {
     for field in given.iter().rev() {
         if let Some(step) = step_of(field.key.as_str()) {
@@ -47,21 +48,21 @@ pub fn nesting_given(given: &[Field]) -> Result<Nesting, Stop> {
     Ok(Nesting { step, levels })
 }
 
-/// A list of one value.
+/// Returns a list of one value.
 fn list_of(alloc: Global, value: Value) -> Result<Value, AllocError> {
     let mut items = Vec::new(alloc);
     items.push(value)?;
     Ok(Value::Array(items))
 }
 
-/// An object of one member.
+/// Returns an object with one member.
 fn object_of(alloc: Global, key: &str, value: Value) -> Result<Value, AllocError> {
     let mut members = Map::new(alloc);
     members.insert(String::from_str(alloc, key)?, value)?;
     Ok(Value::Object(members))
 }
 
-/// The schema a level above.
+/// Wraps a schema in one more level.
 fn schema_above(alloc: Global, step: &str, below: Value) -> Result<Value, AllocError> {
     match step.split_once(' ') {
         None => object_of(alloc, step, below),
@@ -70,7 +71,7 @@ fn schema_above(alloc: Global, step: &str, below: Value) -> Result<Value, AllocE
     }
 }
 
-/// The value a level above, where the step leads to the one below.
+/// Wraps a value in one more level, if the step leads into the value.
 fn value_above(alloc: Global, step: &str, below: Value) -> Result<Value, AllocError> {
     match step {
         "items" => list_of(alloc, below),
@@ -79,7 +80,7 @@ fn value_above(alloc: Global, step: &str, below: Value) -> Result<Value, AllocEr
     }
 }
 
-/// A schema that stands a number of levels below another.
+/// Nests a schema.
 fn nested_schema(alloc: Global, nesting: Nesting, inner: Value) -> Result<Value, AllocError> {
     let mut schema = inner;
     for _ in 0..nesting.levels {
@@ -88,7 +89,7 @@ fn nested_schema(alloc: Global, nesting: Nesting, inner: Value) -> Result<Value,
     Ok(schema)
 }
 
-/// A value that stands a number of levels below another.
+/// Nests a value.
 fn nested_value(alloc: Global, nesting: Nesting, inner: Value) -> Result<Value, AllocError> {
     let mut value = inner;
     for _ in 0..nesting.levels {
@@ -97,7 +98,7 @@ fn nested_value(alloc: Global, nesting: Nesting, inner: Value) -> Result<Value, 
     Ok(value)
 }
 
-/// The value that a row gave last by a key, nested as the row says.
+/// The value last given under a key, nested as the row says.
 pub fn value_given(
     alloc: Global,
     given: &[Field],
@@ -110,7 +111,7 @@ pub fn value_given(
     }
 }
 
-/// The object that a row gave last, nested as the row says; an empty one where it gave none.
+/// The object that a row gave last, nested as the row says. Empty if it gave none.
 pub fn object_given(alloc: Global, given: &[Field]) -> Result<Value, Stop> {
     match value_given(alloc, given, "object")? {
         Some(object) => Ok(object),
@@ -118,7 +119,7 @@ pub fn object_given(alloc: Global, given: &[Field]) -> Result<Value, Stop> {
     }
 }
 
-/// The schema that a row gave last, nested as the row says; an empty one where it gave none.
+/// The schema that a row gave last, nested as the row says. Empty if it gave none.
 pub fn schema_given(alloc: Global, given: &[Field]) -> Result<Value, Stop> {
     let nesting = nesting_given(given)?;
     match json(alloc, given, "schema")? {
@@ -127,7 +128,7 @@ pub fn schema_given(alloc: Global, given: &[Field]) -> Result<Value, Stop> {
     }
 }
 
-/// Finds a field's JSON, nested as the row says.
+/// Answers with a field's JSON, nested as the row says.
 pub fn find_nested(
     alloc: Global,
     given: &[Field],

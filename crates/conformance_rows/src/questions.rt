@@ -1,6 +1,7 @@
-//! What is asked of values, as expressions: of `item`, which was made of the text `written`, of `other`, and of `text`.
+//! The questions about values, as expressions over `item` (made from the text `written`), `other`
+//! and `text`.
 
-/// How a value of a type is made of the text `written`.
+/// The expressions that make a value of a type from the text `written`.
 const MAKERS: [(&str, &str); 11] = [
     ("string", "written"),
     ("quantity", "quantity(written)"),
@@ -15,22 +16,23 @@ const MAKERS: [(&str, &str); 11] = [
     ("format", "format.named(written)"),
 ];
 
-/// The order of two values by `compareTo`, asked from both sides, which must agree with equality.
+/// The order of two values by `compareTo`. Checks that it is the same from both sides and agrees
+/// with equality.
 const COMPARED: &str =
     "item.compareTo(other) == -other.compareTo(item) && (item.compareTo(other) == 0) == (item == other)
     ? ['less', 'equal', 'greater'][item.compareTo(other) + 1] : 'another order from the other side, or than equality'";
 
-/// The names of the tests that hold of an address, or `none`.
+/// The names of the tests that are true of an address, or `none`.
 const CLASS: &str = "[[['loopback', item.isLoopback()], ['unspecified', item.isUnspecified()],
     ['link-local multicast', item.isLinkLocalMulticast()], ['link-local unicast', item.isLinkLocalUnicast()],
     ['global unicast', item.isGlobalUnicast()]].filter(c, c[1]).map(c, c[0])].map(names, names == [] ? 'none' : names.join(', '))[0]";
 
-/// What a format says of a text.
+/// The faults that a format finds in a text.
 const FAULTS: &str =
     "item.validate(text).hasValue() ? item.validate(text).value().join('\\n') : 'none'";
 
-/// The keys with the expressions that they stand for, where one of the items is of the type between them, or any item where there is none. The
-/// first that fits is the one that is meant.
+/// The keys with the expressions that they stand for. In between is the type that one of the two
+/// items must have; it is empty if any type will do. The first entry that fits is used.
 const QUESTIONS: [(&str, &str, &str); 30] = [
     ("order", "", COMPARED),
     ("sum", "duration", "item + other"),
@@ -64,7 +66,7 @@ const QUESTIONS: [(&str, &str, &str); 30] = [
     ("faults", "", FAULTS),
 ];
 
-/// How a value of a type is made of the text `written`.
+/// The expression that makes a value of a type from the text `written`, if the type is known.
 pub fn maker(of: &str) -> Option<&'static str> {
     for &(name, expression) in MAKERS.iter() {
         if name == of {
@@ -74,7 +76,7 @@ pub fn maker(of: &str) -> Option<&'static str> {
     None
 }
 
-/// The expression that a key stands for, of an item of a type, and of another one.
+/// The expression that a key stands for, given the types of the item and of the other one.
 pub fn question(key: &str, of: &str, other: &str) -> Option<&'static str> {
     for &(asked, only, expression) in QUESTIONS.iter() {
         if asked == key && (only.is_empty() || only == of || only == other) {
@@ -84,7 +86,8 @@ pub fn question(key: &str, of: &str, other: &str) -> Option<&'static str> {
     None
 }
 
-/// The answer to a question that has an error for a value, by the error's message.
+/// Returns the answer for an error: a word if the key's question has one for it, otherwise the
+/// message.
 pub fn word_for<'m>(key: &str, message: &'m str) -> &'m str {
     match (key, message) {
         ("sum" | "difference", "quantity overflow" | "integer overflow") => "overflow",

@@ -1,21 +1,21 @@
-//! What a command did.
+//! The results of running a command.
 
 use crate::found::Found;
 use crate::row::{Field, Stop};
 use std::alloc::Global;
 
-/// The status of a run, and what it wrote.
+/// The exit status of a run, and what it wrote.
 #[derive(Drop)]
 pub struct Ran {
     pub status: u8,
     pub out: Vec<u8>,
     pub err: Vec<u8>,
-    /// Whether it may write to one stream alone.
+    /// Whether the run may write to only one of the two streams.
     pub is_alone: bool,
 }
 
 impl Ran {
-    /// Finds the status, or what was written to one stream.
+    /// Answers with the exit status, or with what was written to one stream.
     pub fn find(&self, alloc: Global, field: &Field, found: &mut Found) -> Result<(), Stop> {
         let (status, out, err) = (self.status, self.out.as_slice(), self.err.as_slice());
         let text = field.text.as_str();
@@ -26,7 +26,9 @@ impl Ran {
         }
     }
 
-    /// Writes what was written to one stream, as a field's text has it, and what was written to the other, where the run may not write there.
+    /// Answers with what was written to one stream. Unless the field's text is empty or ends in a
+    /// line feed, the last line feed is left out. If there is none, or if the run wrote to the
+    /// other stream and may not, the answer says so and shows the other stream.
     fn put(
         &self,
         alloc: Global,
@@ -54,13 +56,13 @@ impl Ran {
         Ok(())
     }
 
-    /// Whether another run did the same.
+    /// Reports whether two runs had the same results.
     pub fn is_same(&self, other: &Ran) -> bool {
         self.status == other.status && self.out == other.out && self.err == other.err
     }
 
-    /// Whether this run was cut short: it ends with 2, wrote a beginning of what the whole run writes, and nothing to standard error where that
-    /// may not stand beside it.
+    /// Reports whether this run was cut short: its status is 2, its output is a prefix of the whole
+    /// run's output, and it wrote no errors if it may write to only one stream.
     pub fn is_cut(&self, whole: &Ran) -> bool {
         self.status == 2
             && (self.err.is_empty() || !self.is_alone)

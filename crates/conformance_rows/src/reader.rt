@@ -1,27 +1,27 @@
-//! Reading a file of rows.
+//! Reads files of rows.
 
 use crate::row::{Fault, Field};
 use crate::texts::push_line;
 use serde_json::Value;
 use std::alloc::{AllocError, Global};
 
-/// What a line that isn't part of a text says.
+/// A line that isn't part of a field's text.
 enum Line<'a> {
-    /// Nothing: it is empty or a comment.
+    /// An empty line or a comment.
     Nothing,
-    /// A row begins, with this name.
+    /// The beginning of a row with this name.
     Row(&'a str),
-    /// A field with the rest of its line as its text.
+    /// A field whose text is the rest of the line.
     Plain(&'a str, &'a str),
-    /// A field whose text stands in the lines below it.
+    /// A field whose text is in the lines below.
     Block(&'a str),
-    /// A field with a JSON string.
+    /// A field whose text is a JSON string.
     Quoted(&'a str, &'a str),
     /// None of these.
     Other,
 }
 
-/// Whether a text is a key: lower-case letters and blanks.
+/// Reports whether a text is a key: lower-case letters and blanks.
 fn is_key(text: &str) -> bool {
     for byte in text.bytes() {
         if !byte.is_ascii_lowercase() && byte != b' ' {
@@ -31,7 +31,7 @@ fn is_key(text: &str) -> bool {
     !text.is_empty()
 }
 
-/// What a line with a key says.
+/// Parses a line with a key.
 fn field_line(line: &str) -> Line<'_> {
     let Some(at) = line.find([':', '=']) else {
         return Line::Other;
@@ -53,7 +53,7 @@ fn field_line(line: &str) -> Line<'_> {
     }
 }
 
-/// What a line is.
+/// Parses a line.
 fn line_of(line: &str) -> Line<'_> {
     if line.is_empty() || line.starts_with('#') {
         return Line::Nothing;
@@ -68,12 +68,12 @@ fn line_of(line: &str) -> Line<'_> {
 #[derive(Drop)]
 struct Reader {
     fields: Vec<Field>,
-    /// Whether the last field's text goes on.
+    /// Whether the next lines may continue the last field's text.
     in_block: bool,
 }
 
 impl Reader {
-    /// Whether a row has this name.
+    /// Reports whether a row has this name.
     fn has_row(&self, name: &str) -> bool {
         for field in self.fields.iter() {
             if field.key.as_str() == "==" && field.text.as_str() == name {
@@ -83,7 +83,7 @@ impl Reader {
         false
     }
 
-    /// Puts a field behind the others.
+    /// Appends a field. Returns what is wrong with it, if anything.
     fn put(
         &mut self,
         alloc: Global,
@@ -99,7 +99,7 @@ impl Reader {
         Ok(None)
     }
 
-    /// Puts a line behind the text of the last field, if its text goes on.
+    /// Appends a line to the text of the last field. Returns what is wrong with it, if anything.
     fn go_on(&mut self, text: &str) -> Result<Option<&'static str>, AllocError> {
         match self.fields.last_mut() {
             Some(field) if self.in_block => {
@@ -110,7 +110,7 @@ impl Reader {
         }
     }
 
-    /// Takes a line: what is wrong with it, if anything is.
+    /// Reads a line. Returns what is wrong with it, if anything.
     fn take(
         &mut self,
         alloc: Global,
@@ -139,7 +139,7 @@ impl Reader {
     }
 }
 
-/// The fields of a text's rows, in order, or the first line that is wrong.
+/// Returns the fields of all rows, in order, or the first line that is wrong.
 pub(crate) fn read_rows(
     alloc: Global,
     text: &str,

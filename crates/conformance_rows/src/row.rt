@@ -1,9 +1,10 @@
-//! What a file of rows holds, and why a row has no answer.
+//! The fields of rows, and the reasons why a field has no answer.
 
 use kube_types_refused::Refused;
 use std::alloc::{AllocError, AllocFailed};
 
-/// A field of a row: its key, its text, and the number of the line where it stands. One with the key `==` begins a row, and its text is the row's name.
+/// A field of a row: its key, its text, and its line number. A field with the key `==` begins a
+/// row; its text is the row's name.
 #[derive(Drop)]
 pub struct Field {
     pub key: String,
@@ -11,23 +12,23 @@ pub struct Field {
     pub line: usize,
 }
 
-/// Why a text holds no rows, and at which line.
+/// What is wrong with a file of rows, and at which line.
 #[derive(Clone, Copy)]
 pub struct Fault {
     pub line: usize,
     pub what: &'static str,
 }
 
-/// Why a field has no one answer.
+/// Why a field has no single answer.
 #[derive(Clone, Copy)]
 pub enum Stop {
-    /// There is no memory.
+    /// Memory was refused.
     Memory,
-    /// A text is longer than what it is read as can hold.
+    /// A text is too long for what it is read as.
     TooLarge,
-    /// What the row has to give by this key isn't given, or can't be read.
+    /// The row must give a value under this key, and it is missing or can't be read.
     Unfit(&'static str),
-    /// This call gives something else than the calls before it.
+    /// This call gives another answer than the calls before it.
     Differs(&'static str),
 }
 

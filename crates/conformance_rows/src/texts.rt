@@ -1,10 +1,10 @@
-//! Writing texts.
+//! Writes texts.
 
 use kube_types_refused::Refused;
 use serde_json::Value;
 use std::alloc::{AllocError, Global};
 
-/// Puts texts behind a text.
+/// Appends texts.
 pub fn push_all(text: &mut String, parts: &[&str]) -> Result<(), AllocError> {
     for part in parts {
         text.push_str(part)?;
@@ -12,7 +12,7 @@ pub fn push_all(text: &mut String, parts: &[&str]) -> Result<(), AllocError> {
     Ok(())
 }
 
-/// Begins a line behind those that are there.
+/// Appends a line.
 pub fn push_line(text: &mut String, line: &str) -> Result<(), AllocError> {
     if !text.is_empty() {
         text.push('\n')?;
@@ -20,7 +20,7 @@ pub fn push_line(text: &mut String, line: &str) -> Result<(), AllocError> {
     text.push_str(line)
 }
 
-/// The lines of a text, none of an empty one.
+/// Splits a text into its lines. An empty text has none.
 pub fn words_of(alloc: Global, text: &str) -> Result<Vec<String>, AllocError> {
     let mut words = Vec::new(alloc);
     if text.is_empty() {
@@ -32,12 +32,12 @@ pub fn words_of(alloc: Global, text: &str) -> Result<Vec<String>, AllocError> {
     Ok(words)
 }
 
-/// `yes` or `no`.
+/// Returns `yes` or `no`.
 pub fn yes_or_no(holds: bool) -> &'static str {
     if holds { "yes" } else { "no" }
 }
 
-/// Begins a line for a thing that is there.
+/// Appends a line with the name, if `is_there` is true.
 pub fn push_flag(text: &mut String, name: &str, is_there: bool) -> Result<(), AllocError> {
     if is_there {
         push_line(text, name)?;
@@ -45,7 +45,7 @@ pub fn push_flag(text: &mut String, name: &str, is_there: bool) -> Result<(), Al
     Ok(())
 }
 
-/// Begins a line for a number that is there.
+/// Appends a line with the name and the number, if there is one.
 pub fn push_number(text: &mut String, name: &str, number: Option<u64>) -> Result<(), AllocError> {
     if let Some(number) = number {
         push_line(text, name)?;
@@ -54,7 +54,7 @@ pub fn push_number(text: &mut String, name: &str, number: Option<u64>) -> Result
     Ok(())
 }
 
-/// Begins a line for a number of things, where there are some.
+/// Appends a line with the name and the count, unless it is 0.
 pub fn push_count(text: &mut String, name: &str, count: usize) -> Result<(), AllocError> {
     if count > 0 {
         push_number(text, name, Some(count as u64))?;
@@ -62,7 +62,7 @@ pub fn push_count(text: &mut String, name: &str, count: usize) -> Result<(), All
     Ok(())
 }
 
-/// Puts bytes in hexadecimal digits behind a text, two for each behind a blank.
+/// Appends bytes, each as a blank and two hexadecimal digits.
 pub fn push_bytes(text: &mut String, bytes: &[u8]) -> Result<(), AllocError> {
     for byte in bytes {
         write!(text, " {byte:02x}")?;
@@ -70,7 +70,7 @@ pub fn push_bytes(text: &mut String, bytes: &[u8]) -> Result<(), AllocError> {
     Ok(())
 }
 
-/// The text that bytes are.
+/// Returns bytes as a text, or `no UTF-8`.
 pub fn text_of(bytes: &[u8]) -> &str {
     match str::from_utf8(bytes) {
         Ok(text) => text,
@@ -78,7 +78,7 @@ pub fn text_of(bytes: &[u8]) -> &str {
     }
 }
 
-/// Puts names behind a text, with commas between them.
+/// Appends names, separated by commas.
 pub fn push_names(text: &mut String, names: &[String]) -> Result<(), AllocError> {
     for name in names {
         if !text.is_empty() {
@@ -89,19 +89,19 @@ pub fn push_names(text: &mut String, names: &[String]) -> Result<(), AllocError>
     Ok(())
 }
 
-/// Puts a text as JSON behind a text.
+/// Appends a text as a JSON string.
 pub fn push_quoted(alloc: Global, text: &mut String, content: &str) -> Result<(), AllocError> {
     let value = Value::String(String::from_str(alloc, content)?);
     write!(text, "{value}")
 }
 
-/// Puts a member into a JSON object that is being written, its value as JSON.
+/// Appends a member to an unfinished JSON object. The value is JSON.
 pub fn push_json(object: &mut String, key: &str, json: &str) -> Result<(), AllocError> {
     let open = if object.ends_with('{') { "\"" } else { ", \"" };
     push_all(object, &[open, key, "\": ", json])
 }
 
-/// Puts a member that is a text into a JSON object that is being written.
+/// Appends a string member to an unfinished JSON object.
 pub fn push_member(
     alloc: Global,
     object: &mut String,
@@ -112,7 +112,7 @@ pub fn push_member(
     push_quoted(alloc, object, text)
 }
 
-/// Puts a member that is a text, if there is one, into a JSON object that is being written.
+/// Appends a string member to an unfinished JSON object, if there is a text.
 pub fn push_optional_member(
     alloc: Global,
     object: &mut String,
@@ -125,12 +125,12 @@ pub fn push_optional_member(
     }
 }
 
-/// Puts a member that is true or false into a JSON object that is being written.
+/// Appends a Boolean member to an unfinished JSON object.
 pub fn push_bool(object: &mut String, key: &str, holds: bool) -> Result<(), AllocError> {
     push_json(object, key, if holds { "true" } else { "false" })
 }
 
-/// Puts what was refused behind a text, and what stands before it.
+/// Appends a prefix and the reason for a refusal.
 pub fn push_refused(text: &mut String, before: &str, refused: Refused) -> Result<(), AllocError> {
     text.push_str(before)?;
     text.push_str(match refused {
@@ -139,14 +139,14 @@ pub fn push_refused(text: &mut String, before: &str, refused: Refused) -> Result
     })
 }
 
-/// Begins a line at a depth, with two blanks for each level.
+/// Appends a line, indented by two blanks for each level.
 pub fn push_indented(text: &mut String, depth: usize, parts: &[&str]) -> Result<(), AllocError> {
     push_line(text, "")?;
     push_times(text, "  ", depth)?;
     push_all(text, parts)
 }
 
-/// A text, repeated.
+/// Appends a text repeatedly.
 pub fn push_times(text: &mut String, part: &str, times: usize) -> Result<(), AllocError> {
     for _ in 0..times {
         text.push_str(part)?;
@@ -154,7 +154,7 @@ pub fn push_times(text: &mut String, part: &str, times: usize) -> Result<(), All
     Ok(())
 }
 
-/// Puts a JSON text without the white space outside its strings behind a text.
+/// Appends a JSON text without the white space outside its strings.
 pub fn push_compact(text: &mut String, json: &str) -> Result<(), AllocError> {
     let mut in_string = false;
     let mut escaped = false;

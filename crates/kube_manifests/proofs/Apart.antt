@@ -1,4 +1,4 @@
--- Versions no two of which have one apiVersion and kind: their order makes no difference.
+-- Versions of which no two have the same apiVersion and kind: their order makes no difference.
 use Rattle.std.proofs.Common.{◌≡◌, ℕ, List, [], ◌∷◌, ◌++◌, cond, Bool, true, false, ◌&&◌, ◌||◌, ◌⊎◌, inl, inr, Option, Some, None, Result, Ok, Err, refl, sym, ap, ◌∙◌}
 use Rattle.std.proofs.lemmas.List.Folds.{find-append, list_any-append}
 use Rattle.std.proofs.lemmas.Slice.Eq.{bytes_eq-Decides}
@@ -17,7 +17,7 @@ abbrev pub IsApart : {S : Type 0} → List (Version S) → Type 0
 IsApart [] = Unit {0}
 IsApart (v ∷ vs) = (list_any (is_of_version (api_version v) v.kind) vs ≡ false) × IsApart vs
 
--- ---- one more
+-- ---- one more version
 
 neither : (a b : Bool) → (a || b) ≡ false → (a ≡ false) × (b ≡ false)
 neither true b e = cc
@@ -35,7 +35,7 @@ false_by false never = refl
 not_true : (b : Bool) → b ≡ false → b ≡ true → ⊥
 not_true b wrong is = let e : true ≡ false = sym is ∙ wrong in cc
 
--- an apiVersion and kind are those of a version exactly where they are equal
+-- a version has this apiVersion and kind exactly if they equal its own
 is_its : {S : Type 0} (text kind : List ℕ) (v : Version S) → is_of_version text kind v ≡ true → (api_version v ≡ text) × (v.kind ≡ kind)
 is_its text kind v e =
     let parts = both (bytes_eq (api_version v) text) (bytes_eq v.kind kind) e in

@@ -1,4 +1,4 @@
--- The version that judges an value is the same in whatever form schemas are kept.
+-- The version that judges a value is the same in whatever form schemas are kept.
 use Rattle.std.proofs.Common.{◌≡◌, ℕ, List, [], ◌∷◌, map, cond, Bool, true, false, Option, Some, None, option_map, Result, Ok, Err, refl, ap, ◌∙◌, if◌then◌else◌}
 use Rattle.std.specs.List.{find, list_any}
 use Rattle.std.specs.Prelude.{codes}

@@ -1,4 +1,4 @@
--- Sums of numbers of rules that stop at the greatest number.
+-- Sums of numbers of rules that saturate at the greatest number.
 use Rattle.std.proofs.Common.{◌≡◌, ◌<◌, ◌≤◌, ◌+◌, ◌-◌, ◌^◌, ℕ, zero, suc, List, length, map, min, Option, Some, None, refl, sym, ap, ◌∙◌, add-one, arith}
 use Rattle.std.proofs.lemmas.List.{length-map}
 use Rattle.kube_cel_analysis.proofs.Rest.{rest, rest_at, rest_none, rest_past}
@@ -13,7 +13,7 @@ more_at_most m a b c = omega arith
 none_at_most : (m a : ℕ) → a ≤ m → a ≡ min (a + 0) m
 none_at_most m a h = omega (arith, h)
 
--- a count, and more
+-- adding to a saturated sum
 pub counted_more : (a b c : ℕ) → saturated_count (saturated_count (a + b) + c) ≡ saturated_count (a + (b + c))
 counted_more a b c = more_at_most (2 ^ 64 - 1) a b c
 
@@ -29,7 +29,7 @@ counted_fits a = let most = most_fits (2 ^ 64 - 1) a in omega (arith, most)
 pub same_length : {A B : Type 0} (f : A → B) (xs : List A) (ys : List B) → map f xs ≡ ys → length xs ≡ length ys
 same_length f xs ys e = sym (length-map xs f) ∙ ap length e
 
--- ---- properties that are left
+-- ---- the remaining properties
 
 pub properties_more : (i : ℕ) (ns : Named) (k : List ℕ) (n : Node) (all : ℕ) → Some (k, n) ≡ nth_named i ns
     → saturated_count (saturated_count (all + rules_in n) + rules_in_named (rest (i + 1) ns)) ≡ saturated_count (all + rules_in_named (rest i ns))
@@ -46,7 +46,7 @@ pub properties_past : (i : ℕ) (ns : Named) (all : ℕ) → all < 2 ^ 64 → le
 unfolding rules_in_named
 properties_past i ns all h past = counted_none all h ∙ ap (λ m. saturated_count (all + rules_in_named m)) (sym (rest_past i ns past))
 
--- ---- branches that are left
+-- ---- the remaining branches
 
 abbrev pub rest_nodes : ℕ → Nodes → Nodes
 rest_nodes zero ns = ns
@@ -108,7 +108,7 @@ chain e0 e1 e2 e3 e4 e5 e6 e7 a b c d f g h q1 q2 q3 q4 q5 q6 q7 =
     let flat : ((((((a + b) + c) + d) + f) + g) + h) ≡ (a + (b + (c + (d + (f + (g + h)))))) = omega arith in
     s6 ∙ ap (λ n. saturated_count (e0 + n)) flat
 
--- what the calls at one node count, in turn, is what is counted there
+-- the successive counts at one node add up to the count of the node
 pub all_counted : (m : Node) (e0 e1 e2 e3 e4 e5 e6 e7 : ℕ)
     → e1 ≡ saturated_count (e0 + length (own m).validations)
     → e2 ≡ saturated_count (e1 + rules_in_named (named_of m))

@@ -1,4 +1,4 @@
--- Values, if there are any.
+-- Slices that aren't empty.
 use Rattle.std.proofs.Common.{◌≡◌, ◌==◌, List, [], ◌∷◌, length, true, false, Option, Some, None, refl, arith}
 use Rattle.std.proofs.lemmas.Bool.Decides.{Decides-eqb}
 use Rattle.kube_manifests.specs.Documents.{unless_none}

@@ -36,14 +36,14 @@ each_alike g step step' h i (item d ds) v =
     ∙ go_on g (step i d v) (each step (suc i) ds) (each step' (suc i) ds) (λ w. each_alike g step step' h (suc i) ds w)
 
 module _ {S : Type 0} (form : Data → S) where
-  -- a version with its schema in that form
+  -- a version with its schema in the other form
   abbrev pub formed : Version Data → Version S
   formed v = record { group = v.group; kind = v.kind; name = v.name; served = v.served; schema = form v.schema }
 
   abbrev plain : Data → Data
   plain d = d
 
-  -- a choice, before and after
+  -- a conditional, before and after the mapping
   choice : (b : Bool) (f : Fault) (r : Result (List (Version Data)) Fault) (r' : Result (List (Version S)) Fault) → r' ≡ mapped (map formed) r
       → (if b then Err f else r') ≡ mapped (map formed) (if b then Err f else r)
   choice true f r r' h = refl

@@ -1,4 +1,4 @@
--- What the code's own version answers is what the version of the documents answers.
+-- The answer of the code's version is that of the documents' version.
 use Rattle.std.proofs.Common.{◌≡◌, ℕ, List, [], map, Option, Some, Result, Ok, Err, refl, sym, ap, ◌∙◌, subst, string_bytes}
 use Rattle.kube_cel.specs.Answers.{IsReportOf}
 use Rattle.kube_cel.specs.Raw.{raw_accessors}
@@ -18,7 +18,7 @@ use Rattle.kube_schema.specs.Tree.{Node}
 use Rattle.kube_schema.specs.View.{view_of}
 use Rattle.serde_json.specs.Data.{Data, Items}
 
--- a choice among versions with trees is one among versions with schemas
+-- a choice among versions with trees corresponds to one among versions with schemas
 ok_before : {A B E : Type 0} (f : A → B) (r : Result A E) (w : B) → mapped f r ≡ Ok w → (v : A) × (r ≡ Ok v) × (f v ≡ w)
 ok_before f (Ok v) w e = let same : f v ≡ w = cc in (v, refl, same)
 ok_before f (Err x) w e = cc

@@ -1,4 +1,4 @@
--- Documents that have no fault give the versions that stand in them, and no others.
+-- Documents without a fault give exactly the versions written in them.
 use Rattle.std.proofs.Common.{◌≡◌, ℕ, suc, List, [], ◌∷◌, ◌++◌, Bool, true, false, Option, Some, None, Result, Ok, Err, refl, subst, sym, ap, ◌∙◌, append_assoc, append-nil, if◌then◌else◌}
 use Rattle.std.specs.List.{list_any}
 use Rattle.kube_manifests.proofs.Apart.{IsApart, apart_more, swapped}
@@ -11,7 +11,7 @@ use Rattle.kube_schema_rules.specs.Rules.{◌>>=◌}
 use Rattle.serde_json.specs.Data.{Data, Items, no_items, item}
 use Rattle.serde_json.specs.View.{items_of}
 
--- a step puts these behind what was there, and keeps all apart
+-- a step appends these versions to those before, and keeps all of them apart
 abbrev Adds : {E : Type 0} → List (Version Data) → List (Version Data) → Result (List (Version Data)) E → Type 0
 Adds had new r = (all : List (Version Data)) → r ≡ Ok all → (all ≡ had ++ new) × (IsApart had → IsApart all)
 

@@ -1,18 +1,18 @@
 -- Trusted by laws alone.
--- The versions that stand in documents, one after another, whatever is wrong with other parts of them:
--- Kubernetes API reference, CustomResourceDefinition v1.
+-- The versions in documents, one document after another, whatever is wrong with other parts of
+-- them: Kubernetes API reference, CustomResourceDefinition v1.
 use Rattle.std.specs.Prelude.{List, [], ◌∷◌, ◌++◌, Option, Some, None, Result, Ok, Err}
 use Rattle.serde_json.specs.Data.{Data, Items, no_items, item}
 use Rattle.kube_manifests.specs.declared.fault.CrdFault.{CrdFault}
 use Rattle.kube_manifests.specs.Documents.{Crd, Entry, crd_of, entry_of, list_of, version_of}
 use Rattle.kube_manifests.specs.Versions.{Version}
 
--- what each item gives, one after another
+-- the results of all items, one after another
 abbrev pub from_each_item : {V : Type 0} → (Data → List V) → Items → List V
 from_each_item f no_items = []
 from_each_item f (item d ds) = f d ++ from_each_item f ds
 
--- of what is no version, and of what is no definition, there are none
+-- a value that is no version, or no definition, has none
 abbrev pub entry_versions : Crd → Result Entry CrdFault → List (Version Data)
 entry_versions crd (Err f) = []
 entry_versions crd (Ok e) = version_of (λ schema. schema) crd e ∷ []
@@ -25,6 +25,6 @@ abbrev pub list_versions : Data → Option Items → List (Version Data)
 list_versions d None = crd_versions (crd_of d)
 list_versions d (Some ds) = from_each_item (λ e. crd_versions (crd_of e)) ds
 
--- the versions of a document: of the definition that it is, or of all items of the list that it is
+-- the versions of a document: those of its definition or, if it is a list, of all its items
 abbrev pub document_versions : Data → List (Version Data)
 document_versions d = list_versions d (list_of d)

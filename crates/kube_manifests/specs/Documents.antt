@@ -16,18 +16,18 @@ use Rattle.kube_manifests.specs.Versions.{Version, api_version, is_of_version, o
 
 -- ---- where faults are
 
--- a definition stands in a document, or is an item of the list that a document is
+-- where a definition is: the index of its document and, if the document is a list, that of its item
 pub record Location : Type 0 where
   pub document : ℕ
   pub item : Option ℕ
 
--- a fault, the document that has it, counted from 0, and a JSON Pointer to it there
+-- a fault, the index of its document, counted from 0, and a JSON Pointer to it there
 pub record Fault : Type 0 where
   pub document : ℕ
   pub pointer : List ℕ
   pub fault : CrdFault
 
--- where a field stands in a definition, or in one of its versions
+-- the pointer of the field at fault, relative to a definition or to one of its versions
 abbrev pub field_pointer : CrdFault → List ℕ
 field_pointer fault.NotACrd = codes ""
 field_pointer fault.NoName = codes "/metadata/name"
@@ -59,7 +59,7 @@ fault_at location version f = record {
 
 -- ---- one definition, and one of its versions
 
--- a string that isn't empty
+-- a string, if it isn't empty
 abbrev pub unless_empty : List ℕ → Option (List ℕ)
 unless_empty [] = None
 unless_empty (c ∷ cs) = Some (c ∷ cs)
@@ -70,13 +70,13 @@ full_text_at key d = option_and_then unless_empty (text_at key d)
 abbrev pub has_text : List ℕ → List ℕ → Data → Bool
 has_text key text d = option_map_or (λ t. bytes_eq t text) (text_at key d) false
 
--- whether a value says that it is a definition
+-- whether a value is declared a definition
 unfoldable pub is_crd : Data → Bool
 is_crd d =
     has_text (codes "apiVersion") (codes "apiextensions.k8s.io/v1") d
     && has_text (codes "kind") (codes "CustomResourceDefinition") d
 
--- the items of a list, which has a kind that ends in `List`
+-- the items of a list: its kind ends in `List`
 unfoldable pub list_of : Data → Option Items
 list_of d =
     if option_map_or (λ t. ends_with nat_eq t (codes "List")) (text_at (codes "kind") d) false
@@ -103,13 +103,13 @@ entries_of d =
     option_and_then unless_none
     (option_and_then as_array (option_and_then (get (codes "versions")) (get (codes "spec") d)))
 
--- what a definition says of all its versions, and these
+-- the fields that all versions of a definition share, and its versions
 pub record Crd : Type 0 where
   pub group : List ℕ
   pub kind : List ℕ
   pub versions : Items
 
--- what a value says that says that it is a definition, or its first fault
+-- the fields of a value that is declared a definition, or its first fault
 abbrev pub crd_fields : Data → Result Crd CrdFault
 crd_fields d = do
   name ← or_reason fault.NoName (name_of d)
@@ -118,7 +118,7 @@ crd_fields d = do
   versions ← or_reason fault.NoVersions (entries_of d)
   Ok (record { group = group; kind = kind; versions = versions })
 
--- the definition that a value is, or its first fault
+-- the definition in a value, or its first fault
 unfoldable pub crd_of : Data → Result Crd CrdFault
 crd_of d = if is_crd d then crd_fields d else Err fault.NotACrd
 
@@ -126,7 +126,7 @@ crd_of d = if is_crd d then crd_fields d else Err fault.NotACrd
 unfoldable pub schema_of : Data → Option Data
 schema_of d = option_and_then (get (codes "openAPIV3Schema")) (get (codes "schema") d)
 
--- what one version says; its schema is an object
+-- the fields of one version; its schema is an object
 pub record Entry : Type 0 where
   pub name : List ℕ
   pub served : Bool
@@ -142,17 +142,18 @@ entry_of d = do
 
 -- ---- documents one after another
 
--- the items in turn, each with its index, up to the first fault: each goes on from what those before it left
+-- applies a step to the items in turn, with the index of each; each step continues from the result
+-- of the one before; stops at the first fault
 unfoldable pub each : {V E : Type 0} → (ℕ → Data → V → Result V E) → ℕ → Items → V → Result V E
 each step i no_items had = Ok had
 each step i (item d ds) had = step i d had >>= each step (suc i) ds
 
--- whether a version is of this group and kind
+-- whether a version has this group and kind
 abbrev pub is_defined : {S : Type 0} → List ℕ → List ℕ → Version S → Bool
 is_defined group kind v = bytes_eq v.group group && bytes_eq v.kind kind
 
 module _ {S : Type 0} (form : Data → S) where
-  -- the version that an entry of a definition is, with its schema in a form
+  -- the version for an entry of a definition, with its schema in a form
   abbrev pub version_of : Crd → Entry → Version S
   version_of crd e = record {
     group = crd.group;
@@ -162,8 +163,8 @@ module _ {S : Type 0} (form : Data → S) where
     schema = form e.schema;
   }
 
-  -- with one version more, unless another one has its apiVersion and kind:
-  -- two of one definition must not have one name
+  -- the versions with one more added, unless an earlier one has its apiVersion and kind: two
+  -- versions of one definition must not have the same name
   abbrev pub with_version : Location → ℕ → List (Version S) → Version S → Result (List (Version S)) Fault
   with_version location i had v =
       if list_any (is_of_version (api_version v) v.kind) had
@@ -177,7 +178,7 @@ module _ {S : Type 0} (form : Data → S) where
   unfoldable pub add_version : Location → Crd → ℕ → Data → List (Version S) → Result (List (Version S)) Fault
   add_version location crd i d had = with_entry location crd i had (entry_of d)
 
-  -- with the versions of one definition more, unless another one has its group and kind
+  -- the versions with those of one definition added, unless an earlier one has its group and kind
   abbrev pub with_crd : Location → List (Version S) → Result Crd CrdFault → Result (List (Version S)) Fault
   with_crd location had (Err f) = Err (fault_at location None f)
   with_crd location had (Ok crd) =
@@ -190,7 +191,7 @@ module _ {S : Type 0} (form : Data → S) where
   abbrev pub add_item : ℕ → ℕ → Data → List (Version S) → Result (List (Version S)) Fault
   add_item document i d had = add_crd (record { document = document; item = Some i }) d had
 
-  -- with those of a document: a definition, or a list of definitions
+  -- the versions with those of a document added: a definition, or a list of definitions
   abbrev pub with_list : ℕ → Data → List (Version S) → Option Items → Result (List (Version S)) Fault
   with_list document d had None = add_crd (record { document = document; item = None }) d had
   with_list document d had (Some ds) = each (add_item document) 0 ds had

@@ -1,5 +1,5 @@
 -- Trusted by laws alone.
--- What is so of every object that is judged.
+-- What the laws state of every object that is judged.
 use Rattle.std.specs.List.{Contains}
 use Rattle.std.specs.Prelude.{◌≡◌, List, [], true, Option, Some, codes}
 use Rattle.cel_patterns.specs.Book.{Book, IsBook}
@@ -9,13 +9,13 @@ use Rattle.kube_cel_walk.specs.Answers.{answer}
 use Rattle.kube_manifests.specs.Versions.{Version, api_version, root_of, text_at}
 use Rattle.serde_json.specs.Data.{Data}
 
--- under some book the schema of the version finds no error in the object
+-- under some book, the schema of the version finds no error in the object
 abbrev pub FindsNothing : Version Data → Data → Option Data → Type 0
 FindsNothing v value old =
     (b : Book) × IsBook b
     × (answer raw_accessors b 65 (defaulted_start v.schema value old (Some (root_of v))) ≡ [])
 
--- the version is one of these, it is served, and the object says its apiVersion and kind
+-- the version is in the list, it is served, and the object has its apiVersion and kind
 abbrev pub IsOwn : {S : Type 0} → List (Version S) → Data → Version S → Type 0
 IsOwn versions value v = Contains versions v × (v.served ≡ true)
     × (text_at (codes "apiVersion") value ≡ Some (api_version v))

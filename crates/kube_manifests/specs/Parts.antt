@@ -1,5 +1,5 @@
 -- Scaffolding: only proofs and private clauses cite it.
--- What the parts of definitions stand for that the code reads.
+-- Views of the fields of definitions as the code reads them.
 use Rattle.std.specs.Prelude.{Result, Ok, Err}
 use Rattle.serde_json.specs.View.{view, items_view}
 use Rattle.kube_manifests.specs.declared.definition.CrdParts.{CrdParts}
@@ -23,12 +23,12 @@ entry_view p = record { name = p.name.now; served = p.served; schema = view p.sc
 abbrev pub location_view : code.Location → Location
 location_view p = record { document = p.document; item = p.item }
 
--- what was read, or the fault
+-- the view of what was read, or the fault
 abbrev pub reading_view : {A B : Type 0} → (A → B) → Result A CrdFault → Result B CrdFault
 reading_view f (Ok a) = Ok (f a)
 reading_view f (Err e) = Err e
 
--- the version that was chosen, or the reason
+-- the view of the version chosen, or the reason
 abbrev pub choice_view : Result (Bor CrdVersion) NotJudged → Result (Version Node) NotJudged
 choice_view (Ok v) = Ok (version_view v.now)
 choice_view (Err r) = Err r

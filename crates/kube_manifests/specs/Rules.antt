@@ -1,11 +1,12 @@
 -- Trusted by the clauses of other library calls.
--- How many rules a schema has: Kubernetes API reference, JSONSchemaProps (x-kubernetes-validations).
+-- The number of rules of a schema: Kubernetes API reference, JSONSchemaProps
+-- (x-kubernetes-validations).
 use Rattle.std.specs.Prelude.{ℕ, ◌+◌, ◌-◌, ◌^◌, length, min, Option, Some, None}
 use Rattle.kube_schema.specs.Tree.{Node, node, Maybe, nothing, just, Named, no_named, named, Nodes, no_nodes, more}
 
 unfoldable mutual
-  -- those of a node and of all nodes within it; a node past the greatest depth has one error in place of its
-  -- rules, which counts as one
+  -- the number of rules of a node and of all nodes within it; a node past the depth limit has one
+  -- error in place of its rules, which counts as one
   pub rules_in : Node → ℕ
   rules_in (node o ps it ad xs ys zs) =
       length o.validations + (rules_in_named ps
@@ -24,11 +25,11 @@ unfoldable mutual
   rules_in_nodes no_nodes = 0
   rules_in_nodes (more n ns) = rules_in n + rules_in_nodes ns
 
--- as a number of 64 bits, the greatest one where there are more
+-- as a number of 64 bits: the greatest one if there are more
 abbrev pub saturated_count : ℕ → ℕ
 saturated_count n = min n (2 ^ 64 - 1)
 
--- those of a node that may be there
+-- the number of rules of an optional node
 abbrev pub rules_in_option : Option Node → ℕ
 rules_in_option None = 0
 rules_in_option (Some n) = rules_in n

@@ -1,6 +1,6 @@
 -- Trusted by the clauses of other library calls.
--- What a set of versions holds, and what it answers for an object: Kubernetes documentation, "Versions in
--- CustomResourceDefinitions", "Validation rules".
+-- The versions that a set holds, and its answer for an object: Kubernetes documentation, "Versions
+-- in CustomResourceDefinitions", "Validation rules".
 use Rattle.std.specs.Prelude.{◌≡◌, ℕ, List, map, Option, Some, None, Result, Ok, Err, string_bytes}
 use Rattle.serde_json.specs.Data.{Data, Items}
 use Rattle.kube_cel.specs.Answers.{IsReportOf}
@@ -19,7 +19,7 @@ use Rattle.kube_manifests.specs.Documents.{Fault, versions_in}
 use Rattle.kube_manifests.specs.Rules.{saturated_count, rules_in}
 use Rattle.kube_manifests.specs.Versions.{Version, chosen_version, root_of}
 
--- ---- what the code's values stand for
+-- ---- views of the code's values
 
 -- a version with the tree of its schema
 abbrev pub version_view : CrdVersion → Version Node
@@ -37,23 +37,23 @@ set_view s = map version_view s.versions.items
 abbrev pub error_view : CrdError → Fault
 error_view e = record { document = e.document; pointer = string_bytes e.pointer; fault = e.fault }
 
--- a set, or why there is none
+-- the view of a set, or of the error
 abbrev pub outcome_view : Result CrdSet CrdError → Result (List (Version Node)) Fault
 outcome_view (Ok s) = Ok (set_view s)
 outcome_view (Err e) = Err (error_view e)
 
--- the versions that there are then, unless there was a fault
+-- the versions after a document was added, or the fault
 abbrev pub added_view : List (Version Node) → Result (Unit {0}) CrdError → Result (List (Version Node)) Fault
 added_view vs (Ok u) = Ok vs
 added_view vs (Err e) = Err (error_view e)
 
 -- ---- sets of documents
 
--- the schemas of documents, as JSON
+-- the versions of documents, with their schemas as JSON
 abbrev pub versions_of : Items → Result (List (Version Data)) Fault
 versions_of = versions_in (λ schema. schema)
 
--- the version with the tree of its schema
+-- the version with its schema as a tree
 abbrev pub with_tree : Version Data → Version Node
 with_tree v = record {
   group = v.group;
@@ -67,27 +67,28 @@ abbrev pub all_compiled : Result (List (Version Data)) Fault → Result (List (V
 all_compiled (Ok vs) = Ok (map with_tree vs)
 all_compiled (Err f) = Err f
 
--- ---- what is reported of an object
+-- ---- judgements
 
--- an object is judged exactly where a version is chosen for it. Then the answer is that of the version's
--- schema, with the object's own apiVersion, group and kind; else the reason is reported
+-- an object is judged exactly if a version is chosen for it. Then the answer is that of the
+-- version's schema, given the object's own apiVersion, group and kind; otherwise the reason is
+-- reported
 abbrev pub IsJudgement : List (Version Data) → Data → Option Data → Judgement → Type 0
 IsJudgement versions value old (Judged answer) =
     (v : Version Data) × (chosen_version versions value ≡ Ok v)
     × IsReportOf raw_accessors (defaulted_start v.schema value old (Some (root_of v))) answer
 IsJudgement versions value old (NotJudged r) = chosen_version versions value ≡ Err r
 
--- why it isn't judged, if it isn't
+-- the reason why an object isn't judged, if it isn't
 abbrev pub reason_of : Judgement → Option reason.NotJudged
 reason_of (Judged answer) = None
 reason_of (NotJudged r) = Some r
 
--- why no version is chosen, if none is
+-- the reason why no version is chosen, if none is
 abbrev pub why_not : {S : Type 0} → Result (Version S) reason.NotJudged → Option reason.NotJudged
 why_not (Ok v) = None
 why_not (Err r) = Some r
 
--- how many rules the chosen version's schema has, or why none is chosen
+-- the number of rules of the chosen version's schema, or the reason why none is chosen
 abbrev pub rules_of : Result (Version Node) reason.NotJudged → Result ℕ reason.NotJudged
 rules_of (Ok v) = Ok (saturated_count (rules_in v.schema))
 rules_of (Err r) = Err r

@@ -1,4 +1,4 @@
-//! Which version judges an object.
+//! Chooses the version that judges an object.
 ghost use Rattle.kube_manifests.specs.Parts.{choice_view};
 ghost use Rattle.kube_manifests.specs.Sets.{version_view};
 ghost use Rattle.kube_manifests.specs.Versions.{chosen_version, is_of_kind, is_of_version};
@@ -11,7 +11,7 @@ use crate::judgement::NotJudged;
 use crate::version::CrdVersion;
 use serde_json::Value;
 
-/// The version whose schema judges an object, or why none does.
+/// Returns the version whose schema judges an object, or the reason why none does.
 #[tactic(auto, unfolding(crate::specs::Versions::chosen_version))]
 pub(crate) fn chosen<'s>(
     versions: &'s [CrdVersion],
@@ -36,7 +36,7 @@ pub(crate) fn chosen<'s>(
     }
 }
 
-/// The version of this apiVersion and kind.
+/// Returns the version with this apiVersion and kind, if any.
 fn version_of<'s>(
     versions: &'s [CrdVersion],
     api_version: &str,
@@ -53,7 +53,7 @@ fn version_of<'s>(
     None
 }
 
-/// Whether there is a version, of whichever name, of the group in this apiVersion and of this kind.
+/// Reports whether any version, whatever its name, has this kind and the group of this apiVersion.
 fn has_kind(versions: &[CrdVersion], api_version: &str, kind: &str) -> bool
     ensures { result ≡ list_any (is_of_kind api_version.now kind.now) (map version_view versions.now) }
 {

@@ -1,4 +1,4 @@
-//! CustomResourceDefinitions and their versions, where they stand in JSON.
+//! Reads CustomResourceDefinitions and their versions from JSON.
 ghost use Rattle.kube_manifests.specs.Documents.{crd_of, entries_of, entry_of, full_text_at, group_of, has_text, is_crd, kind_of, list_of, name_of, schema_of, unless_none};
 ghost use Rattle.kube_manifests.specs.Parts.{crd_view, entry_view, reading_view};
 ghost use Rattle.kube_manifests.specs.Versions.{text_at};
@@ -9,7 +9,7 @@ ghost use Rattle.std.specs.Prelude.{◌≡◌, nat_eq, option_map, Result};
 use crate::fault::CrdFault;
 use serde_json::Value;
 
-/// What a definition says of all its versions, and these.
+/// The fields of a definition that all its versions share, and the versions themselves.
 #[derive(Clone, Copy)]
 pub struct CrdParts<'v> {
     pub(crate) group: &'v str,
@@ -17,7 +17,7 @@ pub struct CrdParts<'v> {
     pub(crate) versions: &'v [Value],
 }
 
-/// What one version of a definition says.
+/// The fields of one version of a definition.
 #[derive(Clone, Copy)]
 pub struct EntryParts<'v> {
     pub(crate) name: &'v str,
@@ -25,7 +25,8 @@ pub struct EntryParts<'v> {
     pub(crate) schema: &'v Value,
 }
 
-/// Whether a document says that it is a CustomResourceDefinition of `apiextensions.k8s.io/v1`.
+/// Reports whether a document declares itself a CustomResourceDefinition of
+/// `apiextensions.k8s.io/v1`.
 #[tactic(auto, unfolding(crate::specs::Documents::is_crd))]
 pub fn is_crd(document: &Value) -> bool
     ensures { result ≡ is_crd (view document.now) }
@@ -34,7 +35,8 @@ pub fn is_crd(document: &Value) -> bool
         && has_text(document, "kind", "CustomResourceDefinition")
 }
 
-/// The items of a list: a value whose kind ends in `List`, with an array in `items`.
+/// The items of a list: a value whose kind ends in `List`, with an array in `items`. `None` if the
+/// value is no such list.
 #[tactic(auto, unfolding(crate::specs::Documents::list_of))]
 pub(crate) fn list_of(document: &Value) -> Option<&[Value]>
     ensures { option_map (λ v. items_view v.now) result ≡ list_of (view document.now) }
@@ -45,7 +47,7 @@ pub(crate) fn list_of(document: &Value) -> Option<&[Value]>
     Some(document.get("items")?.as_array()?.as_slice())
 }
 
-/// What stands in a definition, or its first fault.
+/// Reads the fields of a definition. Returns its first fault if it has one.
 #[tactic(auto, unfolding(crate::specs::Documents::crd_of))]
 pub(crate) fn crd_parts(document: &Value) -> Result<CrdParts<'_>, CrdFault>
     ensures { reading_view crd_view result ≡ crd_of (view document.now) }
@@ -72,7 +74,7 @@ pub(crate) fn crd_parts(document: &Value) -> Result<CrdParts<'_>, CrdFault>
     })
 }
 
-/// What stands in a version of a definition, or its first fault.
+/// Reads the fields of a version of a definition. Returns its first fault if it has one.
 #[tactic(auto, unfolding(crate::specs::Documents::entry_of))]
 pub(crate) fn entry_parts(version: &Value) -> Result<EntryParts<'_>, CrdFault>
     ensures { reading_view entry_view result ≡ entry_of (view version.now) }
@@ -96,14 +98,14 @@ pub(crate) fn entry_parts(version: &Value) -> Result<EntryParts<'_>, CrdFault>
     })
 }
 
-/// The string in a member.
+/// The string in a member, if any.
 pub(crate) fn text_at<'v>(value: &'v Value, key: &str) -> Option<&'v str>
     ensures { option_map (λ s. s.now) result ≡ text_at key.now (view value.now) }
 {
     value.get(key)?.as_str()
 }
 
-/// Whether a member is this string.
+/// Reports whether a member is this string.
 fn has_text(value: &Value, key: &str, text: &str) -> bool
     ensures { result ≡ has_text key.now text.now (view value.now) }
 {
@@ -113,7 +115,7 @@ fn has_text(value: &Value, key: &str, text: &str) -> bool
     }
 }
 
-/// The string in a member, if it isn't empty.
+/// The string in a member, if it is there and not empty.
 fn full_text_at<'v>(value: &'v Value, key: &str) -> Option<&'v str>
     ensures { option_map (λ s. s.now) result ≡ full_text_at key.now (view value.now) }
 {
@@ -142,7 +144,7 @@ fn kind_of(document: &Value) -> Option<&str>
     full_text_at(document.get("spec")?.get("names")?, "kind")
 }
 
-/// The versions of a definition, if there are any.
+/// The versions of a definition. `None` if the list is missing or empty.
 #[tactic(auto, unfolding(crate::specs::Documents::entries_of))]
 fn entries_of(document: &Value) -> Option<&[Value]>
     ensures { option_map (λ v. items_view v.now) result ≡ entries_of (view document.now) }
@@ -156,7 +158,7 @@ fn entries_of(document: &Value) -> Option<&[Value]>
     )
 }
 
-/// Values, if there are any.
+/// Returns the slice, or `None` if it is empty.
 fn unless_none(entries: &[Value]) -> Option<&[Value]>
     ensures { option_map (λ v. items_view v.now) result ≡ unless_none (items_view entries.now) }
 {

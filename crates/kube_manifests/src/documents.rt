@@ -1,4 +1,4 @@
-//! Documents read one after another.
+//! Adds the versions of documents to a set, one document after another.
 ghost use Rattle.kube_manifests.specs.Documents.{add_crd, add_document, add_item, add_version, each, is_defined, version_of};
 ghost use Rattle.kube_manifests.specs.Parts.{crd_view, entry_view, location_view};
 ghost use Rattle.kube_manifests.specs.Sets.{added_view, version_view};
@@ -16,7 +16,8 @@ use kube_cel::{Refused, RootContext, compile_schema};
 use serde_json::Value;
 use std::alloc::Global;
 
-/// Adds the versions of a document: of the definition that it is, or of all items of the list that it is.
+/// Adds the versions of a document: those of its definition or, if the document is a list, those of
+/// all its items. Stops at the first fault and returns it.
 #[tactic(auto, unfolding(crate::specs::Documents::add_document))]
 pub(crate) fn add_document(
     alloc: Global,
@@ -42,7 +43,7 @@ pub(crate) fn add_document(
     }
 }
 
-/// Adds the versions of the items of a list.
+/// Adds the versions of the items of a list. Stops at the first fault and returns it.
 fn add_items(
     alloc: Global,
     document: usize,
@@ -66,7 +67,7 @@ fn add_items(
     Ok(Ok(()))
 }
 
-/// Adds the versions of a definition, unless another one has its group and kind.
+/// Adds the versions of a definition. It is a fault if an earlier one has the same group and kind.
 #[tactic(auto, unfolding(crate::specs::Documents::add_crd))]
 fn add_crd(
     alloc: Global,
@@ -89,7 +90,7 @@ fn add_crd(
     add_versions(alloc, location, crd, crd.versions, versions)
 }
 
-/// Adds versions of a definition.
+/// Adds the versions of a definition. Stops at the first fault and returns it.
 fn add_versions(
     alloc: Global,
     location: Location,
@@ -110,7 +111,7 @@ fn add_versions(
     Ok(Ok(()))
 }
 
-/// Adds a version, unless another one has its apiVersion and kind.
+/// Adds a version. It is a fault if an earlier one has the same apiVersion and kind.
 #[tactic(auto, unfolding(crate::specs::Documents::add_version))]
 fn add_version(
     alloc: Global,
@@ -137,7 +138,7 @@ fn add_version(
     Ok(Ok(()))
 }
 
-/// The version with its schema compiled.
+/// Returns the version with its schema compiled.
 fn compiled_version(
     alloc: Global,
     crd: CrdParts<'_>,
@@ -166,7 +167,7 @@ fn compiled_version(
     })
 }
 
-/// Whether a version is of this group and kind.
+/// Reports whether any version has this group and kind.
 fn has_kind(versions: &[CrdVersion], group: &str, kind: &str) -> bool
     ensures { result ≡ list_any (is_defined group.now kind.now) (map version_view versions.now) }
 {
@@ -178,7 +179,7 @@ fn has_kind(versions: &[CrdVersion], group: &str, kind: &str) -> bool
     false
 }
 
-/// Whether another version has the apiVersion and kind of this one.
+/// Reports whether any of these versions has the apiVersion and kind of `version`.
 fn has_version(versions: &[CrdVersion], version: &CrdVersion) -> bool
     ensures { result ≡ list_any (is_of_version (api_version (version_view version.now))
         (version_view version.now).kind) (map version_view versions.now) }

@@ -1,4 +1,4 @@
-//! Why documents give no set of definitions.
+//! The faults that keep documents from becoming a set of definitions.
 ghost use Rattle.kube_manifests.specs.Documents.{fault_at};
 ghost use Rattle.kube_manifests.specs.Parts.{location_view};
 ghost use Rattle.kube_manifests.specs.Sets.{error_view};
@@ -7,47 +7,50 @@ ghost use Rattle.std.specs.Prelude.{◌≡◌, IfOk};
 use std::alloc::{AllocError, Global};
 use std::fmt;
 
-/// What is wrong with a definition. The first one is reported: those of a definition in this order, then
-/// those of its versions, one after another.
+/// What is wrong with a definition. Only the first fault is reported: those of the definition
+/// itself in this order, then those of its versions, one version after another.
 #[derive(Clone, Copy, Debug, PartialEq, Eq)]
 pub enum CrdFault {
-    /// The value doesn't say that it is a CustomResourceDefinition of
-    /// `apiextensions.k8s.io/v1`, and is no list.
+    /// The value isn't declared a CustomResourceDefinition of `apiextensions.k8s.io/v1`, and isn't
+    /// a list.
     NotACrd,
-    /// `metadata.name` is missing, empty or no string.
+    /// `metadata.name` is missing, empty or not a string.
     NoName,
-    /// `spec.group` is missing, empty or no string.
+    /// `spec.group` is missing, empty or not a string.
     NoGroup,
-    /// `spec.names.kind` is missing, empty or no string.
+    /// `spec.names.kind` is missing, empty or not a string.
     NoKind,
-    /// `spec.versions` is missing, empty or no array.
+    /// `spec.versions` is missing, empty or not an array.
     NoVersions,
     /// An earlier definition has the same group and kind.
     RepeatedKind,
-    /// The `name` of a version is missing, empty or no string.
+    /// The `name` of a version is missing, empty or not a string.
     NoVersionName,
-    /// `served` of a version is missing or no bool.
+    /// `served` of a version is missing or not a bool.
     NoServed,
     /// `schema.openAPIV3Schema` of a version is missing.
     NoSchema,
-    /// `schema.openAPIV3Schema` of a version is no object.
+    /// `schema.openAPIV3Schema` of a version is not an object.
     SchemaNotAnObject,
-    /// An earlier version has the same apiVersion and kind: two versions of the definition have one name.
+    /// An earlier version has the same apiVersion and kind: two versions of the definition have the
+    /// same name.
     RepeatedVersion,
 }
 
-/// Why documents give no set: the first fault of the first definition that has one.
+/// Why documents don't make a set: the first fault of the first definition that has one.
 #[derive(Debug, Drop)]
 pub struct CrdError {
-    /// Which document it is, counted from 0.
+    /// The index of the document, counted from 0.
     pub document: usize,
-    /// Where in the document: a JSON Pointer (RFC 6901), of a missing field the one that it would have.
+    /// A JSON Pointer (RFC 6901) into the document. If a field is missing, the pointer it would
+    /// have.
     pub pointer: String,
     /// What is wrong there.
     pub fault: CrdFault,
 }
 
-/// Where a definition stands: which document, and which item of it, where the document is a list.
+/// Where a definition is: the index of its document and, if the document is a list, that of its
+/// item.
 #[derive(Clone, Copy)]
 pub struct Location {
     pub(crate) document: usize,
@@ -64,20 +67,20 @@ impl fmt::Display for CrdFault {
         match self {
             CrdFault::NotACrd => write!(
                 f,
-                "a document must be a CustomResourceDefinition of apiextensions.k8s.io/v1, or a list of them"
+                "expected a CustomResourceDefinition of apiextensions.k8s.io/v1, or a list of them"
             ),
             CrdFault::NoName | CrdFault::NoVersionName => {
-                write!(f, "field `name` must be a string that isn't empty")
+                write!(f, "field `name` must be a non-empty string")
             }
-            CrdFault::NoGroup => write!(f, "field `group` must be a string that isn't empty"),
-            CrdFault::NoKind => write!(f, "field `kind` must be a string that isn't empty"),
-            CrdFault::NoVersions => write!(f, "field `versions` must be an array that isn't empty"),
-            CrdFault::RepeatedKind => write!(f, "an earlier definition has this group and kind"),
+            CrdFault::NoGroup => write!(f, "field `group` must be a non-empty string"),
+            CrdFault::NoKind => write!(f, "field `kind` must be a non-empty string"),
+            CrdFault::NoVersions => write!(f, "field `versions` must be a non-empty array"),
+            CrdFault::RepeatedKind => write!(f, "another definition has this group and kind"),
             CrdFault::NoServed => write!(f, "field `served` must be a bool"),
             CrdFault::NoSchema => write!(f, "a version must have a schema"),
             CrdFault::SchemaNotAnObject => write!(f, "a schema must be an object"),
             CrdFault::RepeatedVersion => {
-                write!(f, "an earlier version has this apiVersion and kind")
+                write!(f, "another version has this apiVersion and kind")
             }
         }
     }
@@ -103,7 +106,7 @@ impl CrdFault {
     ghost use Rattle.std.specs.Prelude.{◌≡◌};
     ghost use Rattle.kube_manifests.specs.Documents.{field_pointer};
 
-    /// Where the field stands, in a definition or in one of its versions.
+    /// The pointer of the field at fault, relative to the definition or to the version.
     fn pointer(self) -> &'static str
         ensures { result.now ≡ field_pointer self }
     {
@@ -120,7 +123,8 @@ impl CrdFault {
     }
 }
 
-/// The error of a fault of the definition at a location, or of one of its versions.
+/// Returns the error for a fault of the definition at `location` or, if `version` is given, of that
+/// version of it.
 pub(crate) fn error_at(
     alloc: Global,
     location: Location,

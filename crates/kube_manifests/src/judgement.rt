@@ -1,21 +1,21 @@
-//! What is reported of an object.
+//! The result of judging an object.
 use kube_cel::ValidationErrors;
 use std::fmt;
 
-/// What a set of definitions answers for an object.
+/// The result of judging an object by a set of definitions.
 #[derive(Debug, Drop)]
 pub enum Judgement {
-    /// The answer of the schema by which the object is judged:
-    /// `Ok` where all rules admit it, else all errors.
+    /// The answer of the schema that judges the object: `Ok` if all its rules admit the object,
+    /// else all errors.
     Judged(Result<(), ValidationErrors>),
-    /// No rule was applied, and why.
+    /// No rule was applied, for this reason.
     NotJudged(NotJudged),
 }
 
-/// Why no schema judges an object. They are asked in this order.
+/// Why no schema judges an object. The reasons are checked in this order.
 #[derive(Clone, Copy, Debug, PartialEq, Eq)]
 pub enum NotJudged {
-    /// The value is no JSON object.
+    /// The value is not a JSON object.
     NotAnObject,
     /// The object has no `apiVersion` that is a string.
     NoApiVersion,
@@ -23,7 +23,8 @@ pub enum NotJudged {
     NoKind,
     /// No definition has the object's group and kind.
     NoSuchKind,
-    /// The definition of the object's group and kind has no version of the name that the object gives.
+    /// The definition of the object's group and kind has no version of the name in the object's
+    /// apiVersion.
     NoSuchVersion,
     /// The definition doesn't serve that version.
     NotServed,
@@ -37,16 +38,19 @@ impl fmt::Display for NotJudged {
 
     fn fmt<W: fmt::Write>(&self, f: &mut fmt::Formatter<W>) -> fmt::Result {
         match self {
-            NotJudged::NotAnObject => write!(f, "it is no object"),
-            NotJudged::NoApiVersion => write!(f, "it has no apiVersion"),
-            NotJudged::NoKind => write!(f, "it has no kind"),
+            NotJudged::NotAnObject => write!(f, "not an object"),
+            NotJudged::NoApiVersion => write!(f, "no apiVersion"),
+            NotJudged::NoKind => write!(f, "no kind"),
             NotJudged::NoSuchKind => {
-                write!(f, "no CustomResourceDefinition has its group and kind")
+                write!(f, "no CustomResourceDefinition for this group and kind")
             }
             NotJudged::NoSuchVersion => {
-                write!(f, "its CustomResourceDefinition doesn't have its version")
+                write!(
+                    f,
+                    "its CustomResourceDefinition doesn't define this version"
+                )
             }
-            NotJudged::NotServed => write!(f, "its version isn't served"),
+            NotJudged::NotServed => write!(f, "this version isn't served"),
         }
     }
 }

@@ -1,4 +1,4 @@
-//! Laws of sets of definitions, each the contract of a call that does nothing.
+//! Laws of sets of definitions. Each is the contract of a function with an empty body.
 ghost use Rattle.kube_manifests.specs.declared.judgement.Judgement.TheVariants.{Judged};
 ghost use Rattle.kube_manifests.specs.Laws.{FindsNothing, IsOwn};
 ghost use Rattle.kube_manifests.specs.DocumentVersions.{document_versions, from_each_item};
@@ -8,29 +8,29 @@ ghost use Rattle.serde_json.specs.Data.{Data, Items};
 ghost use Rattle.serde_json.specs.View.{items_of};
 ghost use Rattle.std.specs.Prelude.{◌≡◌, ◌++◌, List, Ok, Option};
 
-/// No errors are reported of an object only where a version is found for it,
-/// and that version's schema finds none.
+/// An object is judged without errors only if a version is found for it and that version's schema
+/// finds no error.
 pub fn no_errors_only_where_a_schema_finds_none()
     ensures { (versions : List (Version Data)) (object : Data) (old : Option Data)
         → IsJudgement versions object old (Judged (Ok tt))
         → (v : Version Data) × (chosen_version versions object ≡ Ok v) × FindsNothing v object old }
 {}
 
-/// The version that is found for an object is one of the set's, it is served,
-/// and the object has its apiVersion and kind.
+/// The version found for an object is in the set, is served, and has the object's apiVersion and
+/// kind.
 pub fn the_version_found_is_the_objects_own()
     ensures { (versions : List (Version Data)) (object : Data) (v : Version Data)
         → chosen_version versions object ≡ Ok v → IsOwn versions object v }
 {}
 
-/// Where documents have no fault, their versions are those that stand in them,
-/// one document after another, and no others.
+/// If documents have no fault, their versions are exactly those written in them, one document after
+/// another.
 pub fn a_set_has_the_versions_of_its_documents()
     ensures { (documents : Items) (versions : List (Version Data))
         → versions_of documents ≡ Ok versions → versions ≡ from_each_item document_versions documents }
 {}
 
-/// Which version judges an object doesn't rest on the order of two groups of documents.
+/// The order of two groups of documents doesn't change which version judges an object.
 pub fn documents_in_either_order()
     ensures { (ds es : List Data) (versions others : List (Version Data))
         → versions_of (items_of (ds ++ es)) ≡ Ok versions → versions_of (items_of (es ++ ds)) ≡ Ok others

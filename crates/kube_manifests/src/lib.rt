@@ -1,15 +1,15 @@
-//! CustomResourceDefinitions, and the objects that they define: an object is judged by the schema of its own
-//! apiVersion and kind, and where there is none the answer says why; it never passes.
+//! Judges objects by CustomResourceDefinitions. The schema for an object's own apiVersion and kind
+//! judges it; if there is none, the answer says why, and the object never passes.
 //!
-//! In go documents as JSON: definitions, or lists of them. Each version's schema is compiled once. Then
-//! objects are judged, each with its old state where there is one.
+//! The input is a list of JSON documents: definitions, or lists of them. Each version's schema is
+//! compiled once. Then objects are judged, each with its old state if it has one.
 //!
 //! ```rust
 //! use kube_manifests::{CrdSet, Judgement, Refused};
 //! use serde_json::Value;
 //! use std::alloc::Global;
 //!
-//! /// Why an object isn't admitted; `None` where it is.
+//! /// Why an object isn't admitted; `None` if it is.
 //! fn denial(alloc: Global, set: &CrdSet, object: &Value) -> Result<Option<String>, Refused> {
 //!     match set.validate(alloc, object, None)? {
 //!         Judgement::Judged(Ok(())) => Ok(None),
@@ -19,10 +19,10 @@
 //! }
 //! ```
 //!
-//! Proved: a set holds exactly the versions of its documents, or the documents give exactly their first
-//! fault; an object is judged exactly where a served version of its apiVersion and kind is in the set, and
-//! then the answer is that of the version's schema, as `kube_cel` says it; else exactly the reason is
-//! reported. `specs/Versions.antt` says which version that is,
+//! Proved: a set holds exactly the versions of its documents, or else the documents' first fault is
+//! returned. An object is judged exactly if the set has a served version with its apiVersion and
+//! kind, and then the answer is that of the version's schema, as `kube_cel` defines it; otherwise
+//! exactly the reason is reported. `specs/Versions.antt` defines which version that is,
 //! `specs/Documents.antt` which versions documents have.
 #![tactic(auto)]
 

@@ -1,4 +1,4 @@
-//! How many rules a schema has.
+//! Counts the rules of a schema.
 ghost use Rattle.kube_cel_analysis.specs.Lint.{branches_of};
 ghost use Rattle.kube_manifests.specs.Rules.{saturated_count, rules_in, rules_in_named, rules_in_nodes, rules_in_option};
 ghost use Rattle.kube_schema.specs.Shown.{node_tree, whole};
@@ -8,15 +8,15 @@ ghost use Rattle.std.specs.Prelude.{◌≡◌, ◌+◌, ◌<◌, option_map};
 use kube_cel::{CompiledSchema, SchemaNode};
 use kube_schema_rules::BranchKind;
 
-/// How many rules all nodes of a schema have together, `u64::MAX` where there are more. Where the schema goes
-/// on past the greatest depth, the error that stands there in place of the rules counts as one.
+/// Returns the number of rules of all nodes of a schema together, or `u64::MAX` if there are more.
+/// A node past the depth limit has an error in place of its rules, which counts as one.
 pub fn rule_count(schema: &CompiledSchema) -> u64
     ensures { result ≡ saturated_count (rules_in (whole schema.now)) }
 {
     with_node(0, &schema.root())
 }
 
-/// `count` rules, and those of a node and of the nodes within it.
+/// Adds to `count` the number of rules of a node and of all nodes within it.
 #[cycle(count)]
 fn with_node(count: u64, node: &SchemaNode<'_>) -> u64
     ensures { result ≡ saturated_count (count + rules_in (node_tree node.now)) }
@@ -30,7 +30,7 @@ fn with_node(count: u64, node: &SchemaNode<'_>) -> u64
     with_branches(one_of, BranchKind::AnyOf, node)
 }
 
-/// `count` rules, and those of the properties of a node.
+/// Adds to `count` the number of rules of a node's properties.
 #[cycle(count)]
 fn with_properties(count: u64, node: &SchemaNode<'_>) -> u64
     ensures { result ≡ saturated_count (count + rules_in_named (named_of (node_tree node.now))) }
@@ -45,7 +45,7 @@ fn with_properties(count: u64, node: &SchemaNode<'_>) -> u64
     all
 }
 
-/// `count` rules, and those of the items of a list.
+/// Adds to `count` the number of rules of a node's `items` schema.
 #[cycle(count)]
 fn with_items(count: u64, node: &SchemaNode<'_>) -> u64
     ensures { result ≡ saturated_count (count + rules_in_option (items_of (node_tree node.now))) }
@@ -56,7 +56,7 @@ fn with_items(count: u64, node: &SchemaNode<'_>) -> u64
     }
 }
 
-/// `count` rules, and those of the members that aren't declared.
+/// Adds to `count` the number of rules of a node's `additionalProperties` schema.
 #[cycle(count)]
 fn with_additional(count: u64, node: &SchemaNode<'_>) -> u64
     ensures { result ≡ saturated_count (count + rules_in_option (additional_of (node_tree node.now))) }
@@ -67,7 +67,7 @@ fn with_additional(count: u64, node: &SchemaNode<'_>) -> u64
     }
 }
 
-/// `count` rules, and those of the branches of one keyword.
+/// Adds to `count` the number of rules of the branches of one keyword.
 #[cycle(count)]
 fn with_branches(count: u64, kind: BranchKind, node: &SchemaNode<'_>) -> u64
     ensures { result ≡ saturated_count (count + rules_in_nodes (branches_of kind (node_tree node.now))) }
@@ -93,7 +93,7 @@ fn branch_count(kind: BranchKind, node: &SchemaNode<'_>) -> usize
     }
 }
 
-/// A branch of a keyword.
+/// The branch of a keyword at `index`, if any.
 fn branch<'a>(kind: BranchKind, node: &SchemaNode<'a>, index: usize) -> Option<SchemaNode<'a>>
     ensures { option_map node_tree result ≡ nth_node index (branches_of kind (node_tree node.now)) }
 {

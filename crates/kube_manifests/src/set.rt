@@ -1,4 +1,4 @@
-//! Sets of definitions, and what they answer for objects.
+//! Sets of definitions, and the judging of objects by them.
 ghost use Rattle.kube_manifests.specs.Sets.{all_compiled, with_tree, outcome_view, reason_of, rules_of, set_view, versions_of, why_not, IsJudgement};
 ghost use Rattle.kube_manifests.specs.Versions.{Version, chosen_version};
 ghost use Rattle.serde_json.specs.Data.{Data};
@@ -21,14 +21,14 @@ pub struct CrdSet {
 }
 
 impl CrdSet {
-    /// All versions of all definitions of the documents, served or not. A document is a
-    /// CustomResourceDefinition of `apiextensions.k8s.io/v1`, or a list of them: a value whose kind ends in
-    /// `List`, with an array in `items`. The inner error is the first fault of the
-    /// first definition that has one.
+    /// Reads all versions of all definitions in the documents, served or not. A document is a
+    /// CustomResourceDefinition of `apiextensions.k8s.io/v1`, or a list of them: a value whose kind
+    /// ends in `List`, with an array in `items`. The inner error is the first fault of the first
+    /// definition that has one.
     ///
     /// # Errors
     ///
-    /// [`Refused`] where memory is refused.
+    /// [`Refused`] if memory is refused.
     pub fn from_documents(
         alloc: Global,
         documents: &[Value],
@@ -46,13 +46,13 @@ impl CrdSet {
         Ok(Ok(CrdSet { versions }))
     }
 
-    /// Judges an object, and its old state where there is one, by the schema of its apiVersion and kind.
-    /// Rules at the root may ask its apiVersion, group and kind.
-    /// Where no version is there that is served, the answer says why.
+    /// Judges an object, with its old state if given, by the schema for its apiVersion and kind.
+    /// Rules at the root may read its apiVersion, group and kind. If the set has no such version
+    /// that is served, the answer is the reason.
     ///
     /// # Errors
     ///
-    /// [`Refused`] where memory is refused.
+    /// [`Refused`] if memory is refused.
     pub fn validate(
         &self,
         alloc: Global,
@@ -81,12 +81,11 @@ impl CrdSet {
         Ok(Judgement::Judged(answer))
     }
 
-    /// How many rules the schema has by which an object is judged, or why none judges it: the reason is that
-    /// of `validate`. It takes no memory.
+    /// The number of rules of the schema that judges an object. Allocates nothing.
     ///
     /// # Errors
     ///
-    /// [`NotJudged`] where `validate` answers it.
+    /// [`NotJudged`] if no schema judges the object, with the same reason as `validate`.
     pub fn rule_count(&self, object: &Value) -> Result<u64, NotJudged>
         ensures { result ≡ rules_of (chosen_version (set_view self.now) (view object.now)) }
     {

@@ -1,4 +1,4 @@
-//! A version of a definition, with its compiled schema.
+//! The versions of definitions, with their compiled schemas.
 ghost use Rattle.kube_manifests.specs.Rules.{saturated_count, rules_in};
 ghost use Rattle.kube_manifests.specs.Versions.{group_prefix};
 ghost use Rattle.kube_schema.specs.Shown.{whole};
@@ -13,12 +13,12 @@ use kube_cel::{CompiledSchema, RootContext};
 pub struct CrdVersion {
     /// The apiVersion, group and kind of the version's objects.
     pub(crate) root: RootContext,
-    /// The group and a slash: what the apiVersions of all versions of the group begin with.
+    /// The group and a slash: the prefix of the apiVersion of every version of the group.
     pub(crate) prefix: String,
     pub(crate) name: String,
     pub(crate) served: bool,
     pub(crate) schema: CompiledSchema,
-    /// How many rules the schema has.
+    /// The number of rules of the schema, at most `u64::MAX`.
     pub(crate) rules: u64,
     ghost prefixed: { string_bytes prefix
         ≡ group_prefix (string_bytes root.api_group) } by { Prim.hlevel props },
@@ -32,21 +32,21 @@ impl CrdVersion {
     ghost use Rattle.kube_manifests.specs.Documents.{is_defined};
     ghost use Rattle.kube_manifests.specs.Versions.{is_of_kind, is_of_version};
 
-    /// Whether it is of this group and kind.
+    /// Reports whether the version has this group and kind.
     pub(crate) fn is_defined(&self, group: &str, kind: &str) -> bool
         ensures { result ≡ is_defined group.now kind.now (version_view self.now) }
     {
         self.root.api_group.as_str() == group && self.root.kind.as_str() == kind
     }
 
-    /// Whether objects of this apiVersion and kind are of its group and kind.
+    /// Reports whether objects with this apiVersion and kind have the version's group and kind.
     pub(crate) fn is_of_kind(&self, api_version: &str, kind: &str) -> bool
         ensures { result ≡ is_of_kind api_version.now kind.now (version_view self.now) }
     {
         has_start(api_version, self.prefix.as_str()) && self.root.kind.as_str() == kind
     }
 
-    /// Whether they are of this version.
+    /// Reports whether objects with this apiVersion and kind are of this version.
     pub(crate) fn is_of_version(&self, api_version: &str, kind: &str) -> bool
         ensures { result ≡ is_of_version api_version.now kind.now (version_view self.now) }
     {

@@ -1,13 +1,13 @@
 -- Trusted by the clauses of policies.
--- What a policy is evaluated over (Kubernetes API reference, Validation of ValidatingAdmissionPolicySpec: the
--- variables of `expression`).
+-- The inputs of a policy (Kubernetes API reference, Validation of ValidatingAdmissionPolicySpec:
+-- the variables of `expression`).
 use Rattle.kube_cel_vap.specs.Requests.{request_view}
 use Rattle.kube_cel_vap.specs.Variables.{Variables}
 use Rattle.kube_manifests_admission.specs.declared.inputs.PolicyInputs.{PolicyInputs}
 use Rattle.serde_json.specs.View.{view}
 use Rattle.std.specs.Prelude.{option_map}
 
--- ---- what the code's values stand for
+-- ---- views of the code's values
 
 abbrev pub inputs_view : PolicyInputs → Variables
 inputs_view g = record {

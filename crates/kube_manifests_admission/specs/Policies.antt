@@ -1,5 +1,5 @@
 -- Trusted by the clauses of policies.
--- What the document of a policy says (Kubernetes API reference, ValidatingAdmissionPolicy of
+-- The contents of a policy's document (Kubernetes API reference, ValidatingAdmissionPolicy of
 -- `admissionregistration.k8s.io`), or its first fault.
 use Rattle.kube_cel_vap.specs.Expressions.{◌>>=◌}
 use Rattle.kube_manifests_admission.specs.Faults.{FaultData, fault_seen, field, nth, nth_field}
@@ -17,14 +17,14 @@ use Rattle.std.specs.Str.{bytes_eq}
 
 -- one entry of a list of the policy
 pub record ItemData : Type 0 where
-  -- its name; of a validation the text of its expression, of an audit annotation its key
+  -- its name: for a validation the source of its expression, for an audit annotation its key
   pub label : List ℕ
   pub expression : List ℕ
   pub message : Option (List ℕ)
   pub message_expression : Option (List ℕ)
 
 pub record PolicyData : Type 0 where
-  -- whether failurePolicy is `Ignore`
+  -- whether `failurePolicy` is `Ignore`
   pub ignores : Bool
   pub conditions : List ItemData
   pub variables : List ItemData
@@ -52,14 +52,14 @@ label_key Variables = codes "name"
 label_key Validations = codes "expression"
 label_key AuditAnnotations = codes "key"
 
--- the field with its expression
+-- the field with an entry's expression
 abbrev pub expression_key : PolicyList → List ℕ
 expression_key MatchConditions = codes "expression"
 expression_key Variables = codes "expression"
 expression_key Validations = codes "expression"
 expression_key AuditAnnotations = codes "valueExpression"
 
--- names and keys are given once; two validations may have one text
+-- names and keys must differ; two validations may have the same expression
 abbrev pub is_unique : PolicyList → Bool
 is_unique MatchConditions = true
 is_unique Variables = true
@@ -68,7 +68,7 @@ is_unique AuditAnnotations = true
 
 -- ---- fields
 
--- a field that may be missing or null
+-- a string field, which may be missing or null
 abbrev pub text_of : List ℕ → Option Data → Result (Option (List ℕ)) FaultData
 text_of p None = Ok None
 text_of p (Some null) = Ok None
@@ -88,7 +88,7 @@ object_of p (Some null) = Err (record { pointer = p; kind = Missing })
 object_of p (Some (object ms)) = Ok (object ms)
 object_of p (Some _) = Err (record { pointer = p; kind = NotObject })
 
--- one of these texts
+-- a string that must be one of these
 abbrev pub one_of : List ℕ → List (List ℕ) → List ℕ → Result (List ℕ) FaultData
 one_of p known s =
     if list_any (bytes_eq s) known then Ok s else Err (record { pointer = p; kind = Unsupported })
@@ -98,14 +98,14 @@ required_one p known o = required_text p o >>= one_of p known
 
 -- ---- entries
 
--- a text of the entry with this number
+-- a string field of the entry at this index
 abbrev pub entry_text : PolicyList → ℕ → Data → List ℕ → Result (Option (List ℕ)) FaultData
 entry_text l i d name = text_of (nth_field (base l) i name) (get name d)
 
 abbrev pub required_entry_text : PolicyList → ℕ → Data → List ℕ → Result (List ℕ) FaultData
 required_entry_text l i d name = required_text (nth_field (base l) i name) (get name d)
 
--- what the entry with this number says
+-- the contents of the entry at this index
 unfoldable pub entry_of : PolicyList → ℕ → Data → Result ItemData FaultData
 entry_of l i d = do
   label ← required_entry_text l i d (label_key l)
@@ -119,17 +119,17 @@ entry_of l i d = do
     message_expression = message_expression;
   })
 
--- an entry, unless one before it has its name
+-- an entry, unless an earlier one has its name
 abbrev pub unless_repeated : PolicyList → List ItemData → ℕ → ItemData → Result ItemData FaultData
 unless_repeated l done i x = if is_unique l && list_any (λ y. bytes_eq x.label y.label) done
     then Err (record { pointer = nth_field (base l) i (label_key l); kind = Repeated }) else Ok x
 
--- the entry behind these
+-- the entry that follows those already read
 unfoldable pub next_entry : PolicyList → List ItemData → ℕ → Data → Result ItemData FaultData
 next_entry l done i d = if is_some (as_object d) then entry_of l i d >>= unless_repeated l done i
     else Err (record { pointer = nth (base l) i; kind = NotObject })
 
--- the entries of a list, where these were read before
+-- the entries of a list, appended to those already read
 unfoldable pub entries_after : PolicyList → List ItemData → Items → Result (List ItemData) FaultData
 entries_after l done no_items = Ok done
 entries_after l done (item d ds) =
@@ -161,7 +161,7 @@ spec_fields =
     ∷ codes "validations" ∷ codes "failurePolicy" ∷ codes "auditAnnotations"
     ∷ codes "variables" ∷ []
 
--- the first field that isn't one of these
+-- the first member whose name isn't one of these
 abbrev pub unknown_in : List (List ℕ) → Members → Option (List ℕ)
 unknown_in known no_members = None
 unknown_in known (member k d ms) = if list_any (bytes_eq k) known then unknown_in known ms else Some k
@@ -176,7 +176,7 @@ unless_unknown (Some name) spec = Err (record { pointer = field (codes "/spec") 
 abbrev pub failure_policies : List (List ℕ)
 failure_policies = codes "Fail" ∷ codes "Ignore" ∷ []
 
--- whether failurePolicy is `Ignore`; it is `Fail` where none is set
+-- whether `failurePolicy` is `Ignore`; the default is `Fail`
 abbrev pub ignores_with : List ℕ → Option (List ℕ) → Result Bool FaultData
 ignores_with p None = Ok false
 ignores_with p (Some s) = one_of p failure_policies s >>= (λ t. Ok (bytes_eq t (codes "Ignore")))
@@ -187,7 +187,7 @@ failure_pointer = field (codes "/spec") (codes "failurePolicy")
 abbrev pub ignores_in : Data → Result Bool FaultData
 ignores_in spec = text_of failure_pointer (get (codes "failurePolicy") spec) >>= ignores_with failure_pointer
 
--- a policy has to check something
+-- a policy, unless it has neither validations nor audit annotations
 abbrev pub unless_empty : PolicyData → Result PolicyData FaultData
 unless_empty p = elim p.validations as (λ _. Result PolicyData FaultData) [
   | [] ↦ elim p.annotations as (λ _. Result PolicyData FaultData) [
@@ -197,7 +197,7 @@ unless_empty p = elim p.validations as (λ _. Result PolicyData FaultData) [
   | v ∷ vs ↦ Ok p
 ]
 
--- what a `spec` says
+-- the contents of a `spec`
 unfoldable pub spec_of : Data → Result PolicyData FaultData
 spec_of spec = do
   ignores ← ignores_in spec
@@ -213,7 +213,7 @@ spec_of spec = do
     annotations = annotations;
   })
 
--- the `spec` of a document that is a policy
+-- the `spec` of a policy's document
 unfoldable pub spec_in : Data → Result Data FaultData
 spec_in d = do
   version ← required_one (field [] (codes "apiVersion")) versions (get (codes "apiVersion") d)
@@ -221,11 +221,11 @@ spec_in d = do
   spec ← object_of (field [] (codes "spec")) (get (codes "spec") d)
   unless_unknown (unknown_field spec) spec
 
--- the policy that a document is
+-- the policy in a document
 unfoldable pub policy_of : Data → Result PolicyData FaultData
 policy_of d = spec_in d >>= spec_of
 
--- ---- what the code's values stand for
+-- ---- views of the code's values
 
 abbrev pub item_view : Item → ItemData
 item_view x = record {
@@ -244,7 +244,7 @@ policy_view p = record {
   annotations = map item_view p.annotations.items;
 }
 
--- what was read, or the fault
+-- the view of what was read, or of the fault
 abbrev pub reading_view : {A B : Type 0} → (A → B) → Result A Found → Result B FaultData
 reading_view f (Ok a) = Ok (f a)
 reading_view f (Err e) = Err (fault_seen e)

@@ -1,5 +1,5 @@
 -- Trusted by the clauses of policies.
--- What an AdmissionReview says of a request (Kubernetes API reference, AdmissionReview and AdmissionRequest
+-- The request in an AdmissionReview (Kubernetes API reference, AdmissionReview and AdmissionRequest
 -- of `admission.k8s.io`), or its first fault.
 use Rattle.kube_cel_vap.specs.Requests.{KindData, RequestData, ResourceData}
 use Rattle.kube_cel_vap.specs.Expressions.{◌>>=◌}
@@ -24,13 +24,13 @@ pub record ServedData : Type 0 where
   pub version : List ℕ
   pub name : List ℕ
 
--- who asks, the groups as they are
+-- the user who makes the request; the groups are not yet read
 pub record UserData : Type 0 where
   pub username : List ℕ
   pub uid : List ℕ
   pub groups : Items
 
--- a request whose groups weren't read yet
+-- the fields of a request, whose groups are not yet read
 pub record PartsData : Type 0 where
   pub operation : List ℕ
   pub user : UserData
@@ -42,7 +42,7 @@ pub record PartsData : Type 0 where
 
 -- ---- fields
 
--- a text that may be left out, where it is empty
+-- an optional string, empty if it is missing
 abbrev pub text_or_empty : List ℕ → Option Data → Result (List ℕ) FaultData
 text_or_empty p o = text_of p o >>= (λ t. Ok (unwrap_or t []))
 
@@ -65,7 +65,7 @@ value_or_null (Some d) = d
 abbrev pub groups_pointer : List ℕ
 groups_pointer = codes "/request/userInfo/groups"
 
--- the texts of a list, where these were read before
+-- the strings of a list, appended to those already read
 abbrev pub texts_after : List (List ℕ) → Items → Result (List (List ℕ)) FaultData
 texts_after done no_items = Ok done
 texts_after done (item (string s) ds) = texts_after (done ++ s ∷ []) ds
@@ -73,7 +73,7 @@ texts_after done (item _ ds) = Err (record { pointer = nth groups_pointer (lengt
 
 -- ---- the request
 
--- fields of the object that has this pointer
+-- fields of the object at this pointer
 abbrev pub text_in : List ℕ → Data → List ℕ → Result (List ℕ) FaultData
 text_in base d name = text_or_empty (field base name) (get name d)
 
@@ -166,15 +166,15 @@ review_versions = codes "admission.k8s.io/v1" ∷ codes "admission.k8s.io/v1beta
 abbrev pub review_kinds : List (List ℕ)
 review_kinds = codes "AdmissionReview" ∷ []
 
--- the `request` of a document that is a review
+-- the `request` of a review's document
 unfoldable pub request_in : Data → Result Data FaultData
 request_in d = do
   version ← required_one (field [] (codes "apiVersion")) review_versions (get (codes "apiVersion") d)
   kind ← required_one (field [] (codes "kind")) review_kinds (get (codes "kind") d)
   object_of (field [] (codes "request")) (get (codes "request") d)
 
--- Of the two objects a review leaves out what isn't there: it is null.
--- Of params and of the namespace it says nothing.
+-- If a review leaves out one of the two objects, it is null. `params` and the namespace are
+-- unknown.
 abbrev pub inputs_from : Data → RequestData → Variables
 inputs_from d r = record {
   object = Some (value_or_null (get (codes "object") d));
@@ -190,7 +190,7 @@ inputs_in request = request_of request >>= (λ r. Ok (inputs_from request r))
 unfoldable pub review_of : Data → Result Variables FaultData
 review_of d = request_in d >>= inputs_in
 
--- ---- what the code's values stand for
+-- ---- views of the code's values
 
 abbrev pub served_view : Served → ServedData
 served_view s = record { group = s.group.now; version = s.version.now; name = s.name.now }

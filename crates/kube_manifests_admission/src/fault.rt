@@ -1,4 +1,4 @@
-//! What is wrong with a document of another shape, and where.
+//! The faults of documents that don't have the expected shape.
 ghost use Rattle.kube_manifests_admission.specs.Faults.{fault_seen, fault_text, fault_view, kind_text};
 ghost use Rattle.std.specs.Prelude.{◌≡◌, IfOk, Some};
 
@@ -10,23 +10,23 @@ use std::fmt;
 /// What is wrong at a location in a document.
 #[derive(Clone, Copy, Debug, PartialEq, Eq)]
 pub enum FaultKind {
-    /// What has to be there is missing, or null.
+    /// A required value is missing or null.
     Missing,
-    /// It is no object.
+    /// The value is not an object.
     NotObject,
-    /// It is no list.
+    /// The value is not a list.
     NotList,
-    /// It is no string.
+    /// The value is not a string.
     NotString,
-    /// It is neither true nor false.
+    /// The value is neither true nor false.
     NotBool,
-    /// It is a string that means nothing there.
+    /// The string is not one of those known at this location.
     Unsupported,
-    /// No field of this name is known there.
+    /// No field of this name is known at this location.
     UnknownField,
-    /// The name was given to another one before it.
+    /// An earlier entry has the same name.
     Repeated,
-    /// Neither validations nor audit annotations are there.
+    /// The policy has neither validations nor audit annotations.
     NothingToCheck,
 }
 
@@ -40,18 +40,18 @@ impl fmt::Display for FaultKind {
             FaultKind::NotList => write!(f, "must be a list"),
             FaultKind::NotString => write!(f, "must be a string"),
             FaultKind::NotBool => write!(f, "must be true or false"),
-            FaultKind::Unsupported => write!(f, "has a value that is not known here"),
-            FaultKind::UnknownField => write!(f, "is no field that is known here"),
-            FaultKind::Repeated => write!(f, "has a name that was given before"),
+            FaultKind::Unsupported => write!(f, "has an unsupported value"),
+            FaultKind::UnknownField => write!(f, "is an unknown field"),
+            FaultKind::Repeated => write!(f, "has a duplicate name"),
             FaultKind::NothingToCheck => write!(f, "must have validations or auditAnnotations"),
         }
     }
 }
 
-/// Why a document is no policy, or no review: its first fault.
+/// Why a document is not a policy, or not a review: its first fault.
 #[derive(Debug, Drop)]
 pub struct PolicyFault {
-    /// Where it is (JSON Pointer, RFC 6901).
+    /// The location of the fault, a JSON Pointer (RFC 6901).
     pub pointer: String,
     /// What is wrong there.
     pub kind: FaultKind,
@@ -65,18 +65,18 @@ impl fmt::Display for PolicyFault {
     }
 }
 
-/// A fault that was found, before its pointer is written.
+/// A fault whose pointer isn't written out yet.
 #[derive(Clone, Copy, Drop)]
 pub struct Found<'v> {
     pub(crate) location: Location<'v>,
     pub(crate) kind: FaultKind,
 }
 
-/// A fault with its pointer.
+/// Returns the fault with its pointer written out.
 ///
 /// # Errors
 ///
-/// `AllocError` where memory is refused.
+/// `AllocError` if memory is refused.
 pub fn reported(alloc: Global, found: Found<'_>) -> Result<PolicyFault, AllocError>
     ensures { IfOk result (λ f. fault_view f ≡ fault_seen found.entry) }
 {

@@ -1,4 +1,4 @@
-//! What a policy is evaluated over.
+//! The inputs of a policy.
 ghost use Rattle.kube_cel_vap.specs.Variables.{no_variables};
 ghost use Rattle.kube_manifests_admission.specs.Inputs.{inputs_view};
 ghost use Rattle.std.specs.Prelude.{◌≡◌};
@@ -6,15 +6,15 @@ ghost use Rattle.std.specs.Prelude.{◌≡◌};
 use kube_cel_vap::AdmissionRequest;
 use serde_json::Value;
 
-/// What a policy is evaluated over. `None` says that something isn't known: an expression that asks for it is
-/// not judged. What is known to be null is `Some(Value::Null)`: `oldObject` where an object is created,
-/// `object` where one is deleted, `params` where a policy has none,
-/// `namespaceObject` where an object has no namespace.
+/// The values that a policy is evaluated over. `None` means that the value isn't known: an
+/// expression that reads it is not judged. A value known to be null is `Some(Value::Null)`:
+/// `oldObject` when an object is created, `object` when one is deleted, `params` if a policy has
+/// none, `namespaceObject` if the object has no namespace.
 #[derive(Debug, Drop)]
 pub struct PolicyInputs {
     /// The object of the request, `object`.
     pub object: Option<Value>,
-    /// The object as it was, `oldObject`.
+    /// The object before the request, `oldObject`.
     pub old_object: Option<Value>,
     /// The parameters of the policy, `params`.
     pub params: Option<Value>,
@@ -25,7 +25,7 @@ pub struct PolicyInputs {
 }
 
 impl PolicyInputs {
-    /// Nothing is known.
+    /// Returns inputs of which none is known.
     pub fn none() -> PolicyInputs
         ensures { inputs_view result ≡ no_variables }
     {

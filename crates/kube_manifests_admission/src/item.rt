@@ -1,4 +1,4 @@
-//! The lists of a policy and their entries, as JSON gives them.
+//! Reads the lists of a policy and their entries from JSON.
 ghost use Rattle.kube_manifests_admission.specs.Policies.{base, entries_after, entry_of, entry_text, expression_key, is_unique, item_view, keyword, label_key, next_entry, reading_view, required_entry_text, required_text, text_of};
 ghost use Rattle.kube_manifests_admission.specs.Faults.{pointer_at};
 ghost use Rattle.serde_json.specs.Find.{get};
@@ -23,7 +23,7 @@ pub(crate) enum PolicyList {
 }
 
 impl PolicyList {
-    /// Its field of `spec`.
+    /// The field of `spec` that holds the list.
     pub(crate) fn keyword(self) -> &'static str
         ensures { result.now ≡ keyword self }
     {
@@ -35,7 +35,7 @@ impl PolicyList {
         }
     }
 
-    /// Its pointer.
+    /// The list's JSON Pointer.
     fn base(self) -> &'static str
         ensures { result.now ≡ base self }
     {
@@ -71,7 +71,7 @@ impl PolicyList {
         }
     }
 
-    /// Whether no two entries have one name.
+    /// Reports whether no two entries may have the same name.
     fn is_unique(self) -> bool
         ensures { result ≡ is_unique self }
     {
@@ -87,17 +87,18 @@ impl PolicyList {
 /// An entry of a list of a policy.
 #[derive(Clone, Copy, Drop)]
 pub struct Item<'v> {
-    /// Its name; of a validation the text of its expression, of an audit annotation its key.
+    /// The entry's name: for a validation the source of its expression, for an audit annotation its
+    /// key.
     pub label: &'v str,
-    /// Its expression, as CEL's text.
+    /// The CEL source of the entry's expression.
     pub expression: &'v str,
-    /// What a validation that is false says of itself.
+    /// The `message` of a validation, reported if it is false.
     pub message: Option<&'v str>,
-    /// The expression of that.
+    /// The CEL source of the validation's `messageExpression`.
     pub message_expression: Option<&'v str>,
 }
 
-/// A text, if the field is there and not null.
+/// The string in a field. `None` if the field is missing or null; a fault if it is not a string.
 pub(crate) fn text_at<'v>(
     value: &'v Value,
     name: &'static str,
@@ -116,7 +117,7 @@ pub(crate) fn text_at<'v>(
     }
 }
 
-/// A text that has to be there.
+/// The string in a required field.
 pub(crate) fn required_text_at<'v>(
     value: &'v Value,
     name: &'static str,
@@ -134,7 +135,7 @@ pub(crate) fn required_text_at<'v>(
     }
 }
 
-/// A text of the entry with this number.
+/// The string in a field of the entry at `index`, if any.
 fn entry_text<'v>(
     list: PolicyList,
     index: usize,
@@ -147,7 +148,7 @@ fn entry_text<'v>(
     text_at(value, name, Location::ItemField(list.base(), index, name))
 }
 
-/// A text that the entry with this number has to have.
+/// The string in a required field of the entry at `index`.
 fn required_entry_text<'v>(
     list: PolicyList,
     index: usize,
@@ -159,7 +160,7 @@ fn required_entry_text<'v>(
     required_text_at(value, name, Location::ItemField(list.base(), index, name))
 }
 
-/// What the entry with this number says.
+/// Reads the entry at `index`.
 #[tactic(auto, unfolding(crate::specs::Policies::entry_of))]
 fn entry_of(list: PolicyList, index: usize, value: &Value) -> Result<Item<'_>, Found<'_>>
     ensures { reading_view item_view result ≡ entry_of list index (view value.now) }
@@ -176,7 +177,7 @@ fn entry_of(list: PolicyList, index: usize, value: &Value) -> Result<Item<'_>, F
     })
 }
 
-/// Whether one of these entries has this name.
+/// Reports whether any of these entries has this name.
 fn is_named(items: &[Item<'_>], label: &str) -> bool
     ensures { result ≡ list_any (λ y. bytes_eq label.now y.label) (map item_view items.now) }
 {
@@ -188,7 +189,7 @@ fn is_named(items: &[Item<'_>], label: &str) -> bool
     false
 }
 
-/// The entry behind these.
+/// Reads the entry that follows those in `before`.
 #[tactic(auto, unfolding(crate::specs::Policies::next_entry))]
 fn next_entry<'v>(
     list: PolicyList,
@@ -215,7 +216,7 @@ fn next_entry<'v>(
     Ok(entry)
 }
 
-/// The entries of a list.
+/// Reads the entries of a list. Returns the first fault if there is one.
 pub(crate) fn entries_of<'v>(
     alloc: Global,
     list: PolicyList,

@@ -1,5 +1,5 @@
-//! The document of a ValidatingAdmissionPolicy, and what an AdmissionReview gives to
-//! evaluate it over: both as JSON.
+//! Reads, from JSON documents, ValidatingAdmissionPolicies and the inputs for them that an
+//! AdmissionReview carries.
 #![tactic(auto)]
 
 mod fault;

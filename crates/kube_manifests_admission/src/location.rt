@@ -4,18 +4,18 @@ ghost use Rattle.std.specs.Prelude.{◌≡◌, ◌++◌, IfOk, OnOk, string_byte
 
 use std::alloc::{AllocError, Global};
 
-/// A location in a document.
+/// A location in a document. Pointers are JSON Pointers (RFC 6901).
 #[derive(Clone, Copy, Drop)]
 pub(crate) enum Location<'v> {
-    /// A field of the object at this pointer.
+    /// The field of this name in the object at this pointer.
     Field(&'static str, &'v str),
-    /// An item of the list at this pointer.
+    /// The item at this index in the list at this pointer.
     Item(&'static str, usize),
-    /// A field of such an item.
+    /// A field of the item at this index in the list at this pointer.
     ItemField(&'static str, usize, &'static str),
 }
 
-/// Adds a character of a name.
+/// Appends a character of a name, escaped for a JSON Pointer.
 fn push_escaped(out: &mut String, character: char) -> Result<(), AllocError>
     ensures { OnOk result (string_bytes out.new ≡ string_bytes out.old ++ escaped_character character) }
 {
@@ -26,7 +26,7 @@ fn push_escaped(out: &mut String, character: char) -> Result<(), AllocError>
     }
 }
 
-/// Adds a name, as one step of a pointer.
+/// Appends a name as one step of a JSON Pointer.
 fn push_name(out: &mut String, name: &str) -> Result<(), AllocError>
     ensures { OnOk result (string_bytes out.new ≡ string_bytes out.old ++ token name.now) }
 {
@@ -36,7 +36,7 @@ fn push_name(out: &mut String, name: &str) -> Result<(), AllocError>
     Ok(())
 }
 
-/// The pointer of a field.
+/// Returns the pointer of a field.
 fn field_pointer(alloc: Global, base: &str, name: &str) -> Result<String, AllocError>
     ensures { IfOk result (λ s. string_bytes s ≡ field base.now name.now) }
 {
@@ -45,7 +45,7 @@ fn field_pointer(alloc: Global, base: &str, name: &str) -> Result<String, AllocE
     Ok(pointer)
 }
 
-/// The pointer of a location.
+/// Returns the pointer of a location.
 pub(crate) fn pointer_of(alloc: Global, location: Location<'_>) -> Result<String, AllocError>
     ensures { IfOk result (λ s. string_bytes s ≡ pointer_at location.entry) }
 {

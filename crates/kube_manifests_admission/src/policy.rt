@@ -1,4 +1,4 @@
-//! The document of a policy.
+//! Reads the document of a policy.
 ghost use Rattle.kube_manifests_admission.specs.Faults.{pointer_at};
 ghost use Rattle.kube_manifests_admission.specs.Policies.{entries_of, failure_policies, ignores_in, item_view, kinds, object_of, policy_of, policy_view, reading_view, spec_fields, spec_in, spec_of, unknown_field, unless_empty, versions};
 ghost use Rattle.serde_json.specs.Find.{get};
@@ -14,10 +14,10 @@ use kube_types_refused::Refused;
 use serde_json::Value;
 use std::alloc::Global;
 
-/// What the document of a policy says.
+/// The contents of a policy's document.
 #[derive(Drop)]
 pub struct Policy<'v> {
-    /// Whether failurePolicy is `Ignore`.
+    /// Whether `failurePolicy` is `Ignore`.
     pub ignores: bool,
     /// `matchConditions`.
     pub conditions: Vec<Item<'v>>,
@@ -61,7 +61,7 @@ fn is_spec_field(name: &str) -> bool
         || name == "variables"
 }
 
-/// The object at a location.
+/// The object in a required field.
 pub(crate) fn object_at<'v>(
     value: &'v Value,
     name: &'static str,
@@ -87,7 +87,7 @@ pub(crate) fn object_at<'v>(
     }
 }
 
-/// The first field of a `spec` that none of a policy is.
+/// The first field of `spec` that policies don't have, if any.
 fn unknown_field(spec: &Value) -> Option<&str>
     ensures { option_map (λ s. s.now) result ≡ unknown_field (view spec.now) }
 {
@@ -102,7 +102,8 @@ fn unknown_field(spec: &Value) -> Option<&str>
     None
 }
 
-/// The `spec` of a document that is a policy.
+/// The `spec` of a policy's document, after its apiVersion, kind and the fields of `spec` are
+/// checked.
 #[tactic(auto, unfolding(crate::specs::Policies::spec_in))]
 fn spec_in(document: &Value) -> Result<&Value, Found<'_>>
     ensures { reading_view (λ v. view v.now) result ≡ spec_in (view document.now) }
@@ -131,7 +132,7 @@ fn spec_in(document: &Value) -> Result<&Value, Found<'_>>
     }
 }
 
-/// Whether failurePolicy is `Ignore`.
+/// Reports whether `failurePolicy` is `Ignore`. False if it isn't set.
 fn ignores_in(spec: &Value) -> Result<bool, Found<'_>>
     ensures { reading_view (λ b. b) result ≡ ignores_in (view spec.now) }
 {
@@ -148,7 +149,7 @@ fn ignores_in(spec: &Value) -> Result<bool, Found<'_>>
     Ok(text == "Ignore")
 }
 
-/// The entries of a list of a `spec`.
+/// Reads the entries of a list of `spec`. An absent list is empty.
 fn list_of<'v>(
     alloc: Global,
     list: PolicyList,
@@ -168,7 +169,7 @@ fn list_of<'v>(
     }
 }
 
-/// A policy, unless it checks nothing.
+/// Returns the policy, or a fault if it has neither validations nor audit annotations.
 fn unless_empty(policy: Policy<'_>) -> Result<Policy<'_>, Found<'_>>
     ensures { reading_view policy_view result ≡ unless_empty (policy_view policy.entry) }
 {
@@ -181,7 +182,7 @@ fn unless_empty(policy: Policy<'_>) -> Result<Policy<'_>, Found<'_>>
     Ok(policy)
 }
 
-/// What a `spec` says.
+/// Reads a `spec`.
 #[tactic(auto, unfolding(crate::specs::Policies::spec_of))]
 fn spec_of(alloc: Global, spec: &Value) -> Result<Result<Policy<'_>, Found<'_>>, Refused>
     ensures policy { IfOk result (λ r. reading_view policy_view r ≡ spec_of (view spec.now)) }
@@ -216,11 +217,11 @@ fn spec_of(alloc: Global, spec: &Value) -> Result<Result<Policy<'_>, Found<'_>>,
     }))
 }
 
-/// The policy that a document is, or its first fault.
+/// Reads a policy from its document. The inner error is the first fault.
 ///
 /// # Errors
 ///
-/// [`Refused`] where memory is refused.
+/// [`Refused`] if memory is refused.
 #[tactic(auto, unfolding(crate::specs::Policies::policy_of))]
 pub fn policy_of(alloc: Global, document: &Value) -> Result<Result<Policy<'_>, Found<'_>>, Refused>
     ensures policy { IfOk result (λ r. reading_view policy_view r ≡ policy_of (view document.now)) }

@@ -1,4 +1,4 @@
-//! The inputs that an AdmissionReview carries.
+//! Reads the inputs that an AdmissionReview carries.
 ghost use Rattle.kube_cel_vap.specs.Requests.{kind_view, request_view, resource_view};
 ghost use Rattle.kube_manifests_admission.specs.Faults.{pointer_at};
 ghost use Rattle.kube_manifests_admission.specs.Inputs.{inputs_view};
@@ -28,7 +28,7 @@ pub(crate) struct Served<'v> {
     name: &'v str,
 }
 
-/// Who asks. The groups are as they stand.
+/// The user who makes the request. The groups are not yet read.
 #[derive(Clone, Copy, Drop)]
 pub(crate) struct User<'v> {
     username: &'v str,
@@ -36,7 +36,7 @@ pub(crate) struct User<'v> {
     groups: &'v [Value],
 }
 
-/// A request whose groups weren't read yet.
+/// The fields of a request, whose groups are not yet read.
 #[derive(Clone, Copy, Drop)]
 pub(crate) struct Parts<'v> {
     operation: &'v str,
@@ -60,7 +60,7 @@ fn is_review_kind(text: &str) -> bool
     text == "AdmissionReview"
 }
 
-/// A text of the object at this pointer that may be left out.
+/// The string in an optional field of the object at the pointer `base`. Empty if it is missing.
 fn text_in<'v>(
     base: &'static str,
     value: &'v Value,
@@ -74,7 +74,7 @@ fn text_in<'v>(
     }
 }
 
-/// A text of the object at this pointer.
+/// The string in a required field of the object at the pointer `base`.
 fn required_text_in<'v>(
     base: &'static str,
     value: &'v Value,
@@ -85,7 +85,7 @@ fn required_text_in<'v>(
     required_text_at(value, name, Location::Field(base, name))
 }
 
-/// An object of the object at this pointer.
+/// The object in a required field of the object at the pointer `base`.
 fn object_in<'v>(
     base: &'static str,
     value: &'v Value,
@@ -96,7 +96,7 @@ fn object_in<'v>(
     object_at(value, name, Location::Field(base, name))
 }
 
-/// A bool that may be left out.
+/// The bool in an optional field. False if it is missing.
 fn bool_at<'v>(
     value: &'v Value,
     name: &'static str,
@@ -115,7 +115,7 @@ fn bool_at<'v>(
     }
 }
 
-/// The items of a list that may be left out.
+/// The items of a list in an optional field. Empty if it is missing.
 fn items_at<'v>(
     value: &'v Value,
     name: &'static str,
@@ -134,7 +134,7 @@ fn items_at<'v>(
     }
 }
 
-/// A kind or a resource.
+/// Reads a kind or a resource. `key` is the field with its name.
 #[tactic(auto, unfolding(crate::specs::Reviews::served_of))]
 fn served_of<'v>(
     base: &'static str,
@@ -153,7 +153,7 @@ fn served_of<'v>(
     })
 }
 
-/// Who asks.
+/// Reads the user from `userInfo`.
 #[tactic(auto, unfolding(crate::specs::Reviews::user_of))]
 fn user_of(user: &Value) -> Result<User<'_>, Found<'_>>
     ensures { reading_view user_view result ≡ user_of (view user.now) }
@@ -169,7 +169,7 @@ fn user_of(user: &Value) -> Result<User<'_>, Found<'_>>
     })
 }
 
-/// Who asks a request.
+/// Reads the user of a request.
 fn user_in(request: &Value) -> Result<User<'_>, Found<'_>>
     ensures { reading_view user_view result ≡ user_in (view request.now) }
 {
@@ -177,7 +177,7 @@ fn user_in(request: &Value) -> Result<User<'_>, Found<'_>>
     user_of(user)
 }
 
-/// The kind of a request's object.
+/// Reads the kind of a request's object.
 fn kind_in(request: &Value) -> Result<Served<'_>, Found<'_>>
     ensures { reading_view served_view result ≡ kind_in (view request.now) }
 {
@@ -185,7 +185,7 @@ fn kind_in(request: &Value) -> Result<Served<'_>, Found<'_>>
     served_of("/request/kind", "kind", kind)
 }
 
-/// The resource of a request's object.
+/// Reads the resource of a request's object.
 fn resource_in(request: &Value) -> Result<Served<'_>, Found<'_>>
     ensures { reading_view served_view result ≡ resource_in (view request.now) }
 {
@@ -193,7 +193,7 @@ fn resource_in(request: &Value) -> Result<Served<'_>, Found<'_>>
     served_of("/request/resource", "resource", resource)
 }
 
-/// What a request says, or its first fault.
+/// Reads the fields of a request, or its first fault.
 #[tactic(auto, unfolding(crate::specs::Reviews::parts_of))]
 fn parts_of(request: &Value) -> Result<Parts<'_>, Found<'_>>
     ensures { reading_view parts_view result ≡ parts_of (view request.now) }
@@ -217,7 +217,7 @@ fn parts_of(request: &Value) -> Result<Parts<'_>, Found<'_>>
     })
 }
 
-/// The texts of the groups.
+/// Reads the strings of the user's groups.
 fn texts_of(alloc: Global, items: &[Value]) -> Result<Result<Vec<String>, Found<'_>>, Refused>
     ensures texts { IfOk result (λ r. reading_view (λ v. map string_bytes v.items) r
         ≡ texts_after [] (items_view items.now)) }
@@ -256,7 +256,7 @@ fn resource_from(alloc: Global, resource: Served<'_>) -> Result<GroupVersionReso
     })
 }
 
-/// The request of these parts.
+/// Builds a request from its fields and groups.
 fn request_from(
     alloc: Global,
     parts: Parts<'_>,
@@ -278,7 +278,7 @@ fn request_from(
     })
 }
 
-/// The request that a value is.
+/// Reads a request.
 #[tactic(auto, unfolding(crate::specs::Reviews::request_of))]
 fn request_of(
     alloc: Global,
@@ -297,7 +297,7 @@ fn request_of(
     }
 }
 
-/// The `request` of a document that is a review.
+/// The `request` of a review's document, after its apiVersion and kind are checked.
 #[tactic(auto, unfolding(crate::specs::Reviews::request_in))]
 fn request_in(document: &Value) -> Result<&Value, Found<'_>>
     ensures { reading_view (λ v. view v.now) result ≡ request_in (view document.now) }
@@ -319,7 +319,7 @@ fn request_in(document: &Value) -> Result<&Value, Found<'_>>
     object_at(document, "request", Location::Field("", "request"))
 }
 
-/// The value of a field, null where it is left out.
+/// Returns a copy of the value in a field, or null if the field is missing.
 fn value_or_null(value: &Value, name: &str) -> Result<Value, AllocError>
     ensures { IfOk result (λ v. view v ≡ value_or_null (get name.now (view value.now))) }
 {
@@ -329,7 +329,7 @@ fn value_or_null(value: &Value, name: &str) -> Result<Value, AllocError>
     }
 }
 
-/// The inputs that a request carries.
+/// Reads the inputs that a request carries.
 fn inputs_in<'v>(
     alloc: Global,
     request: &'v Value,
@@ -349,7 +349,7 @@ fn inputs_in<'v>(
     }
 }
 
-/// The inputs that a review carries, or its first fault.
+/// Reads the inputs that a review carries, or its first fault.
 #[tactic(auto, unfolding(crate::specs::Reviews::review_of))]
 fn review_of(alloc: Global, document: &Value) -> Result<Result<PolicyInputs, Found<'_>>, Refused>
     ensures inputs { IfOk result (λ r. reading_view inputs_view r ≡ review_of (view document.now)) }
@@ -362,15 +362,15 @@ fn review_of(alloc: Global, document: &Value) -> Result<Result<PolicyInputs, Fou
 }
 
 impl PolicyInputs {
-    /// `request`, `object` and `oldObject` of an AdmissionReview (`admission.k8s.io`). What it leaves out of
-    /// the two objects is known to be null. Of `params` and `namespaceObject` it says nothing:
-    /// set these fields afterwards.
+    /// Reads `request`, `object` and `oldObject` from an AdmissionReview (`admission.k8s.io`). If
+    /// the review leaves out one of the two objects, it is known to be null. `params` and
+    /// `namespaceObject` are unknown: set these fields afterwards.
     ///
-    /// Answers the first [`PolicyFault`] where the document is no such review.
+    /// The inner error is the first [`PolicyFault`] if the document is not such a review.
     ///
     /// # Errors
     ///
-    /// [`Refused`] where memory is refused.
+    /// [`Refused`] if memory is refused.
     pub fn from_review(
         alloc: Global,
         review: &Value,

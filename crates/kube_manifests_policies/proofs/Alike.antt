@@ -1,4 +1,4 @@
--- Scopes where the same names are bound.
+-- Scopes that bind the same names.
 use Rattle.cel_patterns.specs.Book.{Book}
 use Rattle.cel_semantics.specs.Bindings.{Bindings, binding}
 use Rattle.cel_semantics.specs.Members.{put_in}
@@ -25,13 +25,13 @@ under_given : (name : List ℕ) (o : Option Json) (e f : Bindings) → ((y : Lis
 under_given name None e f h y = h y
 under_given name (Some d) e f h y = ap (λ o. if bytes_eq y name then Some (plain d) else o) (h y)
 
--- the names that match conditions see
+-- the names bound for match conditions
 pub condition_names : (v : Variables) (e0 e1 : Bindings) → ((x : List ℕ) → binding x e0 ≡ binding x (bindings_always v))
     → ((x : List ℕ) → binding x e1 ≡ binding x (with_given (codes "params") v.params e0)) → (x : List ℕ) → binding x e1 ≡ binding x (policy_bindings (without_namespace v))
 unfolding policy_bindings bindings_always
 condition_names v e0 e1 h0 h1 x = h1 x ∙ under_given (codes "params") v.params e0 (bindings_always v) h0 x
 
--- then those of the other expressions
+-- the names bound for the other expressions
 pub policy_names : (v : Variables) (e1 e2 : Bindings) → ((x : List ℕ) → binding x e1 ≡ binding x (policy_bindings (without_namespace v)))
     → ((x : List ℕ) → binding x e2 ≡ binding x (with_given (codes "namespaceObject") v.namespace_object e1)) → (x : List ℕ) → binding x e2 ≡ binding x (policy_bindings v)
 unfolding policy_bindings bindings_always
@@ -41,13 +41,13 @@ pub under_no_values : (xs : List ItemData) (e f : Bindings) → ((y : List ℕ) 
 under_no_values [] e f h y = h y
 under_no_values (x ∷ xs) e f h y = ap (λ o. if bytes_eq y (codes "variables") then Some (map_of no_entries) else o) (h y)
 
--- `variables` is bound to the map of none
+-- `variables` is bound to the empty map
 pub values_bound : (vs : List Item) (m : Data) (e f : Bindings) → (length vs ≡ 0 → ⊥) → m ≡ map_of no_entries
     → ((x : List ℕ) → binding x f ≡ (if bytes_eq (codes "variables") x then Some m else binding x e)) → (x : List ℕ) → binding x f ≡ binding x (with_no_values (map item_view vs) e)
 values_bound [] m e f k p h x = absurd (k refl)
 values_bound (v ∷ vs) m e f k p h x = bound x (codes "variables") m (map_of no_entries) (binding x f) (binding x e) e (h x) p refl
 
--- ---- what is reached
+-- ---- outcomes
 
 pub reach_same : (b : Book) (s t : ScopeData) → Alike s t → outcome_or_reason b s ≡ outcome_or_reason b t
 unfolding outcome_or_reason outcome_in
@@ -102,6 +102,6 @@ one_after b s t {u} xs i x below is h k =
     let split = drop-cons xs i x below ∙ (λ j. sym is j ∷ drop (sym (add-one i) j) xs) in
     Alike-trans (after_alike b t (variable_step b s (item_view x)) h rest) (subst (λ ys. Alike (variables_after b s (map item_view ys)) u) split k)
 
--- no variable is left
+-- no variable remains
 pub all_after : (b : Book) (s : ScopeData) {u : ScopeData} (xs : List Item) (i : ℕ) → length xs ≤ i → Alike (variables_after b s (map item_view (drop i xs))) u → Alike s u
 all_after b s {u} xs i h k = subst (λ ys. Alike (variables_after b s (map item_view ys)) u) (drop_all i xs h) k

@@ -1,4 +1,4 @@
--- What decides about a policy.
+-- What decides the verdict of a policy.
 use Rattle.cel_patterns.specs.Book.{Book, IsBook}
 use Rattle.kube_cel_vap.specs.Expressions.{◌>>=◌}
 use Rattle.kube_cel_vap.specs.Variables.{Variables}
@@ -20,12 +20,12 @@ verdict_with : (b : Book) (v : Variables) (p : PolicyData) (rs : List Labelled) 
 unfolding policy_verdict
 verdict_with b v p rs o e q = sym (ap (verdict_after b v p rs) q) ∙ ap (λ c. verdict_after b v p c (after_conditions p.ignores c)) e
 
--- the match conditions alone
+-- the match conditions decide
 pub by_conditions : (b : Book) (v : Variables) (p : PolicyData) (rs : List Labelled) (d : PolicyDecision)
     → rs ≡ results_as Condition (outcome_or_reason b (first_scope (without_namespace v))) p.conditions → after_conditions p.ignores rs ≡ Some d → verdict_of_conditions rs d ≡ policy_verdict b v p
 by_conditions b v p rs d e q = verdict_with b v p rs (Some d) e q
 
--- all of it
+-- the whole policy decides
 pub by_all : (b : Book) (v : Variables) (p : PolicyData) (rs : List Labelled) (s : ScopeData)
     → rs ≡ results_as Condition (outcome_or_reason b (first_scope (without_namespace v))) p.conditions → after_conditions p.ignores rs ≡ None
     → Alike s (variables_after b (scope_for v p.variables) p.variables) → verdict_in (outcome_or_reason b s) s.missing p rs ≡ policy_verdict b v p
@@ -33,7 +33,7 @@ by_all b v p rs s e q h =
     let t = variables_after b (scope_for v p.variables) p.variables in
     (λ i. verdict_in (reach_same b s t h i) (h.missing i) p rs) ∙ verdict_with b v p rs None e q
 
--- validations and audit annotations
+-- validations and audit annotations decide
 pub by_both : (r : Reach) (missing : List Labelled) (p : PolicyData) (rs vs ws : List Labelled) (d : PolicyDecision)
     → vs ≡ results_as Validation r p.validations → ws ≡ results_as Annotation r p.annotations → d ≡ decision_of p.ignores vs ws
     → ◌≡◌ {A = VerdictData} (record { decision = d; conditions = rs; variables = missing; validations = vs; annotations = ws }) (verdict_in r missing p rs)
@@ -48,17 +48,17 @@ by_both r missing p rs vs ws d v w q = λ i. record {
 
 -- ---- documents
 
--- of a document that is no policy
+-- for a document that is no policy
 pub of_fault : (b : Book) (v : Variables) (d : Json) (f : FaultData) → Err f ≡ policy_of d → Err f ≡ verdict_of b v d
 unfolding verdict_of
 of_fault b v d f e = ap (λ k. k >>= (λ p. Ok (policy_verdict b v p))) e
 
--- of one that is
+-- for a document that is a policy
 pub of_policy : (b : Book) (v : Variables) (d : Json) (p : PolicyData) → Ok p ≡ policy_of d → Ok (policy_verdict b v p) ≡ verdict_of b v d
 unfolding verdict_of
 of_policy b v d p e = ap (λ k. k >>= (λ p. Ok (policy_verdict b v p))) e
 
--- a book with no entry
+-- a book without entries
 pub no_entries : Book
 no_entries text = None
 

@@ -1,4 +1,4 @@
--- What is reported of a validation whose expression came to an outcome.
+-- The report of a validation, given the outcome of its expression.
 use Rattle.cel_semantics.specs.Outcome.{Outcome}
 use Rattle.cel_syntax_ast.specs.Term.{Term}
 use Rattle.kube_cel_vap.specs.Expressions.{◌>>=◌}

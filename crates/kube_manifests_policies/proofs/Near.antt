@@ -1,4 +1,4 @@
--- A meaning where one member of `variables` differs that isn't asked for.
+-- The meaning of an expression doesn't depend on a member of `variables` that it doesn't read.
 use Rattle.cel_patterns.specs.Book.{Book}
 use Rattle.cel_semantics.specs.Bindings.{Bindings, binding}
 use Rattle.cel_semantics.specs.Calls.{receiver_of, by_form, call_outcome}
@@ -22,13 +22,13 @@ use Rattle.std.proofs.lemmas.Slice.Eq.{bytes_eq-Decides}
 use Rattle.std.specs.Option.{option_map_or}
 use Rattle.std.specs.Str.{bytes_eq}
 
--- the same names are bound to the same, but for `variables`
+-- the bindings are equal, except for `variables`
 pub record Near (es fs : Entries) (e f : Bindings) : Type 0 where
   pub here : binding (codes "variables") e ≡ Some (map_of es)
   pub there : binding (codes "variables") f ≡ Some (map_of fs)
   pub others : (x : List ℕ) → bytes_eq (codes "variables") x ≡ false → binding x e ≡ binding x f
 
--- the members are the same, but for one
+-- the members are equal, except for one
 abbrev pub Members : List ℕ → Entries → Entries → Type 0
 Members y es fs = (z : List ℕ) → bytes_eq y z ≡ false → find (text_key z) es ≡ find (text_key z) fs
 
@@ -89,7 +89,7 @@ meanings_same : (library : Library) (book : Book) (ts : Terms) (e f : Bindings) 
 meanings_same library book no_terms e f h = refl
 meanings_same library book (term_and t ts) e f h = λ i. meaning_same library book t e f h i ∷ meanings_same library book ts e f h i
 
--- inside a macro that hides `variables`, and inside another one
+-- inside a macro that hides `variables`, and inside one that doesn't
 inside : {A : Type 0} (c p q : Bool) (r s : A) → (not c && (p || q)) ≡ false → (c ≡ true → r ≡ s) → (c ≡ false → p ≡ false → q ≡ false → r ≡ s) → r ≡ s
 inside true p q r s h hides goes = hides refl
 inside false p q r s h hides goes = goes refl (not_first p q h) (not_second p q h)

@@ -1,4 +1,4 @@
--- What is admitted was judged.
+-- A policy that admits was judged.
 use Rattle.cel_patterns.specs.Book.{Book}
 use Rattle.kube_cel_vap.specs.Variables.{Variables}
 use Rattle.kube_manifests_policies.specs.Inputs.{without_namespace}

@@ -1,4 +1,4 @@
--- Variables that don't ask for each other, in either order.
+-- Variables that don't read each other, in either order.
 use Rattle.cel_patterns.specs.Book.{Book}
 use Rattle.cel_semantics.specs.Bindings.{binding}
 use Rattle.cel_semantics.specs.Members.{new_entry, put_in}
@@ -53,7 +53,7 @@ two_puts false true z x y v w es h p q =
 two_puts false false z x y v w es h p q =
     found_other z y w (put (text_key x) v es) p ∙ found_other z x v es q ∙ sym (found_other z y w es p) ∙ sym (found_other z x v (put (text_key y) w es) q)
 
--- ---- what a variable does to a scope
+-- ---- the effect of a variable on a scope
 
 abbrev effect_of : Outcome → Option Data → Result Data ItemReportData
 effect_of (Err f) o = Err (fault_report (fault_text f))
@@ -90,7 +90,7 @@ found_after : (es : Entries) (z name : List ℕ) (e : Result Data ItemReportData
 found_after es z name (Ok v) h = found_other z name v es h
 found_after es z name (Err reported) h = refl
 
--- ---- what doesn't ask for it
+-- ---- expressions that don't read the variable
 
 stop_more : (rs : List Labelled) (r : Labelled) (t : Term) → stops t r ≡ false → first_stop (rs ++ r ∷ []) t ≡ first_stop rs t
 stop_more [] r t h = rw h refl

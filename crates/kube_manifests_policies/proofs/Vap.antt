@@ -1,4 +1,4 @@
--- A policy of validations alone, and the results of its expressions.
+-- A policy that has validations only, and the results of its expressions.
 use Rattle.cel_patterns.specs.Book.{Book}
 use Rattle.cel_semantics.specs.Bindings.{Bindings}
 use Rattle.cel_semantics.specs.Outcome.{Outcome}
@@ -34,7 +34,7 @@ same_message : (b : Book) (e : Bindings) (x : ItemData) (t : Term) (o : Option T
 same_message b e x t None = refl
 same_message b e x t (Some u) = refl
 
--- with both trees
+-- given the trees of both expressions
 with_both : (b : Book) (e : Bindings) (r : Reach) (x : ItemData) (t : Term) (o : Option Term) → x.label ≡ x.expression → r t ≡ Ok (results.outcome_in b e t)
     → option_map r o ≡ option_map (λ u. Ok (results.outcome_in b e u)) o
     → vap_result (with_report x.label (validation_with r x t o)) ≡ results.compiled_result b e (Ok (trees.with_trees (expression_of x) t o))
@@ -49,12 +49,12 @@ with_both b e r x t o l p q =
     let message : message_report reported ≡ results.outcome_message n outcome = message_of_outcome m n outcome (ap (false_message x) q ∙ same_message b e x t o) in
     (λ i. vap_result (with_report (l i) (reads i))) ∙ ap (results.result_with x.expression) message
 
--- what is reported of a text that wasn't read
+-- the report of a text that wasn't read
 unread_alike : (x : ItemData) (u : Unread) → x.label ≡ x.expression → u.original ≡ x.expression
     → vap_result (with_report x.label (erred (unread_text u))) ≡ results.result_with u.original (Some (unread_text u))
 unread_alike x u l p = λ i. results.result_with ((l ∙ sym p) i) (Some (unread_text u))
 
--- with the tree of the expression, and this tree of the messageExpression
+-- given the tree of the expression, and this tree of the messageExpression
 by_message_tree : (b : Book) (e : Bindings) (r : Reach) (x : ItemData) (t : Term) (m : List ℕ) (o : Option Term) → x.label ≡ x.expression
     → r t ≡ Ok (results.outcome_in b e t) → ((u : Term) → o ≡ Some u → r u ≡ Ok (results.outcome_in b e u))
     → vap_result (with_report x.label (final_report ((tree_or (erred (unread_text (record { text = m; original = m }))) o >>= (λ u. Ok (Some u))) >>= (λ k. Ok (validation_with r x t k)))))
@@ -62,7 +62,7 @@ by_message_tree : (b : Book) (e : Bindings) (r : Reach) (x : ItemData) (t : Term
 by_message_tree b e r x t m None l p h = unread_alike x (record { text = m; original = x.expression }) l refl
 by_message_tree b e r x t m (Some u) l p h = with_both b e r x t (Some u) l p (ap Some (h u refl))
 
--- with the tree of the expression
+-- given the tree of the expression
 by_message : (b : Book) (e : Bindings) (r : Reach) (x : ItemData) (t : Term) (om : Option (List ℕ)) → x.label ≡ x.expression
     → r t ≡ Ok (results.outcome_in b e t) → ((m : List ℕ) (u : Term) → om ≡ Some m → tree_of m ≡ Some u → r u ≡ Ok (results.outcome_in b e u))
     → vap_result (with_report x.label (final_report (message_tree_report om >>= (λ k. Ok (validation_with r x t k)))))

@@ -1,5 +1,6 @@
 -- Trusted by laws alone.
--- Policies of validations alone, and verdicts where all was judged.
+-- Policies that have validations only, and verdicts of policies whose expressions were all
+-- evaluated.
 use Rattle.cel_semantics.specs.Bindings.{binding}
 use Rattle.cel_semantics.specs.Members.{selection}
 use Rattle.cel_syntax.specs.Reading.{tree_of}
@@ -13,7 +14,7 @@ use Rattle.kube_manifests_policies.specs.Verdicts.{Labelled, ItemReportData, Ver
 use Rattle.kube_manifests_policies.specs.declared.verdict.Problem.TheVariants as problem
 use Rattle.std.specs.Prelude.{◌≡◌, ◌⊎◌, ℕ, List, [], ◌∷◌, ◌++◌, Bool, false, Option, Some, None, codes, is_none}
 
--- the policy that has these validations and nothing else
+-- the policy with these validations and nothing else
 abbrev pub of_validations : Bool → List ItemData → PolicyData
 of_validations ignores xs = record {
   ignores = ignores;
@@ -30,7 +31,8 @@ expression_of x = record {
   message_expression = x.message_expression;
 }
 
--- nothing keeps the texts of a validation from being evaluated
+-- the validation is labelled with its expression, and nothing keeps its expressions from being
+-- evaluated
 pub record IsJudgedIn (s : ScopeData) (x : ItemData) : Type 0 where
   pub label : x.label ≡ x.expression
   pub tree : (t : Term) → tree_of x.expression ≡ Some t → why_not s t ≡ None
@@ -41,7 +43,7 @@ abbrev pub message_report : ItemReportData → Option (List ℕ)
 message_report holds = None
 message_report reported = Some (report_text reported)
 
--- what is reported of a validation, as the result of an expression
+-- the report of a validation, as the result of an expression
 abbrev pub vap_result : Labelled → ResultData
 vap_result r = record {
   expression = r.label;
@@ -49,14 +51,14 @@ vap_result r = record {
   message = message_report r.reported;
 }
 
--- nothing asks for what isn't given, and no validation is false
+-- no expression reads an input that isn't given, and no validation is false
 pub record IsJudged (v : VerdictData) : Type 0 where
   pub conditions : any_is problem.NotGiven v.conditions ≡ false
   pub validations : any_is problem.NotGiven v.validations ≡ false
   pub annotations : any_is problem.NotGiven v.annotations ≡ false
   pub none_false : any_is problem.False v.validations ≡ false
 
--- ---- variables that don't ask for each other
+-- ---- variables that don't read each other
 
 -- `variables` is a map
 pub record HasVariables (s : ScopeData) : Type 0 where
@@ -64,19 +66,20 @@ pub record HasVariables (s : ScopeData) : Type 0 where
   pub values : s.values ≡ map_of entries
   pub bound : binding (codes "variables") s.bindings ≡ Some s.values
 
--- the expression of x doesn't ask for the variable y
+-- the expression of x doesn't read the variable y
 abbrev pub IsApartFrom : ItemData → ItemData → Type 0
 IsApartFrom y x =
     (t : Term) (selects : Bool) → tree_of x.expression ≡ Some t
     → asks (codes "variables") y.label selects t ≡ false
 
--- the last two in the other order
+-- the lists are equal, but for the order of their last two entries
 abbrev pub AreTurned : List Labelled → List Labelled → Type 0
 AreTurned rs qs =
     (before : List Labelled) × (p : Labelled) × (q : Labelled)
     × (rs ≡ before ++ p ∷ q ∷ []) × (qs ≡ before ++ q ∷ p ∷ [])
 
--- each variable has the same value, or none; those without one stand in the same order, but for the last two
+-- each variable has the same value, or none; those without a value are in the same order, except
+-- possibly the last two
 pub record SameVariables (s t : ScopeData) : Type 0 where
   pub values : (name : List ℕ) → selection (text_key name) s.values ≡ selection (text_key name) t.values
   pub missing : (s.missing ≡ t.missing) ⊎ AreTurned s.missing t.missing

@@ -1,6 +1,6 @@
 -- Trusted by the clauses of policies.
--- What the match conditions, the validations and the audit annotations of a policy come to, and the policy
--- (Kubernetes API reference, ValidatingAdmissionPolicySpec; Kubernetes documentation,
+-- The results of a policy's match conditions, validations and audit annotations, and the policy's
+-- verdict (Kubernetes API reference, ValidatingAdmissionPolicySpec; Kubernetes documentation,
 -- "Validating Admission Policy").
 use Rattle.cel.specs.Program.{program_term}
 use Rattle.cel.specs.declared.program.Program.{Program}
@@ -32,7 +32,7 @@ use Rattle.kube_manifests_policies.specs.declared.verdict.ItemReport.{ItemReport
 use Rattle.serde_json.specs.Data.{Data as Json}
 use Rattle.std.specs.Prelude.{◌≡◌, ℕ, List, [], ◌∷◌, ◌++◌, map, Bool, true, false, if◌then◌else◌, Option, Some, None, option_map, Result, Ok, Err, codes, unwrap_or}
 
--- what is reported in the end
+-- the final report
 abbrev pub final_report : Result ItemReportData ItemReportData → ItemReportData
 final_report (Ok reported) = reported
 final_report (Err reported) = reported
@@ -44,12 +44,12 @@ truth_report v (Some true) = holds
 truth_report v (Some false) = fails []
 truth_report v None = erred (codes "expression returned non-boolean: " ++ kind_name (kind_of v))
 
--- true, false (with nothing reported yet), or neither
+-- true, false (with an empty message for now), or neither
 abbrev pub outcome_report : Outcome → ItemReportData
 outcome_report (Ok v) = truth_report v (bool_in v)
 outcome_report (Err f) = fault_report (fault_text f)
 
--- what is false is reported with this message
+-- replaces the message of a report that something is false
 abbrev pub with_message : List ℕ → ItemReportData → ItemReportData
 with_message m reported = if is_problem problem.False reported then fails m else reported
 
@@ -61,13 +61,13 @@ condition_report r x = final_report (do
   outcome ← evaluation r x.expression
   Ok (with_message (condition_message x.label) (outcome_report outcome)))
 
--- the validation's own message, else its text
+-- the validation's own message, or one that quotes its expression
 abbrev pub own_message : ItemData → List ℕ
 own_message x =
     unwrap_or x.message (codes "validation expression '" ++ (x.expression ++ codes "' evaluated to false"))
 
--- The string that a messageExpression comes to, else the validation's own message. Where the
--- messageExpression can't be judged, that is reported with it.
+-- The string that the messageExpression evaluates to, or else the validation's own message. If the
+-- messageExpression can't be evaluated, the reason is appended.
 abbrev pub message_from : ItemData → Result Outcome ItemReportData → List ℕ
 message_from x (Ok o) = unwrap_or (results.message_text o) (own_message x)
 message_from x (Err reported) =
@@ -108,7 +108,8 @@ text_report None k =
     if is_null k then nothing
     else erred (codes "expression returned neither a string nor null: " ++ kind_name k)
 
--- a string is published, unless it is empty; null is left out
+-- a string that isn't empty is the annotation's text; an empty one or null leaves the annotation
+-- out
 abbrev pub annotation_value : Data → ItemReportData
 annotation_value v = text_report (text_in v) (kind_of v)
 
@@ -121,21 +122,21 @@ annotation_report r x = final_report (do
   outcome ← evaluation r x.expression
   Ok (annotation_outcome outcome))
 
--- ---- all of a policy
+-- ---- whole policies
 
 abbrev pub report_as : Subject → Reach → ItemData → ItemReportData
 report_as Condition r x = condition_report r x
 report_as Validation r x = validation_report r x
 report_as Annotation r x = annotation_report r x
 
--- what is reported of an entry of such a list
+-- the labelled report of an entry of such a list
 unfoldable pub result_as : Subject → Reach → ItemData → Labelled
 result_as subject r x = with_report x.label (report_as subject r x)
 
 unfoldable pub results_as : Subject → Reach → List ItemData → List Labelled
 results_as subject r xs = map (result_as subject r) xs
 
--- the verdict that match conditions give alone
+-- the verdict of a policy that its match conditions decide
 abbrev pub verdict_of_conditions : List Labelled → PolicyDecision → VerdictData
 verdict_of_conditions conditions d = record {
   decision = d;
@@ -145,7 +146,7 @@ verdict_of_conditions conditions d = record {
   annotations = [];
 }
 
--- the verdict where the match conditions let the policy be evaluated, among its variables
+-- the verdict of a policy that its match conditions let through, evaluated with its variables
 unfoldable pub verdict_in : Reach → List Labelled → PolicyData → List Labelled → VerdictData
 verdict_in r missing p conditions =
     let validations = results_as Validation r p.validations in
@@ -171,11 +172,11 @@ policy_verdict b v p =
     results_as Condition (outcome_or_reason b (first_scope (without_namespace v))) p.conditions in
     verdict_after b v p conditions (after_conditions p.ignores conditions)
 
--- the verdict of the policy that a document is, or its first fault
+-- the verdict of the policy in a document, or the document's first fault
 unfoldable pub verdict_of : Book → Variables → Json → Result VerdictData FaultData
 verdict_of b v d = policy_of d >>= (λ p. Ok (policy_verdict b v p))
 
--- ---- what the code's values stand for
+-- ---- views of the code's values
 
 abbrev pub message_tree_seen : Result (Option Program) ItemReport → Result (Option Term) ItemReportData
 message_tree_seen (Ok o) = Ok (option_map program_term o)
@@ -185,6 +186,6 @@ abbrev pub verdict_seen : Result PolicyVerdict PolicyFault → Result VerdictDat
 verdict_seen (Ok v) = Ok (verdict_view v)
 verdict_seen (Err f) = Err (fault_view f)
 
--- the verdict under some book
+-- it is the verdict under some book
 abbrev pub IsVerdictOf : Variables → Json → Result PolicyVerdict PolicyFault → Type 0
 IsVerdictOf v d r = (b : Book) × IsBook b × (verdict_seen r ≡ verdict_of b v d)

@@ -1,6 +1,7 @@
 -- Trusted by the clauses of policies.
--- What the expressions of a policy see (Kubernetes documentation, "Validating Admission Policy", variables of
--- expressions and variable composition), and what an expression comes to there.
+-- The names and inputs that a policy's expressions see (Kubernetes documentation, "Validating
+-- Admission Policy", variables of expressions and variable composition), and the outcome of an
+-- expression there.
 use Rattle.cel.specs.Program.{program_term}
 use Rattle.cel.specs.declared.program.Program.{Program}
 use Rattle.cel_patterns.specs.Book.{Book}
@@ -28,14 +29,14 @@ use Rattle.std.specs.Prelude.{◌≡◌, ℕ, List, [], ◌∷◌, ◌++◌, map
 
 pub record ScopeData : Type 0 where
   pub bindings : Bindings
-  -- what isn't given
+  -- the inputs that aren't given
   pub absent : List Input
-  -- the variables that came to a value, with it
+  -- the map of the variables that have a value
   pub values : Data
-  -- those that didn't, in order
+  -- the variables that have no value, in order
   pub missing : List Labelled
 
--- where no variable was evaluated
+-- the scope before any variable is evaluated
 abbrev pub first_scope : Variables → ScopeData
 first_scope v = record {
   bindings = policy_bindings v;
@@ -44,11 +45,11 @@ first_scope v = record {
   missing = [];
 }
 
--- `variables` are those evaluated so far that came to a value
+-- `variables` is bound to the variables evaluated so far that have a value
 abbrev pub with_values : ScopeData → Data → ScopeData
 with_values s m = record s { bindings = (codes "variables", m) ∷ s.bindings; values = m }
 
--- a policy without variables has no name `variables`
+-- `variables` isn't bound if the policy has no variables
 abbrev pub with_no_values : List ItemData → Bindings → Bindings
 with_no_values [] e = e
 with_no_values (x ∷ xs) e = (codes "variables", map_of no_entries) ∷ e
@@ -62,9 +63,10 @@ abbrev pub is_not_given : ItemReportData → Bool
 is_not_given (not_given i) = true
 is_not_given _ = false
 
--- What isn't given to a variable isn't given to an expression that asks for the variable. One that errs is an
--- error where it is selected, which `&&`, `||` and `?:` may pass over, as any other; and in any case of an
--- expression that asks for it otherwise.
+-- If a variable reads an input that isn't given, an expression that reads the variable isn't
+-- evaluated either. If a variable fails, selecting it is an error, which `&&`, `||` and `?:` may
+-- absorb like any other; an expression that reads it in another way isn't evaluated and has that
+-- error.
 abbrev pub stops : Term → Labelled → Bool
 stops t r = asks (codes "variables") r.label (is_not_given r.reported) t
 
@@ -79,13 +81,13 @@ stopped_by None o = o
 abbrev pub why_not : ScopeData → Term → Option ItemReportData
 why_not s t = stopped_by (first_missing s.absent t) (first_stop s.missing t)
 
--- ---- what an expression comes to
+-- ---- the outcome of an expression
 
 abbrev pub outcome_unless : Option ItemReportData → Outcome → Result Outcome ItemReportData
 outcome_unless (Some reported) o = Err reported
 outcome_unless None o = Ok o
 
--- the outcome of an expression, or why it isn't evaluated
+-- the outcome of an expression, or the reason why it isn't evaluated
 unfoldable pub outcome_or_reason : Book → ScopeData → Term → Result Outcome ItemReportData
 outcome_or_reason b s t = outcome_unless (why_not s t) (outcome_in b s.bindings t)
 
@@ -93,11 +95,11 @@ abbrev pub tree_or : ItemReportData → Option Term → Result Term ItemReportDa
 tree_or reported (Some t) = Ok t
 tree_or reported None = Err reported
 
--- the tree of a text, or what is reported of a text that derives none
+-- the tree of a text, or the report of a text that derives none
 abbrev pub tree_report : List ℕ → Result Term ItemReportData
 tree_report s = tree_or (erred (unread_text (record { text = s; original = s }))) (tree_of s)
 
--- how expressions are reached
+-- how the outcome of an expression is found
 abbrev pub Reach : Type 0
 Reach = Term → Result Outcome ItemReportData
 
@@ -120,7 +122,7 @@ abbrev pub with_variable : ScopeData → List ℕ → Result Outcome ItemReportD
 with_variable s name (Ok o) = with_stored s name (and_then o (λ v. put_in s.values (text name) v))
 with_variable s name (Err reported) = without_value s name reported
 
--- one more variable, which sees those before it
+-- one more variable, which sees the earlier ones
 unfoldable pub variable_step : Book → ScopeData → ItemData → ScopeData
 variable_step b s x = with_variable s x.label (evaluation (outcome_or_reason b s) x.expression)
 
@@ -128,7 +130,7 @@ abbrev pub variables_after : Book → ScopeData → List ItemData → ScopeData
 variables_after b s [] = s
 variables_after b s (x ∷ xs) = variables_after b (variable_step b s x) xs
 
--- ---- what the code's values stand for
+-- ---- views of the code's values
 
 abbrev pub scope_view : Scope → ScopeData
 scope_view s = record {
@@ -138,7 +140,7 @@ scope_view s = record {
   missing = map result_view s.missing.items;
 }
 
--- the same names are bound, and the rest is equal
+-- the same names are bound to the same values, and the rest is equal
 pub record Alike (a b : ScopeData) : Type 0 where
   pub bindings : (x : List ℕ) → binding x a.bindings ≡ binding x b.bindings
   pub absent : a.absent ≡ b.absent

@@ -1,6 +1,6 @@
 -- Trusted by the clauses of policies.
--- Which members of a name an expression asks for. A macro hides the name in its filter and its body, where it
--- binds it (CEL language definition, "Macros").
+-- Which members of a name an expression reads. A macro whose variable has the same name hides it in
+-- its filter and body (CEL language definition, "Macros").
 use Rattle.cel_syntax_ast.specs.Term.{Term, literal, ident, select, has, index, unary, binary, conditional, list_of, map_with, call, qualified, macro, Terms, no_terms, term_and, Pairs, no_pairs, pair_and}
 use Rattle.std.specs.Prelude.{ℕ, List, Bool, false, not, ◌&&◌, ◌||◌, if◌then◌else◌}
 use Rattle.std.specs.Str.{bytes_eq}
@@ -10,8 +10,8 @@ is_name x (ident y) = bytes_eq x y
 is_name x _ = false
 
 abbrev mutual
-  -- whether the term asks for the member y of the free name x: by `has(x.y)`, by `x` as a whole, and,
-  -- where s is true, also by `x.y`
+  -- whether the term reads the member y of the free name x: by `has(x.y)`, by `x` as a whole or, if
+  -- s is true, by `x.y`
   pub asks : List ℕ → List ℕ → Bool → Term → Bool
   asks x y s (literal v) = false
   asks x y s (ident z) = bytes_eq x z

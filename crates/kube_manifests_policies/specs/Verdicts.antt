@@ -1,6 +1,6 @@
 -- Trusted by the clauses of policies.
--- What a policy decides (Kubernetes API reference, ValidatingAdmissionPolicySpec: `matchConditions`,
--- `failurePolicy`, `validations`, `auditAnnotations`).
+-- The decisions of policies (Kubernetes API reference, ValidatingAdmissionPolicySpec:
+-- `matchConditions`, `failurePolicy`, `validations`, `auditAnnotations`).
 use Rattle.kube_manifests_policies.specs.Inputs.{input_name}
 use Rattle.kube_manifests_policies.specs.declared.inputs.Input.{Input}
 use Rattle.kube_manifests_policies.specs.declared.verdict.Problem.{Problem}
@@ -14,18 +14,18 @@ use Rattle.kube_manifests_policies.specs.declared.verdict.ItemReport.TheVariants
 use Rattle.std.specs.List.{list_any}
 use Rattle.std.specs.Prelude.{ℕ, List, ◌++◌, map, Bool, true, false, not, ◌&&◌, ◌||◌, if◌then◌else◌, Option, Some, None, codes, string_bytes}
 
--- what an expression came to
+-- the result of an expression
 pub data ItemReportData : Type 0 where
   holds : ItemReportData
-  -- false, with what is reported of it
+  -- false, with the message
   fails : List ℕ → ItemReportData
-  -- the text of an audit annotation, and an annotation that is left out
+  -- an audit annotation with this text, and one that is left out
   says : List ℕ → ItemReportData
   nothing : ItemReportData
   erred : List ℕ → ItemReportData
   not_given : Input → ItemReportData
 
--- what is reported of an expression: its text, or its name
+-- the report of an expression, with its source or its name
 pub record Labelled : Type 0 where
   pub label : List ℕ
   pub reported : ItemReportData
@@ -53,15 +53,16 @@ is_problem problem.NotGiven _ = false
 abbrev pub any_is : Problem → List Labelled → Bool
 any_is m rs = list_any (λ r. is_problem m r.reported) rs
 
--- One condition that is false, and the policy is skipped, whatever the others are. Where none is false and
--- one can't be judged, nothing is decided. Where one errs, failurePolicy decides: the request is refused, or
--- the policy is skipped. Else the policy is evaluated.
+-- If one condition is false, the policy is skipped, whatever the others are. If none is false and
+-- one can't be evaluated, the policy is not judged. Otherwise, if one fails, failurePolicy decides:
+-- the request is denied or the policy is skipped. Otherwise the policy is evaluated.
 abbrev pub after_conditions : Bool → List Labelled → Option PolicyDecision
 after_conditions ignores rs = if any_is problem.False rs then Some Skipped else (
     if any_is problem.NotGiven rs then Some NotJudged else (
     if any_is problem.Error rs then Some (if ignores then Skipped else Denied) else None))
 
--- A validation that is false refuses the request; so does what errs, unless failurePolicy is `Ignore`.
+-- A validation that is false denies the request. So does an error, unless failurePolicy is
+-- `Ignore`.
 abbrev pub decision_of : Bool → List Labelled → List Labelled → PolicyDecision
 decision_of ignores vs as_ = if any_is problem.False vs then Denied else (
     if not ignores && (any_is problem.Error vs || any_is problem.Error as_) then Denied else (
@@ -83,7 +84,7 @@ decision_text Denied = codes "denied"
 decision_text Skipped = codes "skipped"
 decision_text NotJudged = codes "not judged"
 
--- ---- what the code's values stand for
+-- ---- views of the code's values
 
 abbrev pub report_view : ItemReport → ItemReportData
 report_view variant.True = holds

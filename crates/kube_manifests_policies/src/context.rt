@@ -1,4 +1,4 @@
-//! The names that the expressions of a policy see at first.
+//! The names bound before a policy's variables are evaluated.
 ghost use Rattle.cel_semantics.specs.Bindings.{binding, bindings_of};
 ghost use Rattle.cel_value.specs.Data.{map_of, no_entries};
 ghost use Rattle.cel_value.specs.View.{view};
@@ -21,14 +21,14 @@ use kube_types_refused::Refused;
 use serde_json::Value as Json;
 use std::alloc::Global;
 
-/// A context with no name and all functions that the expressions of a policy may call.
+/// Returns a context that binds no name and has all functions that a policy's expressions may call.
 fn empty_context<'a>(alloc: Global) -> PolicyContext<'a>
     ensures { bindings_of result ≡ [] }
 {
     Context::default(alloc)
 }
 
-/// The value that is given, or null.
+/// Returns the value bound plainly, or null if it isn't given.
 fn value_or_null(alloc: Global, value: &Option<Json>) -> Result<Value, Refused>
     ensures value { IfOk result (λ v. view v ≡ value_or_null (option_map json_view value.now)) }
     ensures memory { IfErr result (λ e. e ≡ Refused.Memory) }
@@ -39,7 +39,7 @@ fn value_or_null(alloc: Global, value: &Option<Json>) -> Result<Value, Refused>
     }
 }
 
-/// The value of the request that is given, or of an empty request.
+/// Returns the value of the request or, if it isn't given, of an empty request.
 fn request_or_empty(alloc: Global, request: &Option<AdmissionRequest>) -> Result<Value, Refused>
     ensures value { IfOk result (λ v. view v
         ≡ request_value (unwrap_or (option_map request_view request.now) empty_request)) }
@@ -51,7 +51,7 @@ fn request_or_empty(alloc: Global, request: &Option<AdmissionRequest>) -> Result
     }
 }
 
-/// Binds a name to the value that is given, if one is.
+/// Binds a name to a value, if the value is given.
 fn bind_given(
     alloc: Global,
     context: &mut PolicyContext<'_>,
@@ -68,7 +68,7 @@ fn bind_given(
     context.add_variable(name, bind_plain(alloc, value)?)
 }
 
-/// A context with the names that are always bound.
+/// Returns a context with the names that are always bound: `object`, `oldObject` and `request`.
 fn context_always<'a>(alloc: Global, inputs: &PolicyInputs) -> Result<PolicyContext<'a>, Refused>
     ensures bound { IfOk result (λ c. (x : List ℕ) → binding x (bindings_of c)
         ≡ binding x (bindings_always (inputs_view inputs.now))) }
@@ -81,7 +81,7 @@ fn context_always<'a>(alloc: Global, inputs: &PolicyInputs) -> Result<PolicyCont
     Ok(context)
 }
 
-/// The map of no variable.
+/// Returns an empty map of variables.
 fn no_values(alloc: Global) -> Result<Value, Refused>
     ensures value { IfOk result (λ v. view v ≡ map_of no_entries) }
     ensures memory { IfErr result (λ e. e ≡ Refused.Memory) }
@@ -89,7 +89,7 @@ fn no_values(alloc: Global) -> Result<Value, Refused>
     Value::from_entries(alloc, Entries::new(alloc))
 }
 
-/// What the match conditions see.
+/// Returns the scope of the match conditions.
 pub(crate) fn condition_scope<'a>(
     alloc: Global,
     inputs: &PolicyInputs,
@@ -110,7 +110,7 @@ pub(crate) fn condition_scope<'a>(
     })
 }
 
-/// Binds `variables` to the map of none, where a policy has any.
+/// Binds `variables` to an empty map, if the policy has variables.
 fn bind_no_values(
     alloc: Global,
     context: &mut PolicyContext<'_>,
@@ -128,8 +128,8 @@ fn bind_no_values(
     Ok(())
 }
 
-/// What the first variable sees, or a validation of a policy without variables,
-/// where the match conditions saw this.
+/// Turns the scope of the match conditions into that of the first variable or, if the policy has no
+/// variables, of its validations.
 pub(crate) fn policy_scope<'a>(
     alloc: Global,
     scope: Scope<'a>,

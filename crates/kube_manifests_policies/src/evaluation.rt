@@ -1,4 +1,4 @@
-//! The evaluation of a policy.
+//! Evaluates policies.
 ghost use Rattle.cel_patterns.specs.Book.{Extends};
 ghost use Rattle.cel_patterns.specs.Entries.{entries_of};
 ghost use Rattle.cel_patterns.specs.Extensions.{HoldsForExtensions};
@@ -21,7 +21,7 @@ use kube_types_refused::Refused;
 use serde_json::Value;
 use std::alloc::Global;
 
-/// The verdict that match conditions give alone.
+/// Returns the verdict of a policy that its match conditions decide.
 fn verdict_of_conditions(
     alloc: Global,
     conditions: Vec<PolicyResult>,
@@ -38,7 +38,8 @@ fn verdict_of_conditions(
     }
 }
 
-/// The verdict where the match conditions let a policy be evaluated, among its variables.
+/// Returns the verdict of a policy that its match conditions let through, evaluated in the scope of
+/// its variables.
 #[tactic(auto, unfolding(crate::specs::Reports::verdict_in))]
 fn verdict_in(
     alloc: Global,
@@ -71,7 +72,7 @@ fn verdict_in(
     })
 }
 
-/// The verdict of a policy.
+/// Returns the verdict of a policy.
 fn policy_verdict(
     alloc: Global,
     policy: &Policy<'_>,
@@ -97,23 +98,24 @@ fn policy_verdict(
     }
 }
 
-/// Evaluates a ValidatingAdmissionPolicy (`admissionregistration.k8s.io`) over these inputs,
-/// as Kubernetes documents it.
+/// Evaluates a ValidatingAdmissionPolicy (`admissionregistration.k8s.io`) over these inputs, as the
+/// Kubernetes documentation describes it.
 ///
-/// The match conditions come first: where one is false, the policy is skipped; where none is false and one
-/// errs, `failurePolicy` decides. Then come the variables, each of which sees those before it under
-/// `variables`. One that errs makes an error of each expression that selects it, which `&&`, `||` and `?:`
-/// may pass over as any other error. Then come validations and audit annotations. Neither `matchConstraints`
-/// nor a binding is looked at.
+/// The match conditions come first. If one is false, the policy is skipped; if none is false and
+/// one fails with an error, `failurePolicy` decides. Then come the variables, each of which sees
+/// the earlier ones under `variables`. A variable that fails makes each expression that selects it
+/// fail there; `&&`, `||` and `?:` may absorb that error like any other. Last come the validations
+/// and audit annotations. Neither `matchConstraints` nor bindings are considered.
 ///
-/// An expression that asks for what isn't given, itself or by a variable, is not evaluated: it is reported as
-/// [`ItemReport::NotGiven`](crate::ItemReport), and the policy is never admitted then.
+/// An expression that reads an input that isn't given, itself or through a variable, is not
+/// evaluated: it is reported as [`ItemReport::NotGiven`](crate::ItemReport), and the policy then
+/// never admits.
 ///
-/// Answers the first [`PolicyFault`] where the document is no such policy.
+/// The inner error is the first [`PolicyFault`] if the document is not such a policy.
 ///
 /// # Errors
 ///
-/// [`Refused`] where memory is refused.
+/// [`Refused`] if memory is refused.
 pub fn evaluate_policy(
     alloc: Global,
     policy: &Value,

@@ -1,4 +1,4 @@
-//! What expressions ask for, and what of it isn't given.
+//! The inputs that expressions read, and which of them aren't given.
 ghost use Rattle.cel_syntax_ast.specs.Term.{term};
 ghost use Rattle.kube_manifests_admission.specs.Inputs.{inputs_view};
 ghost use Rattle.kube_manifests_policies.specs.Inputs.{absent_in, asks_for, first_asked, first_missing, input_name, member_of, never_given, unless};
@@ -13,7 +13,7 @@ use serde_json::Value;
 use std::alloc::{AllocError, Global};
 use std::fmt;
 
-/// What an expression may ask for, and isn't always given.
+/// An input that an expression may read and that isn't always given.
 #[derive(Clone, Copy, Debug, PartialEq, Eq)]
 pub enum Input {
     /// `object`.
@@ -24,12 +24,12 @@ pub enum Input {
     Request,
     /// `params`.
     Params,
-    /// `namespaceObject`; a match condition is never given it.
+    /// `namespaceObject`. Match conditions are never given it.
     NamespaceObject,
-    /// `authorizer`, which asks an API server. It is never given.
+    /// `authorizer`, which queries an API server. It is never given.
     Authorizer,
-    /// `request.subResource`, which an [`AdmissionRequest`](crate::AdmissionRequest) doesn't
-    /// carry, as those that follow.
+    /// `request.subResource`. An [`AdmissionRequest`](crate::AdmissionRequest) doesn't carry it,
+    /// nor any of the following.
     SubResource,
     /// `request.requestKind`.
     RequestKind,
@@ -42,7 +42,7 @@ pub enum Input {
 }
 
 impl Input {
-    /// How an expression asks for it.
+    /// The input as it is written in an expression.
     pub fn name(self) -> &'static str
         ensures { result.now ≡ input_name self }
     {
@@ -61,7 +61,7 @@ impl Input {
         }
     }
 
-    /// The member of `request` that it is.
+    /// The member of `request` that the input is, if any.
     fn member(self) -> Option<&'static str>
         ensures { option_map (λ s. s.now) result ≡ member_of self }
     {
@@ -80,7 +80,7 @@ impl Input {
         }
     }
 
-    /// Whether an expression asks for it.
+    /// Reports whether an expression reads the input.
     fn is_asked(self, expr: &Expr) -> bool
         ensures { result ≡ asks_for self (term expr.now) }
     {
@@ -99,7 +99,7 @@ impl fmt::Display for Input {
     }
 }
 
-/// The first of these that an expression asks for.
+/// Returns the first of these inputs that an expression reads, if any.
 fn first_of(inputs: &[Input], expr: &Expr) -> Option<Input>
     ensures { result ≡ first_asked inputs.now (term expr.now) }
 {
@@ -111,7 +111,7 @@ fn first_of(inputs: &[Input], expr: &Expr) -> Option<Input>
     None
 }
 
-/// The first of what is never given that an expression asks for.
+/// Returns the first input that is never given and that an expression reads, if any.
 fn first_never(expr: &Expr) -> Option<Input>
     ensures { result ≡ first_asked never_given (term expr.now) }
 {
@@ -126,7 +126,7 @@ fn first_never(expr: &Expr) -> Option<Input>
     first_of(&never, expr)
 }
 
-/// The first that an expression asks for, of these and of what is never given.
+/// Returns the first input that an expression reads among `absent` and those that are never given.
 pub(crate) fn first_missing(absent: &[Input], expr: &Expr) -> Option<Input>
     ensures { result ≡ first_missing absent.now (term expr.now) }
 {
@@ -136,7 +136,7 @@ pub(crate) fn first_missing(absent: &[Input], expr: &Expr) -> Option<Input>
     }
 }
 
-/// Adds what isn't given.
+/// Appends an input, unless it is given.
 fn push_unless(absent: &mut Vec<Input>, input: Input, given: bool) -> Result<(), AllocError>
     ensures { OnOk result (absent.new.items ≡ absent.old.items ++ unless given input) }
 {
@@ -146,7 +146,7 @@ fn push_unless(absent: &mut Vec<Input>, input: Input, given: bool) -> Result<(),
     Ok(())
 }
 
-/// What isn't given, where this is the namespace.
+/// Returns the inputs that aren't given, if `namespace` is the object's namespace.
 #[tactic(auto, unfolding(crate::specs::Inputs::absent_in))]
 pub(crate) fn absent_inputs(
     alloc: Global,

@@ -1,4 +1,4 @@
-//! Laws of verdicts, each the contract of a call.
+//! Laws of verdicts. Each is the contract of a function with an empty body.
 ghost use Rattle.cel_patterns.specs.Book.{Book};
 ghost use Rattle.kube_cel_vap.specs.Results.{policy_results};
 ghost use Rattle.kube_cel_vap.specs.Variables.{Variables};
@@ -12,8 +12,9 @@ ghost use Rattle.std.specs.Str.{bytes_eq};
 
 use crate::verdict::PolicyDecision;
 
-/// A policy of validations alone, none of which asks for what isn't given: they come to the results that
-/// `VapEvaluator::evaluate` of `kube_cel_vap` has for them.
+/// A policy that has validations only, each labelled with its expression, and none of which reads
+/// an input that isn't given, has the same results as `VapEvaluator::evaluate` of `kube_cel_vap`
+/// gives.
 #[tactic(auto, using(crate::proofs::Vap::alike))]
 pub fn validations_alone()
     ensures { (b : Book) (v : Variables) (ignores : Bool) (xs : List ItemData)
@@ -22,15 +23,16 @@ pub fn validations_alone()
         ≡ policy_results b v (map expression_of xs) }
 {}
 
-/// Where a policy lets a request pass, nothing of it asked for what isn't given, and no validation is false.
+/// If a policy admits a request, none of its expressions read an input that isn't given, and no
+/// validation is false.
 pub fn admitted_only_if_judged()
     ensures { (b : Book) (v : Variables) (p : PolicyData)
         → (policy_verdict b v p).decision ≡ PolicyDecision.Admitted
         → IsJudged (policy_verdict b v p) }
 {}
 
-/// The order of two variables that don't ask for each other doesn't matter:
-/// either way each of them has the same value, or none.
+/// The order of two variables with different names that don't read each other doesn't matter: in
+/// either order, each has the same value or none.
 #[tactic(auto, using(crate::proofs::Turned::either_order))]
 pub fn variables_in_any_order()
     ensures { (b : Book) (s : ScopeData) (x y : ItemData) → HasVariables s → IsApartFrom x y → IsApartFrom y x

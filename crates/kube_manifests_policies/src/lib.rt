@@ -1,16 +1,17 @@
-//! Whole ValidatingAdmissionPolicies, evaluated without an API server: match conditions, variables,
+//! Evaluates whole ValidatingAdmissionPolicies without an API server: match conditions, variables,
 //! validations and audit annotations.
 //!
-//! In go the document of a policy and what is given of a request ([`PolicyInputs`]). Out comes a verdict
-//! ([`PolicyVerdict`]), with what each expression came to. What isn't given is never taken as empty: an
-//! expression that asks for it isn't evaluated, and the policy is then never admitted.
+//! The input is a policy's document and what is known of a request ([`PolicyInputs`]). The output
+//! is a verdict ([`PolicyVerdict`]) with the result of each expression. An input that isn't given
+//! is never taken as empty: an expression that reads it isn't evaluated, and the policy then never
+//! admits.
 //!
 //! ```rust
 //! use kube_manifests_policies::{PolicyDecision, PolicyInputs, Refused, evaluate_policy};
 //! use serde_json::Value;
 //! use std::alloc::Global;
 //!
-//! /// Whether a policy lets the request of an AdmissionReview pass; `None` where one of the documents is broken.
+//! /// Whether a policy admits the request of an AdmissionReview; `None` if a document is malformed.
 //! fn is_admitted(alloc: Global, policy: &Value, review: &Value) -> Result<Option<bool>, Refused> {
 //!     let Ok(inputs) = PolicyInputs::from_review(alloc, review)? else {
 //!         return Ok(None);
@@ -22,10 +23,11 @@
 //! }
 //! ```
 //!
-//! Proved: [`evaluate_policy`] answers, under some book of patterns, exactly the verdict of the policy over
-//! the inputs, or the document's first fault (`specs/Reports.antt`, `specs/Policies.antt`). Laws: where a
-//! policy admits, none of its expressions asked for what isn't given, and no validation is false; the order
-//! of two variables that don't ask for each other doesn't matter.
+//! Proved: [`evaluate_policy`] answers, under some book of patterns, exactly the verdict of the
+//! policy over the inputs, or the document's first fault (`specs/Reports.antt`,
+//! `specs/Policies.antt`). Laws: if a policy admits, none of its expressions read an input that
+//! isn't given, and no validation is false; the order of two variables that don't read each other
+//! doesn't matter.
 #![tactic(auto)]
 
 mod context;

@@ -1,4 +1,4 @@
-//! What the expressions of a policy come to.
+//! Evaluates the entries of a policy's lists and reports their results.
 ghost use Rattle.cel.specs.Program.{program_term};
 ghost use Rattle.cel_patterns.specs.Book.{Extends};
 ghost use Rattle.cel_patterns.specs.Entries.{entries_of};
@@ -20,7 +20,7 @@ use kube_manifests_admission::Item;
 use kube_types_refused::Refused;
 use std::alloc::{AllocError, Global};
 
-/// What an expression belongs to.
+/// The list that an expression belongs to.
 #[derive(Clone, Copy, Drop)]
 pub(crate) enum Subject {
     /// A match condition.
@@ -31,7 +31,7 @@ pub(crate) enum Subject {
     Annotation,
 }
 
-/// What is reported of a value that should be true; where it is false, nothing yet.
+/// Returns the report of a value that should be true. If it is false, the message is still empty.
 fn truth_report(alloc: Global, value: &Value) -> Result<ItemReport, AllocError>
     ensures { IfOk result (λ t. report_view t ≡ truth_report (view value.now) (bool_in (view value.now))) }
 {
@@ -46,7 +46,8 @@ fn truth_report(alloc: Global, value: &Value) -> Result<ItemReport, AllocError>
     }
 }
 
-/// What is reported of an outcome that should be true; where it is false, nothing yet.
+/// Returns the report of an outcome that should be true. If it is false, the message is still
+/// empty.
 fn outcome_report(alloc: Global, answer: Answer) -> Result<ItemReport, AllocError>
     ensures { IfOk result (λ t. report_view t ≡ outcome_report (outcome_view answer)) }
 {
@@ -65,7 +66,7 @@ fn is_null(kind: Kind) -> bool
     matches!(kind, Kind::Null)
 }
 
-/// The text of an audit annotation that isn't empty.
+/// Returns the report of an audit annotation's text: null if it is empty.
 fn text_or_nothing(alloc: Global, text: &str) -> Result<ItemReport, AllocError>
     ensures { IfOk result (λ t. report_view t ≡ text_or_nothing text.now) }
 {
@@ -75,7 +76,7 @@ fn text_or_nothing(alloc: Global, text: &str) -> Result<ItemReport, AllocError>
     Ok(ItemReport::Text(String::from_str(alloc, text)?))
 }
 
-/// What is reported of an audit annotation with this value.
+/// Returns the report of an audit annotation with this value.
 fn annotation_value(alloc: Global, value: &Value) -> Result<ItemReport, AllocError>
     ensures { IfOk result (λ t. report_view t ≡ annotation_value (view value.now)) }
 {
@@ -90,7 +91,7 @@ fn annotation_value(alloc: Global, value: &Value) -> Result<ItemReport, AllocErr
     Ok(ItemReport::Error(message))
 }
 
-/// What is reported of an audit annotation with this outcome.
+/// Returns the report of an audit annotation with this outcome.
 fn annotation_outcome(alloc: Global, answer: Answer) -> Result<ItemReport, AllocError>
     ensures { IfOk result (λ t. report_view t ≡ annotation_outcome (outcome_view answer)) }
 {
@@ -103,7 +104,7 @@ fn annotation_outcome(alloc: Global, answer: Answer) -> Result<ItemReport, Alloc
     }
 }
 
-/// What an audit annotation comes to.
+/// Evaluates an audit annotation.
 #[tactic(auto, unfolding(crate::specs::Reports::annotation_report))]
 fn annotation_report(
     alloc: Global,
@@ -125,7 +126,7 @@ fn annotation_report(
     }
 }
 
-/// What a match condition with this outcome comes to.
+/// Returns the report of a match condition with this outcome.
 fn condition_outcome(alloc: Global, name: &str, answer: Answer) -> Result<ItemReport, AllocError>
     ensures { IfOk result (λ t. report_view t
         ≡ with_message (condition_message name.now) (outcome_report (outcome_view answer))) }
@@ -138,7 +139,7 @@ fn condition_outcome(alloc: Global, name: &str, answer: Answer) -> Result<ItemRe
     Ok(ItemReport::False(message))
 }
 
-/// What a match condition comes to.
+/// Evaluates a match condition.
 #[tactic(auto, unfolding(crate::specs::Reports::condition_report))]
 fn condition_report(
     alloc: Global,
@@ -160,7 +161,7 @@ fn condition_report(
     }
 }
 
-/// What a validation that is false says itself: its message, else its text.
+/// Returns the message of a false validation: its `message`, or one that quotes its expression.
 fn own_message(alloc: Global, item: &Item<'_>) -> Result<String, AllocError>
     ensures { IfOk result (λ s. string_bytes s ≡ own_message (item_view item.now)) }
 {
@@ -171,7 +172,8 @@ fn own_message(alloc: Global, item: &Item<'_>) -> Result<String, AllocError>
     }
 }
 
-/// The string that a messageExpression came to, else what the validation says itself.
+/// Returns the string that a messageExpression evaluated to or, if it isn't a string, the
+/// validation's own message.
 fn outcome_message(alloc: Global, item: &Item<'_>, answer: &Answer) -> Result<String, AllocError>
     ensures { IfOk result (λ s. string_bytes s
         ≡ message_from (item_view item.now) (Ok (outcome_view answer.now))) }
@@ -183,7 +185,8 @@ fn outcome_message(alloc: Global, item: &Item<'_>, answer: &Answer) -> Result<St
     }
 }
 
-/// What a validation that is false says itself, and why its messageExpression can't be judged.
+/// Returns the validation's own message, followed by the reason why its messageExpression wasn't
+/// evaluated.
 fn message_with(alloc: Global, item: &Item<'_>, reported: &ItemReport) -> Result<String, AllocError>
     ensures { IfOk result (λ s. string_bytes s
         ≡ message_from (item_view item.now) (Err (report_view reported.now))) }
@@ -192,7 +195,7 @@ fn message_with(alloc: Global, item: &Item<'_>, reported: &ItemReport) -> Result
     format!(in alloc; "{own} (messageExpression: {reported})")
 }
 
-/// What is reported of a validation that is false, where its messageExpression came to this.
+/// Returns the message of a false validation, given the result of its messageExpression.
 fn message_from(
     alloc: Global,
     item: &Item<'_>,
@@ -207,7 +210,7 @@ fn message_from(
     }
 }
 
-/// What is reported of a validation that is false.
+/// Returns the message of a false validation. Evaluates its messageExpression, if it has one.
 fn false_message(
     alloc: Global,
     item: &Item<'_>,
@@ -228,7 +231,7 @@ fn false_message(
     Ok(message_from(alloc, item, &reached)?)
 }
 
-/// What is reported of a validation whose expression came to this.
+/// Fills in the message if the report of a validation says that it is false.
 fn with_message(
     alloc: Global,
     item: &Item<'_>,
@@ -251,7 +254,7 @@ fn with_message(
     Ok(ItemReport::False(message))
 }
 
-/// What a validation with these programs comes to.
+/// Evaluates a validation, given the programs of its expression and messageExpression.
 #[tactic(auto, unfolding(crate::specs::Reports::validation_with))]
 fn validation_with(
     alloc: Global,
@@ -277,7 +280,7 @@ fn validation_with(
     }
 }
 
-/// The program of a messageExpression, where there is one.
+/// Compiles a messageExpression, if there is one.
 fn read_message(
     alloc: Global,
     text: Option<&str>,
@@ -295,7 +298,7 @@ fn read_message(
     }
 }
 
-/// What a validation comes to.
+/// Evaluates a validation.
 #[tactic(auto, unfolding(crate::specs::Reports::validation_report))]
 fn validation_report(
     alloc: Global,
@@ -320,7 +323,7 @@ fn validation_report(
     Ok(reported)
 }
 
-/// What an entry comes to.
+/// Evaluates an entry and returns its report.
 fn report_as(
     alloc: Global,
     subject: Subject,
@@ -340,7 +343,7 @@ fn report_as(
     }
 }
 
-/// What is reported of an entry.
+/// Evaluates an entry and returns its report with its label.
 #[tactic(auto, unfolding(crate::specs::Reports::result_as))]
 fn result_as(
     alloc: Global,
@@ -359,7 +362,7 @@ fn result_as(
     Ok(judged)
 }
 
-/// What is reported of entries, one for each, in order.
+/// Evaluates entries and returns their results, one for each, in order.
 pub(crate) fn results_as(
     alloc: Global,
     subject: Subject,

@@ -1,4 +1,4 @@
-//! What the expressions of a policy see.
+//! Evaluates expressions in the scope of a policy.
 ghost use Rattle.cel.specs.Program.{program_term};
 ghost use Rattle.cel_patterns.specs.Book.{Extends};
 ghost use Rattle.cel_patterns.specs.Entries.{entries_of};
@@ -19,19 +19,19 @@ use kube_functions::AllFunctions;
 use kube_types_refused::Refused;
 use std::alloc::Global;
 
-/// The context of a policy's expressions. They may call all functions of Kubernetes.
+/// The context of a policy's expressions, which may call all functions of Kubernetes.
 pub(crate) type PolicyContext<'a> = Context<'a, AllFunctions>;
 
-/// What the expressions of a policy see.
+/// The names and inputs that an expression of a policy sees.
 #[derive(Drop)]
 pub(crate) struct Scope<'a> {
-    /// The names that are bound.
+    /// The bound names.
     pub(crate) context: PolicyContext<'a>,
-    /// What isn't given.
+    /// The inputs that aren't given.
     pub(crate) absent: Vec<Input>,
-    /// The map of the variables that came to a value.
+    /// The map of the variables that have a value.
     pub(crate) values: Value,
-    /// The others.
+    /// The variables that have no value, each with the reason.
     pub(crate) missing: Vec<PolicyResult>,
 }
 
@@ -48,7 +48,7 @@ fn is_not_given(reported: &ItemReport) -> bool
     }
 }
 
-/// Whether a variable without a value keeps an expression from being evaluated.
+/// Reports whether a variable without a value keeps an expression from being evaluated.
 fn stops(expr: &Expr, variable: &PolicyResult) -> bool
     ensures { result ≡ stops (term expr.now) (result_view variable.now) }
 {
@@ -60,7 +60,7 @@ fn stops(expr: &Expr, variable: &PolicyResult) -> bool
     )
 }
 
-/// What is reported of the first variable that keeps an expression from being evaluated.
+/// The report of the first variable that keeps an expression from being evaluated, if any.
 fn first_stop<'m>(missing: &'m [PolicyResult], expr: &Expr) -> Option<&'m ItemReport>
     ensures { option_map (λ t. report_view t.now) result
         ≡ first_stop (map result_view missing.now) (term expr.now) }
@@ -73,7 +73,7 @@ fn first_stop<'m>(missing: &'m [PolicyResult], expr: &Expr) -> Option<&'m ItemRe
     None
 }
 
-/// Why an expression isn't evaluated.
+/// Returns the reason why an expression can't be evaluated, if there is one.
 fn why_not(scope: &Scope<'_>, expr: &Expr) -> Result<Option<ItemReport>, Refused>
     ensures reported { IfOk result (λ o. option_map report_view o
         ≡ why_not (scope_view scope.now) (term expr.now)) }
@@ -88,7 +88,7 @@ fn why_not(scope: &Scope<'_>, expr: &Expr) -> Result<Option<ItemReport>, Refused
     }
 }
 
-/// What a program means among the names of a scope.
+/// Executes a program under the names of a scope.
 #[tactic(auto, unfolding(kube_cel_vap::specs::Results::outcome_in))]
 fn outcome_of(
     alloc: Global,
@@ -104,7 +104,7 @@ fn outcome_of(
     program.execute_with(alloc, &scope.context, book)
 }
 
-/// What a program comes to in a scope, or why it isn't run there.
+/// Executes a program in a scope. Returns the reason if it can't be evaluated there.
 #[tactic(auto, unfolding(crate::specs::Scopes::outcome_or_reason))]
 pub(crate) fn reach(
     alloc: Global,
@@ -126,7 +126,7 @@ pub(crate) fn reach(
     }
 }
 
-/// The program of a text, or what is reported of a text that isn't read.
+/// Compiles an expression. If it doesn't parse, the inner error is its report.
 pub(crate) fn read(alloc: Global, text: &str) -> Result<Result<Program, ItemReport>, Refused>
     ensures read { IfOk result (λ r. tree_seen r ≡ tree_report text.now) }
     ensures memory { IfErr result (λ e. e ≡ Refused.Memory) }
@@ -142,7 +142,8 @@ pub(crate) fn read(alloc: Global, text: &str) -> Result<Result<Program, ItemRepo
     }
 }
 
-/// What a text comes to in a scope, or why it doesn't.
+/// Evaluates an expression in a scope. Returns the reason if it doesn't parse or can't be
+/// evaluated.
 pub(crate) fn evaluate(
     alloc: Global,
     text: &str,

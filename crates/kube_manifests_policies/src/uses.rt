@@ -1,11 +1,11 @@
-//! Which members of a name an expression asks for.
+//! Finds out whether expressions read a member of a name.
 ghost use Rattle.cel_syntax_ast.specs.Term.{pairs_of, term, terms_of};
 ghost use Rattle.kube_manifests_policies.specs.Uses.{asks, asks_in_any, asks_in_pairs, is_name};
 ghost use Rattle.std.specs.Prelude.{◌≡◌, map};
 
 use cel::Expr;
 
-/// Whether an expression is this name.
+/// Reports whether an expression is just this name.
 fn is_name(expr: &Expr, name: &str) -> bool
     ensures { result ≡ is_name name.now (term expr.now) }
 {
@@ -36,8 +36,8 @@ fn is_name(expr: &Expr, name: &str) -> bool
     }
 }
 
-/// Whether an expression asks for a member of a free name: by `has`, by taking the name as a whole, and,
-/// where `selects` is true, also by selecting that member.
+/// Reports whether an expression reads a member of a free name: by `has`, by using the name as a
+/// whole or, if `selects` is true, by selecting that member.
 #[cycle(uses)]
 pub(crate) fn asks(expr: &Expr, name: &str, member: &str, selects: bool) -> bool
     ensures { result ≡ asks name.now member.now selects (term expr.now) }
@@ -101,7 +101,7 @@ pub(crate) fn asks(expr: &Expr, name: &str, member: &str, selects: bool) -> bool
     }
 }
 
-/// Whether one of them asks for the member.
+/// Reports whether any of these expressions reads the member.
 #[cycle(uses)]
 fn any_asks(items: &Vec<Expr>, name: &str, member: &str, selects: bool) -> bool
     ensures { result ≡ asks_in_any name.now member.now selects (terms_of (map term items.now.items)) }
@@ -114,7 +114,7 @@ fn any_asks(items: &Vec<Expr>, name: &str, member: &str, selects: bool) -> bool
     false
 }
 
-/// Whether one of the keys and values asks for the member.
+/// Reports whether any of these keys and values reads the member.
 #[cycle(uses)]
 fn pairs_ask(pairs: &Vec<(Expr, Expr)>, name: &str, member: &str, selects: bool) -> bool
     ensures { result ≡ asks_in_pairs name.now member.now selects

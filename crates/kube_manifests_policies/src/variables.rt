@@ -1,4 +1,4 @@
-//! The variables of a policy, one after another.
+//! Evaluates the variables of a policy, one after another.
 ghost use Rattle.cel_patterns.specs.Book.{Extends, Book};
 ghost use Rattle.cel_patterns.specs.Entries.{entries_of};
 ghost use Rattle.cel_semantics.specs.Members.{put_in};
@@ -18,7 +18,8 @@ use kube_manifests_admission::Item;
 use kube_types_refused::Refused;
 use std::alloc::Global;
 
-/// The map of the variables with one more, which came to this; or its error.
+/// Returns the map of variables with one more variable, if `answer` is a value. Otherwise its
+/// error.
 fn stored(alloc: Global, values: &Value, name: &str, answer: Answer) -> Result<Answer, Refused>
     ensures value { IfOk result (λ r. outcome_view r
         ≡ and_then (outcome_view answer) (λ v. put_in (view values.now) (text name.now) v)) }
@@ -33,7 +34,7 @@ fn stored(alloc: Global, values: &Value, name: &str, answer: Answer) -> Result<A
     }
 }
 
-/// A scope where this variable has no value.
+/// Adds a variable without a value to a scope.
 fn without_value<'a>(
     alloc: Global,
     scope: Scope<'a>,
@@ -59,7 +60,7 @@ fn without_value<'a>(
     })
 }
 
-/// A scope where the variables are these.
+/// Replaces the map of variables in a scope.
 fn with_values<'a>(scope: Scope<'a>, map: Value) -> Result<Scope<'a>, Refused>
     ensures scope { IfOk result (λ s. Alike (scope_view s)
         (with_values (scope_view scope.entry) (view map))) }
@@ -80,7 +81,8 @@ fn with_values<'a>(scope: Scope<'a>, map: Value) -> Result<Scope<'a>, Refused>
     })
 }
 
-/// A scope where the map with a variable came to this.
+/// Replaces the map of variables in a scope if `answer` is a value. Otherwise the variable has
+/// none.
 fn with_stored<'a>(
     alloc: Global,
     scope: Scope<'a>,
@@ -101,7 +103,7 @@ fn with_stored<'a>(
     }
 }
 
-/// A scope where a variable came to this.
+/// Adds a variable to a scope, given its result.
 fn with_variable<'a>(
     alloc: Global,
     scope: Scope<'a>,
@@ -121,7 +123,7 @@ fn with_variable<'a>(
     }
 }
 
-/// A scope with one more variable.
+/// Evaluates a variable and adds it to a scope.
 #[tactic(auto, unfolding(crate::specs::Scopes::variable_step))]
 fn variable_step<'a>(
     alloc: Global,
@@ -138,7 +140,7 @@ fn variable_step<'a>(
     with_variable(alloc, scope, item.label, reached)
 }
 
-/// A scope with these variables.
+/// Evaluates variables in order and adds each to the scope.
 pub(crate) fn with_variables<'a>(
     alloc: Global,
     scope: Scope<'a>,

@@ -1,4 +1,4 @@
-//! What a policy comes to.
+//! Verdicts of policies.
 ghost use Rattle.kube_manifests_policies.specs.Verdicts.{after_conditions, any_is, decision_of, decision_text, is_problem, result_view, report_text, report_view, with_report};
 ghost use Rattle.std.specs.Prelude.{◌≡◌, IfOk, map, Some};
 
@@ -7,20 +7,20 @@ use kube_types_refused::Refused;
 use std::alloc::{AllocError, Global};
 use std::fmt;
 
-/// What an expression came to.
+/// The result of an expression.
 #[derive(Debug, Drop)]
 pub enum ItemReport {
-    /// A match condition or a validation is true.
+    /// The match condition or validation is true.
     True,
-    /// A match condition or a validation is false, and this is reported of it.
+    /// The match condition or validation is false, with this message.
     False(String),
-    /// An audit annotation has this text.
+    /// The audit annotation has this text.
     Text(String),
-    /// An audit annotation is left out.
+    /// The audit annotation is left out.
     Null,
-    /// There is no such value, for this reason.
+    /// The expression has none of these results, for this reason.
     Error(String),
-    /// It wasn't evaluated, since it asks for what isn't given.
+    /// The expression wasn't evaluated, because it reads an input that isn't given.
     NotGiven(Input),
 }
 
@@ -40,7 +40,7 @@ impl fmt::Display for ItemReport {
 }
 
 impl ItemReport {
-    /// An equal one.
+    /// Returns an equal copy.
     pub(crate) fn copy(&self) -> Result<ItemReport, AllocError>
         ensures { IfOk result (λ t. report_view t ≡ report_view self.now) }
     {
@@ -55,7 +55,7 @@ impl ItemReport {
     }
 }
 
-/// What decides about a policy.
+/// A kind of result that may keep a policy from admitting a request.
 #[derive(Clone, Copy, Drop)]
 pub(crate) enum Problem {
     False,
@@ -64,7 +64,7 @@ pub(crate) enum Problem {
 }
 
 impl Problem {
-    /// Whether what is reported is so.
+    /// Reports whether a report is this problem.
     pub(crate) fn is_of(self, reported: &ItemReport) -> bool
         ensures { result ≡ is_problem self (report_view reported.now) }
     {
@@ -79,17 +79,17 @@ impl Problem {
     }
 }
 
-/// What one expression of a policy came to.
+/// The result of one expression of a policy, with its label.
 #[derive(Debug, Drop)]
 pub struct PolicyResult {
-    /// The name of a match condition or of a variable, the text of a validation's expression,
-    /// the key of an audit annotation.
+    /// The name of a match condition or variable, the source of a validation's expression, or the
+    /// key of an audit annotation.
     pub label: String,
-    /// What it came to.
+    /// The result.
     pub reported: ItemReport,
 }
 
-/// What this reports on.
+/// Returns the result with this label and report.
 pub(crate) fn with_report(
     alloc: Global,
     label: &str,
@@ -103,16 +103,16 @@ pub(crate) fn with_report(
     })
 }
 
-/// What a policy decides.
+/// The decision of a policy.
 #[derive(Clone, Copy, Debug, PartialEq, Eq)]
 pub enum PolicyDecision {
-    /// It lets the request pass.
+    /// The policy admits the request.
     Admitted,
-    /// It refuses the request.
+    /// The policy denies the request.
     Denied,
-    /// It doesn't apply to the request.
+    /// The policy doesn't apply to the request.
     Skipped,
-    /// Nothing refuses the request, and something asks for what isn't given.
+    /// Nothing denies the request, but an expression reads an input that isn't given.
     NotJudged,
 }
 
@@ -129,22 +129,24 @@ impl fmt::Display for PolicyDecision {
     }
 }
 
-/// What a policy comes to.
+/// The verdict of a policy.
 #[derive(Debug, Drop)]
 pub struct PolicyVerdict {
-    /// What it decides.
+    /// The decision.
     pub decision: PolicyDecision,
-    /// One for each match condition, in order.
+    /// The results of the match conditions, one for each, in order.
     pub conditions: Vec<PolicyResult>,
     /// The variables without a value, in order, each with the reason.
     pub variables: Vec<PolicyResult>,
-    /// One for each validation, in order; none where the match conditions decide.
+    /// The results of the validations, one for each, in order. Empty if the match conditions
+    /// decide.
     pub validations: Vec<PolicyResult>,
-    /// One for each audit annotation, in order; none where the match conditions decide.
+    /// The results of the audit annotations, one for each, in order. Empty if the match conditions
+    /// decide.
     pub annotations: Vec<PolicyResult>,
 }
 
-/// Whether one of these is so.
+/// Reports whether any of these results is this problem.
 fn any_is(problem: Problem, results: &[PolicyResult]) -> bool
     ensures { result ≡ any_is problem (map result_view results.now) }
 {
@@ -156,7 +158,7 @@ fn any_is(problem: Problem, results: &[PolicyResult]) -> bool
     false
 }
 
-/// What the match conditions decide, if they do.
+/// Returns what the match conditions decide, or `None` if the policy is to be evaluated.
 pub(crate) fn after_conditions(ignores: bool, conditions: &[PolicyResult]) -> Option<PolicyDecision>
     ensures { result ≡ after_conditions ignores (map result_view conditions.now) }
 {
@@ -175,7 +177,7 @@ pub(crate) fn after_conditions(ignores: bool, conditions: &[PolicyResult]) -> Op
     Some(PolicyDecision::Denied)
 }
 
-/// What validations and audit annotations decide.
+/// Returns what the validations and audit annotations decide.
 pub(crate) fn decision_of(
     ignores: bool,
     validations: &[PolicyResult],

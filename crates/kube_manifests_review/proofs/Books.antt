@@ -1,4 +1,4 @@
--- What is found by a book of patterns.
+-- The findings under a book of patterns.
 use Rattle.std.proofs.Common.{◌≡◌, ℕ, List, [], ◌∷◌, ◌++◌, Bool, Option, Some, None, is_none, is_err, option_map, Result, Ok, Err, refl, ap, ◌∙◌}
 use Rattle.std.proofs.lemmas.List.{flat_map_more}
 use Rattle.cel_patterns.specs.Book.{Book, matched_by, pattern_in}
@@ -16,7 +16,7 @@ none_mapped : {A B : Type 0} (f : A → B) (o : Option A) → is_none (option_ma
 none_mapped f None = refl
 none_mapped f (Some a) = refl
 
--- a pattern that matches nothing, not even an empty text, and one that is refused
+-- `matches` on the empty text has no answer exactly if the pattern is refused
 pub refused_at : (b : Book) (p : List ℕ) (o : Option Bool) → o ≡ matched_by b p [] → is_none o ≡ is_refused p b
 unfolding matched_by is_refused
 refused_at b p o e = ap is_none e ∙ none_mapped _ (pattern_in b p)

@@ -1,4 +1,4 @@
--- One letter off is one edit.
+-- Being one letter off is being one edit apart.
 use Rattle.std.proofs.Common.{◌≡◌, ◌≢◌, ◌≤◌, ℕ, List, [], ◌∷◌, ◌++◌, Bool, true, false, ◌||◌, eqb, cond, length, refl, sym, ap, ◌∙◌, arith, lit≤}
 use Rattle.std.proofs.lemmas.Bool.{eq-eqb, eqb-true}
 use Rattle.std.proofs.lemmas.Slice.Eq.{bytes_eq-Decides}
@@ -24,7 +24,7 @@ or_second : (a b c : Bool) → b ≡ true → (a || (b || c)) ≡ true
 or_second true b c e = refl
 or_second false b c e = ap (λ x. x || c) e
 
--- ---- an edit of texts that are one letter off
+-- ---- texts that are one letter off are one edit apart
 
 ended : (cs : List ℕ) → is_end cs ≡ true → cs ≡ []
 ended [] e = refl
@@ -108,7 +108,7 @@ edit_of (k ∷ ks) (w ∷ ws) e = by (eqb k w) refl (λ h. edit_of ks ws h) e
     by true d r h = let same : k ≡ w = eqb-true k w d in rw (← same) (more k ks ws (r h))
     by false d r h = of_three (bytes_eq ks ws) (bytes_eq (k ∷ ks) ws) (bytes_eq ks (w ∷ ws)) d refl refl refl h
 
--- ---- texts of one edit are one letter off
+-- ---- texts that are one edit apart are one letter off
 
 along : (fs xs ys : List ℕ) → one_letter_off (fs ++ xs) (fs ++ ys) ≡ one_letter_off xs ys
 along [] xs ys = refl

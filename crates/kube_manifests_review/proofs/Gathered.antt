@@ -1,4 +1,4 @@
--- The schemas within one.
+-- The schemas within a schema.
 use Rattle.std.proofs.Common.{◌≡◌, ℕ, zero, suc, List, [], ◌∷◌, ◌++◌, codes, sym, ap, ◌∙◌, append_assoc, append-nil}
 use Rattle.kube_schema_values.specs.DefaultsAccessors.{declared_properties, members_or_none, additional}
 use Rattle.kube_manifests_review.specs.Locations.{SchemaLocation, branch_locations, maybe_locations, named_locations, locations_of, locations_within}
@@ -14,7 +14,7 @@ no_levels (suc n) p s had e = cc
 regroup : (a b c d e f g h : List SchemaLocation) → (((((((a ++ b) ++ c) ++ d) ++ e) ++ f) ++ g) ++ h) ≡ a ++ (b ++ (c ++ (d ++ (e ++ (f ++ (g ++ h))))))
 regroup a b c d e f g h = simp append_assoc
 
--- what is added, one after another, is what is within the schema
+-- the successive additions together are the schemas within the schema
 pub gathered : (levels n : ℕ) (p : List ℕ) (s : Data) (e0 e1 e2 e3 e4 e5 e6 e7 : List SchemaLocation) → levels ≡ suc n
     → e1 ≡ e0 ++ record { pointer = p; schema = s } ∷ []
     → e2 ≡ e1 ++ named_locations (locations_of n) (keyword_pointer p (codes "properties")) (members_or_none (declared_properties s))

@@ -18,7 +18,7 @@ items_past [] (suc i) h = refl
 items_past (v ∷ vs) zero h = let no : ⊥ = omega (arith, h) in absurd no
 items_past (v ∷ vs) (suc i) h = items_past vs i (omega (arith, h))
 
--- G gives of items from the i-th on what X gives of each
+-- G of the items from the i-th on concatenates X of each
 module _ {A : Type 0} (G : ℕ → Items → List A) (X : ℕ → Data → List A) where
   pub next_item : ((i : ℕ) (d : Data) (ds : Items) → G i (item d ds) ≡ X i d ++ G (suc i) ds) → (vs : List Value) (i : ℕ) (v : Value) (new had all : List A) → i < length vs → v ≡ get_or vs i v
       → new ≡ had ++ X i (view v) → had ++ G i (items_view (drop i vs)) ≡ all → new ++ G (i + 1) (items_view (drop (i + 1) vs)) ≡ all

@@ -1,4 +1,4 @@
--- Nodes of a tree as terms.
+-- The nodes of a tree, seen as terms.
 use Rattle.std.proofs.Common.{◌≡◌, ℕ, List, [], ◌∷◌, true, Option, Some, None, Box, codes, cond, map, option_map, refl, sym, ap, ◌∙◌, string_bytes}
 use Rattle.std.specs.declared.alloc.Global.{Global}
 use Rattle.cel_syntax_ast.specs.Term.{Term, call, no_terms, qualified, term, term_and, term_step, terms_of}
@@ -37,6 +37,6 @@ pub double_candidate : (t : Text) (v : Data) (m : List ℕ) → has_double v ≡
 double_candidate t v m e f =
     ap (λ x. text_candidate t kind.Double x always ∷ []) f ∙ ap (λ b. cond b (text_candidate t kind.Double double_text always ∷ []) []) (sym e)
 
-pub kind_candidate : (t : Text) (e : Term) (m : List ℕ) → is_no_string e ≡ true → m ≡ codes "messageExpression gives no string" → text_candidate t kind.Message m always ∷ [] ≡ kind_candidates t e
+pub kind_candidate : (t : Text) (e : Term) (m : List ℕ) → is_no_string e ≡ true → m ≡ codes "messageExpression doesn't return a string" → text_candidate t kind.Message m always ∷ [] ≡ kind_candidates t e
 kind_candidate t e m n f =
-    ap (λ x. text_candidate t kind.Message x always ∷ []) f ∙ ap (λ b. cond b (text_candidate t kind.Message (codes "messageExpression gives no string") always ∷ []) []) (sym n)
+    ap (λ x. text_candidate t kind.Message x always ∷ []) f ∙ ap (λ b. cond b (text_candidate t kind.Message (codes "messageExpression doesn't return a string") always ∷ []) []) (sym n)

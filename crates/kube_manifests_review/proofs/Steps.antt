@@ -1,15 +1,15 @@
--- Steps of loops that add to a list.
+-- Steps of loops that append to a list.
 use Rattle.std.proofs.Common.{◌≡◌, List, [], ◌++◌, Option, Some, None, is_some, option_map, refl, sym, ap, ◌∙◌, append_assoc, append-nil}
 
--- what was added, and what is left
+-- one addition, and those that remain
 pub one_more : {A : Type 0} (new old x rest all : List A) → new ≡ old ++ x → old ++ (x ++ rest) ≡ all → new ++ rest ≡ all
 one_more new old x rest all e h = ap (λ r. r ++ rest) e ∙ append_assoc old x rest ∙ h
 
--- nothing is left
+-- no addition remains
 pub no_more : {A : Type 0} (new rest all : List A) → rest ≡ [] → new ++ rest ≡ all → new ≡ all
 no_more new rest all e h = sym (append-nil new) ∙ ap (λ r. new ++ r) (sym e) ∙ h
 
--- one after another
+-- two additions, one after the other
 pub two_steps : {A : Type 0} (old mid new a b : List A) → mid ≡ old ++ a → new ≡ mid ++ b → new ≡ old ++ (a ++ b)
 two_steps old mid new a b e f = f ∙ ap (λ xs. xs ++ b) e ∙ append_assoc old a b
 

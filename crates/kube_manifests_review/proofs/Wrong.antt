@@ -1,4 +1,4 @@
--- A call in a form that there isn't.
+-- A call in a form that the function doesn't have.
 use Rattle.std.proofs.Common.{◌≡◌, ℕ, List, [], ◌∷◌, Bool, Option, is_some, length, ap, ◌∙◌}
 use Rattle.cel_semantics.specs.declared.functions.Form.TheVariants.{Wrong}
 use Rattle.cel_syntax_ast.specs.Term.{Term}

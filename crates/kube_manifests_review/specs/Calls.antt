@@ -1,7 +1,7 @@
 -- Trusted by the clauses of manifests.
--- The candidate findings of one node of a rule's tree: which call can't work, and which literal. Source:
--- Kubernetes documentation, "CEL in Kubernetes"; the functions are those of `kube_functions`; that doubles
--- have no values is this project's own.
+-- The candidate findings of one node of a rule's tree: calls that can't work, and refused literals.
+-- Source: Kubernetes documentation, "CEL in Kubernetes"; the functions are those of
+-- `kube_functions`; that doubles are refused is this project's own decision.
 use Rattle.std.specs.Prelude.{ℕ, List, [], ◌∷◌, ◌++◌, length, Bool, true, false, Option, Some, None, is_some, if◌then◌else◌, codes, decimal}
 use Rattle.std.specs.List.{list_any, slice_get}
 use Rattle.std.specs.Option.{option_and_then}
@@ -18,8 +18,8 @@ use Rattle.kube_manifests_review.specs.declared.finding.ReviewKind.{ReviewKind}
 use Rattle.kube_manifests_review.specs.declared.finding.ReviewKind.TheVariants as kind
 use Rattle.kube_manifests_review.specs.declared.text.Text as code
 
--- a text of a rule: where it stands in the document, the rule's own text,
--- and whether it is its messageExpression
+-- an expression of a rule: its pointer into the document, the rule's own source, and whether it is
+-- the rule's messageExpression
 pub record Text : Type 0 where
   pub pointer : List ℕ
   pub rule : List ℕ
@@ -28,16 +28,16 @@ pub record Text : Type 0 where
 abbrev pub text_view : code.Text → Text
 text_view t = record { pointer = t.pointer.now; rule = t.rule.now; is_message = t.is_message }
 
--- a candidate finding of a text of a rule
+-- a candidate finding of an expression of a rule
 abbrev pub text_candidate : Text → ReviewKind → List ℕ → When → Candidate
 text_candidate t k m w = record {
   finding = record { pointer = t.pointer; rule = t.rule; kind = k; message = m };
   when = w;
 }
 
--- ---- what stands in a call
+-- ---- the parts of a call
 
--- the string that a literal is
+-- the string of a string literal
 abbrev pub literal_text : Term → Option (List ℕ)
 literal_text (literal v) = text_in v
 literal_text (ident x) = None
@@ -53,14 +53,14 @@ literal_text (call r x ts) = None
 literal_text (qualified x ts) = None
 literal_text (macro k r x f b) = None
 
--- the literal string that is the only argument of a call without a receiver
+-- the string literal that is the only argument of a call without a receiver
 abbrev pub only_text : Option Term → List Term → Option (List ℕ)
 only_text None (t ∷ []) = literal_text t
 only_text None [] = None
 only_text None (t ∷ u ∷ ts) = None
 only_text (Some r) ts = None
 
--- the literal string that is the second operand of a call
+-- the string literal that is the second operand of a call, counting the receiver as the first
 abbrev pub second_text : Option Term → List Term → Option (List ℕ)
 second_text (Some r) ts = option_and_then literal_text (slice_get ts 0)
 second_text None ts = option_and_then literal_text (slice_get ts 1)
@@ -73,7 +73,7 @@ is_old_self _ = false
 unfoldable pub takes_pattern : List ℕ → Bool
 takes_pattern name = list_any (bytes_eq name) (codes "matches" ∷ codes "find" ∷ codes "findAll" ∷ [])
 
--- the functions that ask an optional
+-- the methods of optionals
 unfoldable pub asks_optional : List ℕ → Bool
 asks_optional name = list_any (bytes_eq name) (codes "hasValue" ∷ codes "value" ∷ [])
 
@@ -91,13 +91,13 @@ wrong_text name false n =
     ++ (codes "' can't be called without a receiver and with this number of arguments: " ++ decimal n))
 
 abbrev pub old_self_text : List ℕ → List ℕ
-old_self_text name = codes "'oldSelf' is no optional: " ++ (name ++ codes "() always fails")
+old_self_text name = codes "'oldSelf' isn't an optional: " ++ (name ++ codes "() always fails")
 
 abbrev pub fails_text : List ℕ → List ℕ → List ℕ
 fails_text name s = name ++ (codes "('" ++ (s ++ codes "') always fails"))
 
 abbrev pub pattern_text : List ℕ → List ℕ
-pattern_text p = codes "pattern '" ++ (p ++ codes "' is refused")
+pattern_text p = codes "pattern '" ++ (p ++ codes "' can't be compiled")
 
 abbrev pub old_self_candidates : Text → Option Term → List ℕ → List Candidate
 old_self_candidates t r name =
@@ -116,13 +116,13 @@ refused_candidates t (Some p) = text_candidate t kind.Pattern (pattern_text p) (
 abbrev pub pattern_candidates : Text → Option Term → List ℕ → List Term → List Candidate
 pattern_candidates t r name ts = if takes_pattern name then refused_candidates t (second_text r ts) else []
 
--- of a call in a form that there is
+-- the candidates of a call in a known form
 abbrev pub known_candidates : Text → Option Term → List ℕ → List Term → List Candidate
 known_candidates t r name ts =
     old_self_candidates t r name
     ++ (fails_candidates t name (only_text r ts) ++ pattern_candidates t r name ts)
 
--- an unknown function is reported by a linter, but not where a messageExpression calls it
+-- the linter reports unknown functions, but not those that a messageExpression calls
 abbrev pub form_candidates : Form → Text → Option Term → List ℕ → List Term → List Candidate
 form_candidates Unknown t r name ts =
     if t.is_message then text_candidate t kind.Call (unknown_text name) always ∷ [] else []

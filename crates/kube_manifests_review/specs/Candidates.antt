@@ -1,6 +1,6 @@
 -- Trusted by the clauses of manifests.
--- The findings that a review may have of a document, each with the condition under which it is reported.
--- Source: this project's own statement.
+-- The findings that a review may report for a document, each with the condition under which it is
+-- reported. Source: this project's own definition.
 use Rattle.std.specs.Prelude.{◌≡◌, ℕ, List, [], ◌∷◌, ◌++◌, map, Bool, true, false, ◌&&◌, None, is_none, is_err, if◌then◌else◌, codes, string_bytes}
 use Rattle.std.specs.List.{flat_map}
 use Rattle.cel_patterns.specs.Book.{Book, pattern_in}
@@ -17,11 +17,11 @@ use Rattle.kube_manifests_review.specs.declared.candidate.Condition.{Condition}
 use Rattle.kube_manifests_review.specs.declared.candidate.Condition.TheVariants as condition
 use Rattle.kube_manifests_review.specs.declared.candidate.Candidate as declared
 
--- what was found at one pointer
+-- something found at one pointer
 pub record Finding : Type 0 where
-  -- a JSON Pointer in the document (RFC 6901)
+  -- the JSON Pointer (RFC 6901) into the document
   pub pointer : List ℕ
-  -- the text of the rule, empty where it is of no rule
+  -- the source of the rule, empty if the finding isn't about a rule
   pub rule : List ℕ
   pub kind : ReviewKind
   pub message : List ℕ
@@ -42,7 +42,7 @@ lint_text lint.Cost = codes "cost"
 lint_text lint.Bounds = codes "bounds"
 lint_text lint.Depth = codes "depth"
 
--- a kind in a word
+-- the word for a kind
 abbrev pub kind_text : ReviewKind → List ℕ
 kind_text (kind.Lint k) = lint_text k
 kind_text kind.Document = codes "document"
@@ -56,20 +56,20 @@ kind_text kind.Keyword = codes "keyword"
 kind_text kind.Rules = codes "rules"
 kind_text kind.NoRules = codes "no-rules"
 
--- when a finding is reported
+-- the condition under which a finding is reported
 pub data When : Type 0 where
   always : When
-  -- where this pattern is refused
+  -- if this pattern is refused
   refused : List ℕ → When
-  -- where the call of this function with this string alone has no value
+  -- if calling this function with just this string gives an error
   fails : List ℕ → List ℕ → When
 
--- a finding, and when it is reported
+-- a finding, with the condition under which it is reported
 pub record Candidate : Type 0 where
   pub finding : Finding
   pub when : When
 
--- a finding that is reported in any case, and is of no rule
+-- a finding that is always reported and isn't about a rule
 abbrev pub unconditional : List ℕ → ReviewKind → List ℕ → Candidate
 unconditional p k m = record {
   finding = record { pointer = p; rule = []; kind = k; message = m };
@@ -84,18 +84,18 @@ when_view (condition.Fails name s) = fails (string_bytes name) (string_bytes s)
 abbrev pub candidate_view : declared.Candidate → Candidate
 candidate_view d = record { finding = finding_view d.finding; when = when_view d.condition }
 
--- the candidates afterwards: those before, and these behind them
+-- the candidates afterwards are those before, followed by these
 abbrev pub AddsCandidates : List declared.Candidate → List declared.Candidate → List Candidate → Type 0
 AddsCandidates before after ds = map candidate_view after ≡ map candidate_view before ++ ds
 
--- ---- what is found by a book of patterns
+-- ---- the findings under a book of patterns
 
 abbrev pub is_known : Form → Bool
 is_known Unknown = false
 is_known Wrong = false
 is_known Known = true
 
--- whether a function is called with one argument, and has no value at this string
+-- whether a function takes a single argument and fails on this string
 unfoldable pub fails_at : List ℕ → List ℕ → Book → Bool
 fails_at name s book =
     is_known (all_library.form_of name false 1) && is_err (all_library.answer_of name None (text s ∷ []) book)

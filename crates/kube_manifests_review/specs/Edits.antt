@@ -1,11 +1,11 @@
 -- Trusted by laws alone.
--- One edit between two texts (Levenshtein, "Binary codes capable of correcting deletions, insertions, and
--- reversals", 1966); and the keywords of a schema as the Kubernetes API reference
--- has them (`JSONSchemaProps`).
+-- One edit between two texts (Levenshtein, "Binary codes capable of correcting deletions,
+-- insertions, and reversals", 1966), and the keywords of a schema in the Kubernetes API reference
+-- (`JSONSchemaProps`).
 use Rattle.std.specs.Prelude.{◌≡◌, ◌≢◌, ◌≤◌, ℕ, List, [], ◌∷◌, ◌++◌, length, codes}
 
--- they have one beginning and one end, and differ between these by a character that one of them alone has, or
--- by one in place of another
+-- the texts share a prefix and a suffix; between these, one of them has an extra character, or each
+-- has one character and the two differ
 pub record IsOneEdit (key word : List ℕ) : Type 0 where
   pub front : List ℕ
   pub back : List ℕ

@@ -1,8 +1,8 @@
 -- Trusted by the clauses of manifests.
--- Keys that are one letter off a keyword: the edit distance of Levenshtein between their characters is one
--- ("Binary codes capable of correcting deletions, insertions, and reversals", 1966). The keywords are those
--- that this project reads of a schema (Kubernetes API reference, `JSONSchemaProps`),
--- and the fields of a rule (`ValidationRule`).
+-- Keys that are one letter off a keyword: the Levenshtein distance between their characters is one
+-- ("Binary codes capable of correcting deletions, insertions, and reversals", 1966). The keywords
+-- are those that this project reads in a schema (Kubernetes API reference, `JSONSchemaProps`), and
+-- the fields of a rule (`ValidationRule`).
 use Rattle.std.specs.Prelude.{ℕ, List, [], ◌∷◌, ◌++◌, ◌==◌, ◌||◌, Bool, true, false, Option, Some, None, if◌then◌else◌, codes}
 use Rattle.std.specs.List.{flat_map}
 use Rattle.std.specs.Str.{bytes_eq, chars}
@@ -12,13 +12,13 @@ use Rattle.kube_manifests_review.specs.declared.finding.ReviewKind.TheVariants.{
 use Rattle.kube_schema_values.specs.DefaultsAccessors.{keys_in}
 use Rattle.serde_json.specs.Data.{Members}
 
--- no character is left
+-- whether no character remains
 abbrev pub is_end : List ℕ → Bool
 is_end [] = true
 is_end (c ∷ cs) = false
 
--- whether one character that is put in, left out or changed makes one of the other;
--- of equal first characters the rest decides
+-- whether inserting, deleting or replacing exactly one character turns one into the other; equal
+-- first characters are skipped
 abbrev pub one_letter_off : List ℕ → List ℕ → Bool
 one_letter_off [] [] = false
 one_letter_off [] (w ∷ ws) = is_end ws
@@ -58,7 +58,7 @@ rule_fields =
     codes "rule" ∷ codes "message" ∷ codes "messageExpression"
     ∷ codes "reason" ∷ codes "fieldPath" ∷ codes "optionalOldSelf" ∷ []
 
--- of a key in the object at this pointer, of this rule or none
+-- the candidates of a key in the object at this pointer, of this rule or of none
 abbrev pub near_candidates : List ℕ → List ℕ → List ℕ → Option (List ℕ) → List Candidate
 near_candidates p rule k None = []
 near_candidates p rule k (Some w) = record {
@@ -74,6 +74,6 @@ near_candidates p rule k (Some w) = record {
 abbrev pub key_candidates : List (List ℕ) → List ℕ → List ℕ → List ℕ → List Candidate
 key_candidates words p rule k = near_candidates p rule k (near words k)
 
--- of its keys, in their order
+-- the candidates of an object's keys, in order
 abbrev pub keys_candidates : List (List ℕ) → List ℕ → List ℕ → Members → List Candidate
 keys_candidates words p rule ms = flat_map (key_candidates words p rule) (keys_in ms)

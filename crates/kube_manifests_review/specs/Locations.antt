@@ -1,7 +1,7 @@
 -- Trusted by the clauses of manifests.
--- The schemas within a schema, each with its JSON Pointer: a schema before those within it, and these in the
--- order in which Kubernetes' walk over an object takes them (Kubernetes documentation, "Extend the Kubernetes
--- API with CustomResourceDefinitions", "Specifying a structural schema").
+-- The schemas within a schema, each with its JSON Pointer: a schema precedes those within it, which
+-- come in the order in which Kubernetes walks over an object (Kubernetes documentation, "Extend the
+-- Kubernetes API with CustomResourceDefinitions", "Specifying a structural schema").
 use Rattle.std.specs.Prelude.{◌≡◌, ℕ, zero, suc, List, [], ◌∷◌, ◌++◌, map, Option, Some, None, codes, string_bytes}
 use Rattle.serde_json.specs.Data.{Data, Items, no_items, item, Members, no_members, member}
 use Rattle.serde_json.specs.Find.{get}
@@ -18,17 +18,18 @@ pub record SchemaLocation : Type 0 where
 abbrev pub location_view : code.SchemaLocation → SchemaLocation
 location_view p = record { pointer = string_bytes p.pointer; schema = view p.schema.now }
 
--- the locations afterwards: those before, and these behind them
+-- the locations afterwards are those before, followed by these
 abbrev pub AddsLocations : List code.SchemaLocation → List code.SchemaLocation → List SchemaLocation → Type 0
 AddsLocations before after ps = map location_view after ≡ map location_view before ++ ps
 
--- ---- the locations of schemas within one, where f says which locations a schema at a pointer has
+-- ---- the locations within a schema, given the function f from a schema and its pointer to its
+-- locations
 
 abbrev pub named_locations : (List ℕ → Data → List SchemaLocation) → List ℕ → Members → List SchemaLocation
 named_locations f p no_members = []
 named_locations f p (member k d ms) = f (key_pointer p k) d ++ named_locations f p ms
 
--- of items, from the i-th on
+-- the locations of items, from the i-th on
 abbrev pub item_locations : (List ℕ → Data → List SchemaLocation) → List ℕ → ℕ → Items → List SchemaLocation
 item_locations f p i no_items = []
 item_locations f p i (item d ds) = f (index_pointer p i) d ++ item_locations f p (suc i) ds
@@ -52,7 +53,7 @@ locations_within f p s =
     ++ (branch_locations f p (codes "oneOf") s
     ++ branch_locations f p (codes "anyOf") s))))
 
--- the locations of a schema at this pointer, to this depth
+-- the locations of a schema at this pointer, down to this depth
 unfoldable pub locations_of : ℕ → List ℕ → Data → List SchemaLocation
 locations_of zero p s = []
 locations_of (suc n) p s = record { pointer = p; schema = s } ∷ locations_within (locations_of n) p s

@@ -1,7 +1,7 @@
 -- Trusted by the clauses of manifests.
--- Which trees plainly give no string: the kind of the node says so, without any value. Source: CEL language
--- definition, "List of Standard Definitions", "Macros";
--- of the operators `+` alone gives strings, and of strings alone.
+-- The trees that obviously aren't strings, whatever the values: the kind of the node alone decides.
+-- Source: CEL language definition, "List of Standard Definitions", "Macros"; of the operators only
+-- `+` yields strings, and only from strings.
 use Rattle.std.specs.Prelude.{Bool, true, false, not, ◌||◌, is_some}
 use Rattle.cel_syntax_ast.specs.Term.{Term, literal, ident, select, has, index, unary, binary, conditional, list_of, map_with, call, qualified, macro}
 use Rattle.cel_syntax_ast.specs.declared.expr.BinaryOperator.{BinaryOperator}
@@ -32,7 +32,7 @@ is_no_string (has a x) = true
 is_no_string (index a b) = false
 is_no_string (unary o a) = true
 is_no_string (binary o a b) = not (may_join o) || (is_no_string a || is_no_string b)
--- both branches have one kind
+-- both branches are expected to have the same kind
 is_no_string (conditional a b c) = is_no_string b || is_no_string c
 is_no_string (list_of ts) = true
 is_no_string (map_with ps) = true

@@ -1,5 +1,5 @@
 -- Trusted by the clauses of manifests.
--- The nodes of a tree: itself, then those of its parts, in the order of the text.
+-- The nodes of a tree: the tree itself, then the nodes of its parts, in the order of the source.
 -- Source: CEL language definition, "Syntax".
 use Rattle.std.specs.Borrow.{Bor}
 use Rattle.std.specs.Prelude.{◌≡◌, List, [], ◌∷◌, ◌++◌, map}
@@ -30,6 +30,6 @@ abbrev mutual
   nodes_of_pairs no_pairs = []
   nodes_of_pairs (pair_and k v ps) = nodes_of k ++ (nodes_of v ++ nodes_of_pairs ps)
 
--- the nodes afterwards: those before, and these behind them
+-- the nodes afterwards are those before, followed by these
 abbrev pub AddsNodes : List (Bor Expr) → List (Bor Expr) → List Term → Type 0
 AddsNodes before after ts = map (λ n. term n.now) after ≡ map (λ n. term n.now) before ++ ts

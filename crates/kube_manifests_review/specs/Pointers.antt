@@ -3,11 +3,11 @@
 use Rattle.std.specs.Prelude.{ℕ, List, ◌++◌, codes, decimal}
 use Rattle.kube_cel_analysis.specs.Pointers.{token}
 
--- to the member of a name that has no `~` and no `/`
+-- to a member whose name has no `~` and no `/`
 abbrev pub keyword_pointer : List ℕ → List ℕ → List ℕ
 keyword_pointer p keyword = p ++ (codes "/" ++ keyword)
 
--- to the member of any name
+-- to a member with any name
 abbrev pub key_pointer : List ℕ → List ℕ → List ℕ
 key_pointer p key = (p ++ codes "/") ++ token key
 

@@ -1,7 +1,7 @@
 -- Trusted by the clauses of manifests.
--- The findings of a CustomResourceDefinition: of each version in its order what a linter finds, then what a
--- review finds of its schema. Source: Kubernetes API reference, `CustomResourceDefinitionSpec`,
--- `CustomResourceDefinitionVersion`, `CustomResourceValidation`.
+-- The findings of a CustomResourceDefinition: for each version, in order, the findings of the
+-- linter, then those of the review of its schema. Source: Kubernetes API reference,
+-- `CustomResourceDefinitionSpec`, `CustomResourceDefinitionVersion`, `CustomResourceValidation`.
 use Rattle.std.specs.Prelude.{ℕ, suc, List, [], ◌∷◌, ◌++◌, map, Bool, true, false, Option, Some, None, if◌then◌else◌, is_some, codes}
 use Rattle.std.specs.List.{flat_map, list_any}
 use Rattle.std.specs.Option.{option_and_then}
@@ -19,9 +19,9 @@ use Rattle.kube_manifests_review.specs.Pointers.{index_pointer}
 use Rattle.kube_manifests_review.specs.Rules.{location_candidates}
 use Rattle.kube_manifests_review.specs.declared.finding.ReviewKind.TheVariants as kind
 
--- ---- of the schema at this pointer
+-- ---- the candidates of the schema at this pointer
 
--- what a linter finds, with its pointer in the document
+-- a finding of the linter, with its pointer into the document
 abbrev pub candidate_of_finding : List ℕ → linter.Finding → Candidate
 candidate_of_finding base f = record {
   finding = record {
@@ -43,7 +43,7 @@ has_rules p = any_item (rule_items p.schema)
 abbrev pub no_rule_candidates : List ℕ → List SchemaLocation → List Candidate
 no_rule_candidates base ps =
     if list_any has_rules ps then []
-    else unconditional base kind.NoRules (codes "the schema has no rule") ∷ []
+    else unconditional base kind.NoRules (codes "the schema has no rules") ∷ []
 
 unfoldable pub own_candidates : List ℕ → List SchemaLocation → List Candidate
 own_candidates base ps = no_rule_candidates base ps ++ flat_map location_candidates ps
@@ -53,9 +53,9 @@ schema_candidates names base s =
     map (candidate_of_finding base) (findings names [] (view_of 65 s))
     ++ own_candidates base (locations_of 65 base s)
 
--- ---- of a document
+-- ---- the candidates of a document
 
--- the schema of a version, where it is an object
+-- the schema of a version, if it is an object
 unfoldable pub version_schema : Data → Option Data
 version_schema d =
     option_and_then (λ s. if is_some (as_object s) then Some s else None)
@@ -68,13 +68,13 @@ abbrev pub version_candidates : Naming → List ℕ → Option Data → List Can
 version_candidates names base None = unconditional base kind.Document (codes "the version has no schema") ∷ []
 version_candidates names base (Some s) = schema_candidates names base s
 
--- of the versions from the i-th on
+-- the candidates of the versions from the i-th on
 abbrev pub versions_candidates : Naming → ℕ → Items → List Candidate
 versions_candidates names i no_items = []
 versions_candidates names i (item d ds) =
     version_candidates names (version_pointer i) (version_schema d) ++ versions_candidates names (suc i) ds
 
--- the versions of a document, none where there is no list of them
+-- the versions of a document; none if they aren't a list
 unfoldable pub versions_of : Data → Items
 versions_of crd =
     items_or_none (option_and_then as_array
@@ -89,6 +89,6 @@ unfoldable pub crd_candidates : Naming → Data → List Candidate
 crd_candidates names crd =
     no_version_candidates (versions_of crd) ++ versions_candidates names 0 (versions_of crd)
 
--- its findings by a book of patterns
+-- the findings of a document under a book of patterns
 abbrev pub crd_findings : Naming → Data → Book → List Finding
 crd_findings names crd book = due (crd_candidates names crd) book

@@ -1,6 +1,6 @@
 -- Trusted by the clauses of manifests.
--- The candidate findings of the rules of one schema, and of the schema's keys. Source: Kubernetes API
--- reference, `JSONSchemaProps`, `ValidationRule`.
+-- The candidate findings of the rules of one schema, and of the schema's keys. Source: Kubernetes
+-- API reference, `JSONSchemaProps`, `ValidationRule`.
 use Rattle.std.specs.Prelude.{ℕ, suc, List, [], ◌∷◌, ◌++◌, false, true, Option, Some, None, unwrap_or, Result, Ok, Err, if◌then◌else◌, codes}
 use Rattle.std.specs.List.{flat_map}
 use Rattle.std.specs.Option.{option_and_then}
@@ -18,11 +18,11 @@ use Rattle.kube_manifests_review.specs.Locations.{SchemaLocation}
 use Rattle.kube_manifests_review.specs.Pointers.{keyword_pointer, index_pointer}
 use Rattle.kube_manifests_review.specs.declared.finding.ReviewKind.TheVariants as kind
 
--- node by node
+-- the candidates of a tree, node by node
 abbrev pub tree_candidates : Text → Term → List Candidate
 tree_candidates t e = flat_map (node_candidates t) (nodes_of e)
 
--- ---- of the rule at this pointer
+-- ---- the candidates of the rule at this pointer
 
 abbrev pub rule_text_at : List ℕ → List ℕ → Text
 rule_text_at q rule = record { pointer = keyword_pointer q (codes "rule"); rule = rule; is_message = false }
@@ -37,21 +37,21 @@ message_text_at q rule = record {
 abbrev pub kind_candidates : Text → Term → List Candidate
 kind_candidates t e =
     if is_no_string e
-    then text_candidate t kind.Message (codes "messageExpression gives no string") always ∷ []
+    then text_candidate t kind.Message (codes "messageExpression doesn't return a string") always ∷ []
     else []
 
 abbrev pub message_candidates : Text → Option Term → List Candidate
 message_candidates t None = []
 message_candidates t (Some e) = tree_candidates t e ++ kind_candidates t e
 
--- a malformed rule is reported by a linter
+-- the linter reports malformed rules
 abbrev pub compiled_candidates : List ℕ → Result Compiled Malformed → List Candidate
 compiled_candidates q (Ok c) =
     tree_candidates (rule_text_at q c.fields.rule) c.tree
     ++ message_candidates (message_text_at q c.fields.rule) c.message_tree
 compiled_candidates q (Err m) = []
 
--- the text of a rule, where it has one
+-- the source of a rule, empty if it has none
 abbrev pub text_of_rule : Data → List ℕ
 text_of_rule d = unwrap_or (option_and_then as_str (get (codes "rule") d)) []
 
@@ -62,15 +62,15 @@ abbrev pub rule_candidates : List ℕ → Data → List Candidate
 rule_candidates q d =
     keys_candidates rule_fields q (text_of_rule d) (members_of d) ++ compiled_candidates q (compiled_rule d)
 
--- of the rules from the i-th on
+-- the candidates of the rules from the i-th on
 abbrev pub rules_candidates : List ℕ → ℕ → Items → List Candidate
 rules_candidates q i no_items = []
 rules_candidates q i (item d ds) = rule_candidates (index_pointer q i) d ++ rules_candidates q (suc i) ds
 
--- ---- of one schema
+-- ---- the candidates of one schema
 
 abbrev pub no_list : List ℕ → List Candidate
-no_list q = unconditional q kind.Rules (codes "x-kubernetes-validations is no list") ∷ []
+no_list q = unconditional q kind.Rules (codes "x-kubernetes-validations isn't a list") ∷ []
 
 abbrev pub listed_candidates : List ℕ → Option Items → List Candidate
 listed_candidates q None = no_list q

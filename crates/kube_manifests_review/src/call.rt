@@ -1,4 +1,4 @@
-//! The candidate findings of a call.
+//! Adds the candidate findings of calls.
 ghost use Rattle.std.specs.Prelude.{◌≡◌, [], ◌∷◌, OnOk, if◌then◌else◌, map, option_map};
 ghost use Rattle.cel_syntax_ast.specs.Term.{term};
 ghost use Rattle.kube_manifests_review.specs.Calls as spec;
@@ -14,7 +14,7 @@ use cel_syntax_ast::Expr;
 use kube_functions::AllFunctions;
 use std::alloc::{AllocError, Global};
 
-/// The string that a literal is.
+/// The string of a string literal. `None` if the expression isn't one.
 fn literal_text(expr: &Expr) -> Option<&str>
     ensures { option_map (λ s. s.now) result ≡ spec.literal_text (term expr.now) }
 {
@@ -35,7 +35,7 @@ fn literal_text(expr: &Expr) -> Option<&str>
     }
 }
 
-/// The literal string that is the only argument of a call without a receiver.
+/// The string literal that is the only argument of a call without a receiver, if it has this form.
 fn only_text<'a>(receiver: Option<&'a Expr>, args: &'a [Expr]) -> Option<&'a str>
     ensures { option_map (λ s. s.now) result
         ≡ spec.only_text (option_map (λ r. term r.now) receiver.entry) (map term args.now) }
@@ -50,7 +50,7 @@ fn only_text<'a>(receiver: Option<&'a Expr>, args: &'a [Expr]) -> Option<&'a str
     }
 }
 
-/// The literal string that is the second operand of a call.
+/// The string literal that is the second operand of a call, counting the receiver as the first.
 fn second_text<'a>(receiver: Option<&'a Expr>, args: &'a [Expr]) -> Option<&'a str>
     ensures { option_map (λ s. s.now) result
         ≡ spec.second_text (option_map (λ r. term r.now) receiver.entry) (map term args.now) }
@@ -62,7 +62,7 @@ fn second_text<'a>(receiver: Option<&'a Expr>, args: &'a [Expr]) -> Option<&'a s
     literal_text(args.get(location)?)
 }
 
-/// Whether it is the name `oldSelf`.
+/// Reports whether the receiver is the name `oldSelf`.
 fn is_old_self(receiver: Option<&Expr>) -> bool
     ensures { result ≡ spec.is_old_self (option_map (λ r. term r.now) receiver.entry) }
 {
@@ -73,7 +73,7 @@ fn is_old_self(receiver: Option<&Expr>) -> bool
     }
 }
 
-/// Whether the second operand of the function is a pattern.
+/// Reports whether the function's second operand is a pattern.
 #[tactic(auto, unfolding(crate::specs::Calls::takes_pattern))]
 fn takes_pattern(name: &str) -> bool
     ensures { result ≡ spec.takes_pattern name.now }
@@ -81,7 +81,7 @@ fn takes_pattern(name: &str) -> bool
     name == "matches" || name == "find" || name == "findAll"
 }
 
-/// Whether the function asks an optional.
+/// Reports whether the function is a method of optionals.
 #[tactic(auto, unfolding(crate::specs::Calls::asks_optional))]
 fn asks_optional(name: &str) -> bool
     ensures { result ≡ spec.asks_optional name.now }
@@ -89,7 +89,7 @@ fn asks_optional(name: &str) -> bool
     name == "hasValue" || name == "value"
 }
 
-/// Adds that the function is asked of `oldSelf` as of an optional, if it is.
+/// Adds a candidate if a method of optionals is called on `oldSelf`.
 fn add_old_self(
     alloc: Global,
     text: Text<'_>,
@@ -119,7 +119,7 @@ fn add_old_self(
     Ok(())
 }
 
-/// Adds that the call of the function with a string may fail.
+/// Adds a candidate: a call of this function with this string, if there is one, may always fail.
 fn add_fails(
     alloc: Global,
     text: Text<'_>,
@@ -149,7 +149,7 @@ fn add_fails(
     Ok(())
 }
 
-/// Adds that a pattern may be refused.
+/// Adds a candidate: this pattern, if there is one, may be refused.
 fn add_refused(
     alloc: Global,
     text: Text<'_>,
@@ -175,7 +175,7 @@ fn add_refused(
     Ok(())
 }
 
-/// Adds that the literal pattern of a call may be refused, where it has one.
+/// Adds a candidate for the call's literal pattern, if it has one.
 fn add_pattern(
     alloc: Global,
     text: Text<'_>,
@@ -194,7 +194,7 @@ fn add_pattern(
     add_refused(alloc, text, second_text(receiver, args), candidates)
 }
 
-/// Adds the candidate findings of a call in a form that there is.
+/// Adds the candidates of a call in a known form.
 fn add_known(
     alloc: Global,
     text: Text<'_>,
@@ -213,7 +213,8 @@ fn add_known(
     Ok(())
 }
 
-/// Adds that a function has no form with or without a receiver and with this number of arguments.
+/// Adds a candidate: the function has no form with this number of arguments, with or without a
+/// receiver as given.
 fn add_wrong(
     alloc: Global,
     text: Text<'_>,
@@ -238,7 +239,7 @@ fn add_wrong(
     Ok(())
 }
 
-/// Adds that there is no such function, where a messageExpression calls it.
+/// Adds a candidate if a messageExpression calls an unknown function.
 fn add_unknown(
     alloc: Global,
     text: Text<'_>,

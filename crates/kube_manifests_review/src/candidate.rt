@@ -1,24 +1,24 @@
-//! Findings that a review may have, each with its condition.
+//! The findings that a review may report, each with its condition.
 
 use crate::finding::ReviewFinding;
 
-/// When a finding is reported.
+/// The condition under which a finding is reported.
 #[derive(Drop)]
 pub(crate) enum Condition {
-    /// In any case.
+    /// It is always reported.
     Always,
-    /// Where this pattern is refused.
+    /// It is reported if this pattern is refused.
     Refused(String),
-    /// Where the call of the function with the string alone has no value.
+    /// It is reported if calling the function with just this string gives an error.
     Fails {
-        /// The function.
+        /// The name of the function.
         name: String,
-        /// The string.
+        /// The only argument.
         text: String,
     },
 }
 
-/// A finding, and when it is reported.
+/// A finding, with the condition under which it is reported.
 #[derive(Drop)]
 pub(crate) struct Candidate {
     pub(crate) finding: ReviewFinding,

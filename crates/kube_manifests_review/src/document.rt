@@ -1,4 +1,4 @@
-//! The candidate findings of a document.
+//! Collects the candidate findings of a document.
 ghost use Rattle.std.specs.Prelude.{◌≡◌, IfErr, IfOk, OnOk, map, option_map, string_bytes};
 ghost use Rattle.kube_cel_analysis.specs.Findings.{Naming};
 ghost use Rattle.kube_manifests_review.specs.Candidates.{AddsCandidates, candidate_view};
@@ -13,7 +13,7 @@ use kube_types_refused::Refused;
 use serde_json::Value;
 use std::alloc::{AllocError, Global};
 
-/// The versions of a document, none where there is no list of them.
+/// The versions of a document. Empty if the list is missing or not an array.
 #[tactic(auto, unfolding(crate::specs::Reviewed::versions_of))]
 fn versions_of(crd: &Value) -> &[Value]
     ensures { items_view result.now ≡ spec.versions_of (view crd.now) }
@@ -28,7 +28,7 @@ fn versions_of(crd: &Value) -> &[Value]
     }
 }
 
-/// The schema of a version, where it is an object.
+/// The schema of a version. `None` if it is missing or not an object.
 #[tactic(auto, unfolding(crate::specs::Reviewed::version_schema))]
 fn version_schema(version: &Value) -> Option<&Value>
     ensures { option_map (λ s. view s.now) result ≡ spec.version_schema (view version.now) }
@@ -41,14 +41,14 @@ fn version_schema(version: &Value) -> Option<&Value>
     }
 }
 
-/// The pointer of a version's schema.
+/// Returns the pointer of a version's schema.
 fn version_pointer(alloc: Global, index: usize) -> Result<String, AllocError>
     ensures { IfOk result (λ s. string_bytes s ≡ spec.version_pointer index) }
 {
     format!(in alloc; "/spec/versions/{index}/schema/openAPIV3Schema")
 }
 
-/// Adds the candidate findings of a version, by its schema.
+/// Adds the candidates of a version's schema, or that it has none.
 fn add_version(
     alloc: Global,
     base: &str,
@@ -73,7 +73,7 @@ fn add_version(
     Ok(())
 }
 
-/// Adds the candidate findings of versions, in their order.
+/// Adds the candidates of versions, in order.
 fn add_versions(
     alloc: Global,
     versions: &[Value],
@@ -91,7 +91,7 @@ fn add_versions(
     Ok(())
 }
 
-/// Adds that a document has no versions, if it has none.
+/// Adds a candidate if the document has no versions.
 fn add_no_version(
     alloc: Global,
     versions: &[Value],
@@ -113,7 +113,7 @@ fn add_no_version(
     Ok(())
 }
 
-/// The candidate findings of a document.
+/// Returns the candidate findings of a document.
 pub(crate) fn candidates_of(alloc: Global, crd: &Value) -> Result<Vec<Candidate>, Refused>
     ensures candidates { IfOk result (λ v. (names : Naming) → map candidate_view v.items
         ≡ spec.crd_candidates names (view crd.now)) }

@@ -1,34 +1,34 @@
-//! What a review finds.
+//! The findings of a review.
 
 use crate::word::word_of;
 use kube_cel_analysis::LintKind;
 use std::fmt;
 
-/// What kind of thing was found; it prints as a word.
+/// The kind of a finding. It prints as one word.
 #[derive(Clone, Copy, Debug, PartialEq, Eq)]
 pub enum ReviewKind {
-    /// A linter finds it.
+    /// A finding of the linter.
     Lint(LintKind),
     /// The document has no versions, or a version has no schema.
     Document,
-    /// A function is called in a form that it doesn't have,
-    /// or a messageExpression calls one that there isn't.
+    /// A function is called in a form that it doesn't have, or a messageExpression calls an unknown
+    /// function.
     Call,
     /// A literal pattern is refused.
     Pattern,
-    /// A call of one literal string always fails.
+    /// A call with one string literal always fails.
     Literal,
     /// A literal is a double.
     Double,
-    /// `hasValue` or `value` is asked of `oldSelf`.
+    /// `hasValue` or `value` is called on `oldSelf`.
     OldSelf,
-    /// A messageExpression plainly gives no string.
+    /// A messageExpression obviously doesn't evaluate to a string.
     Message,
     /// A key is one letter off a keyword of schemas, or off a field of rules.
     Keyword,
-    /// `x-kubernetes-validations` is no list.
+    /// `x-kubernetes-validations` is not a list.
     Rules,
-    /// The schema has no rule.
+    /// No node of the schema has a rule.
     NoRules,
 }
 
@@ -43,15 +43,15 @@ impl fmt::Display for ReviewKind {
     }
 }
 
-/// What a person should look at, at one pointer in a document.
+/// Something that a person should look at, at one pointer in a document.
 #[derive(Debug, Drop, PartialEq)]
 pub struct ReviewFinding {
-    /// The JSON Pointer in the document (RFC 6901).
+    /// The JSON Pointer (RFC 6901) into the document.
     pub pointer: String,
-    /// The text of the rule, empty where it is of no rule.
+    /// The source of the rule. Empty if the finding isn't about a rule.
     pub rule: String,
-    /// What was found, for programs.
+    /// The finding for programs.
     pub kind: ReviewKind,
-    /// What was found, in words.
+    /// The finding in words.
     pub message: String,
 }

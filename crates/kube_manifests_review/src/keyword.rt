@@ -1,4 +1,4 @@
-//! Keys that are one letter off a keyword.
+//! Finds keys that are one letter off a keyword.
 ghost use Rattle.std.specs.Prelude.{◌≡◌, IfOk, OnOk, map, option_map};
 ghost use Rattle.std.specs.Str.{chars};
 ghost use Rattle.kube_manifests_review.specs.Candidates.{AddsCandidates};
@@ -11,7 +11,7 @@ use crate::pointer::key_pointer;
 use serde_json::{Map, Value};
 use std::alloc::{AllocError, Global};
 
-/// The keywords of a schema.
+/// The keywords of a schema that are checked for.
 pub(crate) const KEYWORDS: [&str; 15] = [
     "x-kubernetes-validations",
     "x-kubernetes-preserve-unknown-fields",
@@ -30,7 +30,7 @@ pub(crate) const KEYWORDS: [&str; 15] = [
     "maxProperties",
 ];
 
-/// The fields of a rule.
+/// The fields of a rule that are checked for.
 pub(crate) const RULE_FIELDS: [&str; 6] = [
     "rule",
     "message",
@@ -40,7 +40,7 @@ pub(crate) const RULE_FIELDS: [&str; 6] = [
     "optionalOldSelf",
 ];
 
-/// Whether one character that is put in, left out or changed makes one of the other.
+/// Reports whether inserting, deleting or replacing exactly one character turns one into the other.
 fn is_one_letter_off(key: &[char], word: &[char]) -> bool
     ensures { result ≡ one_letter_off key.now word.now }
 {
@@ -58,14 +58,14 @@ fn is_one_letter_off(key: &[char], word: &[char]) -> bool
     }
 }
 
-/// The characters of a text.
+/// Collects the characters of a text.
 fn characters(alloc: Global, text: &str) -> Result<Vec<char>, AllocError>
     ensures { IfOk result (λ v. v.items ≡ chars text.now) }
 {
     text.chars().collect(alloc)
 }
 
-/// The first of these words that the key is one letter off.
+/// The first of these words that the key is one letter off, if any.
 fn near<'w>(alloc: Global, words: &[&'w str], key: &str) -> Result<Option<&'w str>, AllocError>
     ensures { IfOk result (λ o. option_map (λ w. w.now) o ≡ near (map (λ w. w.now) words.now) key.now) }
 {
@@ -79,7 +79,7 @@ fn near<'w>(alloc: Global, words: &[&'w str], key: &str) -> Result<Option<&'w st
     Ok(None)
 }
 
-/// Adds that a key is one letter off one of these words, if it is.
+/// Adds a candidate if a key is one letter off one of these words.
 fn add_key(
     alloc: Global,
     words: &[&str],
@@ -106,7 +106,7 @@ fn add_key(
     Ok(())
 }
 
-/// Adds which keys are one letter off one of these words, in their order.
+/// Adds a candidate for each key that is one letter off one of these words, in order.
 pub(crate) fn add_keys(
     alloc: Global,
     words: &[&str],

@@ -1,16 +1,16 @@
-//! The review of a CustomResourceDefinition: what a person should look at, found without an object.
+//! Reviews CustomResourceDefinitions: finds, without any object, what a person should look at.
 //!
-//! [`review_crd`] reports, version by version, what the linter finds, and then what is wrong with the schema
-//! besides: calls that can't work, literals and patterns that aren't read, messages that are no strings, keys
-//! one letter off a keyword, rules that are no list, a schema without rules.
-//! Each finding has its JSON Pointer in the document.
+//! [`review_crd`] reports for each version the findings of the linter, and then whatever else is
+//! wrong with the schema: calls that can't work, literals and patterns that are refused,
+//! messageExpressions that aren't strings, keys one letter off a keyword, rules that aren't a list,
+//! a schema without rules. Each finding has its JSON Pointer into the document.
 //!
 //! ```rust
 //! use kube_manifests_review::review_crd;
 //! use serde_json::Value;
 //! use std::alloc::Global;
 //!
-//! /// How many things to look at a document has; `None` where there is no memory.
+//! /// The number of findings in a document; `None` if memory is refused.
 //! fn things_to_look_at(alloc: Global, crd: &Value) -> Option<usize> {
 //!     match review_crd(alloc, crd) {
 //!         Ok(found) => Some(found.len()),
@@ -19,8 +19,9 @@
 //! }
 //! ```
 //!
-//! Proved: the findings are exactly those of the definition (`Reviewed.antt`), in order, under some book of
-//! patterns; [`review_crd_with`] says the same of every book that has the lent book's entries afterwards.
+//! Proved: the findings are exactly those of the definition (`Reviewed.antt`), in order, under some
+//! book of patterns. [`review_crd_with`] states this for every book that extends the lent one as it
+//! is after the call.
 #![tactic(auto)]
 
 mod call;

@@ -1,4 +1,4 @@
-//! The schemas within a schema.
+//! Finds the schemas within a schema.
 ghost use Rattle.std.specs.Prelude.{◌≡◌, OnOk, codes, option_map};
 ghost use Rattle.kube_manifests_review.specs.Locations.{AddsLocations, branch_locations, locations_of, maybe_locations, named_locations};
 ghost use Rattle.kube_manifests_review.specs.Pointers.{keyword_pointer};
@@ -10,14 +10,14 @@ use crate::pointer::{index_pointer, key_pointer, keyword_pointer};
 use serde_json::{Map, Value};
 use std::alloc::{AllocError, Global};
 
-/// A schema, with its JSON Pointer in the document.
+/// A schema, with its JSON Pointer into the document.
 #[derive(Drop)]
 pub(crate) struct SchemaLocation<'a> {
     pub(crate) pointer: String,
     pub(crate) schema: &'a Value,
 }
 
-/// The declared properties of a schema.
+/// The `properties` of a schema, if it has any.
 #[tactic(auto, unfolding(kube_schema_values::specs::DefaultsAccessors::declared_properties))]
 fn declared(schema: &Value) -> Option<&Map<String, Value>>
     ensures { option_map (λ m. members_view m.now.entries) result ≡ declared_properties (view schema.now) }
@@ -25,7 +25,7 @@ fn declared(schema: &Value) -> Option<&Map<String, Value>>
     schema.get("properties")?.as_object()
 }
 
-/// The schema of names that aren't declared, where it is an object.
+/// The `additionalProperties` schema, if it is an object.
 #[tactic(auto, unfolding(kube_schema_values::specs::DefaultsAccessors::additional))]
 fn additional(schema: &Value) -> Option<&Value>
     ensures { option_map (λ n. view n.now) result ≡ additional (view schema.now) }
@@ -34,7 +34,7 @@ fn additional(schema: &Value) -> Option<&Value>
     if node.is_object() { Some(node) } else { None }
 }
 
-/// The branches of a keyword.
+/// The branches of a keyword, if it has any.
 #[tactic(auto, unfolding(kube_schema::specs::View::branches))]
 fn branches<'s>(schema: &'s Value, keyword: &str) -> Option<&'s Vec<Value>>
     ensures { option_map (λ v. items_view v.now.items) result ≡ branches keyword.now (view schema.now) }
@@ -42,7 +42,7 @@ fn branches<'s>(schema: &'s Value, keyword: &str) -> Option<&'s Vec<Value>>
     schema.get(keyword)?.as_array()
 }
 
-/// Adds a schema and those within it, to this depth.
+/// Adds a schema and the schemas within it, `levels` levels of nesting at most.
 #[cycle(locations)]
 pub(crate) fn add_locations<'a>(
     alloc: Global,
@@ -85,7 +85,7 @@ pub(crate) fn add_locations<'a>(
     Ok(())
 }
 
-/// Adds the schemas of the properties and those within them, in the order of names.
+/// Adds the schemas of the properties and those within them, in the order of their names.
 #[cycle(locations)]
 fn add_properties<'a>(
     alloc: Global,
@@ -109,7 +109,7 @@ fn add_properties<'a>(
     Ok(())
 }
 
-/// Adds a schema that may be there, of this keyword.
+/// Adds the schema of this keyword and those within it, if there is one.
 #[cycle(locations)]
 fn add_maybe<'a>(
     alloc: Global,
@@ -131,7 +131,7 @@ fn add_maybe<'a>(
     Ok(())
 }
 
-/// Adds the branches of a keyword and the schemas within them, in their order.
+/// Adds the branches of a keyword and the schemas within them, in order.
 #[cycle(locations)]
 fn add_branches<'a>(
     alloc: Global,

@@ -1,11 +1,11 @@
-//! Trees that plainly give no string.
+//! Recognizes expressions that obviously aren't strings.
 ghost use Rattle.std.specs.Prelude.{◌≡◌};
 ghost use Rattle.cel_syntax_ast.specs.Term.{term};
 ghost use Rattle.kube_manifests_review.specs.Messages.{is_no_string, may_join};
 
 use cel_syntax_ast::{BinaryOperator, Expr};
 
-/// Whether the operator gives strings.
+/// Reports whether the operator can yield a string.
 fn may_join(operator: BinaryOperator) -> bool
     ensures { result ≡ may_join operator }
 {
@@ -27,7 +27,7 @@ fn may_join(operator: BinaryOperator) -> bool
     }
 }
 
-/// Whether the expression plainly gives no string.
+/// Reports whether the expression obviously doesn't evaluate to a string.
 pub(crate) fn is_no_string(expr: &Expr) -> bool
     ensures { result ≡ is_no_string (term expr.now) }
 {

@@ -4,14 +4,15 @@ ghost use Rattle.kube_manifests_review.specs.Calls as spec;
 
 use std::alloc::{AllocError, Global};
 
-/// The message that the function is unknown.
+/// Returns the message that a function is unknown.
 pub(crate) fn unknown_text(alloc: Global, name: &str) -> Result<String, AllocError>
     ensures { IfOk result (λ s. string_bytes s ≡ spec.unknown_text name.now) }
 {
     format!(in alloc; "function '{name}' is unknown")
 }
 
-/// The message that the function has no form with or without a receiver and with this number of arguments.
+/// Returns the message that a function has no form with this number of arguments, with or without a
+/// receiver.
 pub(crate) fn wrong_text(
     alloc: Global,
     name: &str,
@@ -31,23 +32,23 @@ pub(crate) fn wrong_text(
     }
 }
 
-/// The message that the function isn't one of `oldSelf`.
+/// Returns the message that a method of optionals is called on `oldSelf`.
 pub(crate) fn old_self_text(alloc: Global, name: &str) -> Result<String, AllocError>
     ensures { IfOk result (λ s. string_bytes s ≡ spec.old_self_text name.now) }
 {
-    format!(in alloc; "'oldSelf' is no optional: {name}() always fails")
+    format!(in alloc; "'oldSelf' isn't an optional: {name}() always fails")
 }
 
-/// The message that the call of the function with a string fails.
+/// Returns the message that calling a function with this string always fails.
 pub(crate) fn fails_text(alloc: Global, name: &str, string: &str) -> Result<String, AllocError>
     ensures { IfOk result (λ s. string_bytes s ≡ spec.fails_text name.now string.now) }
 {
     format!(in alloc; "{name}('{string}') always fails")
 }
 
-/// The message that a pattern is refused.
+/// Returns the message that a pattern is refused.
 pub(crate) fn pattern_text(alloc: Global, pattern: &str) -> Result<String, AllocError>
     ensures { IfOk result (λ s. string_bytes s ≡ spec.pattern_text pattern.now) }
 {
-    format!(in alloc; "pattern '{pattern}' is refused")
+    format!(in alloc; "pattern '{pattern}' can't be compiled")
 }

@@ -1,4 +1,4 @@
-//! The candidate findings of the nodes of a rule's tree.
+//! Adds the candidate findings of the nodes of a rule's AST.
 ghost use Rattle.std.specs.Prelude.{OnOk, map, option_map};
 ghost use Rattle.cel_syntax_ast.specs.Term.{term};
 ghost use Rattle.cel_value.specs.View.{view};
@@ -15,7 +15,7 @@ use cel_syntax_ast::Expr;
 use cel_value::Value;
 use std::alloc::{AllocError, Global};
 
-/// Adds that a literal is a double, if it is.
+/// Adds a candidate if a literal is a double.
 fn add_literal(
     alloc: Global,
     text: Text<'_>,
@@ -40,7 +40,7 @@ fn add_literal(
     Ok(())
 }
 
-/// Adds the candidate findings of a call whose receiver may be there.
+/// Adds the candidates of a call, with or without a receiver.
 fn add_method(
     alloc: Global,
     text: Text<'_>,
@@ -60,7 +60,7 @@ fn add_method(
     Ok(())
 }
 
-/// Adds the candidate findings of a node.
+/// Adds the candidates of one node.
 fn add_node(
     alloc: Global,
     text: Text<'_>,
@@ -106,7 +106,7 @@ fn add_node(
     Ok(())
 }
 
-/// Adds the candidate findings of the nodes of a tree, in their order.
+/// Adds the candidates of all nodes of an AST, in order.
 pub(crate) fn add_tree(
     alloc: Global,
     text: Text<'_>,

@@ -1,4 +1,4 @@
-//! The nodes of a tree.
+//! Lists the nodes of an AST.
 ghost use Rattle.std.specs.Prelude.{OnOk, map};
 ghost use Rattle.cel_syntax_ast.specs.Term.{pairs_of, term, terms_of};
 ghost use Rattle.kube_manifests_review.specs.Nodes.{AddsNodes, nodes_of, nodes_of_all, nodes_of_pairs};
@@ -60,7 +60,7 @@ pub(crate) fn add_nodes<'a>(expr: &'a Expr, nodes: &mut Vec<&'a Expr>) -> Result
     }
 }
 
-/// Adds the nodes of them all.
+/// Adds the nodes of all items.
 #[cycle(nodes)]
 fn add_from_all<'a>(items: &'a Vec<Expr>, nodes: &mut Vec<&'a Expr>) -> Result<(), AllocError>
     ensures { OnOk result (AddsNodes nodes.old.items nodes.new.items

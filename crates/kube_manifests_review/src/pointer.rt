@@ -1,11 +1,11 @@
-//! JSON Pointers (RFC 6901).
+//! Builds JSON Pointers (RFC 6901).
 ghost use Rattle.std.specs.Prelude.{◌≡◌, ◌++◌, IfOk, OnOk, string_bytes};
 ghost use Rattle.kube_cel_analysis.specs.Pointers.{escaped_character, token};
 ghost use Rattle.kube_manifests_review.specs.Pointers.{index_pointer, key_pointer, keyword_pointer};
 
 use std::alloc::{AllocError, Global};
 
-/// Adds a character of a name.
+/// Appends a character of a name, escaped for a JSON Pointer.
 fn push_escaped(out: &mut String, character: char) -> Result<(), AllocError>
     ensures { OnOk result (string_bytes out.new ≡ string_bytes out.old ++ escaped_character character) }
 {
@@ -16,7 +16,7 @@ fn push_escaped(out: &mut String, character: char) -> Result<(), AllocError>
     }
 }
 
-/// Adds a name.
+/// Appends a name, escaped for a JSON Pointer.
 fn push_name(out: &mut String, name: &str) -> Result<(), AllocError>
     ensures { OnOk result (string_bytes out.new ≡ string_bytes out.old ++ token name.now) }
 {
@@ -26,7 +26,7 @@ fn push_name(out: &mut String, name: &str) -> Result<(), AllocError>
     Ok(())
 }
 
-/// The pointer of a member of any name.
+/// Returns the pointer of a member with any name, which is escaped.
 pub(crate) fn key_pointer(alloc: Global, pointer: &str, key: &str) -> Result<String, AllocError>
     ensures { IfOk result (λ s. string_bytes s ≡ key_pointer pointer.now key.now) }
 {
@@ -35,7 +35,7 @@ pub(crate) fn key_pointer(alloc: Global, pointer: &str, key: &str) -> Result<Str
     Ok(inner)
 }
 
-/// The pointer of the member of a keyword.
+/// Returns the pointer of a keyword's member. The keyword isn't escaped.
 pub(crate) fn keyword_pointer(
     alloc: Global,
     pointer: &str,
@@ -46,7 +46,7 @@ pub(crate) fn keyword_pointer(
     format!(in alloc; "{pointer}/{keyword}")
 }
 
-/// The pointer of an item.
+/// Returns the pointer of an item.
 pub(crate) fn index_pointer(
     alloc: Global,
     pointer: &str,

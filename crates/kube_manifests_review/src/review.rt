@@ -1,4 +1,4 @@
-//! The review of a document.
+//! Reviews a document.
 ghost use Rattle.std.specs.Prelude.{◌≡◌, ◌++◌, IfErr, IfOk, OnOk, map};
 ghost use Rattle.cel_patterns.specs.Book.{Extends, Book, IsBook};
 ghost use Rattle.cel_patterns.specs.Entries.{entries_of};
@@ -20,7 +20,7 @@ use kube_types_refused::Refused;
 use serde_json::Value;
 use std::alloc::Global;
 
-/// Whether the call of a function with a string alone has no value.
+/// Reports whether a function takes a single argument and fails on this string.
 #[tactic(auto, unfolding(crate::specs::Candidates::fails_at))]
 fn fails_at(alloc: Global, name: &str, text: &str, book: &mut PatternBook) -> Result<bool, Refused>
     ensures keeps { Extends (entries_of book.new) (entries_of book.old) }
@@ -40,7 +40,7 @@ fn fails_at(alloc: Global, name: &str, text: &str, book: &mut PatternBook) -> Re
     }
 }
 
-/// Whether a pattern is refused.
+/// Reports whether a pattern is refused.
 #[tactic(auto, unfolding(crate::specs::Candidates::is_refused))]
 fn is_refused(pattern: &str, book: &mut PatternBook) -> Result<bool, Refused>
     ensures keeps { Extends (entries_of book.new) (entries_of book.old) }
@@ -52,7 +52,7 @@ fn is_refused(pattern: &str, book: &mut PatternBook) -> Result<bool, Refused>
     Ok(found.is_none())
 }
 
-/// Whether a condition holds, by a book of patterns.
+/// Reports whether a condition holds, given a book of patterns.
 fn is_due(alloc: Global, condition: Condition, book: &mut PatternBook) -> Result<bool, Refused>
     ensures keeps { Extends (entries_of book.new) (entries_of book.old) }
     ensures value { IfOk result (λ r. HoldsForExtensions (entries_of book.new) r
@@ -86,7 +86,7 @@ fn add_due(
     Ok(())
 }
 
-/// The findings of those candidates whose condition holds, in order.
+/// Returns the findings of the candidates whose condition holds, in order.
 fn due(
     alloc: Global,
     candidates: Vec<Candidate>,
@@ -104,14 +104,15 @@ fn due(
     Ok(found)
 }
 
-/// What a person should look at in a CustomResourceDefinition, with what the book knows of patterns: of each
-/// version in its order what a linter finds, then what else is wrong with the schema or its rules, schema by
-/// schema from the outermost inwards. The book keeps its entries, also where memory is refused. (Kubernetes
-/// API reference, `CustomResourceDefinitionSpec`, `JSONSchemaProps`, `ValidationRule`.)
+/// Returns what a person should look at in a CustomResourceDefinition, given a book of patterns.
+/// The versions come in order; for each, first the findings of the linter, then what else is wrong
+/// with the schema or its rules, schema by schema from the outermost inwards. The book keeps its
+/// entries, even if memory is refused. (Kubernetes API reference, `CustomResourceDefinitionSpec`,
+/// `JSONSchemaProps`, `ValidationRule`.)
 ///
 /// # Errors
 ///
-/// [`Refused`] where memory is refused.
+/// [`Refused`] if memory is refused.
 pub fn review_crd_with(
     alloc: Global,
     crd: &Value,
@@ -127,11 +128,11 @@ pub fn review_crd_with(
     Ok(found)
 }
 
-/// The same, with a book of patterns of its own.
+/// Like [`review_crd_with`], with a new book of patterns.
 ///
 /// # Errors
 ///
-/// [`Refused`] where memory is refused.
+/// [`Refused`] if memory is refused.
 pub fn review_crd(alloc: Global, crd: &Value) -> Result<Vec<ReviewFinding>, Refused>
     ensures findings { IfOk result (λ v. (b : Book) × IsBook b
         × ((names : Naming) → map finding_view v.items ≡ crd_findings names (view crd.now) b)) }

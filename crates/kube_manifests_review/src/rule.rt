@@ -1,4 +1,4 @@
-//! The candidate findings of the rules of a schema.
+//! Adds the candidate findings of the rules of a schema.
 ghost use Rattle.std.specs.Prelude.{◌≡◌, IfErr, OnOk, map, option_map};
 ghost use Rattle.cel.specs.Program.{program_term};
 ghost use Rattle.cel_syntax_ast.specs.Term.{term};
@@ -25,7 +25,7 @@ use kube_types_refused::Refused;
 use serde_json::Value;
 use std::alloc::{AllocError, Global};
 
-/// Adds that a messageExpression plainly gives no string, if it does.
+/// Adds a candidate if a messageExpression obviously doesn't evaluate to a string.
 fn add_kind(
     alloc: Global,
     text: Text<'_>,
@@ -38,7 +38,7 @@ fn add_kind(
     if !is_no_string(tree) {
         return Ok(());
     }
-    let message = String::from_str(alloc, "messageExpression gives no string")?;
+    let message = String::from_str(alloc, "messageExpression doesn't return a string")?;
     add_candidate(
         alloc,
         text,
@@ -50,7 +50,7 @@ fn add_kind(
     Ok(())
 }
 
-/// Adds the candidate findings of a messageExpression, where there is one.
+/// Adds the candidates of a messageExpression, if there is one.
 fn add_message(
     alloc: Global,
     text: Text<'_>,
@@ -69,7 +69,7 @@ fn add_message(
     Ok(())
 }
 
-/// Adds the candidate findings of the text of a rule.
+/// Adds the candidates of a rule's own expression.
 fn add_text(
     alloc: Global,
     pointer: &str,
@@ -90,7 +90,7 @@ fn add_text(
     Ok(())
 }
 
-/// Adds the candidate findings of the messageExpression of a rule, where it has one.
+/// Adds the candidates of a rule's messageExpression, if it has one.
 fn add_message_text(
     alloc: Global,
     pointer: &str,
@@ -112,7 +112,7 @@ fn add_message_text(
     Ok(())
 }
 
-/// Adds the candidate findings of a compiled rule.
+/// Adds the candidates of a compiled rule.
 fn add_compiled(
     alloc: Global,
     pointer: &str,
@@ -134,7 +134,7 @@ fn add_compiled(
     Ok(())
 }
 
-/// Adds the candidate findings of a rule that may be compiled.
+/// Adds the candidates of a rule, if it compiled.
 fn add_result(
     alloc: Global,
     pointer: &str,
@@ -151,7 +151,7 @@ fn add_result(
     Ok(())
 }
 
-/// The text of a rule, empty where it has none.
+/// The source of a rule. Empty if it has none.
 fn text_of_rule(rule: &Value) -> &str
     ensures { result.now ≡ spec.text_of_rule (view rule.now) }
 {
@@ -161,7 +161,7 @@ fn text_of_rule(rule: &Value) -> &str
     }
 }
 
-/// Adds which keys of a value are one letter off one of these words.
+/// Adds a candidate for each key of a value that is one letter off one of these words.
 pub(crate) fn add_keys_of(
     alloc: Global,
     words: &[&str],
@@ -181,7 +181,7 @@ pub(crate) fn add_keys_of(
     Ok(())
 }
 
-/// Adds the candidate findings of a rule.
+/// Adds the candidates of a rule.
 fn add_rule(
     alloc: Global,
     pointer: &str,
@@ -205,7 +205,7 @@ fn add_rule(
     Ok(())
 }
 
-/// Adds the candidate findings of rules, in their order.
+/// Adds the candidates of rules, in order.
 fn add_rules(
     alloc: Global,
     pointer: &str,
@@ -223,7 +223,7 @@ fn add_rules(
     Ok(())
 }
 
-/// Adds the candidate findings of the rules of a schema, where it has any.
+/// Adds the candidates of a schema's rules, if it has any, or that they aren't a list.
 pub(crate) fn add_validations(
     alloc: Global,
     pointer: &str,
@@ -243,7 +243,7 @@ pub(crate) fn add_validations(
             alloc,
             pointer,
             ReviewKind::Rules,
-            "x-kubernetes-validations is no list",
+            "x-kubernetes-validations isn't a list",
             candidates,
         )?,
     }

@@ -1,4 +1,4 @@
-//! The candidate findings of a schema.
+//! Adds the candidate findings of a schema.
 ghost use Rattle.std.specs.Prelude.{◌≡◌, [], IfErr, IfOk, OnOk, map};
 ghost use Rattle.std.specs.List.{flat_map, list_any};
 ghost use Rattle.kube_cel_analysis.specs.Findings.{Naming};
@@ -24,10 +24,10 @@ use kube_types_refused::Refused;
 use serde_json::Value;
 use std::alloc::{AllocError, Global};
 
-/// How many levels of a schema are looked at: those of depth 0 to 64.
+/// The number of levels of a schema that are reviewed: depths 0 to 64.
 const LEVELS: usize = 65;
 
-/// What a linter finds, with its pointer in the document.
+/// Turns a finding of the linter into a candidate, with its pointer into the document.
 fn candidate_of_finding(
     alloc: Global,
     base: &str,
@@ -53,7 +53,7 @@ fn candidate_of_finding(
     })
 }
 
-/// Adds what a linter finds, in its order.
+/// Adds the findings of the linter, in order.
 fn add_lint(
     alloc: Global,
     base: &str,
@@ -69,7 +69,7 @@ fn add_lint(
     Ok(())
 }
 
-/// Whether there is an item.
+/// Reports whether the list has any item.
 pub(crate) fn has_item(items: &[Value]) -> bool
     ensures { result ≡ spec.any_item (items_view items.now) }
 {
@@ -79,14 +79,14 @@ pub(crate) fn has_item(items: &[Value]) -> bool
     }
 }
 
-/// Whether a schema has a rule.
+/// Reports whether a schema has a rule itself.
 fn has_rule(schema: &Value) -> bool
     ensures { result ≡ spec.any_item (rule_items (view schema.now)) }
 {
     has_item(rule_values(schema))
 }
 
-/// Whether one of the schemas has a rule.
+/// Reports whether any of these schemas has a rule.
 fn has_rules(locations: &[SchemaLocation<'_>]) -> bool
     ensures { result ≡ list_any spec.has_rules (map location_view locations.now) }
 {
@@ -98,7 +98,7 @@ fn has_rules(locations: &[SchemaLocation<'_>]) -> bool
     false
 }
 
-/// Adds that no schema has a rule, if none has.
+/// Adds a candidate if no schema has a rule.
 fn add_no_rule(
     alloc: Global,
     base: &str,
@@ -115,13 +115,13 @@ fn add_no_rule(
         alloc,
         base,
         ReviewKind::NoRules,
-        "the schema has no rule",
+        "the schema has no rules",
         candidates,
     )?;
     Ok(())
 }
 
-/// Adds the candidate findings of one schema.
+/// Adds the candidates of one schema: its keys, then its rules.
 fn add_location(
     alloc: Global,
     location: &SchemaLocation<'_>,
@@ -139,7 +139,7 @@ fn add_location(
     Ok(())
 }
 
-/// Adds the candidate findings of schemas, in their order.
+/// Adds the candidates of schemas, in order.
 fn add_each(
     alloc: Global,
     locations: &[SchemaLocation<'_>],
@@ -155,7 +155,8 @@ fn add_each(
     Ok(())
 }
 
-/// Adds the candidate findings of a schema and those within it, those of all together first.
+/// Adds the candidates of a schema and those within it, starting with those that concern all of
+/// them.
 fn add_own(
     alloc: Global,
     base: &str,
@@ -171,7 +172,7 @@ fn add_own(
     Ok(())
 }
 
-/// Adds the candidate findings of a schema: what a linter finds, then the rest.
+/// Adds the candidates of a schema: the findings of the linter, then the rest.
 pub(crate) fn add_schema(
     alloc: Global,
     base: &str,

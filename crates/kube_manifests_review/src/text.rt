@@ -1,4 +1,4 @@
-//! A text of a rule, and the candidate findings of it.
+//! The expressions of a rule, and adding their candidate findings.
 ghost use Rattle.std.specs.Prelude.{[], ◌∷◌, OnOk, string_bytes};
 ghost use Rattle.kube_manifests_review.specs.Calls.{text_candidate, text_view};
 ghost use Rattle.kube_manifests_review.specs.Candidates.{AddsCandidates, unconditional, when_view};
@@ -7,18 +7,18 @@ use crate::candidate::{Candidate, Condition};
 use crate::finding::{ReviewFinding, ReviewKind};
 use std::alloc::{AllocError, Global};
 
-/// A text of a rule.
+/// An expression of a rule: its own or its messageExpression.
 #[derive(Clone, Copy)]
 pub(crate) struct Text<'a> {
-    /// Where it stands: its JSON Pointer in the document.
+    /// The expression's JSON Pointer into the document.
     pub(crate) pointer: &'a str,
-    /// The text of the rule itself.
+    /// The source of the rule itself.
     pub(crate) rule: &'a str,
-    /// Whether it is the rule's messageExpression.
+    /// Whether the expression is the messageExpression.
     pub(crate) is_message: bool,
 }
 
-/// Adds a candidate finding of a text.
+/// Adds a candidate finding of an expression.
 pub(crate) fn add_candidate(
     alloc: Global,
     text: Text<'_>,
@@ -42,7 +42,7 @@ pub(crate) fn add_candidate(
     Ok(())
 }
 
-/// Adds a finding that is reported in any case, and is of no rule.
+/// Adds a finding that is always reported and isn't about a rule.
 pub(crate) fn add_unconditional(
     alloc: Global,
     pointer: &str,

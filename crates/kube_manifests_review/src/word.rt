@@ -1,11 +1,11 @@
-//! Kinds of findings as words.
+//! Prints kinds of findings as words.
 ghost use Rattle.std.specs.Prelude.{◌≡◌};
 ghost use Rattle.kube_manifests_review.specs.Candidates.{kind_text, lint_text};
 
 use crate::finding::ReviewKind;
 use kube_cel_analysis::LintKind;
 
-/// A linter's kind in a word.
+/// The word for a kind of the linter.
 fn lint_word(kind: LintKind) -> &'static str
     ensures { result.now ≡ lint_text kind }
 {
@@ -19,7 +19,7 @@ fn lint_word(kind: LintKind) -> &'static str
     }
 }
 
-/// A kind in a word.
+/// The word for a kind.
 pub(crate) fn word_of(kind: ReviewKind) -> &'static str
     ensures { result.now ≡ kind_text kind }
 {

@@ -1,4 +1,4 @@
--- A command understands one option, or one command, more.
+-- A command accepts one more option, or one more subcommand.
 use Rattle.clap.specs.Built.{AddsArg, AddsSubcommand}
 use Rattle.clap.specs.Simple.{App, with_rule, with_subcommand}
 use Rattle.clap.specs.Walk.{Rule}

@@ -1,5 +1,6 @@
 -- Trusted by the clauses of kubecel.
--- The words of the command line: those that the program understands, as `clap` says it of a command, and what is asked for by what `clap` found.
+-- The command line: the arguments that the program accepts, stated as `clap` describes a command,
+-- and the command that results from what `clap` parsed.
 use Rattle.clap.specs.Lexer.{usize_max}
 use Rattle.clap.specs.Matches.{first_value, matched_of, raw_values}
 use Rattle.clap.specs.Simple.{App, app_of, new_app, new_rule, on_top, with_rule, with_subcommand}
@@ -18,13 +19,13 @@ use Rattle.std.specs.Option.{option_map_or}
 use Rattle.std.specs.Prelude.{◌≡◌, ℕ, List, [], ◌∷◌, Bool, true, false, Some, if◌then◌else◌, option_map, unwrap_or, codes}
 use Rattle.std.specs.Str.{bytes_eq}
 
--- ---- what the program understands
+-- ---- the arguments that the program accepts
 
 -- the names of the forms of output
 abbrev pub form_names : List (List ℕ)
 form_names = codes "text" ∷ codes "json" ∷ codes "github" ∷ codes "junit" ∷ []
 
--- texts as the code holds them
+-- texts as the code represents them
 abbrev pub Texts : Type 0
 Texts = Bor (List (Bor (List ℕ)))
 
@@ -32,14 +33,14 @@ Texts = Bor (List (Bor (List ℕ)))
 abbrev pub file : List ℕ → Rule
 file name = record (new_rule name) { long = Some name; action = Some Set; value_names = 1 }
 
--- one that may be given several times
+-- an option that takes a path and may be given several times
 abbrev pub files : List ℕ → Rule
 files name = record (file name) { action = Some Append }
 
 abbrev pub required : Rule → Rule
 required a = record a { required = true }
 
--- the form of output: one of these, text where none is named
+-- the option for the form of output: one of these, text by default
 abbrev pub output : Texts → Rule
 output forms = record (file (codes "output")) { parser = Some (Names forms); defaults = codes "text" ∷ [] }
 
@@ -56,7 +57,7 @@ objects = record (new_rule (codes "objects")) {
 abbrev pub policy : Rule
 policy = record (new_rule (codes "policy")) { action = Some Set; value_names = 1; required = true }
 
--- a command with the options that all have
+-- a command with the options that all commands have
 abbrev pub command : Texts → List ℕ → App
 command forms name = with_rule (with_rule (new_app name) (output forms)) (files (codes "converted"))
 
@@ -74,7 +75,8 @@ admit_words forms =
     (file (codes "request"))) (file (codes "object"))) (file (codes "old"))) (file (codes "params")))
     (file (codes "namespace"))
 
--- the program's own words: its name, `--version`, and a command, without which its help is shown
+-- the program itself: its name, `--version`, and a required command; without arguments it prints
+-- its help
 abbrev pub program_words : App
 program_words =
     on_top (λ s. record s { has_version = true; subcommand_required = true; arg_required_else_help = true })
@@ -85,9 +87,9 @@ words forms =
     with_subcommand (with_subcommand (with_subcommand program_words (check_words forms).top)
     (review_words forms).top) (admit_words forms).top
 
--- ---- what is asked for, by what `clap` found
+-- ---- the command that results from what `clap` parsed
 
--- all values of an option, none where it wasn't given
+-- all values of an option; none if it wasn't given
 abbrev pub all_of : Found → List ℕ → List (List ℕ)
 all_of f name = unwrap_or (option_map raw_values (matched_of f name)) []
 
@@ -108,7 +110,7 @@ admit_asked f = record {
   namespace = first_value f (codes "namespace");
 }
 
--- what the command of this name asks for
+-- the command of this name
 abbrev pub command_of : List ℕ → Found → Asked
 command_of name f = if bytes_eq name (codes "check") then check (check_asked f) else (
     if bytes_eq name (codes "review") then review (all_of f (codes "crds")) else admit (admit_asked f))
@@ -122,18 +124,18 @@ form_named name is_terminal = if bytes_eq name (codes "json") then form.Json els
     if bytes_eq name (codes "github") then form.Github else (
     if bytes_eq name (codes "junit") then form.Junit else text_form is_terminal))
 
--- the form of output that is named, else text
+-- the form of output with the name given, text by default
 abbrev pub output_of : Found → Bool → Output
 output_of f is_terminal =
     option_map_or (λ name. form_named name is_terminal)
     (first_value f (codes "output")) (text_form is_terminal)
 
--- ---- what the code's values stand for
+-- ---- views of the code's values
 
--- an option of these rules
+-- an argument with these rules
 abbrev pub IsOption : Rule → Arg → Type 0
 IsOption r a = (rule_of a ≡ r) × (a.global ≡ false)
 
--- a command that understands these words
+-- a command that accepts these arguments
 abbrev pub Understands : App → Command → Type 0
 Understands a c = (app_of c ≡ a) × ((out-Command c).has_globals ≡ false)

@@ -1,19 +1,19 @@
-//! The real files.
+//! Reads the machine's files.
 
 use kubecel_cli::{Refused, Sources};
 use std::alloc::Global;
 use std::{fs, io};
 
-/// The files of the machine. The path `-` is standard input.
+/// The machine's files. The path `-` is standard input.
 #[derive(Drop)]
 pub struct Files<'r, 'm, 'a> {
     pub rt: &'r HostRuntime,
-    /// Files that are read in place of others: `PATH=OTHER` for each.
+    /// Pairs `PATH=OTHER`: the file OTHER is read in place of the one at PATH.
     pub converted: &'m [&'a str],
 }
 
 impl Files<'_, '_, '_> {
-    /// The path of the file that is read in place of this one.
+    /// The path of the file that is read in place of this one, or the path itself.
     fn read_for<'p>(&'p self, path: &'p str) -> &'p str {
         for pair in self.converted {
             if let Some((name, other)) = pair.rsplit_once('=') {

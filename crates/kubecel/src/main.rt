@@ -1,16 +1,22 @@
-//! `kubecel` judges Kubernetes objects, definitions and requests by their CEL rules without a cluster.
+//! `kubecel` checks Kubernetes objects against their CEL rules, reviews definitions and evaluates
+//! policies, without a cluster.
 //!
 //! ```text
-//! kubecel check --crds FILE.. [--old FILE] OBJECT..     whether objects hold by their CustomResourceDefinitions
-//! kubecel review --crds FILE..                          what to look at in CustomResourceDefinitions
-//! kubecel admit POLICY [--request --object --old --params --namespace FILE]    what a policy says of a request
+//! kubecel check --crds FILE.. [--old FILE] OBJECT..
+//!     checks objects against their CustomResourceDefinitions
+//! kubecel review --crds FILE..
+//!     reviews CustomResourceDefinitions for mistakes
+//! kubecel admit POLICY [--request --object --old --params --namespace FILE]
+//!     evaluates a policy for a request
 //! ```
 //!
-//! The status is 0 where all was judged and holds, 1 where some rule doesn't hold, and 2 where something couldn't be judged.
+//! The exit status is 0 if everything was judged and holds, 1 if some rule doesn't hold, and 2 if
+//! something couldn't be judged.
 //!
-//! All that it does stands in `kubecel_cli`, whose `run` is proved for every kind of source and of writer, in the terms in which that
-//! kind shows what it holds. The files of the machine and standard output show nothing of that, and `clap` reads the words: that this
-//! program reads the files that it names, and writes what `run` writes, is tested.
+//! The commands are in `kubecel_cli`. Its `run` is proved for every kind of source and writer, in
+//! terms of what that kind shows of its contents. The machine's files and standard output show
+//! nothing of theirs, and `clap` parses the command line. So it is tested, not proved, that this
+//! program reads the files that it names and writes what `run` writes.
 #![tactic(auto)]
 
 mod files;
@@ -24,10 +30,10 @@ use std::process::ExitCode;
 use std::{env, io};
 use words::{all_of, command_of, output_of, words};
 
-/// The status where nothing was judged, or what was found wasn't written.
+/// The exit status if nothing was judged, or if the report couldn't be written.
 const STOPPED: u8 = 2;
 
-/// Does what a command's words ask for, and answers the status.
+/// Runs the command of this name with the arguments that were found, and returns its exit status.
 fn dispatch(rt: &HostRuntime, name: &str, found: &ArgMatches<'_>) -> io::Result<u8> {
     let mut files = Files {
         rt,
@@ -42,7 +48,7 @@ fn dispatch(rt: &HostRuntime, name: &str, found: &ArgMatches<'_>) -> io::Result<
     Ok(run(rt.alloc(), command, form, &mut files, &mut out, &mut err))
 }
 
-/// Reads the words, and does what they ask for.
+/// Parses the command line and runs its command.
 fn ran(rt: &HostRuntime) -> io::Result<u8> {
     let given: Vec<String> = env::args(rt)?.collect(rt.alloc())?;
     match words(rt.alloc())?.try_get_matches_from(given.as_slice()) {

@@ -1,4 +1,4 @@
-//! The words of the command line.
+//! Defines and reads the command line.
 ghost use Rattle.clap.specs.Matches.{found_of};
 ghost use Rattle.kubecel.specs.Words.{IsOption, Texts, Understands, admit_words, all_of, check_words, command, command_of, file, files, form_named, form_names, objects, output, output_of, policy, program_words, required, review_words, text_form, words};
 ghost use Rattle.kubecel_cli.specs.Commands.{command_view};
@@ -8,7 +8,7 @@ use clap::{Arg, ArgAction, ArgMatches, Command as Words};
 use kubecel_cli::{Admit, Check, Command, Output};
 use std::alloc::{AllocError, Global};
 
-/// The forms of output, as they are named.
+/// The names of the forms of output.
 static FORMS: [&str; 4] = ["text", "json", "github", "junit"];
 
 /// An option that takes the path of a file.
@@ -22,14 +22,14 @@ fn file<'a>(alloc: Global, name: &'a str, help: &'a str) -> Arg<'a>
         .help(help)
 }
 
-/// One that may be given several times.
+/// An option that takes the path of a file and may be given several times.
 fn files<'a>(alloc: Global, name: &'a str, help: &'a str) -> Arg<'a>
     ensures { IsOption (files name.entry.now) result }
 {
     file(alloc, name, help).action(ArgAction::Append)
 }
 
-/// The form of output, one of these.
+/// The option for the form of output, one of these.
 fn output<'a>(alloc: Global, forms: &'a [&'a str]) -> Arg<'a>
     ensures { IsOption (output forms.entry) result }
 {
@@ -39,34 +39,34 @@ fn output<'a>(alloc: Global, forms: &'a [&'a str]) -> Arg<'a>
         .action(ArgAction::Set)
         .value_parser(forms)
         .default_value("text")
-        .help("How what was found is written")
+        .help("The format of the output")
 }
 
-/// Files that are read in place of others.
+/// The option for files that are read in place of others.
 fn converted<'a>(alloc: Global) -> Arg<'a>
     ensures { IsOption (files (codes "converted")) result }
 {
     files(
         alloc,
         "converted",
-        "The file JSON is read where FILE is named: it holds the same as JSON",
+        "Reads the file JSON in place of FILE (the same content as JSON)",
     )
     .value_name("FILE=JSON")
 }
 
-/// Files of definitions.
+/// The option for files of definitions.
 fn crds<'a>(alloc: Global) -> Arg<'a>
     ensures { IsOption (required (files (codes "crds"))) result }
 {
     files(
         alloc,
         "crds",
-        "Files of CustomResourceDefinitions, one each time",
+        "A file with CustomResourceDefinitions; may be given several times",
     )
     .required(true)
 }
 
-/// Files of objects.
+/// The arguments for files of objects.
 fn objects<'a>(alloc: Global) -> Arg<'a>
     ensures { IsOption objects result }
 {
@@ -75,10 +75,10 @@ fn objects<'a>(alloc: Global) -> Arg<'a>
         .required(true)
         .num_args(1..)
         .action(ArgAction::Append)
-        .help("Files of objects; - is standard input")
+        .help("Files with objects; - is standard input")
 }
 
-/// The file of a policy.
+/// The argument for the file of a policy.
 fn policy<'a>(alloc: Global) -> Arg<'a>
     ensures { IsOption policy result }
 {
@@ -86,10 +86,10 @@ fn policy<'a>(alloc: Global) -> Arg<'a>
         .value_name("POLICY")
         .required(true)
         .action(ArgAction::Set)
-        .help("The file of a ValidatingAdmissionPolicy; - is standard input")
+        .help("A file with a ValidatingAdmissionPolicy; - is standard input")
 }
 
-/// A command with the options that all have.
+/// A command with the options that all commands have.
 fn command<'a>(
     alloc: Global,
     forms: &'a [&'a str],
@@ -104,7 +104,7 @@ fn command<'a>(
         .arg(converted(alloc))
 }
 
-/// The words of `check`.
+/// The command line of `check`.
 fn check_words<'a>(alloc: Global, forms: &'a [&'a str]) -> Result<Words<'a>, AllocError>
     ensures { IfOk result (Understands (check_words forms.entry)) }
 {
@@ -112,18 +112,14 @@ fn check_words<'a>(alloc: Global, forms: &'a [&'a str]) -> Result<Words<'a>, All
         alloc,
         forms,
         "check",
-        "Judges objects by their CustomResourceDefinitions",
+        "Checks objects against their CustomResourceDefinitions",
     )?
     .arg(crds(alloc))?
-    .arg(files(
-        alloc,
-        "old",
-        "Files of the objects as they were, for oldSelf",
-    ))?
+    .arg(files(alloc, "old", "Files with the old objects, for oldSelf"))?
     .arg(objects(alloc))
 }
 
-/// The words of `review`.
+/// The command line of `review`.
 fn review_words<'a>(alloc: Global, forms: &'a [&'a str]) -> Result<Words<'a>, AllocError>
     ensures { IfOk result (Understands (review_words forms.entry)) }
 {
@@ -131,12 +127,12 @@ fn review_words<'a>(alloc: Global, forms: &'a [&'a str]) -> Result<Words<'a>, Al
         alloc,
         forms,
         "review",
-        "Tells what to look at in CustomResourceDefinitions",
+        "Reviews CustomResourceDefinitions for mistakes",
     )?
     .arg(crds(alloc))
 }
 
-/// The words of `admit`.
+/// The command line of `admit`.
 fn admit_words<'a>(alloc: Global, forms: &'a [&'a str]) -> Result<Words<'a>, AllocError>
     ensures { IfOk result (Understands (admit_words forms.entry)) }
 {
@@ -144,37 +140,37 @@ fn admit_words<'a>(alloc: Global, forms: &'a [&'a str]) -> Result<Words<'a>, All
         alloc,
         forms,
         "admit",
-        "Judges a request by a ValidatingAdmissionPolicy",
+        "Evaluates a ValidatingAdmissionPolicy for a request",
     )?
     .arg(policy(alloc))?
     .arg(file(alloc, "request", "An AdmissionReview"))?
     .arg(file(alloc, "object", "The object, for object"))?
-    .arg(file(alloc, "old", "The object as it was, for oldObject"))?
-    .arg(file(alloc, "params", "What the policy is bound to, for params"))?
+    .arg(file(alloc, "old", "The old object, for oldObject"))?
+    .arg(file(alloc, "params", "The parameter resource, for params"))?
     .arg(file(
         alloc,
         "namespace",
-        "The namespace of the object, for namespaceObject",
+        "The object's namespace, for namespaceObject",
     ))
 }
 
-/// The program's own words.
+/// The program's command line without its commands.
 fn program_words<'a>(alloc: Global) -> Words<'a>
     ensures { Understands program_words result }
 {
     Words::new(alloc, "kubecel")
         .about(
-            "Judges Kubernetes objects by their CEL rules without a cluster. Each FILE holds JSON: a document, a List, or several documents.",
+            "Checks Kubernetes objects against their CEL rules, without a cluster. Each FILE holds JSON: a document, a List, or several documents.",
         )
         .after_help(
-            "Status 0: all was judged and holds. 1: some rule doesn't hold. 2: something couldn't be judged.",
+            "Exit status: 0 if everything was judged and passes, 1 if a rule fails, 2 if something couldn't be judged.",
         )
         .version("0.0.0 (unreleased)")
         .subcommand_required(true)
         .arg_required_else_help(true)
 }
 
-/// The words that the program understands.
+/// Builds the whole command line of the program.
 pub fn words<'a>(alloc: Global) -> Result<Words<'a>, AllocError>
     ensures { IfOk result (λ c. (forms : Texts) × (map (λ s. s.now) forms.now ≡ form_names)
         × Understands (words forms) c) }
@@ -186,14 +182,14 @@ pub fn words<'a>(alloc: Global) -> Result<Words<'a>, AllocError>
         .subcommand(admit_words(alloc, forms)?)
 }
 
-/// All values of an option.
+/// Returns all values of an option or argument. Empty if it wasn't given.
 pub fn all_of<'m, 'a>(found: &'m ArgMatches<'a>, name: &str) -> &'m [&'a str]
     ensures { map (λ s. s.now) result.now ≡ all_of (found_of found.now) name.now }
 {
     found.get_strs(name).unwrap_or_default()
 }
 
-/// The command that was asked for.
+/// Returns the command of this name with its arguments.
 pub fn command_of<'m, 'a>(name: &str, found: &'m ArgMatches<'a>) -> Command<'m, 'a>
     ensures { command_view result ≡ command_of name.now (found_of found.now) }
 {
@@ -215,7 +211,7 @@ pub fn command_of<'m, 'a>(name: &str, found: &'m ArgMatches<'a>) -> Command<'m, 
     }
 }
 
-/// Text, in colours on a terminal.
+/// The form of plain text, which has colours on a terminal.
 fn text_form(is_terminal: bool) -> Output
     ensures { result ≡ text_form is_terminal }
 {
@@ -226,7 +222,7 @@ fn text_form(is_terminal: bool) -> Output
     }
 }
 
-/// The form of this name, else text.
+/// The form of output with this name. Text for any other name.
 fn form_named(name: &str, is_terminal: bool) -> Output
     ensures { result ≡ form_named name.now is_terminal }
 {
@@ -238,7 +234,7 @@ fn form_named(name: &str, is_terminal: bool) -> Output
     }
 }
 
-/// The form that was asked for. On a terminal text has colours.
+/// Returns the requested form of output. Text has colours on a terminal.
 pub fn output_of(found: &ArgMatches<'_>, is_terminal: bool) -> Output
     ensures { result ≡ output_of (found_of found.now) is_terminal }
 {

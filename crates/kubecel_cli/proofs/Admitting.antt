@@ -1,4 +1,4 @@
--- What a request is judged by.
+-- The inputs that a request is judged over.
 use Rattle.kube_cel_vap.specs.Variables.{Variables}
 use Rattle.kube_manifests_admission.specs.Inputs.{inputs_view}
 use Rattle.kube_manifests_policies.specs.Reports.{IsVerdictOf}
@@ -14,7 +14,7 @@ use Rattle.serde_json.specs.Data.{Data}
 use Rattle.serde_json.specs.View.{view}
 use Rattle.std.proofs.Common.{◌≡◌, ℕ, List, [], ◌∷◌, Option, Ok, string_bytes, refl, subst, ◌∙◌}
 
--- what was given besides went before what a review gives
+-- the values of files of their own replaced those of the review
 pub judged_so : (base : Variables) (inputs : PolicyInputs) (object old params namespace : Option Data) (d : Data) (v : PolicyVerdict)
     → (inputs_view inputs).object ≡ instead object base.object → (inputs_view inputs).old_object ≡ instead old base.old_object
     → (inputs_view inputs).params ≡ instead params base.params → (inputs_view inputs).namespace_object ≡ instead namespace base.namespace_object
@@ -28,7 +28,7 @@ pub judged_so : (base : Variables) (inputs : PolicyInputs) (object old params na
 judged_so base inputs object old params namespace d v o p q r s judged =
     subst (λ i. IsVerdictOf i d (Ok v)) (rw (o, p, q, r, s) refl) judged
 
--- what is reported of the policy of a file
+-- the report on the policy in a file
 pub reported_of_file : (items : List ItemData) (path : List ℕ) (d : Document) (v : PolicyVerdict) → string_bytes d.file ≡ path → d.index ≡ 0
     → items ≡ policy_item (document_view d) (verdict_view v) ∷ []
     → items ≡ policy_item (record { file = path; index = 0; value = view d.value }) (verdict_view v) ∷ []

@@ -12,13 +12,13 @@ unfolding with_indices
 the_first path f [] rest none e = absurd cc
 the_first path f (v ∷ vs) rest none e = (ap (λ fs. (get_or fs 0 f).file) e, ap (λ fs. (get_or fs 0 f).index) e)
 
--- one document that was read at a path is the first of the file at the path
+-- if a single document was read at a path, it is the first of the file at that path
 pub first_of_file : {S : Type 0} (reads : S → List ℕ → Option (List ℕ) → S → Type 0) (a : S) (path : List ℕ) (d : Document) (b : S)
     → AreRead reads a (path ∷ []) (document_view d ∷ []) b → (string_bytes d.file ≡ path) × (d.index ≡ 0)
 unfolding AreRead
 first_of_file reads a path d b are = the_first path (document_view d) are.1 are.2 are.4.0 are.5
 
--- and the file holds it alone
+-- and it is the only one in the file
 pub one_read : {S : Type 0} (reads : S → List ℕ → Option (List ℕ) → S → Type 0) (a : S) (path : List ℕ) (d : Document) (b : S)
     → AreRead reads a (path ∷ []) (document_view d ∷ []) b → IsOneRead reads a path (view d.value) b
 one_read reads a path d b are =
@@ -26,7 +26,7 @@ one_read reads a path d b are =
     let same : document_view d ≡ record { file = path; index = 0; value = view d.value } = rw (location.0, location.1) refl in
     subst (λ f. AreRead reads a (path ∷ []) (f ∷ []) b) same are
 
--- a value that was taken off the end, and left none, was the only one
+-- a value taken off the end that leaves none was the only one
 pub only_one : {A : Type 0} (all left : List A) (x : A) (n : ℕ) → all ≡ left ++ x ∷ [] → n ≡ length left → (n == 0) ≡ true → all ≡ x ∷ []
 only_one all [] x n are is none = are
 only_one all (y ∷ left) x n are is none = absurd (omega (arith, is, eqb-true n 0 none))

@@ -1,4 +1,4 @@
--- What the commands find.
+-- The results of the commands.
 use Rattle.kube_manifests.specs.Documents.{Fault}
 use Rattle.kube_manifests.specs.Sets.{all_compiled, with_tree, set_view, versions_of}
 use Rattle.kube_manifests.specs.Versions.{Version}
@@ -23,12 +23,12 @@ set_in : (ds : Items) (set : CrdSet) (r : Result (List (Version Data)) Fault) �
 set_in ds set (Ok versions) is same = (versions, is, cc)
 set_in ds set (Err f) is same = absurd cc
 
--- the set that definitions gave
+-- the set made from definitions
 pub set_so : (crds : List Found) (values : List Data) (set : CrdSet) → values ≡ map (λ f. f.value) crds → Ok (set_view set) ≡ all_compiled (versions_of (items_of values)) → IsSetOf crds set
 set_so crds values set are same = subst (λ vs. (versions : List (Version Data)) × (versions_of (items_of vs) ≡ Ok versions) × (set_view set ≡ map with_tree versions)) are
     (set_in (items_of values) set (versions_of (items_of values)) refl same)
 
--- ---- what was judged
+-- ---- judgements
 
 some_of : (ss : List Subject) (fs : List Found) → 0 < length ss → map subject_view ss ≡ fs → 0 < length fs
 some_of [] fs some are = absurd (omega arith)

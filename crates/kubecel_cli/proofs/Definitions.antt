@@ -1,4 +1,4 @@
--- Definitions of which something isn't read, one after another.
+-- Definitions with parts that aren't read, one after another.
 use Rattle.kubecel_io.specs.Reads.{Found}
 use Rattle.kubecel_io.specs.Subjects.{subject_view}
 use Rattle.kubecel_io.specs.declared.subject.Subject.{Subject}
@@ -19,7 +19,7 @@ unread_push (g ∷ fs) f items findings are one = (
   unread_push fs f are.1 findings are.4 one,
 )
 
--- one definition more
+-- one more definition
 pub one_more_unread : (xs : List Subject) (n : ℕ) (x : Subject) (done after : List ItemData) (findings : List FindingData) → n < length xs → x ≡ get_or xs n x
     → AreUnread (map subject_view (take n xs)) done → IsUnread (subject_view x) findings → after ≡ done ++ unread_items (subject_view x) findings
     → AreUnread (map subject_view (take (n + 1) xs)) after
@@ -29,7 +29,7 @@ one_more_unread xs n x done after findings below is are one pushed =
     ap (λ y. all ++ subject_view y ∷ []) is ∙ sym (ap (map subject_view) (take_more xs n x below) ∙ map-append subject_view (take n xs) (get_or xs n x ∷ [])) in
     subst (λ fs. AreUnread fs after) grown (subst (AreUnread (all ++ subject_view x ∷ [])) (sym pushed) (unread_push all (subject_view x) done findings are one))
 
--- what holds where there is nothing to report holds in another way
+-- a property that holds if there is nothing to report may be replaced by a weaker one
 pub unless_otherwise : (unread : List ItemData) (P Q : List ItemData → Type 0) (items : List ItemData) → (P items → Q items) → UnlessAny unread P items → UnlessAny unread Q items
 unless_otherwise [] P Q items g are = g are
 unless_otherwise (i ∷ is) P Q items g are = are

@@ -1,18 +1,18 @@
 -- Trusted by the clauses of kubecel.
--- What a command asks for. A path is that of a file.
+-- The commands and their arguments. A path is that of a file.
 use Rattle.kubecel_cli.specs.declared.command.Admit.{Admit}
 use Rattle.kubecel_cli.specs.declared.command.Check.{Check}
 use Rattle.kubecel_cli.specs.declared.command.Command.{Command}
 use Rattle.kubecel_cli.specs.declared.command.Command.TheVariants as command
 use Rattle.std.specs.Prelude.{ℕ, List, map, Option, option_map}
 
--- the paths of definitions, of the objects as they were, and of the objects
+-- the paths of definitions, of the old objects, and of the objects
 pub record CheckData : Type 0 where
   pub crds : List (List ℕ)
   pub olds : List (List ℕ)
   pub objects : List (List ℕ)
 
--- the paths of a policy, of an AdmissionReview, and of what is given besides
+-- the paths of a policy, of an AdmissionReview, and of further inputs
 pub record AdmitData : Type 0 where
   pub policy : List ℕ
   pub request : Option (List ℕ)
@@ -27,7 +27,7 @@ pub data Asked : Type 0 where
   review : List (List ℕ) → Asked
   admit : AdmitData → Asked
 
--- ---- what the code's values stand for
+-- ---- views of the code's values
 
 abbrev pub check_view : Check → CheckData
 check_view c = record {

@@ -1,5 +1,5 @@
 -- Trusted by the clauses of kubecel.
--- What is reported of an object, a definition and a policy, by what the library answers.
+-- The reports on objects, definitions and policies, given the library's answers.
 use Rattle.kube_cel_walk.specs.ErrorLists.{errors_in}
 use Rattle.kube_cel_walk.specs.Errors.{ErrorData, error_view}
 use Rattle.kube_manifests.specs.Documents.{is_crd}
@@ -22,7 +22,7 @@ use Rattle.serde_json.specs.Data.{Data}
 use Rattle.std.specs.List.{flat_map}
 use Rattle.std.specs.Prelude.{ℕ, List, [], ◌∷◌, ◌++◌, map, Bool, true, false, Ok, Err, if◌then◌else◌, codes}
 
--- an object by its kind, namespace and name, with what came of it
+-- the item of an object: its file, kind, namespace and name, with its verdict and findings
 abbrev pub item_of : Found → Verdict → List FindingData → ItemData
 item_of f v findings = record {
   file = f.file;
@@ -34,7 +34,7 @@ item_of f v findings = record {
   findings = findings;
 }
 
--- one finding, of the whole thing
+-- a single finding, which is about the whole thing
 abbrev pub remark : List ℕ → List FindingData
 remark message = record { location = []; rule = []; message = message } ∷ []
 
@@ -43,10 +43,10 @@ remark message = record { location = []; rule = []; message = message } ∷ []
 abbrev pub error_finding : ErrorData → FindingData
 error_finding e = record { location = e.field_path; rule = e.rule; message = e.message }
 
--- why an object isn't judged; of a definition also where it belongs
+-- the reason why an object isn't judged; for a definition it says where definitions belong
 abbrev pub why_not : Data → reason.NotJudged → List ℕ
 why_not d r =
-    reason_text r ++ (if is_crd d then codes " (a CustomResourceDefinition stands behind --crds)" else [])
+    reason_text r ++ (if is_crd d then codes " (pass CustomResourceDefinitions with --crds)" else [])
 
 abbrev pub judged_item : Found → Judgement → ItemData
 judged_item f (judgement.Judged (Ok u)) = item_of f verdict.Pass []
@@ -72,12 +72,12 @@ reviewed_item f findings = item_of f (pass_unless (map review_finding findings))
 
 abbrev pub no_crd_item : Found → ItemData
 no_crd_item f = item_of f verdict.NotJudged
-    (remark (codes "it is no CustomResourceDefinition of apiextensions.k8s.io/v1"))
+    (remark (codes "not a CustomResourceDefinition of apiextensions.k8s.io/v1"))
 
--- ---- definitions of which something isn't read
+-- ---- definitions with parts that aren't read
 
--- whether no schema reads what stands there, though it was meant as a keyword or as rules: a key one letter off a
--- keyword, or `x-kubernetes-validations` that is no list
+-- whether the finding is about something that no schema reads, though it was meant as a keyword or
+-- as rules: a key one letter off a keyword, or `x-kubernetes-validations` that isn't a list
 abbrev pub is_unread : ReviewKind → Bool
 is_unread (kind.Lint k) = false
 is_unread kind.Document = false
@@ -94,7 +94,7 @@ is_unread kind.NoRules = false
 abbrev pub unread_finding : Finding → List FindingData
 unread_finding f = if is_unread f.kind then review_finding f ∷ [] else []
 
--- of all that a review finds, in its order
+-- such findings among those of a review, in order
 abbrev pub unread_findings : List Finding → List FindingData
 unread_findings fs = flat_map unread_finding fs
 
@@ -102,7 +102,7 @@ abbrev pub is_none : List FindingData → Bool
 is_none [] = true
 is_none (f ∷ fs) = false
 
--- nothing can be judged by such a definition; of one that is read whole there is nothing to say
+-- nothing can be judged by such a definition; a definition that is read whole isn't reported
 abbrev pub unread_items : Found → List FindingData → List ItemData
 unread_items f findings = if is_none findings then [] else item_of f verdict.NotJudged findings ∷ []
 
@@ -114,7 +114,7 @@ decision_verdict decision.Denied = verdict.Fail
 decision_verdict decision.Skipped = verdict.Skip
 decision_verdict decision.NotJudged = verdict.NotJudged
 
--- whether there is anything to say of what an expression came to
+-- whether the result of an expression isn't reported
 abbrev pub is_quiet : ItemReportData → Bool
 is_quiet holds = true
 is_quiet (fails m) = false
@@ -123,7 +123,7 @@ is_quiet nothing = true
 is_quiet (erred m) = false
 is_quiet (not_given i) = false
 
--- the findings of an expression, located by what it is and its name
+-- the findings of an expression; their location is the kind of the expression and its label
 abbrev pub result_findings : List ℕ → Labelled → List FindingData
 result_findings what r =
     if is_quiet r.reported then []

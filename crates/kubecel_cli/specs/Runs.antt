@@ -1,6 +1,6 @@
 -- Trusted by the clauses of kubecel.
--- What a run of `kubecel` rests on: the files that it names, read one after another, and what came of each
--- thing that they hold.
+-- The meaning of a run of `kubecel`: which files are read, in order, and the result of each thing
+-- in them.
 use Rattle.cel_patterns.specs.Book.{Book, IsBook}
 use Rattle.kube_cel_analysis.specs.Findings.{Naming}
 use Rattle.kube_cel_vap.specs.Variables.{Variables, no_variables}
@@ -32,9 +32,9 @@ AreItems Is [] items = items ≡ []
 AreItems Is (f ∷ fs) items =
     (i : ItemData) × (rest : List ItemData) × (items ≡ i ∷ rest) × Is f i × AreItems Is fs rest
 
--- ---- what came of one thing
+-- ---- the result of one thing
 
--- an object is judged by these versions, with the old object that it was before
+-- an object is judged by these versions, with the old object of the same identity, if any
 abbrev pub IsJudged : List (Version Data) → List Data → Found → ItemData → Type 0
 IsJudged versions olds f i =
     (j : Judgement) × IsJudgement versions f.value (old_of olds f.value) j × (i ≡ judged_item f j)
@@ -45,53 +45,54 @@ pub record IsReviewed (f : Found) (i : ItemData) : Type 0 where
       → (b : Book) × IsBook b × ((names : Naming) → i ≡ reviewed_item f (crd_findings names f.value b))
   pub is_none : is_crd f.value ≡ false → i ≡ no_crd_item f
 
--- this isn't read of a definition; which book of patterns it is decides of no such finding
+-- these findings are about parts of a definition that aren't read; they don't depend on the book of
+-- patterns
 abbrev pub IsUnread : Found → List FindingData → Type 0
 IsUnread f findings =
     (b : Book) × IsBook b × ((names : Naming) → findings ≡ unread_findings (crd_findings names f.value b))
 
--- each definition of which something isn't read is reported, in order, as one item
+-- each definition with parts that aren't read is reported, in order, as one item
 abbrev pub AreUnread : List Found → List ItemData → Type 0
 AreUnread [] items = items ≡ []
 AreUnread (f ∷ fs) items =
     (findings : List FindingData) × (rest : List ItemData) × (items ≡ unread_items f findings ++ rest)
     × IsUnread f findings × AreUnread fs rest
 
--- what was reported before stands alone; where that is nothing, this holds of what is reported
+-- if there are earlier items, they are the whole report; otherwise Are holds of the report
 abbrev pub UnlessAny : List ItemData → (List ItemData → Type 0) → List ItemData → Type 0
 UnlessAny [] Are items = Are items
 UnlessAny (i ∷ is) Are items = items ≡ i ∷ is
 
--- ---- what a policy is judged over
+-- ---- the inputs that a policy is judged over
 
--- what an AdmissionReview gives; nothing where there is none
+-- the inputs that an AdmissionReview carries; none if there is no review
 abbrev pub base_of : Option Data → Result Variables FaultData
 base_of None = Ok no_variables
 base_of (Some d) = review_of d
 
--- what is given besides goes before what was given
+-- the value of a file of its own replaces the one of the review
 abbrev pub instead : Option Data → Option Data → Option Data
 instead None given = given
 instead (Some d) given = Some d
 
 module _ {S : Type 0} (reads : S → List ℕ → Option (List ℕ) → S → Type 0) where
-  -- the file at the path holds this document alone
+  -- the file at the path holds exactly this document
   abbrev pub IsOneRead : S → List ℕ → Data → S → Type 0
   IsOneRead before path value after =
       AreRead reads before (path ∷ []) (record { file = path; index = 0; value = value } ∷ []) after
 
-  -- so does a file that may not be named; then nothing is read
+  -- the same for a file that may not be named, in which case nothing is read
   abbrev pub IsOneReadWhereNamed : S → Option (List ℕ) → Option Data → S → Type 0
   IsOneReadWhereNamed before None None after = before ≡ after
   IsOneReadWhereNamed before None (Some value) after = ⊥
   IsOneReadWhereNamed before (Some path) None after = ⊥
   IsOneReadWhereNamed before (Some path) (Some value) after = IsOneRead before path value after
 
-  -- ---- what a command finds
+  -- ---- the results of a command
 
-  -- The definitions, the old objects and the objects were read in order. All definitions are whole, and there is
-  -- an object. Definitions of which something isn't read are reported as not judged, and nothing else is; where
-  -- there is none, each object is judged.
+  -- The definitions, the old objects and the objects were read in order. All definitions are
+  -- well-formed, and there is at least one object. If some definitions have parts that aren't read,
+  -- only these are reported, as not judged; otherwise each object is judged.
   pub record AreChecked (before : S) (asked : CheckData) (after : S) (items : List ItemData) : Type 0 where
     pub crds : List Found
     pub olds : List Found
@@ -109,7 +110,7 @@ module _ {S : Type 0} (reads : S → List ℕ → Option (List ℕ) → S → Ty
     pub judged : UnlessAny unread
         (AreItems (IsJudged versions (map (λ f. f.value) (all_objects olds))) (all_objects objects)) items
 
-  -- The definitions were read. There is one, and each is reviewed.
+  -- The definitions were read. There is at least one, and each is reviewed.
   pub record AreReviewed (before : S) (paths : List (List ℕ)) (after : S) (items : List ItemData)
       : Type 0 where
     pub crds : List Found
@@ -117,7 +118,7 @@ module _ {S : Type 0} (reads : S → List ℕ → Option (List ℕ) → S → Ty
     pub some : 0 < length (all_objects crds)
     pub reviewed : AreItems IsReviewed (all_objects crds) items
 
-  -- The policy, and what is given, were read in order, and this is the verdict.
+  -- The policy and its inputs were read in order, and this is the verdict.
   pub record AreAdmitted (before : S) (asked : AdmitData) (after : S) (items : List ItemData) : Type 0 where
     pub policy : Data
     pub request : Option Data
@@ -153,7 +154,7 @@ module _ {S : Type 0} (reads : S → List ℕ → Option (List ℕ) → S → Ty
   AreFound before (review paths) after items = AreReviewed before paths after items
   AreFound before (admit asked) after items = AreAdmitted before asked after items
 
--- the status stands for what was found, and that was written
+-- the exit status is that of the items, and the items were written
 pub record IsReported (Are : List ItemData → Type 0) (status : ℕ)
     (Writes : List ItemData → Type 0) : Type 0 where
   pub items : List ItemData
@@ -163,18 +164,18 @@ pub record IsReported (Are : List ItemData → Type 0) (status : ℕ)
 
 -- ---- for private clauses
 
--- P holds of what a command found
+-- P holds of the items that a command reports
 abbrev pub IfReport : Result Report Stop → (List ItemData → Type 0) → Type 0
 IfReport (Ok r) P = P (map item_view r.items.items)
 IfReport (Err s) P = ⊥
 
--- the set of these definitions, by their versions
+-- the set consists of the versions of these definitions
 abbrev pub IsSetOf : List Found → CrdSet → Type 0
 IsSetOf crds set =
     (versions : List (Version Data)) × (versions_of (items_of (map (λ f. f.value) crds)) ≡ Ok versions)
     × (set_view set ≡ map with_tree versions)
 
--- an object is judged by a set, with the old object that it was before
+-- an object is judged by a set, with the old object of the same identity, if any
 abbrev pub IsJudgedBy : CrdSet → List Data → Found → ItemData → Type 0
 IsJudgedBy set olds f i =
     (j : Judgement)

@@ -1,4 +1,4 @@
-//! `admit`: what a policy says of a request.
+//! `admit`: judges a request by a policy.
 ghost use Rattle.kube_manifests_admission.specs.Inputs.{inputs_view};
 ghost use Rattle.kube_manifests_policies.specs.Reports.{IsVerdictOf};
 ghost use Rattle.kube_manifests_policies.specs.Verdicts.{result_view, verdict_view};
@@ -23,7 +23,7 @@ use kubecel_io::{
 use serde_json::Value;
 use std::alloc::{AllocError, Global};
 
-/// Judges a request. All files are read, in order, before anything is judged.
+/// Judges a request by a policy. All files are read, in order, before anything is judged.
 pub(crate) fn admitted<S: Sources>(
     alloc: Global,
     admit: Admit<'_>,
@@ -50,7 +50,7 @@ pub(crate) fn admitted<S: Sources>(
     Ok(report_of(alloc, &policy, &verdict)?)
 }
 
-/// The one document of a file.
+/// Reads a file that must hold exactly one document.
 fn read_one<S: Sources>(alloc: Global, path: &str, files: &mut S) -> Result<Document, Stop>
     ensures read { IfOk result (λ d. IsOneRead S.reads files.old path.now (view d.value) files.new) }
     ensures location { IfOk result (λ d. (string_bytes d.file ≡ path.now) × (d.index ≡ 0)) }
@@ -60,12 +60,12 @@ fn read_one<S: Sources>(alloc: Global, path: &str, files: &mut S) -> Result<Docu
     match documents.pop() {
         Some(document) if documents.is_empty() => Ok(document),
         Some(_) | None => Err(Stop::Said(format!(in alloc;
-            "{path}: it should hold one document, and holds {count}"
+            "{path}: expected one document, found {count}"
         )?)),
     }
 }
 
-/// The one document of a file that may not be named.
+/// Reads a file that must hold exactly one document. `None` if no file is named.
 fn read_where_named<S: Sources>(
     alloc: Global,
     path: Option<&str>,
@@ -84,7 +84,7 @@ fn read_where_named<S: Sources>(
     }
 }
 
-/// What an AdmissionReview gives.
+/// Reads the inputs that an AdmissionReview carries. Without one, none is known.
 fn base_of(alloc: Global, path: &str, request: Option<Value>) -> Result<PolicyInputs, Stop>
     ensures { IfOk result (λ p. base_of (option_map view request) ≡ Ok (inputs_view p)) }
 {
@@ -97,7 +97,8 @@ fn base_of(alloc: Global, path: &str, request: Option<Value>) -> Result<PolicyIn
     }
 }
 
-/// What is given besides, else what was given.
+/// Returns the value of a file of its own, if there is one, otherwise the one that the review
+/// gives.
 fn instead(besides: Option<Value>, given: Option<Value>) -> Option<Value>
     ensures { option_map view result ≡ instead (option_map view besides) (option_map view given) }
 {
@@ -107,7 +108,7 @@ fn instead(besides: Option<Value>, given: Option<Value>) -> Option<Value>
     }
 }
 
-/// The verdict of a policy.
+/// Evaluates a policy over its inputs.
 fn verdict_of(
     alloc: Global,
     policy: &Document,
@@ -121,7 +122,7 @@ fn verdict_of(
     }
 }
 
-/// A policy and its verdict as they are reported.
+/// Builds the report on a policy from its verdict.
 fn report_of(
     alloc: Global,
     policy: &Document,
@@ -159,7 +160,7 @@ fn decision_verdict(decision: PolicyDecision) -> Verdict
     }
 }
 
-/// What there is to say of a policy's expressions.
+/// Returns the findings about a policy's expressions.
 fn verdict_findings(alloc: Global, verdict: &PolicyVerdict) -> Result<Vec<Finding>, AllocError>
     ensures { IfOk result (λ v. map finding_view v.items ≡ verdict_findings (verdict_view verdict.now)) }
 {
@@ -176,7 +177,7 @@ fn verdict_findings(alloc: Global, verdict: &PolicyVerdict) -> Result<Vec<Findin
     Ok(findings)
 }
 
-/// Adds the findings of these expressions.
+/// Adds the findings about these expressions.
 fn add_results(
     alloc: Global,
     what: &str,

@@ -1,4 +1,4 @@
-//! `check`: objects by their CustomResourceDefinitions.
+//! `check`: judges objects by their CustomResourceDefinitions.
 ghost use Rattle.kube_cel_walk.specs.Errors.{error_view};
 ghost use Rattle.kube_manifests.specs.Sets.{IsJudgement, with_tree, set_view};
 ghost use Rattle.kube_manifests.specs.Versions.{Version};
@@ -26,7 +26,7 @@ use serde_json::Value;
 use std::alloc::{AllocError, Global};
 use std::io::Write;
 
-/// The number of objects after which a run says how many were judged so far.
+/// The number of objects after which a run reports its progress.
 const STEP: usize = 100;
 
 /// Judges objects. All files are read, in order, before anything is judged.
@@ -48,7 +48,7 @@ pub(crate) fn checked<S: Sources, E: Write>(
     let olds = objects_of(alloc, olds.as_slice())?;
     let subjects = objects_of(alloc, objects.as_slice())?;
     if subjects.is_empty() {
-        return Err(Stop::Said(String::from_str(alloc, "there is no object to judge")?));
+        return Err(Stop::Said(String::from_str(alloc, "no object to judge")?));
     }
     let unread = unread_items(alloc, definitions.as_slice())?;
     Ok(judge_unless_any(
@@ -62,7 +62,7 @@ pub(crate) fn checked<S: Sources, E: Write>(
     )?)
 }
 
-/// The set of definitions.
+/// Compiles the definitions in these documents.
 fn set_of(alloc: Global, documents: &[Document]) -> Result<CrdSet, Stop>
     ensures { IfOk result (IsSetOf (map document_view documents.now)) }
 {
@@ -81,7 +81,7 @@ fn set_of(alloc: Global, documents: &[Document]) -> Result<CrdSet, Stop>
     }
 }
 
-/// The values of documents.
+/// Returns copies of the documents' values.
 fn values_of(alloc: Global, documents: &[Document]) -> Result<Vec<Value>, AllocError>
     ensures { IfOk result (λ v. map view v.items ≡ map (λ d. d.value) (map document_view documents.now)) }
 {
@@ -92,7 +92,8 @@ fn values_of(alloc: Global, documents: &[Document]) -> Result<Vec<Value>, AllocE
     Ok(values)
 }
 
-/// Where a document stands.
+/// Returns the location of the document at index `at`: its file and, unless it is the first there,
+/// its index in the file.
 fn location_of(alloc: Global, documents: &[Document], at: usize) -> Result<String, AllocError> {
     match documents.get(at) {
         Some(document) if document.index == 0 => document.file.clone(),
@@ -101,7 +102,8 @@ fn location_of(alloc: Global, documents: &[Document], at: usize) -> Result<Strin
     }
 }
 
-/// Judges objects by a set, unless something isn't read of definitions: then these are reported.
+/// Judges objects by a set. If some definitions have parts that aren't read, reports only these
+/// definitions.
 fn judge_unless_any<E: Write>(
     alloc: Global,
     unread: Vec<Item>,
@@ -119,14 +121,14 @@ fn judge_unless_any<E: Write>(
         [] => judge_all(alloc, set, olds, subjects, form, err),
         [_, ..] => Ok(Report {
             items: unread,
-            noun: "no object was judged; definitions that aren't read whole",
+            noun: "no object was judged; definitions with mistakes",
             rules: None,
             compared: None,
         }),
     }
 }
 
-/// Judges objects by a set.
+/// Judges each object by a set.
 fn judge_all<E: Write>(
     alloc: Global,
     set: &CrdSet,
@@ -162,7 +164,7 @@ fn judge_all<E: Write>(
     })
 }
 
-/// Says how many objects were judged so far, where there are many, and at the end clears that.
+/// Writes how many objects were judged so far, if there are many, and clears that line at the end.
 fn report_progress<E: Write>(judged: usize, all: usize, err: &mut E) {
     if all > STEP && judged.is_multiple_of(STEP) {
         let _ = write!(err, "\rkubecel: {judged} of {all} objects");
@@ -188,7 +190,7 @@ fn judge(
     Ok(judged_item(alloc, subject, &judgement)?)
 }
 
-/// An object by the errors that were found.
+/// Builds the item of an object from its judgement.
 fn judged_item(
     alloc: Global,
     subject: &Subject<'_>,
@@ -209,19 +211,20 @@ fn judged_item(
     }
 }
 
-/// Why an object isn't judged.
+/// Returns the reason why an object isn't judged. If it is a definition, says where definitions
+/// belong.
 fn why_not(alloc: Global, object: &Value, reason: NotJudged) -> Result<String, AllocError>
     ensures { IfOk result (λ s. string_bytes s ≡ why_not (view object.now) reason) }
 {
     let further = if is_crd(object) {
-        " (a CustomResourceDefinition stands behind --crds)"
+        " (pass CustomResourceDefinitions with --crds)"
     } else {
         ""
     };
     format!(in alloc; "{reason}{further}")
 }
 
-/// Errors as they are reported.
+/// Turns the errors of an object into findings.
 fn error_findings(alloc: Global, errors: &[ValidationError]) -> Result<Vec<Finding>, AllocError>
     ensures { IfOk result (λ v. map finding_view v.items
         ≡ map (λ e. error_finding (error_view e)) errors.now) }

@@ -1,24 +1,24 @@
-//! What a command line asks for.
+//! The commands of the program.
 
-/// What a command line asks for.
+/// A command with its arguments.
 #[derive(Clone, Copy)]
 pub enum Command<'l, 'w> {
-    /// Whether objects hold by their CustomResourceDefinitions.
+    /// Checks objects against their CustomResourceDefinitions.
     Check(Check<'l, 'w>),
-    /// What a person should look at in the CustomResourceDefinitions at these paths.
+    /// Reports what a person should look at in the CustomResourceDefinitions at these paths.
     Review(&'l [&'w str]),
-    /// What a policy says of a request.
+    /// Evaluates a policy for a request.
     Admit(Admit<'w>),
 }
 
 /// The paths that `check` is given.
 #[derive(Clone, Copy)]
 pub struct Check<'l, 'w> {
-    /// Of CustomResourceDefinitions.
+    /// The files of CustomResourceDefinitions.
     pub crds: &'l [&'w str],
-    /// Of the objects as they were.
+    /// The files of the old objects.
     pub olds: &'l [&'w str],
-    /// Of the objects.
+    /// The files of the objects.
     pub objects: &'l [&'w str],
 }
 
@@ -26,7 +26,7 @@ pub struct Check<'l, 'w> {
 #[derive(Clone, Copy)]
 pub struct Admit<'w> {
     pub policy: &'w str,
-    /// Of an AdmissionReview.
+    /// The file of an AdmissionReview.
     pub request: Option<&'w str>,
     pub object: Option<&'w str>,
     pub old: Option<&'w str>,

@@ -1,4 +1,4 @@
-//! Things as they are reported.
+//! Builds the items and findings of a report.
 ghost use Rattle.kubecel_io.specs.Subjects.{subject_view};
 ghost use Rattle.kubecel_io.specs.Items.{finding_view, item_view};
 ghost use Rattle.kubecel_cli.specs.Reports.{item_of, remark};
@@ -7,7 +7,7 @@ ghost use Rattle.std.specs.Prelude.{◌≡◌, IfOk, map, string_bytes};
 use kubecel_io::{Finding, Item, Subject, Verdict};
 use std::alloc::{AllocError, Global};
 
-/// An object, and what came of it.
+/// Builds the item of an object with this verdict and these findings.
 pub(crate) fn item_of(
     alloc: Global,
     subject: &Subject<'_>,
@@ -29,7 +29,7 @@ pub(crate) fn item_of(
     })
 }
 
-/// One finding, of the whole thing.
+/// Returns a single finding, which is about the whole thing.
 pub(crate) fn remark(alloc: Global, message: String) -> Result<Vec<Finding>, AllocError>
     ensures { IfOk result (λ v. map finding_view v.items ≡ remark (string_bytes message)) }
 {

@@ -26,15 +26,16 @@ pub use report::ReportFormat;
 use std::alloc::Global;
 use std::io::Write;
 
-/// Does what a command asks for, and answers the exit status.
+/// Runs a command and returns its exit status.
 ///
-/// It is 0 where all that was asked about was judged and holds, or is a policy that doesn't apply, and 1
-/// where all was judged and some rule doesn't hold. Then the files that the command names were read in
-/// order, and nothing else; what came of each thing is what the definitions say of what the files hold;
-/// and this was written to `out` whole, in the form that is asked for. Every other case ends with 2: a
-/// file that can't be read or holds no JSON, a broken definition or policy, an object that couldn't be
-/// judged, nothing to judge, no memory, a failed write. No contract can say that 2 comes in no further
-/// case, since whether there is memory, and whether a write succeeds, is known to no caller.
+/// The status is 0 if everything was judged and holds, or is a policy that doesn't apply, and 1 if
+/// everything was judged and some rule doesn't hold. In both cases exactly the files that the
+/// command names were read, in order; the result of each thing is what the definitions state for
+/// the contents of the files; and the whole report was written to `out`, in the requested form. In
+/// all other cases the status is 2: a file can't be read or isn't JSON, a definition or policy is
+/// malformed, an object couldn't be judged, there is nothing to judge, memory is refused, or a
+/// write fails. No contract can rule out a status of 2 in further cases, since no caller knows
+/// whether there is memory or whether a write succeeds.
 pub fn run<S: Sources, O: Write, E: Write>(
     alloc: Global,
     command: Command<'_, '_>,
@@ -52,7 +53,7 @@ pub fn run<S: Sources, O: Write, E: Write>(
     report_found(alloc, form, found, out, err)
 }
 
-/// What a command finds.
+/// Runs a command up to its report.
 fn found_by<S: Sources, E: Write>(
     alloc: Global,
     command: Command<'_, '_>,

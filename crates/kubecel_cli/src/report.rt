@@ -1,39 +1,39 @@
-//! Telling what a command found.
+//! Writes the report on what a command found.
 ghost use Rattle.kubecel_io.specs.Items.{item_view, items_status};
 ghost use Rattle.kubecel_io.specs.Output.{output_text};
 ghost use Rattle.kubecel_cli.specs.Runs.{IfReport};
 ghost use Rattle.std.specs.Io.KnownBytes.{Appends};
 ghost use Rattle.std.specs.Prelude.{◌≡◌, ◌≤◌, OnOk, map};
 
-use kubecel_io::{Item, Output, Stop, status_of, write_items};
+use kubecel_io::{Item, Output, Refused, Stop, status_of, write_items};
 use std::alloc::Global;
 use std::io;
 use std::io::Write;
 
-/// The status of a run that couldn't judge, or couldn't report.
+/// The exit status of a run that couldn't judge or couldn't report.
 const STOPPED: u8 = 2;
 
-/// How a run reports what it found.
+/// How a run reports its results.
 #[derive(Clone, Copy)]
 pub struct ReportFormat {
     pub output: Output,
-    /// Whether it says on standard error how many objects were judged so far.
+    /// Whether the run reports its progress on standard error.
     pub progress: bool,
 }
 
-/// What a command found.
+/// The results of a command.
 #[derive(Drop)]
 pub(crate) struct Report {
     pub(crate) items: Vec<Item>,
-    /// What the items are.
+    /// What the items are, in the plural.
     pub(crate) noun: &'static str,
-    /// How many rules they were judged by, if that is known.
+    /// The number of rules they were judged by, if known.
     pub(crate) rules: Option<u64>,
-    /// How many objects were compared with an old one, if there are old ones.
+    /// The number of objects that were compared with an old one, if old objects were given.
     pub(crate) compared: Option<u64>,
 }
 
-/// Writes what was found, or why nothing was, and answers the status that stands for it.
+/// Writes the report, or the reason why there is none, and returns the exit status.
 pub(crate) fn report_found<O: Write, E: Write>(
     alloc: Global,
     form: ReportFormat,
@@ -79,7 +79,7 @@ fn write_report<O: Write, E: Write>(
     }
 }
 
-/// Writes all items, and sees that no writer keeps some of them back.
+/// Writes all items and flushes the writer.
 fn write_all<O: Write>(
     alloc: Global,
     form: ReportFormat,
@@ -94,15 +94,16 @@ fn write_all<O: Write>(
     out.flush()
 }
 
-/// Says why nothing was judged.
+/// Writes why nothing was judged.
 fn report_stop<E: Write>(stop: &Stop, err: &mut E) -> io::Result<()> {
     match stop {
-        Stop::Refused(_) => writeln!(err, "kubecel: refused: there is no memory"),
+        Stop::Refused(Refused::Memory) => writeln!(err, "kubecel: out of memory"),
+        Stop::Refused(Refused::TooLarge) => writeln!(err, "kubecel: a text is too large"),
         Stop::Said(why) => writeln!(err, "kubecel: {why}"),
     }
 }
 
-/// Says how much was judged.
+/// Writes a summary: how much was judged.
 fn summarize<E: Write>(report: &Report, err: &mut E) -> io::Result<()> {
     let mut findings = 0usize;
     for item in report.items.as_slice() {

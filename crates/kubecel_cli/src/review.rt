@@ -1,4 +1,4 @@
-//! `review`: what a person should look at in CustomResourceDefinitions.
+//! `review`: reports what a person should look at in CustomResourceDefinitions.
 ghost use Rattle.kube_manifests_review.specs.Candidates as candidates;
 ghost use Rattle.kubecel_io.specs.Subjects.{subject_view};
 ghost use Rattle.kubecel_io.specs.Items.{finding_view, item_view};
@@ -27,10 +27,7 @@ pub(crate) fn reviewed<S: Sources>(
     let documents = read_documents(alloc, crds, files)?;
     let subjects = objects_of(alloc, documents.as_slice())?;
     if subjects.is_empty() {
-        return Err(Stop::Said(String::from_str(
-            alloc,
-            "there is no CustomResourceDefinition to review",
-        )?));
+        return Err(Stop::Said(String::from_str(alloc, "no CustomResourceDefinition to review")?));
     }
     Ok(Report {
         items: review_all(alloc, subjects.as_slice())?,
@@ -40,7 +37,7 @@ pub(crate) fn reviewed<S: Sources>(
     })
 }
 
-/// Reviews each.
+/// Reviews each definition.
 fn review_all(alloc: Global, subjects: &[Subject<'_>]) -> Result<Vec<Item>, Refused>
     ensures { IfOk result (λ v. AreItems IsReviewed (map subject_view subjects.now) (map item_view v.items)) }
 {
@@ -51,12 +48,12 @@ fn review_all(alloc: Global, subjects: &[Subject<'_>]) -> Result<Vec<Item>, Refu
     Ok(items)
 }
 
-/// Reviews one.
+/// Reviews a definition.
 fn review(alloc: Global, subject: &Subject<'_>) -> Result<Item, Refused>
     ensures { IfOk result (λ i. IsReviewed (subject_view subject.now) (item_view i)) }
 {
     if !is_crd(subject.value) {
-        let why = "it is no CustomResourceDefinition of apiextensions.k8s.io/v1";
+        let why = "not a CustomResourceDefinition of apiextensions.k8s.io/v1";
         let findings = remark(alloc, String::from_str(alloc, why)?)?;
         return Ok(item_of(alloc, subject, Verdict::NotJudged, findings)?);
     }
@@ -66,7 +63,7 @@ fn review(alloc: Global, subject: &Subject<'_>) -> Result<Item, Refused>
     Ok(item_of(alloc, subject, verdict, findings)?)
 }
 
-/// Pass where nothing was found, else fail.
+/// Returns pass if there are no findings, else fail.
 fn pass_unless(findings: &[Finding]) -> Verdict
     ensures { result ≡ pass_unless (map finding_view findings.now) }
 {
@@ -76,7 +73,7 @@ fn pass_unless(findings: &[Finding]) -> Verdict
     }
 }
 
-/// Findings as they are reported.
+/// Turns the findings of a review into those of a report.
 fn review_findings(alloc: Global, found: &[ReviewFinding]) -> Result<Vec<Finding>, AllocError>
     ensures { IfOk result (λ v. map finding_view v.items
         ≡ map review_finding (map candidates.finding_view found.now)) }
@@ -88,7 +85,7 @@ fn review_findings(alloc: Global, found: &[ReviewFinding]) -> Result<Vec<Finding
     Ok(findings)
 }
 
-/// A finding as it is reported.
+/// Turns a finding of a review into one of a report.
 pub(crate) fn review_finding(alloc: Global, found: &ReviewFinding) -> Result<Finding, AllocError>
     ensures { IfOk result (λ f. finding_view f ≡ review_finding (candidates.finding_view found.now)) }
 {

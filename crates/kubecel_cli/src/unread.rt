@@ -1,4 +1,4 @@
-//! Definitions of which something isn't read: no object is judged by them.
+//! Finds definitions with parts that aren't read: no object is judged by them.
 ghost use Rattle.kube_manifests_review.specs.Candidates as candidates;
 ghost use Rattle.kubecel_io.specs.Subjects.{subject_view};
 ghost use Rattle.kubecel_io.specs.Items.{finding_view, item_view};
@@ -12,7 +12,7 @@ use kube_manifests_review::{ReviewFinding, ReviewKind, review_crd};
 use kubecel_io::{Finding, Item, Refused, Subject, Verdict};
 use std::alloc::{AllocError, Global};
 
-/// The definitions of which something isn't read, in their order, each with what that is.
+/// Returns the definitions with parts that aren't read, in order, each with its findings.
 pub(crate) fn unread_items(alloc: Global, definitions: &[Subject<'_>]) -> Result<Vec<Item>, Refused>
     ensures { IfOk result (λ v. AreUnread (map subject_view definitions.now) (map item_view v.items)) }
 {
@@ -24,7 +24,7 @@ pub(crate) fn unread_items(alloc: Global, definitions: &[Subject<'_>]) -> Result
     Ok(items)
 }
 
-/// What isn't read of a definition.
+/// Returns the findings about parts of a definition that aren't read.
 fn unread_of(alloc: Global, definition: &Subject<'_>) -> Result<Vec<Finding>, Refused>
     ensures { IfOk result (λ v. IsUnread (subject_view definition.now) (map finding_view v.items)) }
 {
@@ -32,7 +32,7 @@ fn unread_of(alloc: Global, definition: &Subject<'_>) -> Result<Vec<Finding>, Re
     Ok(unread_findings(alloc, found.as_slice())?)
 }
 
-/// Those findings that say that something isn't read, as they are reported.
+/// Returns those findings that are about parts that aren't read.
 fn unread_findings(alloc: Global, found: &[ReviewFinding]) -> Result<Vec<Finding>, AllocError>
     ensures { IfOk result (λ v. map finding_view v.items
         ≡ unread_findings (map candidates.finding_view found.now)) }
@@ -59,7 +59,8 @@ fn add_unread(
     Ok(())
 }
 
-/// Whether such a finding says that what stands there isn't read, though it was meant to be.
+/// Reports whether findings of this kind are about something that isn't read, though it was meant
+/// to be.
 fn is_unread(kind: ReviewKind) -> bool
     ensures { result ≡ is_unread kind }
 {
@@ -77,7 +78,7 @@ fn is_unread(kind: ReviewKind) -> bool
     }
 }
 
-/// Puts a definition with what isn't read of it behind others, if that is anything.
+/// Appends a definition with its findings, if it has any.
 fn add_unless_none(
     alloc: Global,
     definition: &Subject<'_>,

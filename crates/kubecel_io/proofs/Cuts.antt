@@ -1,4 +1,4 @@
--- A text that is read a byte at a time.
+-- A text read one byte at a time.
 use Rattle.kubecel_io.specs.Documents.{IsAt, IsFirstRefused, all_read, before, depth_after, documents, ends, is_space, with_documents, with_piece, mode_after, pieces}
 use Rattle.kubecel_io.specs.Faults.{IsFault}
 use Rattle.kubecel_io.specs.declared.cut.Mode.{Mode}
@@ -14,12 +14,12 @@ use Rattle.std.proofs.lemmas.Str.{IsCharBoundary-after_ascii, IsUtf8-drop, IsUtf
 use Rattle.std.specs.List.{list_all}
 use Rattle.std.specs.Str.{IsCharBoundary, IsUtf8}
 
--- a byte behind which a document ends
+-- a byte after which a document ends
 pub byte_ends : (m : Mode) (d : ℕ) (p : List ℕ) (x : ℕ) (xs : List ℕ) → ends m d x ≡ true → pieces m d p (x ∷ xs) ≡ with_piece (p ++ x ∷ []) (pieces Outside 0 [] xs)
 unfolding pieces
 byte_ends m d p x xs e = rw e refl
 
--- one behind which it goes on
+-- a byte after which the document continues
 pub byte_goes : (m : Mode) (d : ℕ) (p : List ℕ) (x : ℕ) (xs : List ℕ) → ends m d x ≡ false
     → pieces m d p (x ∷ xs) ≡ pieces (mode_after m x) (depth_after m d x) (p ++ x ∷ []) xs
 unfolding pieces
@@ -50,9 +50,9 @@ append_nil (d ∷ ds) = ap (λ es. d ∷ es) (append_nil ds)
 pub none_behind : (ds : List Data) → with_documents ds (Some []) ≡ Some ds
 none_behind ds = ap Some (append_nil ds)
 
--- ---- the values of texts behind others
+-- ---- the values of concatenated texts
 
--- the values of texts, and then of others
+-- the values of some texts, followed by those of others
 abbrev joined : Option (List Data) → Option (List Data) → Option (List Data)
 joined xs ys = option_and_then (λ ds. with_documents ds ys) xs
 
@@ -70,7 +70,7 @@ all_behind : (ps qs : List (List ℕ)) → all_read (ps ++ qs) ≡ joined (all_r
 all_behind [] qs = sym (none_before (all_read qs))
 all_behind (p ∷ ps) qs = ap (before (read p)) (all_behind ps qs) ∙ joined_before (read p) (all_read ps) (all_read qs)
 
--- a text whose first refused document this is is no list of documents
+-- a text with a first refused document has no list of documents
 pub none_read : (text b d e : List ℕ) → IsFirstRefused text b d e → documents text ≡ None
 none_read text b d e first =
     let rest = all_read (pieces Outside 0 [] e) in
@@ -98,20 +98,20 @@ shifted p q x xs e = sym (ap (λ r. r ++ xs) e ∙ append_assoc p (x ∷ []) xs)
 
 -- ---- whole characters
 
--- a document ends behind a character of ASCII
+-- a document ends with an ASCII character
 pub ends_ascii : (m : Mode) (d : ℕ) (x : ℕ) → ends m d x ≡ true → x < 128
 ends_ascii Outside d x e = grind (arith, e)
 ends_ascii Within d x e = absurd cc
 ends_ascii Escaped d x e = absurd cc
 
--- behind such a character a text may be cut
+-- a text may be cut after an ASCII character
 cut_behind : (p : List ℕ) (x : ℕ) (xs : List ℕ) → x < 128 → IsUtf8 (p ++ x ∷ xs) → IsCharBoundary (p ++ x ∷ xs) (length p + 1)
 cut_behind p x xs ascii whole =
     let at : get_or (p ++ x ∷ xs) (length p) 0 ≡ x = get_or_at p x xs 0 (length p) refl in
     let below : length p < length (p ++ x ∷ xs) = rw (length-append p (x ∷ xs)) (omega arith) in
     IsCharBoundary-after_ascii (p ++ x ∷ xs) (length p) whole below (rw at ascii)
 
--- so what comes before has whole characters, and so has what comes behind
+-- so both parts consist of whole characters
 pub whole_before : (p : List ℕ) (x : ℕ) (xs : List ℕ) → x < 128 → IsUtf8 (p ++ x ∷ xs) → IsUtf8 (p ++ x ∷ [])
 whole_before p x xs ascii whole =
     let first : take (length p + 1) (p ++ x ∷ xs) ≡ p ++ x ∷ [] =
@@ -135,7 +135,7 @@ at_begin text r mode depth piece found whole = record {
   characters = rw piece whole;
 }
 
--- the document goes on behind this byte
+-- the document continues after this byte
 pub at_goes : (text : List ℕ) (r s : Reading) (x : ℕ) (rest : List ℕ) → ends r.mode r.depth x ≡ false → s.mode ≡ mode_after r.mode x → s.depth ≡ depth_after r.mode r.depth x
     → s.piece.items ≡ r.piece.items ++ x ∷ [] → s.found ≡ r.found → IsAt text r (x ∷ rest) → IsAt text s rest
 at_goes text r s x rest goes mode depth piece found at = record {
@@ -147,7 +147,7 @@ at_goes text r s x rest goes mode depth piece found at = record {
   characters = subst IsUtf8 (shifted r.piece.items s.piece.items x rest piece) at.characters;
 }
 
--- the document ends behind this byte
+-- the document ends after this byte
 cut_off : (text : List ℕ) (r : Reading) (p : List ℕ) (x : ℕ) (rest xs : List ℕ) → ends r.mode r.depth x ≡ true → p ≡ r.piece.items ++ x ∷ [] → (at : IsAt text r (x ∷ rest))
     → pieces Outside 0 [] (at.before ++ (p ++ xs)) ≡ pieces Outside 0 [] at.before ++ with_piece p (pieces Outside 0 [] xs)
 cut_off text r p x rest xs ended piece at =
@@ -161,7 +161,7 @@ cut_here text r p x rest ended piece at =
     ap (λ q. pieces Outside 0 [] (at.before ++ q)) (sym (append-nil p)) ∙ cut_off text r p x rest [] ended piece at
     ∙ ap (λ qs. pieces Outside 0 [] at.before ++ with_piece p qs) no_pieces
 
--- it was read, and the next one begins
+-- the document was read, and the next one begins
 pub at_ended : (text : List ℕ) (r s : Reading) (p : List ℕ) (x : ℕ) (rest : List ℕ) → ends r.mode r.depth x ≡ true → p ≡ r.piece.items ++ x ∷ []
     → ((rest : List (List ℕ)) → with_documents (map view r.found.items) (all_read (with_piece p rest)) ≡ with_documents (map view s.found.items) (all_read rest))
     → (s.mode ≡ Outside) × (s.depth ≡ 0) × (s.piece.items ≡ []) → IsAt text r (x ∷ rest) → IsAt text s rest
@@ -181,7 +181,7 @@ at_ended text r s p x rest ended piece read begun at =
       characters = subst (λ q. IsUtf8 (q ++ rest)) (sym begun.2) (whole_behind r.piece.items x rest (ends_ascii r.mode r.depth x ended) at.characters);
     }
 
--- it is no JSON
+-- the document isn't JSON
 pub at_refused : (text : List ℕ) (r : Reading) (p : List ℕ) (x : ℕ) (rest : List ℕ) → ends r.mode r.depth x ≡ true → p ≡ r.piece.items ++ x ∷ []
     → (list_all is_space p ≡ false) × (IsUtf8 p → read p ≡ None) → IsAt text r (x ∷ rest) → (b : List ℕ) × IsFirstRefused text b p rest
 at_refused text r p x rest ended piece refused at =
@@ -197,7 +197,7 @@ at_refused text r p x rest ended piece refused at =
       },
     )
 
--- nothing is left
+-- the text is at its end
 cut_last : (text : List ℕ) (r : Reading) → (at : IsAt text r []) → pieces Outside 0 [] text ≡ pieces Outside 0 [] at.before ++ with_piece r.piece.items []
 cut_last text r at =
     ap (pieces Outside 0 []) at.whole ∙ at.cut [] ∙ ap (λ ps. pieces Outside 0 [] at.before ++ ps) (none_left r.mode r.depth r.piece.items)
@@ -224,13 +224,13 @@ at_end_refused text r refused at =
       },
     )
 
--- the next byte
+-- taking the next byte
 pub at_next : (text bytes : List ℕ) (r : Reading) (i : ℕ) → i < length bytes → IsAt text r (drop i bytes) → IsAt text r (get_or bytes i 0 ∷ drop (i + 1) bytes)
 at_next text bytes r i below at =
     let one : suc i ≡ i + 1 = omega arith in
     subst (IsAt text r) (drop-cons bytes i 0 below ∙ ap (λ n. get_or bytes i 0 ∷ drop n bytes) one) at
 
--- where a refused document ends
+-- the offset where a refused document ends
 pub ends_at : (text bytes b d : List ℕ) (n : ℕ) → IsFirstRefused text b d (drop n bytes) → n ≤ length bytes → length bytes ≡ length text → length b + length d ≡ n
 ends_at text bytes b d n first below same =
     let long : length text ≡ length b + (length d + length (drop n bytes)) =

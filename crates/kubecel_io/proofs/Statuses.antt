@@ -1,4 +1,4 @@
--- The status of things one after another.
+-- The exit status of a list of things.
 use Rattle.kubecel_io.specs.Items.{item_view, items_status, verdict_status}
 use Rattle.kubecel_io.specs.declared.item.Item.{Item}
 use Rattle.std.proofs.Common.{◌≡◌, ℕ, ◌+◌, ◌<◌, ◌≤◌, List, length, get_or, drop, map, max, ap, ◌∙◌, sym, arith}

@@ -1,7 +1,7 @@
 -- Trusted by the clauses of kubecel.
--- The JSON documents that stand in a text one after another. RFC 8259 says what one of them is, which bytes
--- are white space (section 2), and how strings end (section 7). A document ends at white space where no
--- bracket is open, at the bracket that closes its first one, or with the text.
+-- The JSON documents that follow one another in a text. RFC 8259 defines what a document is, which
+-- bytes are white space (section 2), and how strings end (section 7). A document ends at white
+-- space outside all brackets, at the bracket that closes its first one, or at the end of the text.
 use Rattle.kubecel_io.specs.declared.cut.Mode.{Mode}
 use Rattle.kubecel_io.specs.declared.cut.Mode.TheVariants.{Outside, Within, Escaped}
 use Rattle.kubecel_io.specs.declared.documents.Reading.{Reading}
@@ -20,33 +20,33 @@ is_space x = x == 32 || (x == 9 || (x == 10 || x == 13))
 abbrev pub opens : ℕ → Bool
 opens x = x == 123 || x == 91
 
--- a closing one
+-- a closing brace or bracket
 abbrev pub closes : ℕ → Bool
 closes x = x == 125 || x == 93
 
--- outside strings, within one, or behind a backslash in one: where the next byte stands
+-- the position of the next byte: outside strings, inside one, or after a backslash in one
 abbrev pub mode_after : Mode → ℕ → Mode
 mode_after Outside x = if x == 34 then Within else Outside
 mode_after Within x = if x == 92 then Escaped else (if x == 34 then Outside else Within)
 mode_after Escaped x = Within
 
--- how many brackets are open behind a byte
+-- the number of open brackets after a byte
 abbrev pub depth_after : Mode → ℕ → ℕ → ℕ
 depth_after Outside depth x = if opens x then depth + 1 else (if closes x then depth - 1 else depth)
 depth_after Within depth x = depth
 depth_after Escaped depth x = depth
 
--- whether a document may end behind a byte
+-- whether a document may end after a byte
 abbrev pub ends : Mode → ℕ → ℕ → Bool
 ends Outside depth x = depth_after Outside depth x == 0 && (closes x || is_space x)
 ends Within depth x = false
 ends Escaped depth x = false
 
--- a piece, which is no document where it is white space alone
+-- adds a piece, unless it is white space only
 abbrev pub with_piece : List ℕ → List (List ℕ) → List (List ℕ)
 with_piece piece rest = if list_all is_space piece then rest else piece ∷ rest
 
--- the texts of the documents, of which the first has begun with this piece
+-- the texts of the documents, the first of which begins with this piece
 unfoldable pub pieces : Mode → ℕ → List ℕ → List ℕ → List (List ℕ)
 pieces mode depth piece [] = with_piece piece []
 pieces mode depth piece (x ∷ xs) =
@@ -56,16 +56,16 @@ pieces mode depth piece (x ∷ xs) =
 abbrev pub before : Option Data → Option (List Data) → Option (List Data)
 before x xs = option_and_then (λ d. option_map (λ ds. d ∷ ds) xs) x
 
--- the values of these texts, none where one of them is no JSON
+-- the values of these texts; none if one of them isn't JSON
 abbrev pub all_read : List (List ℕ) → Option (List Data)
 all_read [] = Some []
 all_read (p ∷ ps) = before (read p) (all_read ps)
 
--- the documents of a text, in order; none where one of them is no JSON
+-- the documents of a text, in order; none if one of them isn't JSON
 abbrev pub documents : List ℕ → Option (List Data)
 documents text = all_read (pieces Outside 0 [] text)
 
--- `document` is the first of a text's documents that is no JSON, with `before` and `behind` around it
+-- `document` is the text's first document that isn't JSON, with `before` and `behind` around it
 pub record IsFirstRefused (text before document behind : List ℕ) : Type 0 where
   pub whole : text ≡ before ++ (document ++ behind)
   pub cut : pieces Outside 0 [] text ≡ pieces Outside 0 [] before ++ document ∷ pieces Outside 0 [] behind
@@ -74,11 +74,11 @@ pub record IsFirstRefused (text before document behind : List ℕ) : Type 0 wher
 
 -- ---- for private clauses
 
--- these, and then the others, if there are any
+-- the values in xs followed by those in ys, if there are any
 abbrev pub with_documents : List Data → Option (List Data) → Option (List Data)
 with_documents xs ys = option_map (λ zs. xs ++ zs) ys
 
--- a reader that has this left of a text has read the documents before the one that has begun
+-- a reader with this rest of the text to read has read the documents before the current one
 pub record IsAt (text : List ℕ) (r : Reading) (rest : List ℕ) : Type 0 where
   pub before : List ℕ
   pub whole : text ≡ before ++ (r.piece.items ++ rest)

@@ -1,13 +1,13 @@
 -- Trusted by the clauses of kubecel.
--- Texts within XML, and within the commands that GitHub reads from the output of a job. Sources: XML 1.0,
--- sections 2.2 and 2.4; GitHub's documentation, "Workflow commands",
--- and the escapes of its package `@actions/core`.
+-- Escapes of texts in XML, and in the workflow commands that GitHub reads from the output of a job.
+-- Sources: XML 1.0, sections 2.2 and 2.4; GitHub's documentation, "Workflow commands", and the
+-- escapes of its package `@actions/core`.
 use Rattle.kubecel_io.specs.declared.escape.Escape.{Escape}
 use Rattle.kubecel_io.specs.declared.escape.Escape.TheVariants as escape
 use Rattle.std.specs.List.{flat_map}
 use Rattle.std.specs.Prelude.{ℕ, ◌==◌, ◌&&◌, ◌||◌, nat_lt, not, List, [], ◌∷◌, Bool, if◌then◌else◌, Option, Some, None, codes}
 
--- a control character that XML doesn't have
+-- a control character that XML doesn't allow
 abbrev pub is_control : ℕ → Bool
 is_control x = nat_lt x 32 && not (x == 9 || (x == 10 || x == 13))
 
@@ -28,7 +28,7 @@ abbrev pub property_escape : ℕ → Option (List ℕ)
 property_escape x =
     if x == 58 then Some (codes "%3A") else (if x == 44 then Some (codes "%2C") else data_escape x)
 
--- what a byte is replaced by, if by anything
+-- the replacement of a byte, if it has one
 abbrev pub escape_of : Escape → ℕ → Option (List ℕ)
 escape_of escape.Xml x = xml_escape x
 escape_of escape.Data x = data_escape x

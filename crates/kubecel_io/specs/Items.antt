@@ -1,19 +1,19 @@
 -- Trusted by the clauses of kubecel.
--- What is reported of each thing that was judged, and the status that stands for all of them.
+-- The report on each thing that was judged, and the exit status of all of them.
 use Rattle.kubecel_io.specs.declared.item.Finding.{Finding}
 use Rattle.kubecel_io.specs.declared.item.Item.{Item}
 use Rattle.kubecel_io.specs.declared.item.Verdict.{Verdict}
 use Rattle.kubecel_io.specs.declared.item.Verdict.TheVariants.{Pass, Skip, Fail, NotJudged}
 use Rattle.std.specs.Prelude.{ℕ, List, [], ◌∷◌, ◌++◌, map, codes, max, string_bytes}
 
--- one thing that was found
+-- something that a report states about a thing
 pub record FindingData : Type 0 where
   pub location : List ℕ
   pub rule : List ℕ
   pub message : List ℕ
 
--- one thing: the file where it stands, how many documents stand before it there, its kind,
--- namespace and name (empty where it has none)
+-- one thing: its file, the index of its document there, its kind, namespace and name (empty if it
+-- has none), its verdict and findings
 pub record ItemData : Type 0 where
   pub file : List ℕ
   pub index : ℕ
@@ -23,28 +23,28 @@ pub record ItemData : Type 0 where
   pub verdict : Verdict
   pub findings : List FindingData
 
--- ---- statuses
+-- ---- exit statuses
 
--- 0: it holds, or doesn't apply; 1: some rule doesn't hold; 2: it couldn't be judged
+-- 0: it holds or doesn't apply; 1: some rule doesn't hold; 2: it couldn't be judged
 abbrev pub verdict_status : Verdict → ℕ
 verdict_status Pass = 0
 verdict_status Skip = 0
 verdict_status Fail = 1
 verdict_status NotJudged = 2
 
--- the greatest
+-- the greatest exit status
 unfoldable pub items_status : List ItemData → ℕ
 items_status [] = 0
 items_status (i ∷ is) = max (verdict_status i.verdict) (items_status is)
 
--- ---- how it is named
+-- ---- names of things
 
--- the first text and a mark where that isn't empty, and then the other
+-- the two texts with a mark between them; the second alone if the first is empty
 abbrev pub prefixed_text : List ℕ → List ℕ → List ℕ → List ℕ
 prefixed_text [] mark text = text
 prefixed_text (b ∷ bs) mark text = (b ∷ bs) ++ (mark ++ text)
 
--- the first text, and a mark and the other where that isn't empty
+-- the two texts with a mark between them; the first alone if the second is empty
 abbrev pub suffixed_text : List ℕ → List ℕ → List ℕ → List ℕ
 suffixed_text text mark [] = text
 suffixed_text text mark (b ∷ bs) = text ++ (mark ++ (b ∷ bs))
@@ -53,15 +53,15 @@ abbrev pub kind_or_document : List ℕ → List ℕ
 kind_or_document [] = codes "document"
 kind_or_document (b ∷ bs) = b ∷ bs
 
--- KIND NAMESPACE/NAME
+-- `KIND NAMESPACE/NAME`
 abbrev pub title : ItemData → List ℕ
 title i = suffixed_text (kind_or_document i.kind) (codes " ") (prefixed_text i.namespace (codes "/") i.name)
 
--- PLACE: MESSAGE
+-- `PLACE: MESSAGE`
 abbrev pub finding_text : FindingData → List ℕ
 finding_text f = prefixed_text f.location (codes ": ") f.message
 
--- ---- what the code's values stand for
+-- ---- views of the code's values
 
 abbrev pub finding_view : Finding → FindingData
 finding_view f = record {

@@ -1,5 +1,5 @@
 -- Trusted by the clauses of kubecel.
--- What is written as JSON: an array with an object for each thing.
+-- Reports as JSON: an array with an object for each thing.
 use Rattle.kubecel_io.specs.Items.{FindingData, ItemData}
 use Rattle.kubecel_io.specs.Lines.{number_member, verdict_word}
 use Rattle.serde_json.specs.Data.{string}
@@ -7,21 +7,21 @@ use Rattle.serde_json.specs.Written.{compact_text}
 use Rattle.std.specs.List.{flat_map}
 use Rattle.std.specs.Prelude.{ℕ, List, [], ◌∷◌, ◌++◌, codes}
 
--- a JSON string
+-- a text as a JSON string
 unfoldable pub json_string : List ℕ → List ℕ
 json_string text = compact_text (string text)
 
--- a member of an object
+-- the text `head`, which ends before the member's value, and the value
 unfoldable pub text_member : List ℕ → List ℕ → List ℕ
 text_member head text = head ++ json_string text
 
 unfoldable pub json_finding : FindingData → List ℕ
 json_finding f =
-    text_member (codes "{\"place\":") f.location
+    text_member (codes "{\"location\":") f.location
     ++ (text_member (codes ",\"rule\":") f.rule
     ++ (text_member (codes ",\"message\":") f.message ++ codes "}"))
 
--- with a comma between two
+-- a finding after the first, with the comma before it
 abbrev pub later_finding : FindingData → List ℕ
 later_finding f = codes ",\n" ++ json_finding f
 
@@ -29,7 +29,7 @@ abbrev pub json_findings : List FindingData → List ℕ
 json_findings [] = []
 json_findings (f ∷ fs) = json_finding f ++ flat_map later_finding fs
 
--- what an object says before its findings
+-- the members of an object that precede its findings
 unfoldable pub json_head : ItemData → List ℕ
 json_head i =
     text_member (codes "{\"file\":") i.file

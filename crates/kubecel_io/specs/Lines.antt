@@ -1,5 +1,5 @@
 -- Trusted by the clauses of kubecel.
--- What is written of each thing as text, as GitHub's annotations, and as test cases of JUnit.
+-- Reports as text, as GitHub's annotations, and as JUnit test cases.
 use Rattle.kubecel_io.specs.Escapes.{escaped_text}
 use Rattle.kubecel_io.specs.Items.{FindingData, ItemData, title, finding_text}
 use Rattle.kubecel_io.specs.declared.escape.Escape.TheVariants as escape
@@ -14,30 +14,30 @@ verdict_word Skip = codes "skip"
 verdict_word Fail = codes "fail"
 verdict_word NotJudged = codes "not judged"
 
--- a text with a number behind it
+-- a text followed by a number
 unfoldable pub number_member : List ℕ → ℕ → List ℕ
 number_member head n = head ++ decimal n
 
 -- ---- text
 
--- green, blue, red, yellow
+-- the colours: green, blue, red, yellow
 abbrev pub colour : Verdict → List ℕ
 colour Pass = codes "\u{1b}[32m"
 colour Skip = codes "\u{1b}[34m"
 colour Fail = codes "\u{1b}[31m"
 colour NotJudged = codes "\u{1b}[33m"
 
--- the word of a verdict, in its colour if colours are asked for
+-- the word of a verdict, in its colour if colours are requested
 abbrev pub coloured_word : Bool → Verdict → List ℕ
 coloured_word false v = verdict_word v
 coloured_word true v = colour v ++ (verdict_word v ++ codes "\u{1b}[0m")
 
--- FILE, or FILE[INDEX] where it isn't the first document there
+-- `FILE`, or `FILE[INDEX]` unless it is the first document there
 abbrev pub location : List ℕ → ℕ → List ℕ
 location file zero = file
 location file (suc n) = file ++ (codes "[" ++ (decimal (suc n) ++ codes "]"))
 
--- VERDICT KIND NAMESPACE/NAME (FILE), and below it what was found
+-- `VERDICT KIND NAMESPACE/NAME (FILE)`, followed by the findings, one a line
 abbrev pub text_finding : FindingData → List ℕ
 text_finding f = codes "  " ++ (finding_text f ++ codes "\n")
 
@@ -68,7 +68,7 @@ github_item i = flat_map (github_finding i) i.findings
 
 -- ---- JUnit
 
--- the element that says what came of a test case
+-- the element of a test case that holds the findings
 abbrev pub element : Verdict → List ℕ
 element Pass = codes "system-out"
 element Skip = codes "skipped"
@@ -78,11 +78,11 @@ element NotJudged = codes "error"
 abbrev pub junit_finding : FindingData → List ℕ
 junit_finding f = escaped_text escape.Xml (finding_text f) ++ codes "\n"
 
--- what stands before a text, and the text within quotation marks
+-- the text `head`, then a text escaped for XML
 unfoldable pub xml_member : List ℕ → List ℕ → List ℕ
 xml_member head text = head ++ escaped_text escape.Xml text
 
--- a test case before what was found, and behind it
+-- the parts of a test case before and after its findings
 unfoldable pub junit_open : ItemData → List ℕ
 junit_open i =
     xml_member (codes "<testcase classname=\"") i.file

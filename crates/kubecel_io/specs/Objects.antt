@@ -1,7 +1,7 @@
 -- Trusted by the clauses of kubecel.
--- Which objects a document holds, what they are called, and which old object one of them was before. Sources:
--- Kubernetes API conventions, "Types (Kinds)" (lists), "Metadata"; Kubernetes documentation,
--- "API groups and versioning".
+-- The objects in a document, their identities, and the old object that has an object's identity.
+-- Sources: Kubernetes API conventions, "Types (Kinds)" (lists), "Metadata"; Kubernetes
+-- documentation, "API groups and versioning".
 use Rattle.kubecel_io.specs.Reads.{Found}
 use Rattle.kubecel_io.specs.declared.objects.Identity.{Identity}
 use Rattle.serde_json.specs.Data.{Data, Items, no_items, item}
@@ -11,18 +11,18 @@ use Rattle.std.specs.Prelude.{ℕ, ◌==◌, ◌&&◌, List, [], ◌∷◌, map,
 use Rattle.std.specs.Option.{option_map_or}
 use Rattle.std.specs.Str.{bytes_eq}
 
--- a string in a member, empty where there is none
+-- the string in a member, empty if there is none
 abbrev pub text_at : List ℕ → Data → List ℕ
 text_at key d = unwrap_or (option_and_then as_str (get key d)) []
 
--- one in a member of `metadata`
+-- the string in a member of `metadata`, empty if there is none
 abbrev pub metadata_at : List ℕ → Data → List ℕ
 metadata_at key d =
     unwrap_or (option_and_then as_str (option_and_then (get key) (get (codes "metadata") d))) []
 
 -- ---- lists
 
--- the items of a list: of an object whose kind ends in `List`, with an array in `items`
+-- the items of a list: an object whose kind ends in `List`, with an array in `items`
 abbrev pub list_items : Data → Option Items
 list_items d =
     if ends_with nat_eq (text_at (codes "kind") d) (codes "List")
@@ -32,24 +32,24 @@ abbrev pub each_item : Items → List Data
 each_item no_items = []
 each_item (item d ds) = d ∷ each_item ds
 
--- the objects of a document: the items of a list, or the document itself
+-- the objects of a document: its items if it is a list, otherwise the document itself
 abbrev pub objects_in : Data → List Data
 objects_in d = option_map_or each_item (list_items d) (d ∷ [])
 
--- an object of a document, with where the document stands
+-- an object of a document, with the document's file and index
 abbrev pub object_of : Found → Data → Found
 object_of f d = record { file = f.file; index = f.index; value = d }
 
 abbrev pub objects_of : Found → List Found
 objects_of f = map (object_of f) (objects_in f.value)
 
--- those of documents one after another
+-- the objects of all documents, in order
 abbrev pub all_objects : List Found → List Found
 all_objects fs = flat_map objects_of fs
 
--- ---- names
+-- ---- identities
 
--- the group in an apiVersion, `GROUP/VERSION` or `VERSION`
+-- the group in an apiVersion of the form `GROUP/VERSION` or `VERSION`
 abbrev pub group_in : List ℕ → List ℕ
 group_in text =
     if nat_lt (position_or_len (λ b. b == 47) text) (length text)
@@ -74,11 +74,11 @@ is_same a b =
     bytes_eq a.name b.name && (bytes_eq a.namespace b.namespace
     && (bytes_eq a.kind b.kind && bytes_eq a.group b.group))
 
--- the first of these objects that has the identity of that one
+-- the first of the old objects that has the object's identity
 abbrev pub old_of : List Data → Data → Option Data
 old_of olds d = find (λ o. is_same (identity_of o) (identity_of d)) olds
 
--- ---- what the code's values stand for
+-- ---- views of the code's values
 
 abbrev pub identity_view : Identity → IdentityData
 identity_view i = record {

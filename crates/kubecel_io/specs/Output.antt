@@ -1,5 +1,5 @@
 -- Trusted by the clauses of kubecel.
--- What is written of all that was judged, in each form of output.
+-- The whole output, in each form.
 use Rattle.kubecel_io.specs.Items.{ItemData, verdict_status}
 use Rattle.kubecel_io.specs.Json.{json_items}
 use Rattle.kubecel_io.specs.Lines.{github_item, junit_item, number_member, text_item}
@@ -8,7 +8,7 @@ use Rattle.kubecel_io.specs.declared.output.Output.TheVariants.{Text, Coloured, 
 use Rattle.std.specs.List.{count_by, flat_map}
 use Rattle.std.specs.Prelude.{ℕ, ◌==◌, List, ◌++◌, true, false, length, codes}
 
--- how many have a verdict with this status
+-- the number of things whose verdict has this exit status
 abbrev pub count_of : ℕ → List ItemData → ℕ
 count_of status is = count_by (λ i. verdict_status i.verdict == status) is
 
@@ -19,7 +19,7 @@ junit_head is =
     ++ (number_member (codes "\" failures=\"") (count_of 1 is)
     ++ (number_member (codes "\" errors=\"") (count_of 2 is) ++ codes "\">\n"))
 
--- all of these things
+-- the report on all these things
 abbrev pub output_text : Output → List ItemData → List ℕ
 output_text Text is = flat_map (text_item false) is
 output_text Coloured is = flat_map (text_item true) is

@@ -1,6 +1,6 @@
 -- Trusted by the clauses of kubecel.
--- What a run of `kubecel` reads: the files that it names, one after another, and the documents that stand in
--- them; or the first file that has none, and what is said of it.
+-- The input of a run of `kubecel`: the files that it names, in order, and the documents in them; or
+-- the first file that can't be read or isn't JSON, and the message about it.
 use Rattle.kubecel_io.specs.Documents.{documents}
 use Rattle.kubecel_io.specs.Faults.{IsFault, fault_text}
 use Rattle.kubecel_io.specs.declared.fault.Fault.{Fault}
@@ -13,7 +13,7 @@ use Rattle.std.specs.declared.io.Error.{Error}
 use Rattle.std.specs.Global.{Global}
 use Rattle.std.specs.Prelude.{◌≡◌, ◌⊎◌, ℕ, ◌+◌, List, [], ◌∷◌, ◌++◌, Option, Some, None, Result, Ok, Err, String, codes, string_bytes}
 
--- what a read gave: a text, or none
+-- the result of a read: a text, or none
 abbrev pub text_seen : Result (String Global) Error → Option (List ℕ)
 text_seen (Ok text) = Some (string_bytes text)
 text_seen (Err e) = None
@@ -24,19 +24,19 @@ pub record Found : Type 0 where
   pub index : ℕ
   pub value : Data
 
--- values of one file, of which the first has this index
+-- the values of one file with their indices, which start at this one
 unfoldable pub with_indices : List ℕ → ℕ → List Data → List Found
 with_indices file n [] = []
 with_indices file n (d ∷ ds) = record { file = file; index = n; value = d } ∷ with_indices file (n + 1) ds
 
 module _ {S : Type 0} (reads : S → List ℕ → Option (List ℕ) → S → Type 0) where
-  -- the file at the path is a text with these documents
+  -- the text of the file at this path consists of these documents
   pub record IsRead (before : S) (path : List ℕ) (values : List Data) (after : S) : Type 0 where
     pub text : List ℕ
     pub given : reads before path (Some text) after
     pub means : documents text ≡ Some values
 
-  -- so were the files at these paths read in order, and nothing else
+  -- the files at these paths were read in order, and nothing else was
   unfoldable pub AreRead : S → List (List ℕ) → List Found → S → Type 0
   AreRead before [] found after = (found ≡ []) × (before ≡ after)
   AreRead before (path ∷ paths) found after =
@@ -44,15 +44,16 @@ module _ {S : Type 0} (reads : S → List ℕ → Option (List ℕ) → S → Ty
       × IsRead before path values between × AreRead between paths rest after
       × (found ≡ with_indices path 0 values ++ rest)
 
-  -- the file at the path has no documents, and these words say why: it can't be read, for a reason of which
-  -- nothing is said, or where it is no JSON
+  -- the file at this path has no documents, and these words say why: it can't be read, for an
+  -- unspecified reason, or it isn't JSON at the given place
   abbrev pub IsUnread : S → List ℕ → List ℕ → S → Type 0
   IsUnread before path words after =
       (reads before path None after × (reason : List ℕ) × (words ≡ path ++ (codes ": " ++ reason)))
       ⊎ ((text : List ℕ) × (fault : Fault) × reads before path (Some text) after × IsFault text fault
       × (words ≡ path ++ (codes ":" ++ fault_text fault)))
 
-  -- the files at the first of these paths were read in order, and the next one has no documents
+  -- the files at the first of these paths were read in order, and the next one can't be read or
+  -- isn't JSON
   pub record Stops (before : S) (paths : List (List ℕ)) (words : List ℕ) (after : S) : Type 0 where
     pub first : List (List ℕ)
     pub path : List ℕ
@@ -63,9 +64,9 @@ module _ {S : Type 0} (reads : S → List ℕ → Option (List ℕ) → S → Ty
     pub are_read : AreRead before first found between
     pub unread : IsUnread between path words after
 
--- ---- what the code's values stand for
+-- ---- views of the code's values
 
--- what is said where a run stops, if anything
+-- the message of a run that stops, if it has one
 abbrev pub words_of : Stop → Option (List ℕ)
 words_of (stop.Refused refused) = None
 words_of (stop.Said words) = Some (string_bytes words)

@@ -1,5 +1,5 @@
 -- Trusted by the clauses of kubecel.
--- What the code's objects stand for.
+-- Views of the objects of documents.
 use Rattle.kubecel_io.specs.Reads.{Found}
 use Rattle.kubecel_io.specs.declared.subject.Subject.{Subject}
 use Rattle.serde_json.specs.View.{view}

@@ -1,19 +1,19 @@
-//! Cutting a text into its documents, a byte at a time.
+//! Cuts a text into its documents, one byte at a time.
 ghost use Rattle.kubecel_io.specs.Documents.{closes, depth_after, ends, is_space, mode_after, opens};
 ghost use Rattle.std.specs.Prelude.{◌≡◌, IfSome};
 
-/// Where a byte stands.
+/// The position of a byte relative to the strings of a document.
 #[derive(Clone, Copy, Drop, PartialEq, Eq)]
 pub enum Mode {
     /// Outside strings.
     Outside,
-    /// Within a string.
+    /// Inside a string.
     Within,
-    /// Behind a backslash in a string.
+    /// After a backslash in a string.
     Escaped,
 }
 
-/// White space of JSON.
+/// Reports whether a byte is JSON white space.
 pub(crate) fn is_space(byte: u8) -> bool
     ensures { result ≡ is_space byte }
 {
@@ -33,7 +33,7 @@ fn closes(byte: u8) -> bool
 }
 
 impl Mode {
-    /// Where the byte behind this one stands.
+    /// Returns the position of the byte that follows `byte`.
     pub(crate) fn after(self, byte: u8) -> Mode
         ensures { result ≡ mode_after self byte }
     {
@@ -46,7 +46,7 @@ impl Mode {
         }
     }
 
-    /// How many brackets are open behind a byte. None where that is no `usize`.
+    /// Returns the number of open brackets after a byte. `None` if it overflows `usize`.
     pub(crate) fn depth_after(self, depth: usize, byte: u8) -> Option<usize>
         ensures { IfSome result (λ n. n ≡ depth_after self depth byte) }
     {
@@ -57,7 +57,8 @@ impl Mode {
         }
     }
 
-    /// Whether a document may end behind a byte that leaves this number of brackets open.
+    /// Reports whether a document may end after a byte. `left` is the number of brackets still
+    /// open.
     pub(crate) fn ends(self, depth: usize, left: usize, byte: u8) -> bool
         requires { left ≡ depth_after self depth byte }
         ensures { result ≡ ends self depth byte }

@@ -1,4 +1,4 @@
-//! The documents of a text.
+//! Reads the documents of a text.
 ghost use Rattle.kubecel_io.specs.Documents.{IsAt, IsFirstRefused, all_read, documents, is_space, with_documents, with_piece};
 ghost use Rattle.kubecel_io.specs.Faults.{IsFault};
 ghost use Rattle.kubecel_io.specs.declared.cut.Mode.TheVariants.{Outside};
@@ -14,19 +14,19 @@ use kube_types_refused::Refused;
 use serde_json::{Error, Value};
 use std::alloc::Global;
 
-/// A text that is being read.
+/// The state of reading a text.
 #[derive(Drop)]
 struct Reading {
     mode: Mode,
-    /// How many brackets are open.
+    /// The number of open brackets.
     depth: usize,
-    /// What was read of the document that has begun.
+    /// The bytes of the current document read so far.
     piece: Vec<u8>,
-    /// The documents that have ended.
+    /// The documents that are complete.
     found: Vec<Value>,
 }
 
-/// Whether a piece is white space alone.
+/// Reports whether a piece consists of white space only.
 fn is_blank(piece: &[u8]) -> bool
     ensures { result ≡ list_all is_space piece.now }
 {
@@ -34,10 +34,10 @@ fn is_blank(piece: &[u8]) -> bool
 }
 
 impl Reading {
-    /// Takes a byte.
+    /// Reads one byte.
     ///
     /// # Errors
-    /// Why the document that ended here is no JSON.
+    /// The parser's error if a document ends here that isn't JSON.
     fn take(&mut self, alloc: Global, byte: u8) -> Result<Result<(), Error>, Refused>
         ensures read { IfOk result (λ r. OnOk r ((text rest : List ℕ)
             → IsAt text self.old (byte ∷ rest) → IsAt text self.new rest)) }
@@ -58,10 +58,10 @@ impl Reading {
         Ok(Ok(()))
     }
 
-    /// Ends the document that has begun, if one has.
+    /// Ends the current document, if one has begun.
     ///
     /// # Errors
-    /// Why it is no JSON.
+    /// The parser's error if the document isn't JSON.
     fn end(&mut self, alloc: Global) -> Result<Result<(), Error>, Refused>
         ensures read { IfOk result (λ r. OnOk r ((rest : List (List ℕ))
             → with_documents (map view self.old.found.items) (all_read (with_piece self.old.piece.items rest))
@@ -86,10 +86,11 @@ impl Reading {
     }
 }
 
-/// The JSON documents that stand in a text one after another.
+/// Parses the JSON documents that follow one another in a text.
 ///
 /// # Errors
-/// Where a document is no JSON.
+/// The place where the first malformed document isn't JSON. [`Refused`] if memory is refused or a
+/// number of open brackets overflows.
 pub fn documents_of(alloc: Global, text: &str) -> Result<Result<Vec<Value>, Fault>, Refused>
     ensures read { IfOk result (λ r. IfOk r (λ v. documents text.now ≡ Some (map view v.items))) }
     ensures refused { IfOk result (λ r. OnErr r (documents text.now ≡ None)) }

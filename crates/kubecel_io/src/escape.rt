@@ -1,4 +1,4 @@
-//! Texts within XML, and within GitHub's commands.
+//! Escapes texts for XML and for GitHub's workflow commands.
 ghost use Rattle.kubecel_io.specs.Escapes.{byte_or, data_escape, escape_of, escaped_text, property_escape, xml_escape};
 ghost use Rattle.std.specs.Io.KnownBytes.{Appends};
 ghost use Rattle.std.specs.Prelude.{◌≡◌, OnOk, option_map};
@@ -6,18 +6,18 @@ ghost use Rattle.std.specs.Prelude.{◌≡◌, OnOk, option_map};
 use std::io;
 use std::io::Write;
 
-/// Where a text stands.
+/// The context that a text is escaped for.
 #[derive(Clone, Copy, Drop)]
 pub(crate) enum Escape {
-    /// In XML, as text or within quotation marks.
+    /// XML, as character data or inside quotation marks.
     Xml,
-    /// Behind `::` of a command.
+    /// The part of a workflow command after `::`.
     Data,
-    /// In a property of a command.
+    /// A property of a workflow command.
     Property,
 }
 
-/// What a byte is replaced by in XML.
+/// The replacement of a byte in XML, if it has one.
 fn xml_escape(byte: u8) -> Option<&'static str>
     ensures { option_map (λ s. s.now) result ≡ xml_escape byte }
 {
@@ -32,7 +32,7 @@ fn xml_escape(byte: u8) -> Option<&'static str>
     }
 }
 
-/// What a byte is replaced by behind `::`.
+/// The replacement of a byte after `::`, if it has one.
 fn data_escape(byte: u8) -> Option<&'static str>
     ensures { option_map (λ s. s.now) result ≡ data_escape byte }
 {
@@ -44,7 +44,7 @@ fn data_escape(byte: u8) -> Option<&'static str>
     }
 }
 
-/// What a byte is replaced by in a property.
+/// The replacement of a byte in a property, if it has one.
 fn property_escape(byte: u8) -> Option<&'static str>
     ensures { option_map (λ s. s.now) result ≡ property_escape byte }
 {
@@ -55,7 +55,7 @@ fn property_escape(byte: u8) -> Option<&'static str>
     }
 }
 
-/// Writes a byte, or what it is replaced by.
+/// Writes a byte, or its replacement.
 fn write_byte<O: Write>(byte: u8, escape: Escape, out: &mut O) -> io::Result<()>
     ensures { OnOk result (Appends (O.contents out.old) (O.contents out.new)
         (byte_or byte (escape_of escape byte))) }
@@ -71,7 +71,7 @@ fn write_byte<O: Write>(byte: u8, escape: Escape, out: &mut O) -> io::Result<()>
     }
 }
 
-/// Writes a text with what has to be replaced in it.
+/// Writes a text, with the bytes replaced that must be.
 pub(crate) fn write_escaped<O: Write>(text: &str, escape: Escape, out: &mut O) -> io::Result<()>
     ensures { OnOk result (Appends (O.contents out.old) (O.contents out.new) (escaped_text escape text.now)) }
 {

@@ -1,4 +1,4 @@
-//! Where a text is no JSON.
+//! Locates the place where a text isn't JSON.
 ghost use Rattle.kubecel_io.specs.Documents.{IsFirstRefused};
 ghost use Rattle.kubecel_io.specs.Faults.{IsFault, column_behind, fault_text, fault_words, line_behind};
 ghost use Rattle.std.specs.Prelude.{◌≡◌, ◌≤◌, ◌+◌, ℕ, List, Some, length};
@@ -6,18 +6,19 @@ ghost use Rattle.std.specs.Prelude.{◌≡◌, ◌≤◌, ◌+◌, ℕ, List, So
 use serde_json::Error;
 use std::fmt;
 
-/// Where a text is no JSON: within the first of its documents that isn't, or right behind that.
+/// The place where a text isn't JSON: within its first malformed document, or right after it.
 #[derive(Clone, Copy, Drop)]
 pub struct Fault {
-    /// The line, from 1 on.
+    /// The line, counted from 1.
     pub line: usize,
-    /// The byte of the line, from 1 on.
+    /// The byte in the line, counted from 1.
     pub column: usize,
-    /// Whether the text ends within a document.
+    /// Whether the text ends before the document does.
     pub is_cut: bool,
 }
 
-/// The place of the byte behind a text: its line, and which byte of the line it is, each from 1 on.
+/// Returns the place of the byte that follows a text: its line, and its position in bytes in that
+/// line, both counted from 1.
 fn place_behind(text: &[u8]) -> (usize, usize)
     ensures line { result.0 ≡ line_behind text.now }
     ensures column { result.1 ≡ column_behind text.now }
@@ -35,7 +36,8 @@ fn place_behind(text: &[u8]) -> (usize, usize)
     (line, column)
 }
 
-/// The offset of a place in a text, or the text's end where it has no such place.
+/// Returns the offset of a line and column in a text, or the end of the text if it has no such
+/// place.
 fn offset_of(text: &[u8], line: usize, column: usize) -> usize
     ensures { result ≤ length text.now }
 {
@@ -52,7 +54,8 @@ fn offset_of(text: &[u8], line: usize, column: usize) -> usize
         .min(text.len())
 }
 
-/// Where a document that ends here is no JSON, from what its reader says of it.
+/// Returns the place where a malformed document isn't JSON, given the parser's error. The document
+/// ends at the offset `end` of the text.
 pub(crate) fn fault_in(text: &[u8], document: &[u8], end: usize, error: &Error) -> Fault
     ensures { (before behind : List ℕ) → IsFirstRefused text.now before document.now behind
         → length before + length document.now ≡ end → IsFault text.now result }
@@ -68,14 +71,14 @@ pub(crate) fn fault_in(text: &[u8], document: &[u8], end: usize, error: &Error) 
     }
 }
 
-/// What is wrong, in words.
+/// Returns a description of the fault.
 fn fault_words(is_cut: bool) -> &'static str
     ensures { result.now ≡ fault_words is_cut }
 {
     if is_cut {
-        "the JSON ends too early"
+        "unexpected end of JSON"
     } else {
-        "this is no JSON"
+        "invalid JSON"
     }
 }
 

@@ -1,54 +1,54 @@
-//! What is reported of each thing that was judged.
+//! The report on each thing that was judged.
 ghost use Rattle.kubecel_io.specs.Items.{finding_view, suffixed_text, item_view, items_status, kind_or_document, prefixed_text, title, finding_text, verdict_status};
 ghost use Rattle.kubecel_io.specs.Lines.{colour, element, level, location, verdict_word};
 ghost use Rattle.std.specs.Prelude.{◌≡◌, ◌≤◌, IfOk, map, max, string_bytes};
 
 use std::alloc::{AllocError, Global};
 
-/// What came of a thing that was to be judged.
+/// The result of judging a thing.
 #[derive(Clone, Copy, Drop)]
 pub enum Verdict {
     /// All rules hold.
     Pass,
-    /// It is a policy that doesn't apply.
+    /// It is a policy that doesn't apply to the request.
     Skip,
-    /// Some rule doesn't hold.
+    /// At least one rule doesn't hold.
     Fail,
     /// It couldn't be judged.
     NotJudged,
 }
 
-/// One thing that was found.
+/// Something that a report states about a thing.
 #[derive(Drop)]
 pub struct Finding {
-    /// Where in the thing, empty at its root.
+    /// The place within the thing. Empty for its root.
     pub location: String,
-    /// The text of the rule that it is about, empty if it is about none.
+    /// The source of the rule that it is about. Empty if it isn't about a rule.
     pub rule: String,
-    /// What there is to say.
+    /// The message.
     pub message: String,
 }
 
-/// A thing that was to be judged, and what came of it.
+/// A thing that was to be judged, with the result.
 #[derive(Drop)]
 pub struct Item {
     /// The path of its file.
     pub file: String,
-    /// How many documents stand before it in the file.
+    /// The index of its document in the file, counted from 0.
     pub index: usize,
-    /// Its kind, empty where it has none.
+    /// Its kind. Empty if it has none.
     pub kind: String,
-    /// Its namespace, empty where it has none.
+    /// Its namespace. Empty if it has none.
     pub namespace: String,
-    /// Its name, empty where it has none.
+    /// Its name. Empty if it has none.
     pub name: String,
     pub verdict: Verdict,
-    /// What was found: why it fails or couldn't be judged, or what else there is to say.
+    /// The findings: why it fails or couldn't be judged, or remarks.
     pub findings: Vec<Finding>,
 }
 
 impl Verdict {
-    /// The exit status that stands for it.
+    /// The exit status for this verdict.
     pub(crate) fn status(self) -> u8
         ensures value { result ≡ verdict_status self }
         ensures within { result ≤ 2 }
@@ -71,7 +71,7 @@ impl Verdict {
         }
     }
 
-    /// What a terminal shows it in: green, blue, red, yellow.
+    /// The terminal's escape sequence for its colour: green, blue, red, yellow.
     pub(crate) fn colour(self) -> &'static str
         ensures { result.now ≡ colour self }
     {
@@ -83,7 +83,7 @@ impl Verdict {
         }
     }
 
-    /// GitHub's word for a line about it.
+    /// The level of GitHub's annotations for this verdict.
     pub(crate) fn level(self) -> &'static str
         ensures { result.now ≡ level self }
     {
@@ -93,7 +93,7 @@ impl Verdict {
         }
     }
 
-    /// JUnit's element for what was found.
+    /// The JUnit element that holds the findings.
     pub(crate) fn element(self) -> &'static str
         ensures { result.now ≡ element self }
     {
@@ -112,8 +112,8 @@ fn greater(first: u8, second: u8) -> u8
     if first < second { second } else { first }
 }
 
-/// The exit status of a run that judged these: 2 where one couldn't be judged,
-/// else 1 where one fails, else 0.
+/// Returns the exit status of a run that judged these things: 2 if one couldn't be judged, else 1
+/// if one fails, else 0.
 pub fn status_of(items: &[Item]) -> u8
     ensures value { result ≡ items_status (map item_view items.now) }
     ensures within { result ≤ 2 }
@@ -125,7 +125,7 @@ pub fn status_of(items: &[Item]) -> u8
     status
 }
 
-/// The first text and a mark where it isn't empty, and then the other.
+/// Joins two texts with a mark. Returns the second alone if the first is empty.
 fn prefixed_text(alloc: Global, first: &str, mark: &str, text: &str) -> Result<String, AllocError>
     ensures { IfOk result (λ s. string_bytes s ≡ prefixed_text first.now mark.now text.now) }
 {
@@ -136,7 +136,7 @@ fn prefixed_text(alloc: Global, first: &str, mark: &str, text: &str) -> Result<S
     }
 }
 
-/// The first text, and a mark and the other where that isn't empty.
+/// Joins two texts with a mark. Returns the first alone if the second is empty.
 fn suffixed_text(alloc: Global, text: &str, mark: &str, other: &str) -> Result<String, AllocError>
     ensures { IfOk result (λ s. string_bytes s ≡ suffixed_text text.now mark.now other.now) }
 {
@@ -154,7 +154,7 @@ fn kind_or_document(kind: &str) -> &str
 }
 
 impl Finding {
-    /// `PLACE: MESSAGE`.
+    /// Formats the finding as `PLACE: MESSAGE`.
     pub(crate) fn finding_text(&self, alloc: Global) -> Result<String, AllocError>
         ensures { IfOk result (λ s. string_bytes s ≡ finding_text (finding_view self.now)) }
     {
@@ -163,7 +163,7 @@ impl Finding {
 }
 
 impl Item {
-    /// `KIND NAMESPACE/NAME`.
+    /// Formats the thing's name as `KIND NAMESPACE/NAME`.
     pub(crate) fn title(&self, alloc: Global) -> Result<String, AllocError>
         ensures { IfOk result (λ s. string_bytes s ≡ title (item_view self.now)) }
     {
@@ -172,7 +172,8 @@ impl Item {
         suffixed_text(alloc, kind, " ", name.as_str())
     }
 
-    /// `FILE`, or `FILE[INDEX]` where it isn't the first document there.
+    /// Formats the thing's location as `FILE`, or as `FILE[INDEX]` unless it is in the first
+    /// document.
     pub(crate) fn location(&self, alloc: Global) -> Result<String, AllocError>
         ensures { IfOk result (λ s. string_bytes s ≡ location (string_bytes self.now.file) self.now.index) }
     {

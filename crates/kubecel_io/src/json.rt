@@ -1,4 +1,4 @@
-//! Things as JSON.
+//! Writes reports as JSON.
 ghost use Rattle.kubecel_io.specs.Items.{finding_view, item_view};
 ghost use Rattle.kubecel_io.specs.Json.{json_finding, json_findings, json_head, json_item, json_items, json_list, later_finding, later_item, json_string, text_member};
 ghost use Rattle.std.specs.Io.KnownBytes.{Appends};
@@ -12,7 +12,7 @@ use std::alloc::{AllocError, Global};
 use std::io;
 use std::io::Write;
 
-/// A text as a JSON string.
+/// Returns a text as a JSON string.
 #[tactic(auto, unfolding(crate::specs::Json::json_string))]
 fn json_string(alloc: Global, text: &str) -> Result<String, AllocError>
     ensures { IfOk result (λ s. string_bytes s ≡ json_string text.now) }
@@ -20,7 +20,7 @@ fn json_string(alloc: Global, text: &str) -> Result<String, AllocError>
     Value::String(String::from_str(alloc, text)?).to_string(alloc)
 }
 
-/// Writes a member of an object, from what stands before its text on.
+/// Writes `head`, then a text as a JSON string.
 #[tactic(auto, unfolding(crate::specs::Json::text_member))]
 fn write_member<O: Write>(alloc: Global, head: &str, text: &str, out: &mut O) -> io::Result<()>
     ensures { OnOk result (Appends (O.contents out.old) (O.contents out.new)
@@ -30,7 +30,7 @@ fn write_member<O: Write>(alloc: Global, head: &str, text: &str, out: &mut O) ->
     write!(out, "{head}{text}")
 }
 
-/// Writes things as an array.
+/// Writes things as an array of objects.
 pub(crate) fn write_json_items<O: Write>(
     alloc: Global,
     items: &[Item],
@@ -123,7 +123,7 @@ fn write_json_finding<O: Write>(alloc: Global, finding: &Finding, out: &mut O) -
     ensures { OnOk result (Appends (O.contents out.old) (O.contents out.new)
         (json_finding (finding_view finding.now))) }
 {
-    write_member(alloc, "{\"place\":", finding.location.as_str(), out)?;
+    write_member(alloc, "{\"location\":", finding.location.as_str(), out)?;
     write_member(alloc, ",\"rule\":", finding.rule.as_str(), out)?;
     write_member(alloc, ",\"message\":", finding.message.as_str(), out)?;
     out.write_all(b"}")

@@ -1,5 +1,5 @@
-//! What a run of `kubecel` reads and writes: the JSON documents in the files that it names, and what it
-//! reports of each thing that it judged, in each form of output.
+//! The input and output of `kubecel`: reads the JSON documents in the files that a command names,
+//! and writes the report on each thing that was judged, in each form of output.
 #![tactic(auto)]
 
 mod cut;

@@ -1,4 +1,4 @@
-//! Things as text, as GitHub's annotations, and as test cases of JUnit.
+//! Writes reports as text, as GitHub's annotations, and as JUnit test cases.
 ghost use Rattle.kubecel_io.specs.Items.{finding_view, item_view, title};
 ghost use Rattle.kubecel_io.specs.Lines.{github_finding, github_item, junit_finding, junit_item, junit_open, number_member, coloured_word, text_finding, text_item, xml_member};
 ghost use Rattle.std.specs.Io.KnownBytes.{Appends};
@@ -11,7 +11,7 @@ use std::alloc::Global;
 use std::io;
 use std::io::Write;
 
-/// Writes a text with a number behind it.
+/// Writes `head`, then a number.
 #[tactic(auto, unfolding(crate::specs::Lines::number_member))]
 pub(crate) fn write_number<O: Write>(head: &str, number: usize, out: &mut O) -> io::Result<()>
     ensures { OnOk result (Appends (O.contents out.old) (O.contents out.new)
@@ -20,7 +20,7 @@ pub(crate) fn write_number<O: Write>(head: &str, number: usize, out: &mut O) -> 
     write!(out, "{head}{number}")
 }
 
-/// Writes the word of a verdict and a blank, in its colour if colours are asked for.
+/// Writes the word of a verdict and a blank, in the verdict's colour if `colours` is true.
 fn write_verdict<O: Write>(verdict: Verdict, colours: bool, out: &mut O) -> io::Result<()>
     ensures { OnOk result (Appends (O.contents out.old) (O.contents out.new)
         (coloured_word colours verdict ++ codes " ")) }
@@ -34,7 +34,7 @@ fn write_verdict<O: Write>(verdict: Verdict, colours: bool, out: &mut O) -> io::
     }
 }
 
-/// Writes a thing as text.
+/// Writes the report on a thing as text.
 #[tactic(auto, unfolding(crate::specs::Lines::text_item))]
 pub(crate) fn write_text_item<O: Write>(
     alloc: Global,
@@ -63,7 +63,7 @@ fn write_text_findings<O: Write>(alloc: Global, findings: &[Finding], out: &mut 
     Ok(())
 }
 
-/// Writes a thing as annotations.
+/// Writes the report on a thing as annotations, one for each finding.
 #[tactic(auto, unfolding(crate::specs::Lines::github_item))]
 pub(crate) fn write_github_item<O: Write>(alloc: Global, item: &Item, out: &mut O) -> io::Result<()>
     ensures { OnOk result (Appends (O.contents out.old) (O.contents out.new)
@@ -98,7 +98,7 @@ fn write_github_finding<O: Write>(
     out.write_all(b"\n")
 }
 
-/// Writes a thing as a test case.
+/// Writes the report on a thing as a test case.
 pub(crate) fn write_junit_item<O: Write>(alloc: Global, item: &Item, out: &mut O) -> io::Result<()>
     ensures { OnOk result (Appends (O.contents out.old) (O.contents out.new)
         (junit_item (item_view item.now))) }
@@ -109,7 +109,7 @@ pub(crate) fn write_junit_item<O: Write>(alloc: Global, item: &Item, out: &mut O
     writeln!(out, "</{element}></testcase>")
 }
 
-/// Writes what stands before what was found.
+/// Writes the part of a test case that precedes its findings.
 #[tactic(auto, unfolding(crate::specs::Lines::junit_open))]
 fn write_junit_open<O: Write>(alloc: Global, item: &Item, out: &mut O) -> io::Result<()>
     ensures { OnOk result (Appends (O.contents out.old) (O.contents out.new)
@@ -122,7 +122,7 @@ fn write_junit_open<O: Write>(alloc: Global, item: &Item, out: &mut O) -> io::Re
     write!(out, "\"><{element}>")
 }
 
-/// Writes what stands before a text, and the text within quotation marks.
+/// Writes `head`, then a text escaped for XML.
 #[tactic(auto, unfolding(crate::specs::Lines::xml_member))]
 fn write_member<O: Write>(head: &str, text: &str, out: &mut O) -> io::Result<()>
     ensures { OnOk result (Appends (O.contents out.old) (O.contents out.new) (xml_member head.now text.now)) }

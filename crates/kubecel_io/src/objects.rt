@@ -1,4 +1,4 @@
-//! The objects of a document, and what they are called.
+//! The objects of a document, and their identities.
 ghost use Rattle.kubecel_io.specs.Objects.{group_in, identity_of, identity_view, is_same, list_items, metadata_at, objects_in, text_at};
 ghost use Rattle.serde_json.specs.View.{items_view, view};
 ghost use Rattle.std.specs.List.{ends_with};
@@ -7,7 +7,7 @@ ghost use Rattle.std.specs.Prelude.{◌≡◌, map, nat_eq, option_map};
 use serde_json::Value;
 use std::slice;
 
-/// What distinguishes objects.
+/// The names that identify an object.
 #[derive(Clone, Copy)]
 pub struct Identity<'v> {
     pub group: &'v str,
@@ -16,7 +16,7 @@ pub struct Identity<'v> {
     pub name: &'v str,
 }
 
-/// The string in a member, empty where there is none.
+/// The string in a member. Empty if there is none.
 fn text_at<'v>(value: &'v Value, key: &str) -> &'v str
     ensures { result.now ≡ text_at key.now (view value.now) }
 {
@@ -26,7 +26,7 @@ fn text_at<'v>(value: &'v Value, key: &str) -> &'v str
     }
 }
 
-/// The string in a member of `metadata`, empty where there is none.
+/// The string in a member of `metadata`. Empty if there is none.
 fn metadata_at<'v>(value: &'v Value, key: &str) -> &'v str
     ensures { result.now ≡ metadata_at key.now (view value.now) }
 {
@@ -36,7 +36,7 @@ fn metadata_at<'v>(value: &'v Value, key: &str) -> &'v str
     }
 }
 
-/// The group in an apiVersion.
+/// The group in an apiVersion. Empty if it has none.
 fn group_in(text: &str) -> &str
     ensures { result.now ≡ group_in text.now }
 {
@@ -47,7 +47,7 @@ fn group_in(text: &str) -> &str
 }
 
 impl<'v> Identity<'v> {
-    /// What an object is called.
+    /// Returns the identity of an object.
     pub fn of(object: &'v Value) -> Identity<'v>
         ensures { identity_view result ≡ identity_of (view object.now) }
     {
@@ -59,7 +59,7 @@ impl<'v> Identity<'v> {
         }
     }
 
-    /// Whether objects that are called so are the same one.
+    /// Reports whether two identities are those of the same object. The version isn't compared.
     pub fn is_same(&self, other: &Identity<'_>) -> bool
         ensures { result ≡ is_same (identity_view self.now) (identity_view other.now) }
     {
@@ -70,14 +70,13 @@ impl<'v> Identity<'v> {
     }
 }
 
-/// Whether a text ends with another.
 fn has_end(text: &str, end: &str) -> bool
     ensures { result ≡ ends_with nat_eq text.now end.now }
 {
     text.ends_with(end)
 }
 
-/// The items of a list.
+/// The items of a list. `None` if the document isn't one.
 fn list_items(document: &Value) -> Option<&[Value]>
     ensures { option_map (λ v. items_view v.now) result ≡ list_items (view document.now) }
 {
@@ -88,7 +87,7 @@ fn list_items(document: &Value) -> Option<&[Value]>
     }
 }
 
-/// The objects of a document: the items of a list, or the document itself.
+/// Returns the objects of a document: the items if it is a list, otherwise the document itself.
 pub fn objects_in(document: &Value) -> &[Value]
     ensures { map view result.now ≡ objects_in (view document.now) }
 {

@@ -1,4 +1,4 @@
-//! All that was judged, in each form of output.
+//! Writes the report on everything that was judged, in each form of output.
 ghost use Rattle.kubecel_io.specs.Items.{item_view};
 ghost use Rattle.kubecel_io.specs.Lines.{github_item, junit_item, text_item};
 ghost use Rattle.kubecel_io.specs.Output.{count_of, junit_head, output_text};
@@ -19,17 +19,17 @@ use std::io::Write;
 pub enum Output {
     /// Lines for people.
     Text,
-    /// The same, with colours.
+    /// Lines for people, with colours.
     Coloured,
     /// An array of objects.
     Json,
-    /// Annotations of GitHub's workflows.
+    /// Annotations for GitHub's workflows.
     Github,
-    /// A test suite of JUnit.
+    /// A JUnit test suite.
     Junit,
 }
 
-/// Writes all that was judged. The first write that fails ends it.
+/// Writes the report on all these things. Stops at the first write that fails.
 pub fn write_items<O: Write>(
     alloc: Global,
     output: Output,
@@ -98,14 +98,14 @@ fn write_junit_head<O: Write>(items: &[Item], out: &mut O) -> io::Result<()>
     out.write_all(b"\">\n")
 }
 
-/// How many there are.
+/// Returns the number of things.
 fn count(items: &[Item]) -> usize
     ensures { result ≡ length (map item_view items.now) }
 {
     items.len()
 }
 
-/// How many have a verdict with this status.
+/// Returns the number of things whose verdict has this exit status.
 fn count_of(items: &[Item], status: u8) -> usize
     ensures { result ≡ count_of status (map item_view items.now) }
 {

@@ -1,4 +1,4 @@
-//! The files that a command names.
+//! Reads the files that a command names.
 ghost use Rattle.kubecel_io.specs.Reads.{AreRead, IsRead, IsUnread, Stops, document_view, with_indices, text_seen, words_of};
 ghost use Rattle.kube_types_refused.specs.declared.Refused.TheVariants.{Memory};
 ghost use Rattle.kubecel_io.specs.declared.sources.Stop.TheVariants as variant;
@@ -11,23 +11,24 @@ use serde_json::Value;
 use std::alloc::{AllocError, Global};
 use std::io;
 
-/// The files that a command names.
+/// A source of the files that a command names.
 pub trait Sources {
-    // That a read at a path, from the first state on, may give this text, or none where it can't be read, and
-    // leave the second state. Of real files nothing is promised.
+    // The relation `reads before path text after`: in the state `before`, a read at `path` may
+    // return `text`, or none if the file can't be read, and leave the state `after`. For real files
+    // nothing is promised.
     ghost reads: { Self → List ℕ → Option (List ℕ) → Self → Type 0 } = { λ _ _ _ _. ⊤ };
 
-    /// The text of a file, or why it can't be read.
+    /// Reads the text of a file. The inner error is the reason why it can't be read.
     fn read(&mut self, alloc: Global, path: &str) -> Result<io::Result<String>, Refused>
         ensures { IfOk result (λ text. reads self.old path.now (text_seen text) self.new) };
 }
 
-/// Why a run stops before it has reported what it found.
+/// Why a run stops before it reports anything.
 #[derive(Drop)]
 pub enum Stop {
-    /// There was no memory, or a text is too long.
+    /// Memory was refused, or a text is too long.
     Refused(Refused),
-    /// What is wrong, in words.
+    /// The reason in words.
     Said(String),
 }
 
@@ -52,16 +53,16 @@ impl From<AllocError> for Stop {
 pub struct Document {
     /// The path of the file.
     pub file: String,
-    /// How many documents stand before it in the file.
+    /// Its index in the file, counted from 0.
     pub index: usize,
     pub value: Value,
 }
 
-/// The documents of the files at these paths, which are read in order.
+/// Reads the documents of the files at these paths, in order.
 ///
 /// # Errors
-/// The first file that can't be read or isn't made of JSON documents,
-/// with the place in it where it is no JSON.
+/// The first file that can't be read or that isn't made of JSON documents, with the place where it
+/// isn't JSON.
 pub fn read_documents<S: Sources>(
     alloc: Global,
     paths: &[&str],
@@ -80,7 +81,7 @@ pub fn read_documents<S: Sources>(
     Ok(found)
 }
 
-/// What is said of a file that can't be read.
+/// Returns the message for a file that can't be read.
 fn unreadable(alloc: Global, path: &str, error: &io::Error) -> Result<String, AllocError>
     ensures { IfOk result (λ words. (reason : List ℕ)
         × (string_bytes words ≡ path.now ++ (codes ": " ++ reason))) }
@@ -89,7 +90,7 @@ fn unreadable(alloc: Global, path: &str, error: &io::Error) -> Result<String, Al
     format!(in alloc; "{path}: {reason}")
 }
 
-/// The documents of the file at the path.
+/// Reads the documents of the file at a path.
 fn read_file<S: Sources>(alloc: Global, path: &str, files: &mut S) -> Result<Vec<Value>, Stop>
     ensures read { IfOk result (λ v. IsRead S.reads files.old path.now (map view v.items) files.new) }
     ensures unread { IfErr result (λ stop. IfSome (words_of stop)
@@ -105,7 +106,7 @@ fn read_file<S: Sources>(alloc: Global, path: &str, files: &mut S) -> Result<Vec
     }
 }
 
-/// Puts the documents of a file behind others.
+/// Appends the documents of a file.
 fn add_values(
     alloc: Global,
     file: &str,

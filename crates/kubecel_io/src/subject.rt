@@ -1,4 +1,4 @@
-//! An object of a document.
+//! The objects of documents.
 ghost use Rattle.kubecel_io.specs.Objects.{identity_of, identity_view};
 ghost use Rattle.serde_json.specs.View.{view};
 ghost use Rattle.std.specs.Prelude.{◌≡◌};
@@ -11,10 +11,10 @@ use serde_json::Value;
 pub struct Subject<'d> {
     /// The path of its file.
     pub file: &'d str,
-    /// How many documents stand before its document in the file.
+    /// The index of its document in the file, counted from 0.
     pub index: usize,
     pub value: &'d Value,
-    /// What it is called.
+    /// The names that identify it.
     pub identity: Identity<'d>,
     ghost its_own: { identity_view identity ≡ identity_of (view value.now) },
 }

@@ -1,4 +1,4 @@
-//! The objects of documents, one after another.
+//! Lists the objects of documents.
 ghost use Rattle.kubecel_io.specs.Objects.{all_objects, object_of, objects_in, old_of};
 ghost use Rattle.kubecel_io.specs.Reads.{document_view};
 ghost use Rattle.kubecel_io.specs.Subjects.{subject_view};
@@ -11,7 +11,7 @@ use crate::subject::Subject;
 use serde_json::Value;
 use std::alloc::{AllocError, Global};
 
-/// The objects of documents, one after another.
+/// Returns the objects of all documents, in order.
 pub fn objects_of(alloc: Global, documents: &[Document]) -> Result<Vec<Subject<'_>>, AllocError>
     ensures { IfOk result (λ v. map subject_view v.items ≡ all_objects (map document_view documents.now)) }
 {
@@ -22,7 +22,7 @@ pub fn objects_of(alloc: Global, documents: &[Document]) -> Result<Vec<Subject<'
     Ok(subjects)
 }
 
-/// Puts the objects of a document behind others.
+/// Appends the objects of a document.
 fn add_objects<'d>(
     document: &'d Document,
     subjects: &mut Vec<Subject<'d>>,
@@ -43,7 +43,7 @@ fn add_objects<'d>(
     Ok(())
 }
 
-/// The first of old objects that is the same one as this.
+/// Returns the first of the old objects that has the subject's identity, if any.
 pub fn old_of<'d>(olds: &[Subject<'d>], subject: &Subject<'_>) -> Option<&'d Value>
     ensures { option_map (λ v. view v.now) result
         ≡ old_of (map (λ f. f.value) (map subject_view olds.now)) (subject_view subject.now).value }

@@ -1,4 +1,4 @@
-//! The runs. What the texts stand for is made before the run is made twice.
+//! The runs to measure. What they need from their texts is made before the first of the two.
 
 use crate::measure::twice::make_twice;
 use kube_cel::cel::{Answer, Program};
@@ -10,12 +10,13 @@ use serde_json::Value;
 use std::alloc::Global;
 use std::io;
 
-/// The error of words that name no run, and of texts that nothing can be made of.
+/// Returns the error for input that names no run or has unusable texts.
 pub(crate) fn unusable() -> io::Result<()> {
     Err(io::Error::from(io::ErrorKind::InvalidInput))
 }
 
-/// Reads an expression, reads and executes it, or executes it once it is read.
+/// Compiles an expression (`read`), compiles and executes it (`evaluate`), or executes it after it
+/// was compiled (`execute`).
 pub(crate) fn of_text(rt: &HostRuntime, run: &str, text: &str) -> io::Result<()> {
     let alloc = rt.alloc();
     match run {
@@ -26,7 +27,7 @@ pub(crate) fn of_text(rt: &HostRuntime, run: &str, text: &str) -> io::Result<()>
     }
 }
 
-/// Executes an expression where `l` and `m` are what two other texts mean.
+/// Executes an expression with `l` and `m` bound to the values of two other expressions.
 pub(crate) fn of_bound(rt: &HostRuntime, text: &str, list: &str, map: &str) -> io::Result<()> {
     let mut context: Context<'_> = Context::default(rt.alloc()).with_all();
     for (name, value) in [("l", list), ("m", map)] {
@@ -40,7 +41,8 @@ pub(crate) fn of_bound(rt: &HostRuntime, text: &str, list: &str, map: &str) -> i
     execute(rt, text, &context)
 }
 
-/// Runs with a schema, or with a policy's expression, as JSON, and with an object as JSON or a rule.
+/// Makes a run that needs a JSON text (a schema, or a policy's expression), and an object as JSON
+/// or a rule.
 pub(crate) fn of_schema(rt: &HostRuntime, run: &str, schema: &str, given: &str) -> io::Result<()> {
     if run == "policy" {
         return review(rt, schema, given);
@@ -56,7 +58,7 @@ pub(crate) fn of_schema(rt: &HostRuntime, run: &str, schema: &str, given: &str) 
         return unusable();
     };
     match run {
-        // (nothing: what the other runs take before they begin)
+        // This measures only what the other runs do before they begin.
         "parse" => Ok(()),
         "defaults" => make_twice(rt, |_| apply_defaults(alloc, &schema, &object)),
         "compile" => make_twice(rt, |_| compiled(alloc, &schema)),
@@ -68,7 +70,7 @@ pub(crate) fn of_schema(rt: &HostRuntime, run: &str, schema: &str, given: &str) 
     }
 }
 
-/// What an expression comes to with all functions, none where it isn't read.
+/// Evaluates an expression with all functions. `None` if it doesn't parse.
 fn evaluated(alloc: Global, text: &str) -> Result<Option<Answer>, Refused> {
     let Ok(program) = Program::compile(alloc, text)? else {
         return Ok(None);
@@ -77,7 +79,7 @@ fn evaluated(alloc: Global, text: &str) -> Result<Option<Answer>, Refused> {
     Ok(Some(program.execute(alloc, &context)?))
 }
 
-/// Executes one program in a context.
+/// Executes a program in a context.
 fn execute(rt: &HostRuntime, text: &str, context: &Context<'_>) -> io::Result<()> {
     let Ok(Ok(program)) = Program::compile(rt.alloc(), text) else {
         return unusable();
@@ -85,14 +87,14 @@ fn execute(rt: &HostRuntime, text: &str, context: &Context<'_>) -> io::Result<()
     make_twice(rt, |_| program.execute(rt.alloc(), context))
 }
 
-/// The number of nodes of a compiled schema, and of the errors of its root.
+/// Compiles a schema. Returns the number of its nodes and of the errors of its root.
 fn compiled(alloc: Global, schema: &Value) -> Result<(usize, usize), Refused> {
     let compiled = compile_schema(alloc, schema)?;
     let errors = compiled.compilation_errors(alloc)?.len();
     Ok((compiled.node_count(), errors))
 }
 
-/// Validates an object by one compiled schema.
+/// Validates an object by a schema that was compiled before.
 fn validate_compiled(rt: &HostRuntime, schema: &Value, object: &Value) -> io::Result<()> {
     let Ok(compiled) = compile_schema(rt.alloc(), schema) else {
         return unusable();
@@ -102,7 +104,7 @@ fn validate_compiled(rt: &HostRuntime, schema: &Value, object: &Value) -> io::Re
     })
 }
 
-/// Warns of a rule, by one compiled schema.
+/// Analyzes a rule by a schema that was compiled before.
 fn analyze(rt: &HostRuntime, schema: &Value, rule: &str) -> io::Result<()> {
     let Ok(compiled) = compile_schema(rt.alloc(), schema) else {
         return unusable();
@@ -112,7 +114,7 @@ fn analyze(rt: &HostRuntime, schema: &Value, rule: &str) -> io::Result<()> {
     })
 }
 
-/// Evaluates a policy's expression, which is given as serde writes it, by one evaluator.
+/// Evaluates a policy's expression, given in the form that serde writes, by one evaluator.
 fn review(rt: &HostRuntime, expression: &str, object: &str) -> io::Result<()> {
     let alloc = rt.alloc();
     let Ok(expression) = serde_json::from_str::<VapExpression>(alloc, expression) else {

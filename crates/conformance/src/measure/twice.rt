@@ -1,4 +1,4 @@
-//! A run that is made twice, timed and reported.
+//! Makes a run twice, with timing and a report.
 
 use kube_cel::Refused;
 use kube_cel::cel::PatternBook;
@@ -7,12 +7,13 @@ use std::fmt::Debug;
 use std::io;
 use std::time::Instant;
 
-/// What an answer prints.
+/// Returns what an answer prints.
 fn printed<T: Debug + Drop>(alloc: Global, answer: Result<T, Refused>) -> Result<String, Refused> {
     Ok(format!(in alloc; "{:?}", answer?)?)
 }
 
-/// Makes a run twice, with one book of patterns lent to both, and reports what each came to and took.
+/// Makes a run twice, with one book of patterns lent to both. Prints the result of each and the
+/// time it took.
 pub(crate) fn make_twice<T: Debug + Drop, F: Fn(&mut PatternBook) -> Result<T, Refused>>(
     rt: &HostRuntime,
     run: F,

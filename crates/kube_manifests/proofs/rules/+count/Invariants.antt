@@ -22,7 +22,7 @@ decreases-with_additional l = 2 * count (node_tree l.node.now)
 abbrev pub decreases-with_branches : goal.decreases-with_branches
 decreases-with_branches l = 2 * count (node_tree l.node.now)
 
--- the count, and those of the properties that are left
+-- the count plus that of the remaining properties
 abbrev pub invariant-with_properties-loop-index : goal.invariant-with_properties-loop-index
 invariant-with_properties-loop-index l = (l.all < 2 ^ 64)
     × (saturated_count (l.all + rules_in_named (rest l.index (named_of (node_tree l.node)))) ≡ saturated_count (l.fn.count + rules_in_named (named_of (node_tree l.node))))

@@ -5,7 +5,7 @@ use Rattle.kube_manifests_review.specs.Reviewed.{versions_candidates}
 use Rattle.kube_manifests_review.proofs.document.add_versions.Given as goal
 use Rattle.serde_json.specs.View.{items_view}
 
--- the candidates so far, with those of the versions that are left
+-- the candidates so far, followed by those of the remaining versions
 abbrev pub invariant-loop-index : goal.invariant-loop-index
 invariant-loop-index l = (names : Naming) →
     map candidate_view l.candidates.items ++ versions_candidates names l.index (items_view (drop l.index l.versions))

@@ -15,13 +15,13 @@ decreases-add_maybe l = 2 * l.levels + 1
 abbrev pub decreases-add_branches : goal.decreases-add_branches
 decreases-add_branches l = 2 * l.levels + 1
 
--- what was added, with what is within the properties that are left
+-- the locations so far, followed by those within the remaining properties
 abbrev pub invariant-add_properties-loop-key : goal.invariant-add_properties-loop-key
 invariant-add_properties-loop-key l =
     map location_view l.locations.items ++ named_locations (locations_of l.levels) (string_bytes l.inner) (members_view l.key-iterator)
     ≡ map location_view l.fn.locations.items ++ named_locations (locations_of l.levels) (string_bytes l.inner) (members_view l.initial.key-iterator)
 
--- what was added, with what is within the branches that are left
+-- the locations so far, followed by those within the remaining branches
 abbrev pub invariant-add_branches-loop-index : goal.invariant-add_branches-loop-index
 invariant-add_branches-loop-index l =
     map location_view l.locations.items ++ item_locations (locations_of l.levels) (string_bytes l.inner) l.index (items_view (drop l.index l.item-items))

@@ -3,7 +3,7 @@ use Rattle.cel_syntax_ast.specs.Term.{term, terms_of, pairs_of}
 use Rattle.kube_manifests_review.specs.Nodes.{nodes_of_all, nodes_of_pairs}
 use Rattle.kube_manifests_review.proofs.nodes.+nodes.Given as goal
 
--- the nodes so far, with those of the items that are left
+-- the nodes so far, followed by those of the remaining items
 abbrev pub invariant-add_from_all-loop-item : goal.invariant-add_from_all-loop-item
 invariant-add_from_all-loop-item l =
     map (λ n. term n.now) l.nodes.items ++ nodes_of_all (terms_of (map term (drop l.item-index l.item-items)))

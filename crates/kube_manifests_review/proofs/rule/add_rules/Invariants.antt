@@ -4,7 +4,7 @@ use Rattle.kube_manifests_review.specs.Rules.{rules_candidates}
 use Rattle.kube_manifests_review.proofs.rule.add_rules.Given as goal
 use Rattle.serde_json.specs.View.{items_view}
 
--- the candidates so far, with those of the rules that are left
+-- the candidates so far, followed by those of the remaining rules
 abbrev pub invariant-loop-index : goal.invariant-loop-index
 invariant-loop-index l =
     map candidate_view l.candidates.items ++ rules_candidates l.pointer l.index (items_view (drop l.index l.rules))

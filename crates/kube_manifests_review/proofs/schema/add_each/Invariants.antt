@@ -5,7 +5,7 @@ use Rattle.kube_manifests_review.specs.Locations.{location_view}
 use Rattle.kube_manifests_review.specs.Rules.{location_candidates}
 use Rattle.kube_manifests_review.proofs.schema.add_each.Given as goal
 
--- the candidates so far, with those of the schemas that are left
+-- the candidates so far, followed by those of the remaining schemas
 abbrev pub invariant-loop-location : goal.invariant-loop-location
 invariant-loop-location l =
     map candidate_view l.candidates.items ++ flat_map location_candidates (map location_view (drop l.location-index l.locations))
