@@ -1,4 +1,4 @@
--- What macros make of alike items.
+-- The results of macros over items that are alike.
 use Rattle.std.proofs.Common.{◌≡◌, ℕ, List, [], ◌∷◌, map, length, nat_eq, codes, Bool, true, false, Option, Some, None, Result, Ok, Err, refl, ap, sym, suc, subst, inl, inr}
 use Rattle.cel_semantics.specs.Decisions.{decision, truth}
 use Rattle.cel_semantics.specs.Macros.{macro_name, IterationResult, item_if, image_if, iteration_result_of, with_result, all_results, made_of, macro_of}
@@ -14,7 +14,7 @@ use Rattle.cel_demand.specs.Part.{Part, nothing, whole, each_item, some_members,
 use Rattle.cel_demand.specs.Reads.{kept_part, body_part}
 use Rattle.cel_demand.proofs.Results.{ResultsAlike, results_equal, whole_results, results_then, range_alike, images_alike, lists_equal}
 
--- the part of what an item gives that is read
+-- the part that is read of what an item adds to the result
 abbrev result_part : MacroKind → Part → Part
 result_part All p = nothing
 result_part Exists p = nothing
@@ -73,7 +73,7 @@ listed_again : (vs : List Data) → items_list (items_of vs) ≡ vs
 listed_again [] = refl
 listed_again (v ∷ vs) = ap (λ z. v ∷ z) (listed_again vs)
 
--- a list of such items
+-- a list of items that are alike
 pub list_alike : (p : Part) (vs ws : List Data) → ListsAlike (Alike (in_items p)) vs ws → Alike p (list (items_of vs)) (list (items_of ws))
 list_alike nothing vs ws h = tt
 list_alike whole vs ws h = ap (λ z. list (items_of z)) (lists_equal (Alike whole) (λ v w e. e) vs ws h)
@@ -97,7 +97,7 @@ macro_alike ExistsOne p rs ss gs hs h k = one_alike p gs hs k
 macro_alike Map p rs ss gs hs h k = made_alike p gs hs k
 macro_alike Filter p rs ss gs hs h k = made_alike p gs hs k
 
--- what a macro makes of its items
+-- the result of a macro over its items
 abbrev made_over : MacroKind → (Data → Outcome) → (Data → List Outcome) → List Data → Outcome
 made_over kind body filter items = macro_of kind (map body items) (map (λ d. iteration_result_of kind d (filter d) (body d)) items)
 

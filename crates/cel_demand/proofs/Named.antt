@@ -1,4 +1,4 @@
--- What is alike by the names that are read.
+-- Values that are alike by the names that are read.
 use Rattle.std.proofs.Common.{◌≡◌, ℕ, zero, suc, List, [], ◌∷◌, Bool, true, false, ◌||◌, Option, Some, None, if◌then◌else◌, refl, sym, ap, ◌∙◌, subst, true≢false}
 use Rattle.std.specs.Str.{bytes_eq}
 use Rattle.std.proofs.lemmas.Bool.{false_from_ne_true}
@@ -28,7 +28,7 @@ by_name (member y p ms) g h f =
       by_name ms g h (λ x k. later (bytes_eq y x) p (part_at x ms) (g x) (h x) (f x (or_right (bytes_eq y x) (has_name x ms) k))),
     )
 
--- alike as far as each name is read
+-- alike in what is read of each name
 pub by_reads : (ms : Members) (g h : List ℕ → Option Data) → ((x : List ℕ) → ReadAlike (part_read x ms) (g x) (h x)) → MembersAlike ms g h
 by_reads ms g h f = by_name ms g h (λ x k. subst (λ b. ReadAlike (if b then Some (part_at x ms) else None) (g x) (h x)) k (f x))
 

@@ -1,4 +1,4 @@
--- What is alike in both of two parts is alike in each.
+-- Values that are alike in the union of two parts are alike in each.
 use Rattle.std.proofs.Common.{◌≡◌, ℕ, List, [], ◌∷◌, Bool, true, false, Option, Some, None, if◌then◌else◌, refl, sym, subst, inl, inr}
 use Rattle.std.proofs.lemmas.Slice.Eq.{bytes_eq-Decides}
 use Rattle.std.specs.Str.{bytes_eq}
@@ -33,7 +33,7 @@ maps_case R P f _ _ h = absurd h
 abbrev pub Names : Type 0
 Names = List ℕ → Option Data
 
--- what is alike in the third is alike in the two others
+-- what is related by T is related by R and by S
 abbrev pub Splits : {A : Type 0} → (A → A → Type 0) → (A → A → Type 0) → (A → A → Type 0) → Type 0
 Splits {A = A} R S T = (v w : A) → T v w → R v w × S v w
 
@@ -52,7 +52,7 @@ lists_split R S T f (v ∷ vs) (w ∷ ws) h =
     let ks = lists_split R S T f vs ws h.1 in
     ((k.0, ks.0), (k.1, ks.1))
 
--- where a name is there already, or is not
+-- both cases: the name is already there, or it isn't
 added : (b : Bool) (x y : List ℕ) → (b ≡ true → x ≡ y) → (p q j : Part) → Splits (Alike p) (Alike q) (Alike j) → (ns rest : Members) (g h : Names) → (MembersAlike rest g h → OptionsAlike (Alike p) (g x) (h x) × MembersAlike ns g h) → MembersAlike (if b then member y j ns else member y q rest) g h → OptionsAlike (Alike p) (g x) (h x) × (OptionsAlike (Alike q) (g y) (h y) × MembersAlike ns g h)
 added true x y same p q j f ns rest g h more k =
     let ks = options_split (Alike p) (Alike q) (Alike j) f (g y) (h y) k.0 in
@@ -94,14 +94,14 @@ mutual
       let rs = with_member_alike x p (both p) (both_alike p) ns g h ls.1 in
       ((rs.0, ls.0), rs.1)
 
--- where a name is the one that is bound anew, or is not
+-- both cases: the name is the one that is bound anew, or it isn't
 bound_anew : (b : Bool) (x y : List ℕ) (p : Part) (ms : Members) (v w : Data) (e f : Bindings) → Alike (if b then both p (part_at x ms) else part_at x ms) v w → BoundAlike (if b then without x ms else member y p (without x ms)) e f → OptionsAlike (Alike p) (if b then Some v else binding y e) (if b then Some w else binding y f) × (Alike (part_at x ms) v w × BoundAlike (without x ms) e f)
 bound_anew true x y p ms v w e f a k =
     let us = both_alike p (part_at x ms) v w a in
     (us.0, (us.1, k))
 bound_anew false x y p ms v w e f a k = (k.0, (a, k.1))
 
--- where one more name is bound
+-- with one more name bound
 pub bound_inside : (x : List ℕ) (ms : Members) (v w : Data) (e f : Bindings) → Alike (part_at x ms) v w → BoundAlike (without x ms) e f → BoundAlike ms ((x, v) ∷ e) ((x, w) ∷ f)
 bound_inside x no_members v w e f a k = tt
 bound_inside x (member y p ms) v w e f a k =

@@ -1,4 +1,4 @@
--- Results that are alike, and what becomes of them.
+-- Results that are alike, and further steps on them.
 use Rattle.std.proofs.Common.{◌≡◌, ℕ, List, [], ◌∷◌, map, Option, Some, None, Result, Ok, Err, is_some, refl, ap, subst, inl, inr}
 use Rattle.std.specs.Option.{option_map_or}
 use Rattle.cel_semantics.specs.Members.{selection, has_member}
@@ -11,7 +11,7 @@ use Rattle.cel_demand.specs.Alike.{OptionsAlike, ListsAlike, Alike, MembersAlike
 use Rattle.cel_demand.specs.Part.{Part, nothing, whole, each_item, some_members, no_members, member}
 use Rattle.cel_demand.proofs.Parts.{alike-refl, lists-refl, lists_case, maps_case}
 
--- both values and alike, or both the same error
+-- both values that are alike, or both the same error
 abbrev pub ResultsAlike : {A : Type 0} → (A → A → Type 0) → Result A Fault → Result A Fault → Type 0
 ResultsAlike R (Ok v) (Ok w) = R v w
 ResultsAlike R (Ok v) (Err b) = ⊥
@@ -22,25 +22,25 @@ results-refl : {A : Type 0} (R : A → A → Type 0) → ((v : A) → R v v) →
 results-refl R same (Ok v) = same v
 results-refl R same (Err a) = refl
 
--- the same result is alike in each part
+-- equal results are alike in each part
 pub results_equal : (p : Part) (r s : Outcome) → r ≡ s → ResultsAlike (Alike p) r s
 results_equal p r s e = subst (λ z. ResultsAlike (Alike p) r z) e (results-refl (Alike p) (alike-refl p) r)
 
--- what is alike in whole is the same
+-- results that are alike in the whole are equal
 pub whole_results : (r s : Outcome) → ResultsAlike (Alike whole) r s → r ≡ s
 whole_results (Ok v) (Ok w) h = ap Ok h
 whole_results (Ok v) (Err b) h = absurd h
 whole_results (Err a) (Ok w) h = absurd h
 whole_results (Err a) (Err b) h = ap Err h
 
--- a step after alike results
+-- a step after results that are alike
 pub results_then : {A B : Type 0} (R : A → A → Type 0) (S : B → B → Type 0) (g h : A → Result B Fault) → ((v w : A) → R v w → ResultsAlike S (g v) (h w)) → (r s : Result A Fault) → ResultsAlike R r s → ResultsAlike S (and_then r g) (and_then s h)
 results_then R S g h f (Ok v) (Ok w) k = f v w k
 results_then R S g h f (Ok v) (Err b) k = absurd k
 results_then R S g h f (Err a) (Ok w) k = absurd k
 results_then R S g h f (Err a) (Err b) k = k
 
--- what is there, or else the same error
+-- the value, or the same error if there is none
 pub found_alike : {A : Type 0} (R : A → A → Type 0) (a : Fault) (o q : Option A) → OptionsAlike R o q → ResultsAlike R (option_map_or Ok o (Err a)) (option_map_or Ok q (Err a))
 found_alike R a None None h = refl
 found_alike R a None (Some w) h = absurd h
@@ -67,14 +67,14 @@ has_alike x p v w h = elim h as (λ _. ResultsAlike (Alike p) (has_member (text_
       (λ es fs l. results_equal p (has_member (text_key x) (map_of es)) (has_member (text_key x) (map_of fs)) (ap (λ b. Ok (bool b)) (there_alike (Alike nothing) (find (text_key x) es) (find (text_key x) fs) l.0))) v w k
 ]
 
--- what a macro goes over
+-- the range of a macro
 pub range_alike : (name : List ℕ) (p : Part) (v w : Data) → Alike (each_item p) v w → ResultsAlike (ListsAlike (Alike p)) (range_of name v) (range_of name w)
 range_alike name p v w h = elim h as (λ _. ResultsAlike (ListsAlike (Alike p)) (range_of name v) (range_of name w)) [
   | inl e ↦ subst (λ z. ResultsAlike (ListsAlike (Alike p)) (range_of name v) (range_of name z)) e (results-refl (ListsAlike (Alike p)) (lists-refl (Alike p) (alike-refl p)) (range_of name v))
   | inr k ↦ lists_case (λ ds es. ListsAlike (Alike p) (items_list ds) (items_list es)) (λ v w. ResultsAlike (ListsAlike (Alike p)) (range_of name v) (range_of name w)) (λ ds es l. l) v w k
 ]
 
--- each item's image
+-- the images of items
 pub images_alike : {A B : Type 0} (R : A → A → Type 0) (S : B → B → Type 0) (g h : A → B) → ((v w : A) → R v w → S (g v) (h w)) → (vs ws : List A) → ListsAlike R vs ws → ListsAlike S (map g vs) (map h ws)
 images_alike R S g h f [] [] k = tt
 images_alike R S g h f [] (w ∷ ws) k = absurd k

@@ -1,10 +1,11 @@
--- Parts are a set: an equation between two of them has one proof at most. So a struct can hold such an equation in a ghost field.
+-- Parts form a set: any two proofs of an equation between two of them
+-- are equal. So a struct can hold such an equation in a ghost field.
 use Rattle.std.proofs.Common.{◌≡◌, ℕ, List, [], ◌∷◌, Option, Some, None, refl, ap}
 use Rattle.std.proofs.Math.Nat.{ℕ_set}
 use Rattle.cel_semantics.proofs.Sets.{retract_set, List-set}
 use Rattle.cel_demand.specs.Part.{Part, nothing, whole, each_item, some_members, Members, no_members, member}
 
--- parts and members in one type
+-- parts and members, in one type
 data Plain : Type 0 where
   p_nothing : Plain
   p_whole : Plain
@@ -25,7 +26,7 @@ abbrev mutual
   to_members no_members = p_end
   to_members (member x p ms) = p_member x (to_plain p) (to_members ms)
 
--- back: the part and the members that one stands for
+-- the way back: the part and the members that a value stands for
 abbrev back : Plain → Part × Members
 back p_nothing = (nothing, no_members)
 back p_whole = (whole, no_members)

@@ -1,4 +1,4 @@
--- Members in a list: one more, another demand at a place.
+-- Members in a list: one more member, or another demand at an index.
 use Rattle.std.proofs.Common.{◌≡◌, ℕ, zero, suc, ◌+◌, ◌<◌, ◌≤◌, List, [], ◌∷◌, ◌++◌, Bool, true, false, ◌||◌, map, take, drop, length, get_or, if◌then◌else◌, refl, sym, ap, ◌∙◌, arith, drop-cons, true≢false}
 use Rattle.std.specs.Prelude.{slice_set}
 use Rattle.std.specs.Str.{bytes_eq}
@@ -21,7 +21,7 @@ view_listed : (es : List Entry) → members_view es ≡ listed (map named es)
 view_listed [] = refl
 view_listed (e ∷ es) = ap (member (name_of e) (part_of e.1)) (view_listed es)
 
--- the same names and parts are the same members
+-- lists with the same names and parts have the same view
 pub same_members : (es fs : List Entry) → map named es ≡ map named fs → members_view es ≡ members_view fs
 same_members es fs h = view_listed es ∙ ap listed h ∙ sym (view_listed fs)
 
@@ -38,7 +38,7 @@ added_last x p joined (f ∷ fs) e none name part =
     ap (member (name_of f) (part_of f.1)) (added_last x p joined fs e h.1 name part)
     ∙ ap (λ b. if b then member (name_of f) (joined (part_of f.1)) (members_view fs) else member (name_of f) (part_of f.1) (with_member x p joined (members_view fs))) (sym h.0)
 
--- another demand where a name stands first
+-- another demand at the first member with a name
 pub set_first : (x : List ℕ) (p : Part) (joined : Part → Part) (es : List Entry) (i : ℕ) (e : Entry) (d : Demand) → IsFirst x es i → e ≡ get_or es i e → part_of d ≡ joined (part_of e.1)
     → members_view (slice_set es i (e.0, d)) ≡ with_member x p joined (members_view es)
 set_first x p joined [] i e d first is part = absurd first
@@ -49,14 +49,14 @@ set_first x p joined (f ∷ fs) (suc i) e d first is part =
     ap (member (name_of f) (part_of f.1)) (set_first x p joined fs i e d first.1 is part)
     ∙ ap (λ b. if b then member (name_of f) (joined (part_of f.1)) (members_view fs) else member (name_of f) (part_of f.1) (with_member x p joined (members_view fs))) (sym first.0)
 
--- ---- what stands at a place
+-- ---- the member at an index
 
 pub same_entry : (es : List Entry) (i : ℕ) (e r : Entry) → i < length es → e ≡ get_or es i e → r ≡ get_or es i r → e ≡ r
 same_entry [] i e r lt is at = absurd (omega arith)
 same_entry (f ∷ fs) zero e r lt is at = is ∙ sym at
 same_entry (f ∷ fs) (suc i) e r lt is at = same_entry fs i e r (omega (arith, lt)) is at
 
--- ---- where a name stands first
+-- ---- the first member with a name
 
 or_false : (a b : Bool) → a ≡ false → b ≡ false → (a || b) ≡ false
 or_false true b h k = absurd (true≢false h)
@@ -82,7 +82,7 @@ first_here x (f ∷ fs) (suc i) e lt is none here =
     let h = split_or (bytes_eq x (name_of f)) (is_named x (take i fs)) none in
     (h.0, first_here x fs i e (omega (arith, lt)) is h.1 here)
 
--- ---- the demand at a name
+-- ---- the demand on a name
 
 pub one_before : (es : List Entry) (i j : ℕ) (e : Entry) → i < length es → e ≡ get_or es i e → suc i ≡ j → members_view (drop i es) ≡ member (name_of e) (part_of e.1) (members_view (drop j es))
 one_before es i j e lt is next = ap members_view (drop-cons es i e lt)

@@ -1,5 +1,5 @@
 -- Trusted by the clauses of other library calls.
--- The part that a demand stands for.
+-- The view of a demand: a part.
 use Rattle.std.specs.Prelude.{List, [], ◌∷◌, map, String, string_bytes}
 use Rattle.std.specs.declared.alloc.Global.{Global}
 use Rattle.std.specs.declared.rc.Rc.{Rc}

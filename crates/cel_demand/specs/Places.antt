@@ -1,5 +1,5 @@
 -- Scaffolding: only proofs and private clauses cite it.
--- Where a name stands first among members.
+-- The first member with a name.
 use Rattle.std.specs.Prelude.{◌≡◌, ℕ, zero, suc, List, [], ◌∷◌, Bool, true, false, ◌||◌, String, string_bytes}
 use Rattle.std.specs.Str.{bytes_eq}
 use Rattle.std.specs.declared.alloc.Global.{Global}
@@ -16,7 +16,7 @@ abbrev pub is_named : List ℕ → List Entry → Bool
 is_named x [] = false
 is_named x (e ∷ es) = bytes_eq x (name_of e) || is_named x es
 
--- the first member with this name stands at the place
+-- the first member with this name is at this index
 abbrev pub IsFirst : List ℕ → List Entry → ℕ → Type 0
 IsFirst x [] i = ⊥
 IsFirst x (e ∷ es) zero = bytes_eq x (name_of e) ≡ true

@@ -1,4 +1,4 @@
-//! What one demand or another needs.
+//! The union of demands.
 ghost use Rattle.std.specs.Prelude.{ℕ, List, get_or, ◌≡◌, ◌<◌, false, length, IfSome, IfOk, IfErr, OnOk, MatchOption, option_map, string_bytes};
 ghost use Rattle.cel_demand.specs.Demand.{part_of, members_view};
 ghost use Rattle.cel_demand.specs.Part.{Part, both, both_read, all_members, with_member, part_at, part_read, without, in_items};
@@ -9,7 +9,7 @@ use cel_value::Refused;
 use std::alloc::Global;
 use std::rc::Rc;
 
-/// What one of two demands or the other needs.
+/// Returns what at least one of two demands needs.
 #[cycle(both)]
 pub(crate) fn both(alloc: Global, first: &Demand, second: &Demand) -> Result<Demand, Refused>
     ensures both { IfOk result (λ d. part_of d ≡ both (part_of first.now) (part_of second.now)) }
@@ -37,7 +37,7 @@ pub(crate) fn both(alloc: Global, first: &Demand, second: &Demand) -> Result<Dem
     }
 }
 
-/// The members of both. Where both have one, its demands are joined.
+/// Returns the members of both lists, joining the demands on members that are in both.
 #[cycle(both)]
 fn both_members(
     alloc: Global,
@@ -61,7 +61,7 @@ fn both_members(
     Ok(all)
 }
 
-/// Adds one more member; where it is there, its demand is joined with that one.
+/// Adds a member, or joins its demand with that of the member that is already there.
 pub(crate) fn add_member(
     alloc: Global,
     members: &mut Vec<(Rc<String>, Demand)>,
@@ -83,7 +83,7 @@ pub(crate) fn add_member(
     Ok(())
 }
 
-/// Another demand for a member, whose name stays.
+/// Replaces the demand on the member at an index.
 fn set_demand(members: &mut Vec<(Rc<String>, Demand)>, index: usize, demand: Demand)
     requires { index < length members.old.items }
     ensures { (name : List ℕ) (part : Part) (joined : Part → Part) → IsFirst name members.old.items index
@@ -93,7 +93,7 @@ fn set_demand(members: &mut Vec<(Rc<String>, Demand)>, index: usize, demand: Dem
     members[index].1 = demand;
 }
 
-/// The index at which a name stands first.
+/// The index of the first member with this name; None if there is none.
 fn index_of(members: &Vec<(Rc<String>, Demand)>, name: &str) -> Option<usize>
     ensures first { MatchOption result (is_named name.now members.now.items ≡ false)
         (λ i. IsFirst name.now members.now.items i) }
@@ -107,7 +107,7 @@ fn index_of(members: &Vec<(Rc<String>, Demand)>, name: &str) -> Option<usize>
     None
 }
 
-/// The demand on what a name stands for, as far as these members have it.
+/// Returns the demand that these members put on a name; [`Demand::Nothing`] if it isn't among them.
 pub(crate) fn demand_at(
     alloc: Global,
     name: &str,
@@ -127,10 +127,11 @@ pub(crate) fn demand_at(
     Ok(demand)
 }
 
-/// The demand on what a name stands for, if these members have it.
+/// Returns the demand that these members put on a name; None if it isn't among them.
 ///
 /// # Errors
-/// `Memory` alone.
+///
+/// Only [`Refused::Memory`], if memory is refused.
 pub fn demand_on(
     alloc: Global,
     name: &str,
@@ -147,10 +148,11 @@ pub fn demand_on(
     Ok(Some(demand))
 }
 
-/// What one demand or another needs, where there may be none.
+/// Returns what at least one of two optional demands needs; None if there are none.
 ///
 /// # Errors
-/// `Memory` alone.
+///
+/// Only [`Refused::Memory`], if memory is refused.
 pub fn both_demands(
     alloc: Global,
     first: &Option<Demand>,
@@ -168,7 +170,7 @@ pub fn both_demands(
     }
 }
 
-/// Adds more members, all but those with a name.
+/// Adds more members, except those with this name.
 pub(crate) fn add_others(
     alloc: Global,
     members: &mut Vec<(Rc<String>, Demand)>,
@@ -187,7 +189,7 @@ pub(crate) fn add_others(
     Ok(())
 }
 
-/// The demand on each item, where this is the demand on a list of them.
+/// Returns the demand on each item, from the demand on the list.
 pub(crate) fn in_items(alloc: Global, demand: &Demand) -> Result<Demand, Refused>
     ensures item { IfOk result (λ d. part_of d ≡ in_items (part_of demand.now)) }
     ensures memory { IfErr result (λ e. e ≡ Refused.Memory) }

@@ -7,24 +7,25 @@ use cel_value::Refused;
 use std::alloc::Global;
 use std::rc::Rc;
 
-/// Which part of a value an expression needs.
+/// The part of a value that an expression needs.
 #[derive(Debug, Drop)]
 pub enum Demand {
-    /// Not more than that there is a value.
+    /// Only that the value exists.
     Nothing,
-    /// All of it.
+    /// The whole value.
     Whole,
-    /// How many items a list has, and this part of each of them.
+    /// The number of items of a list, and this part of each of them.
     Items(Box<Demand>),
     /// Which of these members a map has, and these parts of them.
     Members(Vec<(Rc<String>, Demand)>),
 }
 
 impl Demand {
-    /// The same demand once more.
+    /// Returns an equal demand.
     ///
     /// # Errors
-    /// `Memory` alone.
+    ///
+    /// Only [`Refused::Memory`], if memory is refused.
     #[cycle(copies)]
     pub fn copy(&self, alloc: Global) -> Result<Demand, Refused>
         ensures same { IfOk result (λ d. part_of d ≡ part_of self.now) }
@@ -39,7 +40,7 @@ impl Demand {
     }
 }
 
-/// The same members once more.
+/// Returns copies of the members.
 #[cycle(copies)]
 pub(crate) fn copy_members(
     alloc: Global,
@@ -55,7 +56,7 @@ pub(crate) fn copy_members(
     Ok(copies)
 }
 
-/// One member.
+/// Returns a list of one member.
 pub(crate) fn one_member(
     alloc: Global,
     name: &Rc<String>,

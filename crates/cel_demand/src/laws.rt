@@ -1,4 +1,4 @@
-//! Laws of what expressions read, each the contract of a call that does nothing.
+//! Laws of what expressions read, each stated as the contract of a function with an empty body.
 ghost use Rattle.std.specs.Prelude.{◌≡◌, Option};
 ghost use Rattle.cel_patterns.specs.Book.{Book};
 ghost use Rattle.cel_semantics.specs.Bindings.{Bindings};
@@ -10,15 +10,15 @@ ghost use Rattle.cel_demand.specs.Alike.{NamesAlike, ReadAlike};
 ghost use Rattle.cel_demand.specs.Part.{Part, both_read, part_read};
 ghost use Rattle.cel_demand.specs.Reads.{reads_of};
 
-/// What an expression means depends only on what it reads. So of what a name is bound to, only the part that
-/// is read has to be there, and a name that isn't read needn't be bound.
+/// The meaning of an expression depends only on what it reads. So a name needs to be
+/// bound only to the part that is read, and a name that isn't read needn't be bound.
 pub fn meaning_depends_on_what_is_read()
     ensures { (library : Library) (book : Book) (t : Term) (e f : Bindings)
         → NamesAlike (λ x. part_read x (reads_of t)) e f
         → meaning library book t e ≡ meaning library book t f }
 {}
 
-/// What is alike as far as one reads it or another is alike as far as each reads it.
+/// Values that are alike in the union of two parts are alike in each of them.
 pub fn both_reads_are_each()
     ensures { (p q : Option Part) (o r : Option Data)
         → ReadAlike (both_read p q) o r → ReadAlike p o r × ReadAlike q o r }

@@ -1,4 +1,4 @@
-//! What an expression reads of what its free names are bound to.
+//! What an expression reads of the values of its free names.
 ghost use Rattle.std.specs.Prelude.{◌≡◌, IfOk, IfErr, OnOk, map};
 ghost use Rattle.cel_syntax_ast.specs.Term.{term, terms_of, pairs_of};
 ghost use Rattle.cel_demand.specs.Demand.{part_of, members_view};
@@ -12,10 +12,11 @@ use cel_value::Refused;
 use std::alloc::Global;
 use std::rc::Rc;
 
-/// The free names of an expression, each once, with the demand on what it is bound to.
+/// Returns the free names of an expression, each once, with the demands on their values.
 ///
 /// # Errors
-/// `Memory` alone.
+///
+/// Only [`Refused::Memory`], if memory is refused.
 pub fn demands_of(alloc: Global, expr: &Expr) -> Result<Vec<(Rc<String>, Demand)>, Refused>
     ensures names { IfOk result (λ es. members_view es.items ≡ reads_of (term expr.now)) }
     ensures memory { IfErr result (λ e. e ≡ Refused.Memory) }
@@ -25,7 +26,8 @@ pub fn demands_of(alloc: Global, expr: &Expr) -> Result<Vec<(Rc<String>, Demand)
     Ok(names)
 }
 
-/// The demand on each item that a macro puts into its result, on which there is this demand.
+/// Returns the demand on each item that a macro puts
+/// into its result, from the demand on the result.
 fn kept_demand(alloc: Global, kind: MacroKind, demand: &Demand) -> Result<Demand, Refused>
     ensures kept { IfOk result (λ d. part_of d ≡ kept_part kind (part_of demand.now)) }
     ensures memory { IfErr result (λ e. e ≡ Refused.Memory) }
@@ -38,7 +40,7 @@ fn kept_demand(alloc: Global, kind: MacroKind, demand: &Demand) -> Result<Demand
     }
 }
 
-/// The demand on the value of a macro's body.
+/// Returns the demand on the value of a macro's body, from the demand on the macro's result.
 fn body_demand(alloc: Global, kind: MacroKind, demand: &Demand) -> Result<Demand, Refused>
     ensures body { IfOk result (λ d. part_of d ≡ body_part kind (part_of demand.now)) }
     ensures memory { IfErr result (λ e. e ≡ Refused.Memory) }
@@ -51,8 +53,8 @@ fn body_demand(alloc: Global, kind: MacroKind, demand: &Demand) -> Result<Demand
     }
 }
 
-/// The demand on a macro's range: how many items it has, and of each item what the macro keeps and what is
-/// read inside of its variable.
+/// Returns the demand on a macro's range: the number of its items, and of
+/// each item what the macro keeps and what is read of its variable inside.
 fn range_demand(
     alloc: Global,
     kept: &Demand,
@@ -67,7 +69,7 @@ fn range_demand(
     Ok(Demand::Items(Box::new(alloc, both(alloc, kept, &item)?)?))
 }
 
-/// Adds what an expression reads, where there is this demand on its value.
+/// Adds what an expression reads, if this is the demand on its value.
 #[cycle(reads)]
 fn add_reads(
     alloc: Global,
@@ -138,7 +140,7 @@ fn add_reads(
     }
 }
 
-/// Adds what all these read.
+/// Adds what these expressions read.
 #[cycle(reads)]
 fn add_all_reads(
     alloc: Global,
@@ -155,7 +157,7 @@ fn add_all_reads(
     Ok(())
 }
 
-/// Adds what all keys and values read.
+/// Adds what these keys and values read.
 #[cycle(reads)]
 fn add_pair_reads(
     alloc: Global,

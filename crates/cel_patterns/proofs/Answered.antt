@@ -1,4 +1,4 @@
--- What a new answer does to a book, and what an answer says of a search.
+-- How a new answer changes a book, and what an answer tells about a search.
 use Rattle.std.proofs.Common.{◌≡◌, ◌≢◌, ◌↔◌, ℕ, ◌⊎◌, ◌<◌, ◌≤◌, Bool, true, false, cond, List, map, not, Option, Some, None, IfSome, IfOk, IsAscii, All, slice_get, slice_index_or, arith, Result, Ok, Err, OnOk, OnErr, subst, IsSome, IsSomeAnd, is_some, option_map, get_or, refl, sym, ap, ◌∙◌, inl, inr, length, true≢false}
 use Rattle.std.proofs.lemmas.Bool.{cond-true}
 use Rattle.std.proofs.lemmas.Bool.Decides.{nat_tests}
@@ -46,7 +46,7 @@ use Rattle.cel_patterns.proofs.Books.{HoldsForExtensions-here, none_mapped, matc
 same_text : (bs cs : List ℕ) → bytes_eq bs cs ≡ true → bs ≡ cs
 same_text bs cs e = (bytes_eq-Decides bs cs).0 e
 
--- the entry is missing, or it says what is put now
+-- there is no entry, or the same as the new one
 abbrev IsNewOrSame : Option Bool → Option ℕ → Type 0
 IsNewOrSame known slot = (known ≡ None) ⊎ (known ≡ Some (is_some slot))
 
@@ -90,7 +90,7 @@ module _ (m n : Answers) (key : String Global) (w : Option ℕ) (updates : Updat
     ];
   }
 
--- a refused insert changes no entry
+-- a refused insertion changes no entry
 pub same_entries : (m n : Answers) → IsUnchanged m n → (cs : List ℕ) → book_of n cs ≡ book_of m cs
 same_entries m n same cs = ap (λ (es : List (String Global × Option ℕ)). option_map is_some (lookup (is_at (λ k. slice_cmp nat_cmp cs (string_bytes k))) es)) same
 
@@ -129,7 +129,7 @@ built regex text is_source is_default is_read =
 are_bytes : (text : List ℕ) → ((k : ℕ) → get_or text k 0 < 256) → All (λ b. b < 256) text
 are_bytes text h = All-from_get_or (λ b. b < 256) text 0 (λ k _. h k)
 
--- no position of an ASCII text lies inside a character
+-- every position in an ASCII text is between characters
 all_cuts : (text : List ℕ) → IsAscii text → (i : ℕ) → is_boundary text i ≡ true
 unfolding is_boundary
 all_cuts text ascii i = by (slice_get text i) refl

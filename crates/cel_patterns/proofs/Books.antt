@@ -1,11 +1,11 @@
--- Books that extend others, what holds for every extension, and which texts are refused.
+-- Extensions of books, what holds for every extension, and which texts are refused.
 use Rattle.std.proofs.Common.{◌≡◌, ◌↔◌, ℕ, ◌⊎◌, Bool, true, false, List, Option, Some, None, IsSome, option_map, refl, sym, ap, ◌∙◌, inl, inr, true≢false}
 use Rattle.std.proofs.lemmas.Option.{none-some}
 use Rattle.regex.specs.Patterns.{Re}
 use Rattle.cel_patterns.specs.Book.{Book, Extends, IsBook, IsPlain, IsRefused, pattern_of_text, unless_refused, pattern_in, matched_by, found_by}
 use Rattle.cel_patterns.specs.Extensions.{HoldsForExtensions}
 
--- ---- agreeing
+-- ---- extending
 
 pub Extends-refl : (a : Book) → Extends a a
 Extends-refl a = record { keeps = λ text built e. e }
@@ -13,21 +13,21 @@ Extends-refl a = record { keeps = λ text built e. e }
 pub Extends-trans : {a b c : Book} → Extends a b → Extends b c → Extends a c
 Extends-trans h k = record { keeps = λ text built e. h.keeps text built (k.keeps text built e) }
 
--- each book agrees with one that has no entry
+-- each book extends one without entries
 pub Extends-empty : (a empty : Book) → ((text : List ℕ) → empty text ≡ None) → Extends a empty
 Extends-empty a empty h = record { keeps = λ text built e. absurd (none-some built (sym (h text) ∙ e)) }
 
--- ---- settling
+-- ---- holding for extensions
 
--- what is settled stays settled
+-- what holds for the extensions of a book holds for those of a later one
 pub HoldsForExtensions-later : {A : Type 0} {known later : Book} {r : A} {f : Book → A} → Extends later known → HoldsForExtensions known r f → HoldsForExtensions later r f
 HoldsForExtensions-later h s = record { under = λ b a. s.under b (Extends-trans a h) }
 
--- what is settled is so under the book itself
+-- and it holds for the book itself
 pub HoldsForExtensions-here : {A : Type 0} {known : Book} {r : A} {f : Book → A} → HoldsForExtensions known r f → r ≡ f known
 HoldsForExtensions-here {known = known} s = s.under known (Extends-refl known)
 
--- what rests on no book
+-- an answer that doesn't depend on the book
 pub HoldsForExtensions-const : {A : Type 0} (known : Book) (r : A) → HoldsForExtensions known r (λ _. r)
 HoldsForExtensions-const known r = record { under = λ b a. refl }
 
@@ -41,7 +41,7 @@ pub HoldsForExtensions-both : {A B : Type 0} {known : Book} {r : A} {s : B} {f :
     → HoldsForExtensions {A = A × B} known (r, s) (λ b. (f b, g b))
 HoldsForExtensions-both {r = r} {g = g} s t = record { under = λ b a. ap (λ y. (r, y)) (t.under b a) ∙ ap (λ x. (x, g b)) (s.under b a) }
 
--- a second answer that goes on from the first
+-- a second answer that depends on the first
 pub HoldsForExtensions-then : {A B : Type 0} {known later : Book} {r : A} {s : B} {f : Book → A} (g : A → Book → B) → Extends later known → HoldsForExtensions known r f
     → HoldsForExtensions later s (g r) → HoldsForExtensions later s (λ b. g (f b) b)
 HoldsForExtensions-then g keeps first second = record { under = λ b a. second.under b a ∙ ap (λ x. g x b) (first.under b (Extends-trans a keeps)) }
@@ -62,7 +62,7 @@ pub none_mapped : {A B : Type 0} (f : A → B) (o : Option A) → (option_map f 
 none_mapped f None = (λ e. refl, λ e. refl)
 none_mapped f (Some x) = (λ e. absurd (none-some (f x) (sym e)), λ e. absurd (none-some x (sym e)))
 
--- an answer is missing exactly where the pattern is refused
+-- there is no answer exactly if the pattern is refused
 pub matched_by-None : (book : Book) (pattern text : List ℕ) → IsBook book → (matched_by book pattern text ≡ None) ↔ IsRefused book pattern
 unfolding matched_by
 matched_by-None book pattern text is_book =
@@ -85,11 +85,11 @@ plain_by None pattern read plain = refl
 plain_by (Some true) pattern read plain = refl
 plain_by (Some false) pattern read plain = sym (plain (inl refl))
 
--- a book with no entry is plain
+-- a book without entries is plain
 pub empty-IsPlain : (empty : Book) → ((text : List ℕ) → empty text ≡ None) → IsPlain empty
 empty-IsPlain empty h text refused = elim refused [ inl e ↦ absurd (none-some false (sym (h text) ∙ e)) | inr e ↦ e.1 ]
 
--- a plain book refuses what reads as no pattern, and nothing else
+-- a plain book refuses exactly the texts that don't parse as patterns
 pub pattern_in-plain : (book : Book) (text : List ℕ) → IsBook book → IsPlain book → pattern_in book text ≡ pattern_of_text text
 pattern_in-plain book text is_book plain = plain_by (book text) (pattern_of_text text) (is_book text) (plain text)
 

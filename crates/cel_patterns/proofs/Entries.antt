@@ -1,4 +1,4 @@
--- What a `PatternBook` shows is a book, and rests on its answers alone.
+-- The entries of a `PatternBook` form a book, and depend only on its answers.
 use Rattle.std.proofs.Common.{◌≡◌, ◌∙◌, ap, ℕ, List}
 use Rattle.cel_patterns.specs.Book.{Extends, Book, IsBook}
 use Rattle.cel_patterns.specs.Built.{Answers, IsFaithful, book_of}

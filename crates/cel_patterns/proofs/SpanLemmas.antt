@@ -1,4 +1,4 @@
--- The spans that a loop over matches has put by.
+-- The spans that a loop over matches has collected.
 use Rattle.std.proofs.Common.{◌≡◌, ℕ, ◌+◌, ◌≤◌, List, [], ◌∷◌, ◌++◌, map, take, length, Option, Some, None, refl, sym, ap, ◌∙◌, arith, append_assoc, subst}
 use Rattle.std.proofs.Math.Seq.{take-append_seam}
 use Rattle.std.proofs.lemmas.List.{append-nil, take_all}
@@ -12,7 +12,7 @@ abbrev pub IsUpTo : Option ℕ → ℕ → Type 0
 IsUpTo None n = Unit {0}
 IsUpTo (Some most) n = n ≤ most
 
--- ---- with the text in which they stand
+-- ---- spans with their text
 
 abbrev pub placed_in : List ℕ → List (ℕ × ℕ) → List (List ℕ × (ℕ × ℕ))
 placed_in text spans = map (λ x. (text, x)) spans
@@ -25,7 +25,7 @@ seconds_append : {A B : Type 0} (a : A) (xs : List B) (ys : List (A × B)) → m
 seconds_append a [] ys = refl
 seconds_append a (x ∷ xs) ys = ap (λ zs. x ∷ zs) (seconds_append a xs ys)
 
--- the loop's fact says where the spans are
+-- the invariant of the loop tells what the spans are
 pub whole_spans : (s t : Matches) (xs : List (ℕ × ℕ)) → placed_in (matches_haystack t) xs ++ placed_spans_left s ≡ placed_spans_left t → xs ++ spans_left s ≡ spans_left t
 whole_spans s t xs e =
     ap (λ ys. xs ++ ys) (sym (seconds (matches_haystack s) (spans_left s))) ∙ sym (seconds_append (matches_haystack t) xs (placed_spans_left s))
@@ -35,11 +35,11 @@ pub all_spans : (s t : Matches) (xs : List (ℕ × ℕ)) → placed_in (matches_
 all_spans s t xs e done =
     ap (λ ys. xs ++ ys) (sym (sym (seconds (matches_haystack s) (spans_left s)) ∙ ap (map (λ (p : List ℕ × (ℕ × ℕ)). p.1)) done)) ∙ whole_spans s t xs e
 
--- a match stands between characters of its text
+-- a match starts and ends between characters of its text
 pub span_inside : (text : List ℕ) (x : Match) → match_haystack x ≡ text → IsSpanIn text (match_span x)
 span_inside text x e = subst (λ (t : List ℕ). IsSpanIn t (match_span x)) e (x.ordered, x.inside, x.starts_cleanly, x.ends_cleanly)
 
--- the next one stands in the same text
+-- the next match is in the same text
 at_seam : {A B : Type 0} (a : A) (p : A × B) (xs all : List B) (rest : List (A × B)) → map (λ x. (a, x)) xs ++ (p ∷ rest) ≡ map (λ x. (a, x)) all → p.0 ≡ a
 at_seam a p [] [] rest e = cc
 at_seam a p [] (y ∷ all) rest e = cc

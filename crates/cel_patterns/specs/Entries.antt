@@ -1,5 +1,5 @@
 -- Trusted by the headline.
--- The book that a `PatternBook` shows.
+-- The book as which contracts see a `PatternBook`.
 use Rattle.cel_patterns.specs.Book.{Book}
 use Rattle.cel_patterns.specs.Built.{book_of}
 use Rattle.cel_patterns.specs.declared.book.PatternBook.{PatternBook}

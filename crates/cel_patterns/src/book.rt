@@ -1,5 +1,5 @@
-//! A book of patterns: it builds each pattern once, keeps at most 256 of them,
-//! and remembers what was answered to each.
+//! A book of patterns. It builds each pattern once, keeps at most 256 built patterns, and
+//! remembers for each text whether it was accepted.
 ghost use Rattle.std.specs.Prelude.{◌≡◌, ◌≢◌, ◌↔◌, ◌<◌, ◌≤◌, ℕ, is_some, string_bytes, All, IfErr, IfOk, IfSome, IsSome, IsTrue, List, None, Some, false, true, if◌then◌else◌, option_map, vec_len};
 ghost use Rattle.cel_patterns.specs.Book.{Extends, found_by, IsBook, IsPlain, IsRefused, IsSpanIn, matched_by, pattern_of_text};
 ghost use Rattle.cel_patterns.specs.Built.{FindsAll, IsFaithful, IsMatchAnswer};
@@ -11,25 +11,27 @@ use kube_types_refused::Refused;
 use std::alloc::Global;
 use std::collections::BTreeMap;
 
-/// How many patterns a book keeps at most.
+/// The largest number of patterns that a book keeps.
 const MOST_PATTERNS: usize = 256;
 
-/// About how many bytes the patterns that a book keeps may take together.
+/// The approximate number of bytes that the kept patterns may take together.
 const MOST_BYTES: usize = 64 << 20;
 
-/// Which pattern texts were built and which were refused. An answer stays, also where memory is short later.
+/// Remembers which pattern texts were built and which were refused. An answer
+/// stays the same even if memory runs short later.
 ///
-/// The patterns themselves take room, so it keeps some of them at a time. A text whose pattern was forgotten
-/// is built again when it is asked for.
+/// Built patterns are large, so only some are kept at a time. A pattern that
+/// was dropped is built again when it is needed.
 ///
-/// It shows a book, `entries_of`: true at each text that was built, false at each that was refused.
+/// Contracts see it as a book, `entries_of`: true for each text
+/// that was built, false for each that was refused.
 #[derive(Drop)]
 pub struct PatternBook {
     alloc: Global,
-    /// The slot of each text's pattern, or `None` where the text was refused.
+    /// The slot of each text's pattern, or `None` if the text was refused.
     answers: BTreeMap<String, Option<usize>>,
     patterns: Vec<Pattern>,
-    /// About how many bytes the patterns take.
+    /// The approximate number of bytes that the kept patterns take.
     weight: usize,
     ghost faithful: { IsFaithful answers },
     ghost few: { vec_len patterns ≤ 256 },
@@ -38,7 +40,7 @@ pub struct PatternBook {
 impl PatternBook {
     ghost use Rattle.cel_patterns.specs.Entries.{entries_of};
 
-    /// A book with no entry, so a plain one. It takes its memory from `alloc`.
+    /// Returns a book without entries, which is plain. It allocates from `alloc`.
     pub fn new(alloc: Global) -> PatternBook
         ensures empty { (text : List ℕ) → entries_of result text ≡ None }
         ensures book { IsBook (entries_of result) }
@@ -52,7 +54,7 @@ impl PatternBook {
         }
     }
 
-    /// Whether the pattern of this text is kept there.
+    /// Reports whether the slot holds the pattern of this text.
     fn has(&self, slot: usize, pattern: &str) -> bool
         ensures { IsTrue result → IsStoredAt self.now.patterns.items slot pattern.now }
     {
@@ -62,7 +64,8 @@ impl PatternBook {
         }
     }
 
-    /// Keeps a pattern, and gives its slot. Where there are too many it forgets the others.
+    /// Stores a pattern and returns its slot. If there are too many already, or they would be
+    /// too large together, it drops the others first.
     fn keep(&mut self, pattern: Pattern) -> Result<usize, Refused>
         ensures slot { IfOk result (λ slot.
             IsStoredAt self.new.patterns.items slot (string_bytes pattern.text)) }
@@ -80,9 +83,9 @@ impl PatternBook {
         Ok(slot)
     }
 
-    /// Builds a text, and gives the slot of its pattern, or `None` where the text is refused.
+    /// Builds the pattern of a text and returns its slot, or `None` if the text is refused.
     ///
-    /// `again` says that it was built before. It isn't refused now then, and if it were, for want of memory.
+    /// `again` says that the text was built before. A refusal is then reported as a lack of memory.
     fn slot_of(&mut self, pattern: &str, again: bool) -> Result<Option<usize>, Refused>
         ensures slot { IfOk result (λ found.
             IfSome found (λ slot. IsStoredAt self.new.patterns.items slot pattern.now)) }
@@ -103,8 +106,9 @@ impl PatternBook {
         }
     }
 
-    /// Builds a text that has no pattern here, and enters what came of it.
-    // Not inlined, since a pattern is large, and a function pays at entry for the size of its locals.
+    /// Builds the pattern of a text that has none here, and records the answer.
+    // Not inlined, since a pattern is large and a
+    // function pays at entry for the size of its locals.
     #[inline(never)]
     fn build(&mut self, pattern: &str, again: bool) -> Result<Option<usize>, Refused>
         requires { entries_of self.old pattern.now ≡ (if again then Some true else None) }
@@ -122,7 +126,7 @@ impl PatternBook {
         Ok(slot)
     }
 
-    /// The slot of the pattern of a text, or `None` where the text is refused.
+    /// Returns the slot of the pattern of a text, or `None` if the text is refused.
     fn ask(&mut self, pattern: &str) -> Result<Option<usize>, Refused>
         ensures kept { Extends (entries_of self.new) (entries_of self.old) }
         ensures others { (text : List ℕ) → text ≢ pattern.now
@@ -146,7 +150,7 @@ impl PatternBook {
         }
     }
 
-    /// Whether the pattern that is kept there matches somewhere in the text.
+    /// Reports whether the pattern in the slot matches anywhere in the text.
     fn is_match_at(&mut self, slot: usize, text: &str) -> Result<bool, Refused>
         requires { slot < vec_len self.old.patterns }
         ensures found { IfOk result (λ found. (pattern : List ℕ)
@@ -157,7 +161,8 @@ impl PatternBook {
         self.patterns[slot].is_match(self.alloc, text)
     }
 
-    /// The byte spans where the pattern that is kept there matches, the first `limit` or all.
+    /// Returns the byte spans where the pattern in the
+    /// slot matches: the first `limit` of them, or all.
     fn find_all_at(
         &mut self,
         slot: usize,
@@ -174,10 +179,11 @@ impl PatternBook {
         self.patterns[slot].find_all(self.alloc, text, limit)
     }
 
-    /// Whether the pattern matches somewhere in the text, or `None` where the pattern is refused.
+    /// Reports whether the pattern matches anywhere in the
+    /// text. Returns `None` if the pattern is refused.
     ///
     /// # Errors
-    /// `Memory` alone. The book keeps its entries then, too.
+    /// Only [`Refused::Memory`], if memory is refused. The book keeps its entries even then.
     pub fn matches(&mut self, pattern: &str, text: &str) -> Result<Option<bool>, Refused>
         ensures kept { Extends (entries_of self.new) (entries_of self.old) }
         ensures others { (other : List ℕ) → other ≢ pattern.now
@@ -196,13 +202,13 @@ impl PatternBook {
         }
     }
 
-    /// The byte spans where the pattern matches, the first `limit` or all,
-    /// or `None` where the pattern is refused.
+    /// Returns the byte spans where the pattern matches: the first `limit` of them, or
+    /// all. Returns `None` if the pattern is refused.
     ///
-    /// The matches go from the left and do not overlap.
+    /// The spans are in order and don't overlap.
     ///
     /// # Errors
-    /// `Memory` alone. The book keeps its entries then, too.
+    /// Only [`Refused::Memory`], if memory is refused. The book keeps its entries even then.
     pub fn find_all(
         &mut self,
         pattern: &str,

@@ -1,5 +1,5 @@
-//! The book of patterns: what the crate `regex` answered to each pattern of a run,
-//! each built once and asked many times.
+//! The book of patterns. It holds what the crate `regex` answered to each pattern of a run; each
+//! pattern is built once and searched many times.
 #![tactic(auto)]
 
 mod book;

@@ -1,4 +1,4 @@
-//! A pattern that was built, with what its searches keep.
+//! A built pattern, with the tables that its searches fill.
 ghost use Rattle.std.specs.Prelude.{◌≡◌, All, IfErr, IfOk, IfSome, IsSome, string_bytes};
 ghost use Rattle.regex_compile.specs.Implements.{Implements};
 ghost use Rattle.regex_dfa.specs.Search.{IsForwardFor};
@@ -16,13 +16,13 @@ use regex_nfa::BuildError;
 use regex_syntax::{Config, ErrorKind};
 use std::alloc::Global;
 
-/// How many bytes the tables of a pattern may take, as for `Regex::new`.
+/// The number of bytes that the tables of a pattern may take, as for `Regex::new`.
 const MOST_BYTES: usize = 10 << 20;
 
-/// How many bytes a pattern's searches may keep.
+/// The number of bytes that the searches of a pattern may store.
 const STORED_BYTES: usize = 1 << 18;
 
-/// The states that find what the tree means, or `None` where they would be too large.
+/// Returns the states that search for what the tree means, or `None` if they would be too large.
 fn states_of(alloc: Global, tree: &Hir, groups: usize) -> Result<Option<Dfa>, Refused>
     ensures states { IfOk result (λ found. IfSome found (λ dfa. Implements dfa.nfa (meaning tree.now))) }
     ensures memory { IfErr result (λ e. e ≡ Refused.Memory) }
@@ -42,7 +42,8 @@ fn states_of(alloc: Global, tree: &Hir, groups: usize) -> Result<Option<Dfa>, Re
     }
 }
 
-/// The states of a text, or `None` where it is refused for another cause than memory.
+/// Returns the states of a pattern text, or `None` if the
+/// text is refused for another reason than memory.
 fn dfa_of(alloc: Global, text: &str) -> Result<Option<Dfa>, Refused>
     ensures built { IfOk result (λ found. IfSome found (IsDfaOf text.now)) }
     ensures memory { IfErr result (λ e. e ≡ Refused.Memory) }
@@ -56,7 +57,7 @@ fn dfa_of(alloc: Global, text: &str) -> Result<Option<Dfa>, Refused>
     }
 }
 
-/// The regex of a text that was built before. It can be refused for want of memory alone.
+/// Returns the regex of a text that was built before. It can only fail for lack of memory.
 fn regex_of(alloc: Global, text: &str) -> Result<Regex, Refused>
     ensures built { IfOk result (IsRegexOf text.now) }
     ensures memory { IfErr result (λ e. e ≡ Refused.Memory) }
@@ -67,9 +68,10 @@ fn regex_of(alloc: Global, text: &str) -> Result<Regex, Refused>
     }
 }
 
-/// A pattern text with the states that search for it, and the regex where one was needed.
+/// A pattern text with the states that search for it, and its regex if one was needed.
 ///
-/// The states keep what they learn of texts, so that the next search reads one cell a byte.
+/// The states remember transitions from earlier searches, so
+/// that a later one reads one table cell per byte.
 #[derive(Drop)]
 pub(crate) struct Pattern {
     pub(crate) text: String,
@@ -82,7 +84,8 @@ pub(crate) struct Pattern {
 }
 
 impl Pattern {
-    /// The pattern of a text, or `None` where it is refused for another cause than memory.
+    /// Builds the pattern of a text, or returns `None` if the
+    /// text is refused for another reason than memory.
     pub(crate) fn new(alloc: Global, text: &str) -> Result<Option<Pattern>, Refused>
         ensures text { IfOk result (λ found. IfSome found (λ p. string_bytes p.text ≡ text.now)) }
         ensures memory { IfErr result (λ e. e ≡ Refused.Memory) }
@@ -99,14 +102,15 @@ impl Pattern {
         }))
     }
 
-    /// About how many bytes it may take, with its regex and with what its searches keep.
+    /// The approximate number of bytes that the pattern may
+    /// take, with its regex and what its searches store.
     pub(crate) fn weight(&self) -> usize {
         let parts = self.dfa.nfa.states.len() + self.dfa.nfa.transitions.len();
         STORED_BYTES.saturating_add(parts.saturating_mul(64))
     }
 
-    /// Whether it matches somewhere in an ASCII text, by its states alone.
-    /// `None` where they give up, and for any other text.
+    /// Reports whether the pattern matches anywhere in an ASCII text, using its states only.
+    /// Returns `None` if they give up, or the text isn't ASCII.
     fn tabled(&mut self, text: &str) -> Option<bool>
         ensures found { IfSome result (IsMatchAnswer (string_bytes self.old.text) text.now) }
         ensures text { self.new.text ≡ self.old.text }
@@ -126,7 +130,7 @@ impl Pattern {
         }
     }
 
-    /// Makes its regex, where it has none.
+    /// Makes the regex if there is none yet.
     fn prepare(&mut self, alloc: Global) -> Result<(), Refused>
         ensures ready { IfOk result (λ _. IsSome self.new.regex) }
         ensures text { self.new.text ≡ self.old.text }
@@ -138,8 +142,9 @@ impl Pattern {
         Ok(())
     }
 
-    /// Whether it matches somewhere in the text, by its regex.
-    // Not inlined, since a matcher is large, and a function pays at entry for the size of its locals.
+    /// Reports whether the pattern matches anywhere in the text, using its regex.
+    // Not inlined, since a matcher is large and a
+    // function pays at entry for the size of its locals.
     #[inline(never)]
     fn searched(&mut self, alloc: Global, text: &str) -> Result<bool, Refused>
         ensures found { IfOk result (IsMatchAnswer (string_bytes self.old.text) text.now) }
@@ -155,10 +160,10 @@ impl Pattern {
         }
     }
 
-    /// Whether it matches somewhere in the text.
+    /// Reports whether the pattern matches anywhere in the text.
     ///
     /// # Errors
-    /// `Memory` alone.
+    /// Only [`Refused::Memory`], if memory is refused.
     pub(crate) fn is_match(&mut self, alloc: Global, text: &str) -> Result<bool, Refused>
         ensures found { IfOk result (IsMatchAnswer (string_bytes self.old.text) text.now) }
         ensures memory { IfErr result (λ e. e ≡ Refused.Memory) }
@@ -169,10 +174,10 @@ impl Pattern {
         }
     }
 
-    /// The byte spans where it matches, the first `limit` or all.
+    /// Returns the byte spans where the pattern matches: the first `limit` of them, or all.
     ///
     /// # Errors
-    /// `Memory` alone.
+    /// Only [`Refused::Memory`], if memory is refused.
     pub(crate) fn find_all(
         &mut self,
         alloc: Global,

@@ -7,7 +7,7 @@ ghost use Rattle.cel_patterns.specs.Book.{first_of, IsSpanIn};
 use regex::{Matcher, Matches};
 use std::alloc::{AllocError, Global};
 
-/// Whether the count has reached the limit.
+/// Reports whether the count has reached the limit.
 fn is_full(limit: Option<usize>, count: usize) -> bool
     ensures { IsTrue result ↔ (limit ≡ Some count) }
 {
@@ -17,7 +17,7 @@ fn is_full(limit: Option<usize>, count: usize) -> bool
     }
 }
 
-/// The byte spans of the matches that are left, the first `limit` or all.
+/// Returns the byte spans of the remaining matches: the first `limit` of them, or all.
 fn spans_of(
     alloc: Global,
     found: Matches<'_, '_, '_>,
@@ -36,7 +36,7 @@ fn spans_of(
     Ok(spans)
 }
 
-/// The byte spans where the matcher's pattern matches, the first `limit` or all.
+/// Returns the byte spans where the matcher's pattern matches: the first `limit` of them, or all.
 pub(crate) fn spans_in(
     alloc: Global,
     matcher: &mut Matcher<'_>,

@@ -1,4 +1,4 @@
--- Names that are bound anew, in a list and in a map.
+-- New bindings of names, in a list and in a map.
 use Rattle.std.proofs.Common.{◌≡◌, ℕ, zero, suc, List, [], ◌∷◌, ◌++◌, Bool, true, false, cond, Option, Some, None, take, length, get_or, ◌+◌, ◌<◌, ◌≤◌, option_map, String, Global, BTreeMap, refl, ap, ◌∙◌, sym, arith}
 use Rattle.std.specs.Prelude.{slice_set}
 use Rattle.std.specs.BTreeMap.{get_by_text, UpdatesBy}
@@ -23,16 +23,16 @@ Entry = String Global × Value
 same_text : (x y : List ℕ) → bytes_eq x y ≡ true → x ≡ y
 same_text x y h = (bytes_eq-Decides x y).0 h
 
--- what is compared with a key is compared with its name
+-- comparing with a key is comparing with its name
 turned : (name k x : List ℕ) → name ≡ k → bytes_eq x k ≡ bytes_eq name x
 turned name k x e = one_answer (bytes_eq x k) (bytes_eq name x) (bytes_eq-Decides x k)
     (λ t. sym (same_text name x t) ∙ e, λ q. (bytes_eq-Decides name x).1 (e ∙ sym q))
 
--- a name that isn't bound, by another text that is the same
+-- a name that isn't bound, under an equal text
 unbound : (name x : List ℕ) (b : Bindings) → binding name b ≡ None → bytes_eq name x ≡ true → binding x b ≡ None
 unbound name x b none h = ap (λ y. binding y b) (sym (same_text name x h)) ∙ none
 
--- ---- where a name stands first
+-- ---- the first entry of a name
 
 others : (t : Bool) (d : Data) (o : Option Data) → cond t (Some d) o ≡ None → (t ≡ false) × (o ≡ None)
 others true d o h = absurd cc
@@ -56,13 +56,13 @@ first_here x (f ∷ fs) (suc i) e lt is none here =
     let h = others (bytes_eq x (string_bytes f.0)) (view f.1) (binding x (named_bindings (take i fs))) none in
     (h.0, first_here x fs i e (omega (arith, lt)) is h.1 here)
 
--- ---- bound anew
+-- ---- new bindings
 
 either : (t : Bool) (d e : Data) (o : Option Data) → cond t (Some d) o ≡ cond t (Some d) (cond t (Some e) o)
 either true d e o = refl
 either false d e o = refl
 
--- at most one of two tests holds
+-- two tests exclude each other
 apart : (t u : Bool) (d e : Data) (o : Option Data) → (t ≡ true → u ≡ true → ⊥) → cond t (Some e) (cond u (Some d) o) ≡ cond u (Some d) (cond t (Some e) o)
 apart true true d e o h = absurd (h refl refl)
 apart true false d e o h = refl
@@ -74,7 +74,7 @@ not_same name k x other h here =
     let f : false ≡ true = sym other ∙ e in
     absurd cc
 
--- another value where a name stands first
+-- a new value at a name's first entry
 pub set_first : (x name : List ℕ) (es : List Entry) (i : ℕ) (e : Entry) (v : Value) → IsFirst name es i → e ≡ get_or es i e
     → binding x (named_bindings (slice_set es i (e.0, v))) ≡ cond (bytes_eq name x) (Some (view v)) (binding x (named_bindings es))
 set_first x name [] i e v h is = absurd h
@@ -95,7 +95,7 @@ at_last true d o h = ap (λ p. option_or p (Some d)) (h refl)
 at_last false d None h = refl
 at_last false d (Some e) h = refl
 
--- a name that wasn't there, at the end of a list
+-- a new name at the end of a list
 pub added_last : (x name : List ℕ) (es : List Entry) (k : String Global) (v : Value) → binding name (named_bindings es) ≡ None → string_bytes k ≡ name
     → binding x (named_bindings (es ++ (k, v) ∷ [])) ≡ cond (bytes_eq name x) (Some (view v)) (binding x (named_bindings es))
 added_last x name es k v none is =
@@ -111,13 +111,13 @@ below : (t : Bool) (d : Data) (p q r : Option Data) → (t ≡ true → p ≡ No
 below true d p q r h e = ap (λ o. option_or o q) (h refl) ∙ e
 below false d p q r h e = ap (option_or p) e
 
--- a name bound anew in the inner names
+-- a name bound in the inner names
 pub bound_above : (x name : List ℕ) (a b outer : Bindings) (d : Data) → binding x a ≡ cond (bytes_eq name x) (Some d) (binding x b)
     → binding x (a ++ outer) ≡ cond (bytes_eq name x) (Some d) (binding x (b ++ outer))
 bound_above x name a b outer d h =
     binding-append x a outer ∙ above (bytes_eq name x) d (binding x a) (binding x b) (binding x outer) h ∙ ap (cond (bytes_eq name x) (Some d)) (sym (binding-append x b outer))
 
--- a name bound anew in the outer ones, where the inner ones don't have it
+-- a name bound in the outer names, not bound in the inner ones
 pub bound_below : (x name : List ℕ) (inner a b : Bindings) (d : Data) → binding name inner ≡ None → binding x a ≡ cond (bytes_eq name x) (Some d) (binding x b)
     → binding x (inner ++ a) ≡ cond (bytes_eq name x) (Some d) (binding x (inner ++ b))
 bound_below x name inner a b d none h =
@@ -128,7 +128,7 @@ mapped : (t : Bool) (v : Value) (p q : Option Value) → p ≡ cond t (Some v) q
 mapped true v p q h = ap (option_map view) h
 mapped false v p q h = ap (option_map view) h
 
--- a name bound anew in a map
+-- a name bound in a map
 pub inserted : (x name : List ℕ) (key : String Global) (v : Value) (m n : BTreeMap (String Global) Value) → string_bytes key ≡ name → UpdatesBy string_cmp (string_cmp key) m n (Some v)
     → binding x (named_bindings n.entries) ≡ cond (bytes_eq name x) (Some (view v)) (binding x (named_bindings m.entries))
 inserted x name key v m n is updates =

@@ -1,4 +1,4 @@
--- Names that are looked up, and what macros go over.
+-- Lookup of names, and the ranges of macros.
 use Rattle.std.proofs.Common.{◌≡◌, ℕ, List, [], ◌∷◌, ◌++◌, Bool, true, false, cond, Option, Some, None, map, take, length, get_or, ◌+◌, ◌<◌, option_map, String, Global, Bor, rules, refl, ap, ◌∙◌, sym, append_assoc}
 use Rattle.std.specs.BTreeMap.{is_at}
 use Rattle.std.specs.Cmp.Lexicographic.{slice_cmp}
@@ -52,7 +52,7 @@ bindings-Empty = search (rules, scope_lemmas)
 pub inner_here : (x : List ℕ) (a b : Bindings) (d : Data) → Some d ≡ binding x a → Some d ≡ binding x (a ++ b)
 inner_here x a b d here = rw (binding-append x a b, ← here)
 
--- a name that is not
+-- a name that isn't bound there
 pub inner_past : (x : List ℕ) (a b : Bindings) (o : Option Data) → None ≡ binding x a → o ≡ binding x b → o ≡ binding x (a ++ b)
 inner_past x a b o past e = rw (binding-append x a b, ← past) e
 
@@ -62,7 +62,7 @@ named_here x n outer s d is here = rw (is, bindings-Named n outer) (inner_here x
 pub named_past : (x : List ℕ) (n : Bor Names) (outer : Bor Scope) (s : Scope) (o : Option Data) → s ≡ scope.Named n outer → None ≡ binding x (names_of n.now) → o ≡ binding x (bindings outer.now) → o ≡ binding x (bindings s)
 named_past x n outer s o is past e = rw (is, bindings-Named n outer) (inner_past x (names_of n.now) (bindings outer.now) o past e)
 
--- a scope with no name of its own
+-- a scope without names of its own
 pub inner_bindings : (b : Bindings) (n : Bor Names) (outer : Bor Scope) → b ≡ [] → b ++ bindings (scope.Named n outer) ≡ names_of n.now ++ bindings outer.now
 inner_bindings b n outer h = ap (λ c. c ++ bindings (scope.Named n outer)) h ∙ bindings-Named n outer
 

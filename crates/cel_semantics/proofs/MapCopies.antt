@@ -1,4 +1,4 @@
--- Maps that are copied entry by entry, from the least key on, and their new entries.
+-- Maps copied entry by entry, starting at the least key, and their new entries.
 use Rattle.std.proofs.Common.{◌≡◌, Option, Some, None, IsSome, Ok, Err, List, [], ◌∷◌, ◌++◌, Less, Greater, refl, ap, ◌∙◌, subst}
 use Rattle.std.specs.List.{AllByRecursion}
 use Rattle.std.specs.List.Sorted.{IsStrictlySortedBy}
@@ -25,20 +25,20 @@ below_all k (f ∷ done) e rest h = below_all k done e rest h.1
 above : (k l : Key) → key_cmp k l ≡ Less → key_cmp l k ≡ Greater
 above k l h = key_total.antisymm l k ∙ ap ordering_reverse h
 
--- an entry whose key is above those that are there goes to the end
+-- an entry whose key is greater than all others goes to the end
 put_last : (done : List Entry) (e : Entry) (rest : List Entry) → IsStrictlySortedBy key_cmp (keys_of (done ++ e ∷ rest)) → put (key_view e.0) (view e.1) (entries_view done) ≡ entries_view (done ++ e ∷ [])
 put_last [] e rest sorted = refl
 put_last (f ∷ done) e rest sorted =
     rw (above f.0 e.0 (below_all f.0 done e rest (sorted_head key_cmp f.0 (keys_of (done ++ e ∷ rest)) sorted)))
     (ap (entry (key_view f.0) (view f.1)) (put_last done e rest (sorted_tail key_cmp f.0 (keys_of (done ++ e ∷ rest)) sorted)))
 
--- one more entry of a map whose first entries are copied
+-- one more entry is copied
 pub copied_entry : (whole done : List Entry) (e : Entry) (rest old new : List Entry) → IsStrictlySortedBy key_cmp (keys_of whole) → whole ≡ done ++ e ∷ rest
     → entries_view old ≡ entries_view done → entries_view new ≡ put (key_view e.0) (view e.1) (entries_view old) → entries_view new ≡ entries_view (done ++ e ∷ [])
 copied_entry whole done e rest old new sorted is before written =
     written ∙ ap (put (key_view e.0) (view e.1)) before ∙ put_last done e rest (subst (λ es. IsStrictlySortedBy key_cmp (keys_of es)) is sorted)
 
--- a copy that is put in
+-- a copied entry is inserted
 pub inserted_copy : (old new : List Entry) (k l : Key) (v w : Value) → new ≡ insert_entry key_cmp old l w → key_view l ≡ key_view k → view w ≡ view v → entries_view new ≡ put (key_view k) (view v) (entries_view old)
 inserted_copy old new k l v w inserted same_key same_value =
     ap entries_view inserted ∙ entries_view-insert_entry old l w ∙ (λ i. put (same_key i) (same_value i) (entries_view old))
@@ -51,7 +51,7 @@ pub entry_is_old : (es : Entries) (v : Data) (k : KeyData) (o : Option Data) →
 entry_is_old es v k None h = cc
 entry_is_old es v k (Some d) h = refl
 
--- what a map makes of a key, and of what is none
+-- a map indexed by a key
 pub indexed_at_key : (es : Entries) (d : Data) (k : KeyData) → Some k ≡ key_of d → option_map_or Ok (find k es) (Err (no_key k)) ≡ map_indexed es d
 indexed_at_key es null k h = cc
 indexed_at_key es (bool b) k h = let e : k ≡ bool_key b = cc in rw e

@@ -1,4 +1,4 @@
--- Checked operations on numbers of 64 bits, beside what they mean.
+-- Checked operations on 64-bit numbers equal their definitions.
 use Rattle.std.proofs.Common.{◌≡◌, ℕ, suc, ◌-◌, ◌^◌, ◌<◌, ◌≤◌, ℤ, pos, negsuc, Bool, true, false, cond, Option, Some, None, Ok, Err, nat_lt, nat_eq, refl, arith}
 use Rattle.std.specs.Prelude.{SomeIff, FitsSigned, unsigned_abs, int_div, int_rem}
 use Rattle.std.specs.Int.{w64, CanDivide, cast_unsigned}
@@ -17,7 +17,7 @@ not_true false h = refl
 lt_false : (m n : ℕ) → (m < n → ⊥) → nat_lt m n ≡ false
 lt_false m n h = not_true (nat_lt m n) (λ e. h (ltb-true m n e))
 
--- a number fits 64 bits with a sign exactly where it is an int
+-- a number fits 64 bits with a sign exactly if it is an int
 pub is_int-fits : (z : ℤ) → FitsSigned w64 z → is_int z ≡ true
 is_int-fits (pos n) h = lt_true n (2 ^ 63) h.sfits
 is_int-fits (negsuc n) h = lt_true n (2 ^ 63) h.sfits
@@ -26,7 +26,7 @@ pub is_int-past : (z : ℤ) → (FitsSigned w64 z → ⊥) → is_int z ≡ fals
 is_int-past (pos n) h = lt_false n (2 ^ 63) (λ g. h (record { sfits = g }))
 is_int-past (negsuc n) h = lt_false n (2 ^ 63) (λ g. h (record { sfits = g }))
 
--- an answer that is there exactly where q is an int
+-- an answer that is Some exactly if q is an int
 int_checked_by : (o : Option ℤ) (q z : ℤ) (P : Type 0) → (P → FitsSigned w64 q) → (FitsSigned w64 q → P) → SomeIff o P z → or_overflow int o ≡ cond (is_int q) (Ok (int z)) (Err overflow)
 int_checked_by None q z P to from h = rw (is_int-past q (λ f. h (from f)))
 int_checked_by (Some x) q z P to from h = rw (is_int-fits q (to h.0), h.1)
@@ -52,7 +52,7 @@ uint_difference_checked (Some x) m n h =
 not_zero : (n : ℕ) → (n ≡ 0 → ⊥) → nat_eq n 0 ≡ false
 not_zero n h = not_true (nat_eq n 0) (λ e. h (eqb-true n 0 e))
 
--- a divisor whose bits are not all 0 is not 0
+-- a divisor whose bits aren't all 0 isn't 0
 nonzero_size : (n : ℤ) → (cast_unsigned w64 n ≡ 0 → ⊥) → nat_eq (unsigned_abs n) 0 ≡ false
 nonzero_size (pos n) h = not_zero n h
 nonzero_size (negsuc n) h = not_zero (suc n) (λ e. absurd (omega (arith, e)))

@@ -1,4 +1,5 @@
--- Values as data are a set: an equation between two of them has one proof at most. So a struct can hold such an equation in a ghost field.
+-- Values as data form a set: two of them are equal in at most one way. So a
+-- struct can hold such an equation in a ghost field.
 use Rattle.std.proofs.Common.{◌≡◌, ℕ, ℤ, List, Bool, false, refl, sym, ap, ◌∙◌}
 use Rattle.std.proofs.Math.Bool.{Bool-set}
 use Rattle.std.proofs.Math.IntN.{ℤ_set}
@@ -85,7 +86,7 @@ abbrev mutual
   to_entries no_entries = p_end
   to_entries (entry k d es) = p_entry (to_key k) (to_plain d) (to_entries es)
 
--- back: the value, the items, the entries and the key that one stands for
+-- the inverse: the value, items, entries and key of an element
 abbrev back : Plain → Data × Items × Entries × KeyData
 back p_null = (null, no_items, no_entries, bool_key false)
 back (p_bool b) = (bool b, no_items, no_entries, bool_key b)

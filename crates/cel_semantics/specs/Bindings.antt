@@ -1,5 +1,6 @@
 -- Trusted by the headline.
--- Names and what they are bound to (CEL language definition, "Name Resolution" and "Environment").
+-- Names and the values that they are bound to (CEL language
+-- definition, "Name Resolution" and "Environment").
 use Rattle.std.specs.Prelude.{◌≡◌, ℕ, zero, suc, true, false, List, [], ◌∷◌, ◌++◌, map, Option, Some, None, String, string_bytes, if◌then◌else◌}
 use Rattle.std.specs.declared.alloc.Global.{Global}
 use Rattle.std.specs.Str.{bytes_eq}
@@ -15,7 +16,7 @@ use Rattle.cel_semantics.specs.declared.scope.Scope.TheOpen.{Scope-F}
 abbrev pub Bindings : Type 0
 Bindings = List (List ℕ × Data)
 
--- what a name is bound to: its innermost binding
+-- the value that a name is bound to: that of its innermost binding
 abbrev pub binding : List ℕ → Bindings → Option Data
 binding x [] = None
 binding x (e ∷ es) = if bytes_eq x e.0 then Some e.1 else binding x es
@@ -27,7 +28,7 @@ named_bindings es = map (λ e. (string_bytes e.0, view e.1)) es
 abbrev pub names_of : Names → Bindings
 names_of n = named_bindings n.first.items ++ named_bindings n.others.entries
 
--- the first of these entries with this name stands at the index
+-- the index is that of the first entry with this name
 abbrev pub IsFirst : List ℕ → List (String Global × Value) → ℕ → Type 0
 IsFirst x [] i = ⊥
 IsFirst x (e ∷ es) zero = bytes_eq x (string_bytes e.0) ≡ true

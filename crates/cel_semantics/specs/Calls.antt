@@ -1,6 +1,6 @@
 -- Trusted by the headline.
--- What a call means (CEL language definition, "Functions"): first how its name may be called, then its
--- receiver and its arguments, then that none of them holds a double.
+-- The meaning of a call (CEL language definition, "Functions"). First the form of the call is
+-- tested, then its receiver and its arguments are evaluated, then none of them may hold a double.
 use Rattle.std.specs.Prelude.{ℕ, List, [], ◌∷◌, false, ◌||◌, Option, Some, None, Err, if◌then◌else◌}
 use Rattle.std.specs.List.{list_any}
 use Rattle.std.specs.Option.{option_map_or}
@@ -13,7 +13,7 @@ use Rattle.cel_semantics.specs.Outcome.{Outcome, no_doubles}
 use Rattle.cel_semantics.specs.declared.functions.Form.{Form}
 use Rattle.cel_semantics.specs.declared.functions.Form.TheVariants.{Unknown, Wrong, Known}
 
--- a receiver, or none
+-- the receiver, if any
 abbrev pub receiver_of : List Data → Option Data
 receiver_of [] = None
 receiver_of (d ∷ ds) = Some d
@@ -23,7 +23,7 @@ by_form Unknown name r = Err (undeclared name)
 by_form Wrong name r = Err (no_overload name)
 by_form Known name r = r
 
--- the call of a known form with these values
+-- a call of a known form with these values
 abbrev pub call_outcome : Library → Book → List ℕ → Option Data → List Data → Outcome
 call_outcome library book name receiver vs =
     if option_map_or has_double receiver false || list_any has_double vs then Err no_doubles

@@ -1,6 +1,6 @@
 -- Trusted by the headline.
--- What an expression means: each tree, bindings, functions and book have exactly one outcome (CEL language
--- definition, "Evaluation", "Logical Operators", "Macros").
+-- The meaning of an expression: each tree has exactly one outcome under bindings, functions and a
+-- book (CEL language definition, "Evaluation", "Logical Operators", "Macros").
 use Rattle.std.specs.Prelude.{List, [], ◌∷◌, map, codes, true, false, None, Ok, Err}
 use Rattle.std.specs.Option.{option_map_or}
 use Rattle.cel_patterns.specs.Book.{Book}
@@ -20,11 +20,11 @@ use Rattle.cel_semantics.specs.Operators.{unary_outcome, binary_outcome}
 use Rattle.cel_semantics.specs.Outcome.{Outcome, and_then, all_values}
 use Rattle.cel_semantics.specs.Ranges.{range_of}
 
--- a strict operation takes both values; the left operand's error comes first
+-- a strict operation needs both values; the left operand's error takes precedence
 abbrev pub strictly : (Data → Data → Outcome) → Outcome → Outcome → Outcome
 strictly f a b = and_then a (λ v. and_then b (λ w. f v w))
 
--- && and || look at both operands at once
+-- && and || use the outcomes of both operands
 abbrev pub binary_of : BinaryOperator → Outcome → Outcome → Outcome
 binary_of Or a b = decision true (codes "||") (a ∷ b ∷ [])
 binary_of And a b = decision false (codes "&&") (a ∷ b ∷ [])
@@ -41,13 +41,13 @@ binary_of Multiply a b = strictly (binary_outcome Multiply) a b
 binary_of Divide a b = strictly (binary_outcome Divide) a b
 binary_of Remainder a b = strictly (binary_outcome Remainder) a b
 
--- one more entry of a map literal: its key, then its value, then the entry
+-- a map literal with one more entry: its key is evaluated first, then its value
 abbrev pub entry_of : Outcome → Outcome → Data → Outcome
 entry_of k v m = and_then k (λ x. and_then v (λ y. put_in m x y))
 
 module _ (library : Library) (book : Book) where
   abbrev mutual
-    -- A macro binds its variable in its filter and its body, to each item of its range.
+    -- In its filter and its body, a macro binds its variable to each item of its range.
     pub meaning : Term → Bindings → Outcome
     meaning (literal v) env = Ok v
     meaning (ident x) env = option_map_or Ok (binding x env) (Err (undeclared x))
@@ -76,7 +76,7 @@ module _ (library : Library) (book : Book) where
     meanings no_terms env = []
     meanings (term_and t ts) env = meaning t env ∷ meanings ts env
 
-    -- a map literal, entry by entry, after the map so far
+    -- adds the entries of a map literal to the map so far, one by one
     pub map_meaning : Pairs → Bindings → Data → Outcome
     map_meaning no_pairs env m = Ok m
     map_meaning (pair_and k v ps) env m =

@@ -1,7 +1,7 @@
 -- Trusted by the headline.
--- What operators do with values (CEL language definition, "Equality", "Ordering", "Logical Operators",
--- "Arithmetic"). Doubles are carried, but no operator takes one:
--- it answers as if the name `double` were not declared.
+-- The operators on values (CEL language definition, "Equality", "Ordering", "Logical
+-- Operators", "Arithmetic"). Doubles can be held, but no operator takes one: its
+-- error is that of an undeclared name `double`.
 use Rattle.std.specs.Prelude.{ℕ, List, codes, Bool, false, not, ◌||◌, Ok, Err, if◌then◌else◌}
 use Rattle.std.specs.Option.{option_map_or}
 use Rattle.std.specs.declared.cmp.Ordering.{Ordering}
@@ -38,7 +38,7 @@ operator_text Multiply = codes "*"
 operator_text Divide = codes "/"
 operator_text Remainder = codes "%"
 
--- whether the operator's order holds of values that compare so
+-- whether an order operator holds for values that compare like this
 abbrev pub holds_of : BinaryOperator → Ordering → Bool
 holds_of Less o = is_lt o
 holds_of LessOrEqual o = is_le o
@@ -46,12 +46,12 @@ holds_of Greater o = is_gt o
 holds_of GreaterOrEqual o = is_ge o
 holds_of _ o = false
 
--- whether values without doubles stand in the operator's order
+-- whether an order operator holds for two values without doubles
 abbrev pub order_test : BinaryOperator → Data → Data → Outcome
 order_test op v w =
     option_map_or (λ o. Ok (bool (holds_of op o))) (comparison v w) (Err (no_overload (operator_text op)))
 
--- what an operator makes of two values without doubles; && and || are no such operators
+-- a binary operator on two values without doubles; && and || are not applied this way
 abbrev pub relation_outcome : BinaryOperator → Data → Data → Outcome
 relation_outcome Or v w = Err (no_overload (operator_text Or))
 relation_outcome And v w = Err (no_overload (operator_text And))
@@ -68,11 +68,11 @@ relation_outcome Multiply v w = product_of v w
 relation_outcome Divide v w = quotient_of v w
 relation_outcome Remainder v w = remainder_of v w
 
--- an operator on one value
+-- a unary operator
 abbrev pub unary_outcome : UnaryOperator → Data → Outcome
 unary_outcome Not v = if has_double v then Err no_doubles else negation v
 unary_outcome Negate v = if has_double v then Err no_doubles else opposite v
 
--- an operator on two values
+-- a binary operator
 abbrev pub binary_outcome : BinaryOperator → Data → Data → Outcome
 binary_outcome op v w = if has_double v || has_double w then Err no_doubles else relation_outcome op v w

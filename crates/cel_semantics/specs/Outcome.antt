@@ -1,6 +1,5 @@
 -- Trusted by the headline.
--- What an evaluation comes to: a value, or the reason why there is none (CEL language
--- definition, "Evaluation").
+-- The outcome of an evaluation: a value, or an error (CEL language definition, "Evaluation").
 use Rattle.std.specs.Prelude.{List, [], ◌∷◌, codes, Result, Ok, Err}
 use Rattle.cel_value.specs.Data.{Data}
 use Rattle.cel_value.specs.Faults.{Fault, undeclared, fault_view}
@@ -15,7 +14,7 @@ abbrev pub outcome_view : Result Value ExecutionError → Outcome
 outcome_view (Ok v) = Ok (view v)
 outcome_view (Err e) = Err (fault_view e)
 
--- an outcome's value, passed on
+-- applies a function to the value of an outcome; an error stays
 abbrev pub and_then : {A B : Type 0} → Result A Fault → (A → Result B Fault) → Result B Fault
 and_then (Ok v) f = f v
 and_then (Err e) f = Err e
@@ -25,6 +24,6 @@ abbrev pub all_values : List Outcome → Result (List Data) Fault
 all_values [] = Ok []
 all_values (r ∷ rs) = and_then r (λ v. and_then (all_values rs) (λ vs. Ok (v ∷ vs)))
 
--- why nothing is done with a double
+-- the error of an operator or a function that is given a double
 abbrev pub no_doubles : Fault
 no_doubles = undeclared (codes "double")

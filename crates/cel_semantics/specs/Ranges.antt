@@ -1,5 +1,6 @@
 -- Trusted by the headline.
--- What a macro goes over: a list's items, or a map's keys in key order (CEL language definition, "Macros").
+-- The range of a macro: a list's items, or a map's keys in
+-- key order (CEL language definition, "Macros").
 use Rattle.std.specs.Prelude.{ℕ, List, [], ◌∷◌, map, Result, Ok, Err}
 use Rattle.cel_value.specs.Data.{KeyData, bool_key, int_key, uint_key, text_key, Data, bool, int, uint, text, list, map_of, Items, no_items, item, Entries, no_entries, entry}
 use Rattle.cel_value.specs.Faults.{Fault, no_overload, fault_view}
@@ -22,13 +23,13 @@ abbrev pub keys_list : Entries → List Data
 keys_list no_entries = []
 keys_list (entry k d es) = key_data k ∷ keys_list es
 
--- the items, or the fault of a macro of this name
+-- the items, or an error of the named macro
 abbrev pub range_of : List ℕ → Data → Result (List Data) Fault
 range_of name (list ds) = Ok (items_list ds)
 range_of name (map_of es) = Ok (keys_list es)
 range_of name _ = Err (no_overload name)
 
--- the items of what a macro goes over
+-- the items of a range
 abbrev pub range_list : Range → List Data
 range_list (range.Items l) = items_list l.value
 range_list (range.Keys v) = map view v.items

@@ -50,7 +50,7 @@ fn checked_uint(number: Option<u64>) -> Answer
     }
 }
 
-/// A value with its other sign.
+/// Returns the arithmetic negation of a value.
 pub(crate) fn negate(alloc: Global, value: &Value) -> Result<Answer, Refused>
     ensures value { IfOk result (λ r. outcome_view r ≡ opposite (view value.now)) }
     ensures memory { IfErr result (λ e. e ≡ Refused.Memory) }
@@ -182,7 +182,7 @@ fn join_lists(alloc: Global, left: &List, right: &List) -> Result<Answer, Refuse
     Ok(Ok(Value::from_items(alloc, joined)?))
 }
 
-/// The sum of two values.
+/// Adds two values.
 pub(crate) fn add(alloc: Global, left: &Value, right: &Value) -> Result<Answer, Refused>
     ensures value { IfOk result (λ r. outcome_view r ≡ sum_of (view left.now) (view right.now)) }
     ensures memory { IfErr result (λ e. e ≡ Refused.Memory) }
@@ -214,7 +214,7 @@ pub(crate) fn add(alloc: Global, left: &Value, right: &Value) -> Result<Answer, 
     }
 }
 
-/// The difference of two values.
+/// Subtracts the right value from the left one.
 pub(crate) fn subtract(alloc: Global, left: &Value, right: &Value) -> Result<Answer, Refused>
     ensures value { IfOk result (λ r. outcome_view r ≡ difference_of (view left.now) (view right.now)) }
     ensures memory { IfErr result (λ e. e ≡ Refused.Memory) }
@@ -234,7 +234,7 @@ pub(crate) fn subtract(alloc: Global, left: &Value, right: &Value) -> Result<Ans
     }
 }
 
-/// The product of two values.
+/// Multiplies two values.
 pub(crate) fn multiply(alloc: Global, left: &Value, right: &Value) -> Result<Answer, Refused>
     ensures value { IfOk result (λ r. outcome_view r ≡ product_of (view left.now) (view right.now)) }
     ensures memory { IfErr result (λ e. e ≡ Refused.Memory) }
@@ -252,7 +252,7 @@ pub(crate) fn multiply(alloc: Global, left: &Value, right: &Value) -> Result<Ans
     }
 }
 
-/// The quotient of two values.
+/// Divides the left value by the right one.
 pub(crate) fn divide(alloc: Global, left: &Value, right: &Value) -> Result<Answer, Refused>
     ensures value { IfOk result (λ r. outcome_view r ≡ quotient_of (view left.now) (view right.now)) }
     ensures memory { IfErr result (λ e. e ≡ Refused.Memory) }
@@ -270,7 +270,7 @@ pub(crate) fn divide(alloc: Global, left: &Value, right: &Value) -> Result<Answe
     }
 }
 
-/// The remainder of a division of two values.
+/// Returns the remainder of dividing the left value by the right one.
 pub(crate) fn remainder(alloc: Global, left: &Value, right: &Value) -> Result<Answer, Refused>
     ensures value { IfOk result (λ r. outcome_view r ≡ remainder_of (view left.now) (view right.now)) }
     ensures memory { IfErr result (λ e. e ≡ Refused.Memory) }

@@ -36,11 +36,11 @@ fn any_holds_double(args: &[Value]) -> bool
     false
 }
 
-/// The answer of a call whose form is known, unless a double is given to it.
-/// The book keeps its entries in any case.
+/// Calls a function in a form that is known and returns its answer. A double in the receiver or an
+/// argument is an error. The book keeps its entries in any case.
 ///
 /// # Errors
-/// `Memory` alone.
+/// Only [`Refused::Memory`], if memory is refused.
 pub fn call<F: Functions>(
     alloc: Global,
     functions: &F,

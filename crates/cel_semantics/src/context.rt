@@ -1,4 +1,4 @@
-//! What the names of an expression are bound to, and which functions it may call.
+//! The context of an evaluation: its variables and its functions.
 ghost use Rattle.std.specs.Prelude.{◌≡◌, List, [], ℕ, Some, IfOk, IfErr, option_map, if◌then◌else◌};
 ghost use Rattle.std.specs.Str.{bytes_eq};
 ghost use Rattle.cel_value.specs.View.{view};
@@ -10,7 +10,7 @@ use crate::scope::Scope;
 use cel_value::{Refused, Value};
 use std::alloc::Global;
 
-/// Variables, inside those of the scopes around it, and a set of functions.
+/// The variables of a scope, the scopes around it, and a set of functions.
 #[derive(Drop)]
 pub struct Context<'a, F> {
     alloc: Global,
@@ -20,7 +20,8 @@ pub struct Context<'a, F> {
 }
 
 impl<'a, F: Functions> Context<'a, F> {
-    /// A context with no variable and the functions that its set starts with. Its memory comes from `alloc`.
+    /// Returns a context without variables, with the functions that
+    /// the set starts with. It allocates from `alloc`.
     pub fn default(alloc: Global) -> Context<'a, F>
         ensures variables { bindings_of result ≡ [] }
         ensures functions { functions_of result ≡ F.first }
@@ -33,7 +34,7 @@ impl<'a, F: Functions> Context<'a, F> {
         }
     }
 
-    /// Takes another set of functions.
+    /// Replaces the set of functions.
     pub fn set_functions(&mut self, functions: F)
         ensures functions { functions_of self.new ≡ functions }
         ensures variables { bindings_of self.new ≡ bindings_of self.old }
@@ -41,10 +42,11 @@ impl<'a, F: Functions> Context<'a, F> {
         self.functions = functions;
     }
 
-    /// Binds a name to a value, in place of what it was bound to here. No other name changes.
+    /// Binds a name to a value in this scope, replacing an earlier binding. No other name changes.
     ///
     /// # Errors
-    /// `Memory` alone. The value is dropped then, and the context is as it was.
+    /// Only [`Refused::Memory`], if memory is refused. The value
+    /// is then dropped, and the context is unchanged.
     pub fn add_variable(&mut self, name: &str, value: Value) -> Result<(), Refused>
         ensures functions { functions_of self.new ≡ functions_of self.old }
         ensures variables { IfOk result (λ _. (x : List ℕ) → binding x (bindings_of self.new)
@@ -56,10 +58,11 @@ impl<'a, F: Functions> Context<'a, F> {
         Ok(())
     }
 
-    /// The same as `add_variable`.
+    /// Does the same as `add_variable`.
     ///
     /// # Errors
-    /// `Memory` alone. The value is dropped then, and the context is as it was.
+    /// Only [`Refused::Memory`], if memory is refused. The value
+    /// is then dropped, and the context is unchanged.
     pub fn add_variable_from_value(&mut self, name: &str, value: Value) -> Result<(), Refused>
         ensures functions { functions_of self.new ≡ functions_of self.old }
         ensures variables { IfOk result (λ _. (x : List ℕ) → binding x (bindings_of self.new)
@@ -70,8 +73,8 @@ impl<'a, F: Functions> Context<'a, F> {
         self.add_variable(name, value)
     }
 
-    /// A scope inside this one: it begins with this one's variables and functions,
-    /// and what is bound there stays there.
+    /// Returns a scope inside this one. It starts with this one's variables and
+    /// functions; bindings made in it don't affect this one.
     pub fn new_inner_scope(&self) -> Context<'_, F>
         ensures variables { bindings_of result ≡ bindings_of self.now }
         ensures functions { functions_of result ≡ functions_of self.now }
@@ -84,7 +87,7 @@ impl<'a, F: Functions> Context<'a, F> {
         }
     }
 
-    /// What the name is bound to.
+    /// The value that the name is bound to, if any.
     pub fn get(&self, name: &str) -> Option<&Value>
         ensures { option_map (λ v. view v.now) result ≡ binding name.now (bindings_of self.now) }
     {
@@ -94,7 +97,7 @@ impl<'a, F: Functions> Context<'a, F> {
         }
     }
 
-    /// Its set of functions.
+    /// The context's set of functions.
     pub fn functions(&self) -> &F
         ensures { result.now ≡ functions_of self.now }
     {

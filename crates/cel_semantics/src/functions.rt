@@ -11,20 +11,21 @@ use cel_patterns::PatternBook;
 use cel_value::{ExecutionError, Refused, Value};
 use std::alloc::Global;
 
-/// How a name may be called.
+/// Whether a name may be called in a given form.
 #[derive(Clone, Copy, Debug, PartialEq, Eq)]
 pub enum Form {
-    /// There is no function of this name.
+    /// No function has this name.
     Unknown,
-    /// There is one, but not with or without a receiver as asked, or not with this number of arguments.
+    /// There is such a function, but it can't be called with or without a
+    /// receiver as asked, or with this number of arguments.
     Wrong,
-    /// It may be called like this.
+    /// The name may be called in this form.
     Known,
 }
 
 /// A set of functions.
 ///
-/// `library` is its definition: which forms are known, and what a call gives.
+/// `library` is its definition: the known forms, and the answer of a call.
 pub trait Functions: Copy {
     ghost library: { Self → Library };
 
@@ -34,15 +35,16 @@ pub trait Functions: Copy {
     fn start() -> Self
         ensures { result ≡ first };
 
-    /// How the name may be called, with a receiver or without, with this number of arguments.
+    /// Returns whether the name may be called with or
+    /// without a receiver and with `count` arguments.
     fn form(&self, name: &str, receiver: bool, count: usize) -> Form
         ensures { result ≡ (library self.now).form_of name.now receiver count };
 
-    /// The answer of a call whose form is known. The book keeps its entries,
-    /// also where the call is refused memory.
+    /// Calls a function in a form that is known and returns its answer. The book
+    /// keeps its entries, even if memory is refused.
     ///
     /// # Errors
-    /// `Memory` alone.
+    /// Only [`Refused::Memory`], if memory is refused.
     fn call(
         &self,
         alloc: Global,

@@ -1,4 +1,4 @@
-//! What CEL expressions mean: names and their values, functions, operators, and the meaning of a tree.
+//! The semantics of CEL expressions: variables, functions, operators, and the meaning of a tree.
 #![tactic(auto)]
 
 mod arithmetic;

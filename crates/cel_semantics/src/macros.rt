@@ -1,4 +1,4 @@
-//! What macros make of their items.
+//! The results of macros.
 ghost use Rattle.std.specs.Prelude.{◌≡◌, [], Ok, Err, Result, Option, IfOk, IfErr, map};
 ghost use Rattle.cel_value.specs.View.{view};
 ghost use Rattle.cel_semantics.specs.Decisions.{truth};
@@ -23,7 +23,8 @@ pub fn name_of(kind: MacroKind) -> &'static str
     }
 }
 
-/// The item, where the predicate of the macro of this name is true.
+/// Returns the item if the predicate of the named macro is true of
+/// it. `answer` is the outcome of the predicate.
 fn keep(
     alloc: Global,
     name: &str,
@@ -42,11 +43,11 @@ fn keep(
     }
 }
 
-/// What an item gives to the result of a macro without a filter, by the outcome of the body there:
-/// a value, nothing, or an error.
+/// Returns what an item adds to the result of a macro without a filter: a value, nothing, or an
+/// error. `answer` is the outcome of the macro's body at the item.
 ///
 /// # Errors
-/// `Memory` alone.
+/// Only [`Refused::Memory`], if memory is refused.
 pub fn iteration_result(
     alloc: Global,
     kind: MacroKind,
@@ -69,10 +70,10 @@ pub fn iteration_result(
     }
 }
 
-/// What a macro makes of all that its items gave.
+/// Makes the result of a macro from what its items added.
 ///
 /// # Errors
-/// `Memory` alone.
+/// Only [`Refused::Memory`], if memory is refused.
 pub fn finish(alloc: Global, kind: MacroKind, given: Vec<Value>) -> Result<Answer, Refused>
     ensures value { IfOk result (λ r. outcome_view r ≡ made_of kind (map view given.items)) }
     ensures memory { IfErr result (λ e. e ≡ Refused.Memory) }

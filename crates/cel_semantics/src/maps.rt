@@ -1,4 +1,4 @@
-//! Map literals, entry by entry.
+//! Map literals, built entry by entry.
 ghost use Rattle.std.specs.Prelude.{◌≡◌, IfOk, IfErr, OnOk};
 ghost use Rattle.cel_value.specs.Data.{map_of};
 ghost use Rattle.cel_value.specs.Find.{find};
@@ -36,7 +36,7 @@ fn copy_of(alloc: Global, entries: &Map) -> Result<Map, Refused>
     Map::of(copy)
 }
 
-/// The entries, without a copy where nobody else holds them.
+/// Returns the map itself if nothing else holds it, and otherwise a copy.
 fn owned(alloc: Global, shared: Rc<Map>) -> Result<Map, Refused>
     ensures value { IfOk result (λ m. m ≡ shared.value) }
     ensures memory { IfErr result (λ e. e ≡ Refused.Memory) }
@@ -72,11 +72,11 @@ fn add_at(alloc: Global, shared: Rc<Map>, key: &Value, value: &Value) -> Result<
     }
 }
 
-/// A map literal with its next entry. It takes time of the map's size only where the
-/// map is held elsewhere, too.
+/// Adds an entry to a map literal. It takes time proportional to the map's
+/// size only if something else holds the map, too.
 ///
 /// # Errors
-/// `Memory` alone.
+/// Only [`Refused::Memory`], if memory is refused.
 pub fn put(alloc: Global, map: Value, key: &Value, value: &Value) -> Result<Answer, Refused>
     ensures value { IfOk result (λ r. outcome_view r ≡ put_in (view map) (view key.now) (view value.now)) }
     ensures memory { IfErr result (λ e. e ≡ Refused.Memory) }

@@ -31,10 +31,10 @@ fn has_entry(entries: &Map, key: &Key) -> bool
     find_entry(entries, key).is_some()
 }
 
-/// The member of a map at a key.
+/// Returns the member of a map at a key.
 ///
 /// # Errors
-/// `Memory` alone.
+/// Only [`Refused::Memory`], if memory is refused.
 pub fn select(alloc: Global, key: &Key, value: &Value) -> Result<Answer, Refused>
     ensures value { IfOk result (λ r. outcome_view r ≡ selection (key_view key.now) (view value.now)) }
     ensures memory { IfErr result (λ e. e ≡ Refused.Memory) }
@@ -45,10 +45,10 @@ pub fn select(alloc: Global, key: &Key, value: &Value) -> Result<Answer, Refused
     }
 }
 
-/// Whether a map has a member at a key.
+/// Reports whether a map has a member at a key.
 ///
 /// # Errors
-/// `Memory` alone.
+/// Only [`Refused::Memory`], if memory is refused.
 pub fn has(alloc: Global, key: &Key, value: &Value) -> Result<Answer, Refused>
     ensures value { IfOk result (λ r. outcome_view r ≡ has_member (key_view key.now) (view value.now)) }
     ensures memory { IfErr result (λ e. e ≡ Refused.Memory) }
@@ -59,7 +59,7 @@ pub fn has(alloc: Global, key: &Key, value: &Value) -> Result<Answer, Refused>
     }
 }
 
-/// The key that a value is.
+/// Returns the value as a key, or None if its kind can't be one.
 pub(crate) fn key_from(value: &Value) -> Result<Option<Key>, Refused>
     ensures value { IfOk result (λ k. option_map key_view k ≡ key_of (view value.now)) }
     ensures memory { IfErr result (λ e. e ≡ Refused.Memory) }
@@ -108,7 +108,7 @@ fn index_list(alloc: Global, items: &List, index: &Value) -> Result<Answer, Refu
     }
 }
 
-/// Why a value is no key.
+/// Returns the error for a value that can't be a key.
 pub(crate) fn refuse_key(alloc: Global, value: &Value) -> Result<ExecutionError, Refused>
     ensures value { IfOk result (λ e. fault_view e ≡ not_key (view value.now)) }
     ensures memory { IfErr result (λ e. e ≡ Refused.Memory) }
@@ -140,10 +140,10 @@ fn refuse_index(alloc: Global, index: &Value) -> Result<Answer, Refused>
     }
 }
 
-/// The item of a list or the member of a map at an index.
+/// Returns the item of a list or the member of a map at an index.
 ///
 /// # Errors
-/// `Memory` alone.
+/// Only [`Refused::Memory`], if memory is refused.
 pub fn index(alloc: Global, value: &Value, index: &Value) -> Result<Answer, Refused>
     ensures value { IfOk result (λ r. outcome_view r ≡ index_outcome (view value.now) (view index.now)) }
     ensures memory { IfErr result (λ e. e ≡ Refused.Memory) }
@@ -176,7 +176,7 @@ fn is_key_of(value: &Value, entries: &Map) -> Result<bool, Refused>
     }
 }
 
-/// Whether a value is an item of a list or a key of a map.
+/// Reports whether a value is an item of a list or a key of a map.
 #[inline(always)]
 pub(crate) fn is_in(alloc: Global, value: &Value, range: &Value) -> Result<Answer, Refused>
     ensures value { IfOk result (λ r. outcome_view r ≡ membership (view value.now) (view range.now)) }

@@ -1,4 +1,4 @@
-//! The names of one scope.
+//! The variables of one scope.
 ghost use Rattle.std.specs.Prelude.{◌≡◌, ◌<◌, [], ℕ, List, length, IfSome, Some, None, IfErr, OnOk, OnErr, MatchOption, option_map, if◌then◌else◌};
 ghost use Rattle.std.specs.Str.{bytes_eq};
 ghost use Rattle.cel_value.specs.View.{view};
@@ -8,11 +8,11 @@ use cel_value::{Refused, Value};
 use std::alloc::Global;
 use std::collections::BTreeMap;
 
-/// How many names are looked for one by one.
+/// The number of names that are searched one by one.
 const FEW: usize = 16;
 
-/// Names with their values. The first few stand in a list,
-/// which is quicker than a map while there are no others.
+/// Names with their values. The first few are in a list, which is
+/// faster than a map as long as there are no others.
 #[derive(Drop)]
 pub struct Names {
     first: Vec<(String, Value)>,
@@ -20,7 +20,7 @@ pub struct Names {
 }
 
 impl Names {
-    /// No name. What is bound takes its memory from `alloc`.
+    /// Returns an empty set of names. Later bindings allocate from `alloc`.
     pub(crate) fn new(alloc: Global) -> Names
         ensures { names_of result ≡ [] }
     {
@@ -30,7 +30,7 @@ impl Names {
         }
     }
 
-    /// What the name is bound to.
+    /// The value that the name is bound to, if any.
     pub(crate) fn find(&self, name: &str) -> Option<&Value>
         ensures { option_map (λ v. view v.now) result ≡ binding name.now (names_of self.now) }
     {
@@ -40,10 +40,11 @@ impl Names {
         }
     }
 
-    /// Binds a name to a value, in place of what it was bound to. No other name changes.
+    /// Binds a name to a value, replacing an earlier binding. No other name changes.
     ///
     /// # Errors
-    /// `Memory` alone. The value is dropped then, and no name has changed.
+    /// Only [`Refused::Memory`], if memory is refused. The
+    /// value is then dropped, and no name has changed.
     pub(crate) fn set(&mut self, alloc: Global, name: &str, value: Value) -> Result<(), Refused>
         ensures bound { OnOk result ((x : List ℕ) → binding x (names_of self.new)
             ≡ (if bytes_eq name.now x then Some (view value) else binding x (names_of self.old))) }
@@ -59,7 +60,7 @@ impl Names {
         }
     }
 
-    /// Binds a name that isn't among the first.
+    /// Binds a name that isn't in the list.
     fn add(&mut self, alloc: Global, name: &str, value: Value) -> Result<(), Refused>
         requires { binding name.now (named_bindings self.old.first.items) ≡ None }
         ensures bound { OnOk result ((x : List ℕ) → binding x (names_of self.new)
@@ -77,7 +78,7 @@ impl Names {
     }
 }
 
-/// What a list binds the name to.
+/// The value that the list binds the name to, if any.
 fn listed<'n>(names: &'n Vec<(String, Value)>, name: &str) -> Option<&'n Value>
     ensures { option_map (λ v. view v.now) result ≡ binding name.now (named_bindings names.now.items) }
 {
@@ -89,14 +90,14 @@ fn listed<'n>(names: &'n Vec<(String, Value)>, name: &str) -> Option<&'n Value>
     None
 }
 
-/// What a map binds the name to.
+/// The value that the map binds the name to, if any.
 fn mapped<'n>(names: &'n BTreeMap<String, Value>, name: &str) -> Option<&'n Value>
     ensures { option_map (λ v. view v.now) result ≡ binding name.now (named_bindings names.now.entries) }
 {
     names.get(name)
 }
 
-/// Where the name stands first in a list.
+/// The index of the name's first entry in the list, if any.
 fn index_of(names: &Vec<(String, Value)>, name: &str) -> Option<usize>
     ensures slot { MatchOption result (binding name.now (named_bindings names.now.items) ≡ None)
         (λ i. IsFirst name.now names.now.items i) }

@@ -1,4 +1,4 @@
-//! What operators do with values.
+//! The operators on values.
 ghost use Rattle.std.specs.Prelude.{◌≡◌, IfOk, IfErr, Ok, Err, option_map, not};
 ghost use Rattle.std.specs.Option.{option_map_or};
 ghost use Rattle.std.specs.Cmp.Lexicographic.{slice_cmp};
@@ -20,13 +20,13 @@ use cel_value::{ExecutionError, Refused, Value};
 use std::alloc::Global;
 use std::cmp::Ordering;
 
-/// A value, or why there is none.
+/// The outcome of an evaluation: a value, or an error.
 pub type Answer = Result<Value, ExecutionError>;
 
-/// The fault of an operator, a macro or a function that takes no such values.
+/// Returns the error of an operator, a macro or a function that doesn't take values of these kinds.
 ///
 /// # Errors
-/// `Memory` alone.
+/// Only [`Refused::Memory`], if memory is refused.
 pub fn no_such_overload(alloc: Global, name: &str) -> Result<ExecutionError, Refused>
     ensures value { IfOk result (λ e. fault_view e ≡ no_overload name.now) }
     ensures memory { IfErr result (λ e. e ≡ Refused.Memory) }
@@ -34,7 +34,7 @@ pub fn no_such_overload(alloc: Global, name: &str) -> Result<ExecutionError, Ref
     Ok(ExecutionError::NoSuchOverload(String::from_str(alloc, name)?))
 }
 
-/// The fault of an operator or a function that a double was given to.
+/// Returns the error of an operator or a function whose operand holds a double.
 pub(crate) fn double_fault(alloc: Global) -> Result<ExecutionError, Refused>
     ensures value { IfOk result (λ e. fault_view e ≡ no_doubles) }
     ensures memory { IfErr result (λ e. e ≡ Refused.Memory) }
@@ -42,20 +42,20 @@ pub(crate) fn double_fault(alloc: Global) -> Result<ExecutionError, Refused>
     Ok(ExecutionError::UndeclaredReference(String::from_str(alloc, "double")?))
 }
 
-/// How far the operands so far decide.
+/// Whether the operands seen so far decide `&&`, `||` or a macro.
 #[derive(Drop)]
 pub enum Progress {
     /// One of them decides.
     Decided,
-    /// None of them decides. The first fault among them, if there is one.
+    /// None of them decides. Holds the first error among them, if any.
     Open(Option<ExecutionError>),
 }
 
-/// Takes one more operand of `&&`, `||` or a macro, after operands whose first fault is
-/// `fault`: the bool `stop` decides.
+/// Takes the next operand of `&&`, `||` or a macro. The bool `stop` decides;
+/// `fault` is the first error of the operands before.
 ///
 /// # Errors
-/// `Memory` alone.
+/// Only [`Refused::Memory`], if memory is refused.
 pub fn absorb(
     alloc: Global,
     stop: bool,
@@ -102,7 +102,7 @@ fn absorb_value(
     }
 }
 
-/// The answer where no operand decides.
+/// Returns the outcome if no operand decides: the first error, or the other bool.
 pub fn undecided_answer(stop: bool, fault: Option<ExecutionError>) -> Answer
     ensures { outcome_view result
         ≡ option_map_or Err (option_map fault_view fault) (Ok (bool (not stop))) }
@@ -123,10 +123,10 @@ fn invert(alloc: Global, value: &Value) -> Result<Answer, Refused>
     }
 }
 
-/// An operator on one value.
+/// Applies a unary operator to a value.
 ///
 /// # Errors
-/// `Memory` alone.
+/// Only [`Refused::Memory`], if memory is refused.
 pub fn operate_on_one(
     alloc: Global,
     operator: UnaryOperator,
@@ -221,7 +221,7 @@ fn relate(
     }
 }
 
-/// An operator on two ints.
+/// Applies an operator to two ints.
 fn relate_ints(alloc: Global, operator: BinaryOperator, m: i64, n: i64) -> Result<Answer, Refused>
     ensures value { IfOk result (λ r. outcome_view r ≡ relation_outcome operator (int m) (int n)) }
     ensures memory { IfErr result (λ e. e ≡ Refused.Memory) }
@@ -244,14 +244,14 @@ fn relate_ints(alloc: Global, operator: BinaryOperator, m: i64, n: i64) -> Resul
     }
 }
 
-/// Whether two texts stand in the operator's order.
+/// Reports whether an order operator holds for two strings.
 fn order_texts(operator: BinaryOperator, s: &str, t: &str) -> bool
     ensures { result ≡ holds_of operator (slice_cmp nat_cmp s.now t.now) }
 {
     holds(operator, s.cmp(t))
 }
 
-/// An operator on two texts.
+/// Applies an operator to two strings.
 fn relate_texts(
     alloc: Global,
     operator: BinaryOperator,
@@ -279,8 +279,8 @@ fn relate_texts(
     }
 }
 
-/// An operator on two values, either of which may hold a double. Membership, which is mostly asked of values of two kinds, is looked for
-/// first.
+/// Applies an operator to two values that may hold doubles. Membership comes
+/// first, since its operands are mostly of two kinds.
 #[inline(always)]
 fn operate_on_any(
     alloc: Global,
@@ -301,10 +301,10 @@ fn operate_on_any(
     relate(alloc, operator, left, right)
 }
 
-/// An operator on two values.
+/// Applies a binary operator to two values.
 ///
 /// # Errors
-/// `Memory` alone.
+/// Only [`Refused::Memory`], if memory is refused.
 pub fn operate(
     alloc: Global,
     operator: BinaryOperator,

@@ -1,4 +1,4 @@
-//! What a macro goes over.
+//! The ranges of macros.
 ghost use Rattle.std.specs.Prelude.{◌≡◌, ◌++◌, IfOk, IfErr, OnOk, map};
 ghost use Rattle.cel_value.specs.Keys.{key_view};
 ghost use Rattle.cel_value.specs.View.{view};
@@ -9,7 +9,7 @@ use cel_value::{ExecutionError, Key, List, Map, Refused, Value};
 use std::alloc::Global;
 use std::rc::Rc;
 
-/// Copies of the items, at the end.
+/// Appends copies of the items.
 pub(crate) fn push_copies(values: &mut Vec<Value>, items: &[Value]) -> Result<(), Refused>
     ensures pushed { OnOk result (map view values.new.items
         ≡ map view values.old.items ++ map view items.now) }
@@ -44,7 +44,8 @@ fn key_values(alloc: Global, entries: &Map) -> Result<Vec<Value>, Refused>
     Ok(values)
 }
 
-/// What a macro goes over: the items of a list, which stay where they are, or a map's keys in key order.
+/// The range of a macro: the items of a list, which
+/// aren't copied, or the keys of a map in key order.
 #[derive(Drop)]
 pub enum Range {
     Items(Rc<List>),
@@ -52,7 +53,7 @@ pub enum Range {
 }
 
 impl Range {
-    /// The items, the first one first.
+    /// The items, in order.
     #[tactic(auto, using(crate::proofs::Lookups::listed_items))]
     pub fn as_slice(&self) -> &[Value]
         ensures { map view result.now ≡ range_list self.now }
@@ -64,10 +65,11 @@ impl Range {
     }
 }
 
-/// What a macro of this name goes over.
+/// Returns the range of the named macro over a value. A value
+/// that is neither a list nor a map is an error.
 ///
 /// # Errors
-/// `Memory` alone.
+/// Only [`Refused::Memory`], if memory is refused.
 pub fn range_in(
     alloc: Global,
     name: &str,

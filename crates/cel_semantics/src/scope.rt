@@ -1,4 +1,4 @@
-//! The names around a scope.
+//! The scopes around a scope.
 ghost use Rattle.std.specs.Prelude.{◌≡◌, option_map};
 ghost use Rattle.cel_value.specs.View.{view};
 ghost use Rattle.cel_semantics.specs.Bindings.{bindings, binding};
@@ -6,17 +6,17 @@ ghost use Rattle.cel_semantics.specs.Bindings.{bindings, binding};
 use crate::names::Names;
 use cel_value::Value;
 
-/// Names with their values, the innermost first.
+/// Nested scopes, the innermost first.
 #[derive(Drop)]
 pub enum Scope<'a> {
-    /// No name.
+    /// No scope.
     Empty,
-    /// These names, and those around them.
+    /// A scope and those around it.
     Named(&'a Names, &'a Scope<'a>),
 }
 
 impl<'a> Scope<'a> {
-    /// What the name is bound to.
+    /// The value that the name is bound to, if any.
     pub fn get(&self, name: &str) -> Option<&'a Value>
         ensures { option_map (λ v. view v.now) result ≡ binding name.now (bindings self.now) }
     {

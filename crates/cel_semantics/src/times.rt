@@ -65,7 +65,7 @@ fn subtract_durations(length: Duration, less: Duration) -> Answer
     checked_duration(length.checked_sub(less))
 }
 
-/// The sum of a timestamp and a value.
+/// Adds a value to a timestamp.
 pub(crate) fn add_to_timestamp(
     alloc: Global,
     start: Timestamp,
@@ -81,7 +81,7 @@ pub(crate) fn add_to_timestamp(
     }
 }
 
-/// The sum of a duration and a value.
+/// Adds a value to a duration.
 pub(crate) fn add_to_duration(
     alloc: Global,
     length: Duration,
@@ -98,7 +98,7 @@ pub(crate) fn add_to_duration(
     }
 }
 
-/// The difference of a timestamp and a value.
+/// Subtracts a value from a timestamp.
 pub(crate) fn subtract_from_timestamp(
     alloc: Global,
     end: Timestamp,
@@ -115,7 +115,7 @@ pub(crate) fn subtract_from_timestamp(
     }
 }
 
-/// The difference of a duration and a value.
+/// Subtracts a value from a duration.
 pub(crate) fn subtract_from_duration(
     alloc: Global,
     length: Duration,

@@ -1,7 +1,7 @@
 -- Trusted by the headline.
--- The free names of an expression: those that no macro around them binds. A macro binds its variable in its
--- filter and its body, and not in its range (CEL language definition, "Macros").
--- The name of a function is no free name.
+-- The free names of an expression: those that no enclosing macro binds. A macro binds its
+-- variable in its filter and its body, but not in its range (CEL language definition,
+-- "Macros"). The name of a function is not a free name.
 use Rattle.std.specs.Prelude.{ℕ, List, Bool, false, not, ◌&&◌, ◌||◌}
 use Rattle.std.specs.Str.{bytes_eq}
 use Rattle.cel_syntax_ast.specs.Term.{Term, literal, ident, select, has, index, unary, binary, conditional, list_of, map_with, call, qualified, macro, Terms, no_terms, term_and, Pairs, no_pairs, pair_and}

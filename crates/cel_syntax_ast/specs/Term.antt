@@ -1,6 +1,5 @@
 -- Trusted by the headline.
--- The tree of an expression as plain data, without its memory (abstract syntax of
--- the CEL language definition).
+-- The tree of an expression as contracts see it (abstract syntax of the CEL language definition).
 use Rattle.std.specs.Prelude.{ℕ, suc, zero, List, [], ◌∷◌, Option, Some, None, string_bytes, Box, Bool, true, false}
 use Rattle.std.specs.declared.alloc.Global.{Global}
 use Rattle.cel_value.specs.Data.{Data}
@@ -22,11 +21,11 @@ mutual
     index : Term → Term → Term
     unary : UnaryOperator → Term → Term
     binary : BinaryOperator → Term → Term → Term
-    -- the condition, the branch where it is true, the other one
+    -- the condition, the branch if it is true, the branch if it is false
     conditional : Term → Term → Term → Term
     list_of : Terms → Term
     map_with : Pairs → Term
-    -- the target, if there is one, the name, the arguments
+    -- the target, if any, the name, the arguments
     call : Terms → List ℕ → Terms → Term
     -- a name with a dot, the arguments
     qualified : List ℕ → Terms → Term
@@ -42,7 +41,7 @@ mutual
     no_pairs : Pairs
     pair_and : Term → Term → Pairs → Pairs
 
--- a term that may be there
+-- an optional term
 abbrev pub one_of : Option (Box Term Global) → Terms
 one_of None = no_terms
 one_of (Some b) = term_and b.value no_terms
@@ -55,12 +54,12 @@ abbrev pub pairs_of : List (Term × Term) → Pairs
 pairs_of [] = no_pairs
 pairs_of (p ∷ ps) = pair_and p.0 p.1 (pairs_of ps)
 
--- how many there are
+-- the number of terms
 abbrev pub count_of : Terms → ℕ
 count_of no_terms = zero
 count_of (term_and t ts) = suc (count_of ts)
 
--- one level, with each tree inside already seen as its term
+-- the node of an expression, given the terms of its parts
 abbrev pub term_step : Expr-F Term → Term
 term_step (Expr-F.Literal v) = literal (view v)
 term_step (Expr-F.Ident x) = ident (string_bytes x.value)
@@ -76,7 +75,7 @@ term_step (Expr-F.Call a x ts) = call (one_of a) (string_bytes x.value) (terms_o
 term_step (Expr-F.Qualified x ts) = qualified (string_bytes x.value) (terms_of ts.items)
 term_step (Expr-F.Macro k r x f b) = macro k r.value (string_bytes x.value) (one_of f) b.value
 
--- the term that an expression stands for
+-- the term of an expression
 abbrev pub term : Expr → Term
 term = fold-Expr Term term_step
 

@@ -3,7 +3,7 @@
 use cel_value::Value;
 use std::rc::Rc;
 
-/// An operator on one value.
+/// A unary operator.
 #[derive(Clone, Copy, Debug, PartialEq, Eq)]
 pub enum UnaryOperator {
     /// `!`
@@ -12,7 +12,7 @@ pub enum UnaryOperator {
     Negate,
 }
 
-/// An operator on two values.
+/// A binary operator.
 #[derive(Clone, Copy, Debug, PartialEq, Eq)]
 pub enum BinaryOperator {
     /// `||`
@@ -45,56 +45,56 @@ pub enum BinaryOperator {
     Remainder,
 }
 
-/// A macro that goes over a range.
+/// A macro over a range.
 #[derive(Clone, Copy, Debug, PartialEq, Eq)]
 pub enum MacroKind {
-    /// Whether the predicate holds of every item.
+    /// Whether the predicate holds for every item.
     All,
-    /// Whether it holds of some item.
+    /// Whether the predicate holds for some item.
     Exists,
-    /// Whether it holds of just one item.
+    /// Whether the predicate holds for exactly one item.
     ExistsOne,
-    /// The images of the items, of those alone that a filter keeps where there is one.
+    /// The values of the body at the items, or at those that the filter keeps if there is one.
     Map,
-    /// The items that the predicate holds of.
+    /// The items for which the predicate holds.
     Filter,
 }
 
-/// An expression. Its names are shared, so that code made of it takes them without a copy.
+/// An expression. Its names are shared, so that code compiled from it needn't copy them.
 #[derive(Debug, Drop)]
 pub enum Expr {
-    /// A value that stands in the text.
+    /// A literal.
     Literal(Value),
-    /// A name.
+    /// An identifier.
     Ident(Rc<String>),
-    /// A member of a map.
+    /// The selection of a member of a map.
     Select(Box<Expr>, Rc<String>),
-    /// Whether a map has a member, as the macro `has` asks.
+    /// The macro `has`: whether a map has a member.
     Has(Box<Expr>, Rc<String>),
-    /// An item of a list or a member of a map, by its index or key.
+    /// An index expression: the operand, then the index or key.
     Index(Box<Expr>, Box<Expr>),
-    /// An operator on one value.
+    /// A unary operator with its operand.
     Unary(UnaryOperator, Box<Expr>),
-    /// An operator on two values.
+    /// A binary operator with its operands.
     Binary(BinaryOperator, Box<Expr>, Box<Expr>),
-    /// A condition with its two branches.
+    /// A condition, then the branch if it is true and the branch if it is false.
     Cond(Box<Expr>, Box<Expr>, Box<Expr>),
-    /// A list of its items.
+    /// A list of these items.
     List(Vec<Expr>),
-    /// A map of its entries, each a key with its value.
+    /// A map of these entries, each a key with its value.
     Map(Vec<(Expr, Expr)>),
-    /// A call, on a target where there is one.
+    /// A call, on a target if there is one.
     Call {
         target: Option<Box<Expr>>,
         name: Rc<String>,
         args: Vec<Expr>,
     },
-    /// A call of a function whose name has a dot in it.
+    /// A call of a function whose name contains a dot.
     Qualified {
         name: Rc<String>,
         args: Vec<Expr>,
     },
-    /// A macro, which binds its variable in filter and body. A filter is there for `map(x, p, f)` alone.
+    /// A macro. It binds its variable in the filter and the body. Only `map(x, p, f)` has a filter.
     Macro {
         kind: MacroKind,
         range: Box<Expr>,

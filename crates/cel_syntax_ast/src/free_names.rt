@@ -1,4 +1,4 @@
-//! Which names of an expression are free.
+//! The free names of an expression.
 ghost use Rattle.std.specs.Prelude.{◌≡◌, map};
 ghost use Rattle.cel_syntax_ast.specs.FreeNames.{is_free, is_free_in_any, is_free_in_pairs};
 ghost use Rattle.cel_syntax_ast.specs.Term.{term, terms_of, pairs_of};
@@ -6,7 +6,8 @@ ghost use Rattle.cel_syntax_ast.specs.Term.{term, terms_of, pairs_of};
 use crate::expr::Expr;
 
 impl Expr {
-    /// Whether the name is free here: it stands as an identifier that no macro around it binds.
+    /// Reports whether the name is free in the expression: it occurs
+    /// as an identifier that no enclosing macro binds.
     #[cycle(free)]
     pub fn has_free_name(&self, name: &str) -> bool
         ensures { result ≡ is_free name.now (term self.now) }
@@ -55,7 +56,7 @@ impl Expr {
     }
 }
 
-/// Whether the name is free in one of them.
+/// Reports whether the name is free in one of the expressions.
 #[cycle(free)]
 fn any_has_free_name(items: &Vec<Expr>, name: &str) -> bool
     ensures { result ≡ is_free_in_any name.now (terms_of (map term items.now.items)) }
@@ -68,7 +69,7 @@ fn any_has_free_name(items: &Vec<Expr>, name: &str) -> bool
     false
 }
 
-/// Whether the name is free in one of the keys and values.
+/// Reports whether the name is free in one of the keys and values.
 #[cycle(free)]
 fn pairs_have_free_name(pairs: &Vec<(Expr, Expr)>, name: &str) -> bool
     ensures { result

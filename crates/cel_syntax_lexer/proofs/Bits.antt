@@ -5,7 +5,7 @@ use Rattle.std.specs.Option.{option_and_then}
 use Rattle.std.proofs.lemmas.Bool.Decides.{nat_tests}
 use Rattle.cel_syntax_lexer.specs.Number.{of_64_bits, int_value, uint_value}
 
--- A function that is none past 64 bits may be given what 64 bits hold.
+-- A function that is None past 64 bits may be applied to what fits 64 bits.
 pub of_bits : {A : Type 0} (f : ℕ → Option A) → ((n : ℕ) → 2 ^ 64 ≤ n → f n ≡ None) → (o : Option ℕ) → option_and_then f (option_and_then of_64_bits o) ≡ option_and_then f o
 of_bits f past None = refl
 of_bits {A} f past (Some n) = at (nat_lt n (2 ^ 64)) refl

@@ -28,17 +28,17 @@ code_point_past n h =
 pub code_point_of_bits : (o : Option ℕ) → option_and_then code_point (option_and_then of_64_bits o) ≡ option_and_then code_point o
 code_point_of_bits o = of_bits code_point code_point_past o
 
--- ---- what is known of an escape that is read
+-- ---- properties of a valid escape
 
 none_some : {A : Type 0} {x : A} → None ≡ Some x → ⊥
 none_some e = cc
 
--- One of two options gives what either gives.
+-- A property of both options is one of either.
 either_gives : {A : Type 0} (P : A → Type 0) (b : Bool) (o p : Option A) → (b ≡ true → (x : A) → o ≡ Some x → P x) → ((x : A) → p ≡ Some x → P x) → (x : A) → cond b o p ≡ Some x → P x
 either_gives P true o p f g x e = f refl x e
 either_gives P false o p f g x e = g x e
 
--- What comes of a value that an option gives is as the function says.
+-- A property of a function's results is one of the result at an option's value.
 step_gives : {A B : Type 0} (P : B → Type 0) (f : A → Option B) (o : Option A) → ((x : A) → o ≡ Some x → (y : B) → f x ≡ Some y → P y) → (y : B) → option_and_then f o ≡ Some y → P y
 step_gives P f None h y e = absurd (none_some e)
 step_gives P f (Some x) h y e = h x refl y e
@@ -53,7 +53,7 @@ digits_within radix n s x e = either_gives (λ _. n ≤ length s) (nat_le n (len
 octet_small : (n x : ℕ) → octet n ≡ Some x → x < 256
 octet_small n x e = either_gives (λ x. x < 256) (nat_lt n 256) _ _ (λ b x is. this (λ x. x < 256) n (ltb-true n 256 b) x is) (λ _ f. absurd (none_some f)) x e
 
--- the code, in bytes, is a byte, and the escape is within what follows the backslash
+-- in bytes the code is a byte, and the escape ends within what follows the backslash
 abbrev pub Fits : Content → List ℕ → ℕ × ℕ → Type 0
 Fits content s e = (e.1 ≤ length s) × (content ≡ Bytes → e.0 < 256)
 

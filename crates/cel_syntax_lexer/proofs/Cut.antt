@@ -1,4 +1,4 @@
--- A text cuts in one way, and where the scan stands on that way.
+-- A text splits into tokens in one way, and how far the scan has come.
 use Rattle.std.proofs.Common.{◌≡◌, ℕ, suc, zero, ◌<◌, refl, sym, ◌∙◌, ap, subst, arith, Bool, true, false, Option, Some, None, List, [], ◌∷◌, ◌++◌, take, drop, length, get_or, ◌&&◌, ◌||◌, ◌⊎◌, inl, inr, append_assoc, append-nil, map}
 use Rattle.std.specs.Prelude.{nat_eq}
 use Rattle.std.specs.List.{prefix_len}
@@ -14,7 +14,7 @@ either : (a b : Bool) → (a || b) ≡ true → (a ≡ true) ⊎ (b ≡ true)
 either true b e = inl refl
 either false b e = inr e
 
--- ---- where white space or a comment stands, no token does
+-- ---- white space and comments are no tokens
 
 no_punctuator : (b : ℕ) (z : List ℕ) → one_byte b ≡ None → ((c : ℕ) → two_bytes b c ≡ None) → punctuator_of b z ≡ None
 no_punctuator b [] one two = one
@@ -54,7 +54,7 @@ space_is_no_comment b (c ∷ z) h = go (nat_eq b 47) refl
     go true e = let no : is_white_space 47 ≡ true = subst (λ x. is_white_space x ≡ true) (eqb-true b 47 e) h in absurd (cc)
     go false e = rw e
 
--- ---- a text cuts in one way
+-- ---- a text splits in one way
 
 pub only_one : {z : List ℕ} {n k : ℕ} {t u : Token} → Longest z n t → Longest z k u → n ≡ k
 only_one {z} {n} {k} {t} {u} a b =
@@ -97,7 +97,7 @@ cuts_once (token {t = t} nc l d) e = let r = token_cut nc l e in ap (λ x. t ∷
 
 -- ---- the scan
 
--- So far these tokens were found, and this is left of the text.
+-- These tokens were found so far, and this is the rest of the text.
 pub record Goes (whole : List ℕ) (found : List Token) (left : List ℕ) : Type 0 where
   pub forth : (us : List Token) → Cuts left us → Cuts whole (found ++ us)
   pub back : (us : List Token) → Cuts whole us → (vs : List Token) × (us ≡ found ++ vs) × Cuts left vs
@@ -132,7 +132,7 @@ pub goes_end : (whole : List ℕ) (found : List Token) (left : List ℕ) → Goe
 goes_end whole found [] g e = (rw (← append-nil found) (g.forth [] done), λ us d. let r = g.back us d in r.1 ∙ rw (cuts_end r.2) (append-nil found))
 goes_end whole found (b ∷ z) g e = absurd (omega arith)
 
--- where no token is, nothing goes on
+-- if there is no token, the text can't be split
 pub goes_stuck : (whole : List ℕ) (found : List Token) (left : List ℕ) → Goes whole found left → 0 < length left → begins_comment left ≡ false
     → is_white_space (get_or left 0 0) ≡ false → ((n : ℕ) (t : Token) → Longest left n t → ⊥) → CutsIntoNone whole
 goes_stuck whole found left g some nc s none = λ us d. stuck left some nc s none _ (g.back us d).2

@@ -1,4 +1,4 @@
--- The function `cut` says what the relation `Cuts` says.
+-- The function `tokens_of_text` agrees with the relation `Cuts`.
 use Rattle.std.proofs.Common.{◌≡◌, ℕ, suc, zero, ◌<◌, ◌≤◌, refl, sym, ◌∙◌, ap, arith, Bool, true, false, Option, Some, None, List, [], ◌∷◌, take, drop, length, ◌⊎◌, inl, inr, length-drop}
 use Rattle.std.specs.Prelude.{nat_eq, ◌&&◌, MatchOption, option_map}
 use Rattle.std.specs.List.{prefix_len}
@@ -15,7 +15,7 @@ no_empty_token : (z : List ℕ) → token_of_bytes (take 0 z) ≡ None
 unfolding token_of_bytes
 no_empty_token z = refl
 
--- of the first n bytes at most, these are the longest that are a token
+-- the longest token of at most n bytes has k bytes
 record Within (n : ℕ) (z : List ℕ) (k : ℕ) (t : Token) : Type 0 where
   pub fits : k ≤ n
   pub is_token : token_of_bytes (take k z) ≡ Some t
@@ -71,7 +71,7 @@ token_of_longest z n t l = go (longest_token z) refl
         let also : u ≡ t = cc in
         rw (← same, ← also) e
 
--- ---- what is cut is what the text cuts into
+-- ---- the function gives what the relation says
 
 first_is : (n b : ℕ) (z : List ℕ) (c s : Bool) (o : Option (Token × ℕ)) → begins_comment (b ∷ z) ≡ c → is_white_space b ≡ s → longest_token (b ∷ z) ≡ o
     → cut_within (suc n) (b ∷ z) ≡ from_first (λ y. cut_within n y) (b ∷ z) c s o
@@ -178,7 +178,7 @@ cut_is z = go (tokens_of_text z) refl
     go None e = no_cuts_of_cut z e
     go (Some ts) e = let d = cuts_of_cut z ts e in (d, λ us other. cuts_once other d)
 
--- an answer that says what the text cuts into is `cut`
+-- an answer that says what the text splits into is `tokens_of_text`
 pub answer_is_cut : (z : List ℕ) (o : Option (List Token)) → MatchOption o (CutsIntoNone z) (λ ts. CutsInto z ts) → o ≡ tokens_of_text z
 answer_is_cut z None m = go (tokens_of_text z) refl
   where
@@ -187,7 +187,7 @@ answer_is_cut z None m = go (tokens_of_text z) refl
     go (Some ts) e = absurd (m ts (cuts_of_cut z ts e))
 answer_is_cut z (Some ts) m = sym (cut_of_cuts z ts m.0)
 
--- the same of an answer whose value stands for the tokens
+-- the same for an answer whose value stands for the tokens
 pub mapped_answer_is_cut : {A : Type 0} (f : A → List Token) (z : List ℕ) (o : Option A) → MatchOption o (CutsIntoNone z) (λ found. CutsInto z (f found)) → option_map f o ≡ tokens_of_text z
 mapped_answer_is_cut f z None m = answer_is_cut z None m
 mapped_answer_is_cut f z (Some found) m = answer_is_cut z (Some (f found)) m

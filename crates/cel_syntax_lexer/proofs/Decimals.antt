@@ -24,7 +24,7 @@ both_false : (b : Bool) → (b && false) ≡ false
 both_false true = refl
 both_false false = refl
 
--- ---- digits alone, and digits before a tail
+-- ---- digits, and digits before a tail
 
 digit_is : (c : ℕ) → digit_value c < 10 → is_ascii_digit c ≡ true
 digit_is c h =
@@ -56,7 +56,7 @@ integer_is : (ds : List ℕ) → IsNumeral 10 ds → integer_value ds ≡ Some (
 unfolding integer_value numeral_value
 integer_is ds h = rw (decimal_radix ds h.1, numeral ds h)
 
--- ---- neither a double
+-- ---- they are no double
 
 no_double : (ds t : List ℕ) → AllDigits 10 ds → nat_eq (get_or (after_digits t) 0 0) 46 ≡ false → is_exponent (after_digits t) ≡ false → is_double (ds ++ t) ≡ false
 unfolding is_double
@@ -66,7 +66,7 @@ digits_no_double : (ds : List ℕ) → AllDigits 10 ds → is_double ds ≡ fals
 unfolding is_exponent
 digits_no_double ds h = subst (λ (s : List ℕ). is_double s ≡ false) (append-nil ds) (no_double ds [] h refl refl)
 
--- ---- nor a uint, unless it ends so
+-- ---- nor a uint, except with its suffix
 
 last_is_digit : (ds : List ℕ) → IsNumeral 10 ds → is_unsigned ds ≡ false
 last_is_digit ds h =
@@ -101,7 +101,7 @@ uint_digits ds h =
     let unsigned : is_unsigned (ds ++ 117 ∷ []) ≡ true = rw (last_of ds 117) in
     rw (no_double ds (117 ∷ []) h.1 refl refl, unsigned, front_of ds 117, integer_is ds h)
 
--- ---- what std writes of a number
+-- ---- the text that std makes of a number
 
 pub int_is : (n : ℕ) → n < 2 ^ 63 → number_value false (decimal n) ≡ Some (int (pos n))
 unfolding int_value

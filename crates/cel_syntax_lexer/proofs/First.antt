@@ -1,4 +1,4 @@
--- What the scan finds at the front is the longest token there.
+-- The scan finds the longest token at the front.
 use Rattle.std.proofs.Common.{◌≡◌, ℕ, suc, zero, ◌+◌, ◌<◌, ◌≤◌, refl, sym, ◌∙◌, subst, arith, true, false, Some, None, List, [], ◌∷◌, take, drop, length, get_or, one-add}
 use Rattle.std.specs.Prelude.{nat_eq}
 use Rattle.std.specs.List.{prefix_len}
@@ -141,9 +141,9 @@ pub number_at : (z : List ℕ) (n : ℕ) → 0 < length z → is_letter (get_or 
 number_at [] n some l q r h = absurd (omega arith)
 number_at (b ∷ z) n some l q r h = longest_number b z n l q r h
 
--- ---- marks
+-- ---- punctuators
 
--- no number stands at the front
+-- there is no number at the front
 abbrev pub NoNumber : List ℕ → Type 0
 NoNumber z = (k : ℕ) → 0 < k → k ≤ length z → is_number (take k z) ≡ false
 

@@ -1,4 +1,4 @@
--- The longest number from its parts.
+-- The longest number is made of its longest parts.
 use Rattle.std.proofs.Common.{◌≡◌, ℕ, suc, zero, ◌+◌, ◌<◌, refl, sym, subst, arith, Bool, true, false, List, ◌∷◌, drop, ◌||◌}
 use Rattle.std.specs.Prelude.{max}
 use Rattle.std.specs.List.{prefix_len}
@@ -7,7 +7,7 @@ use Rattle.cel_syntax_lexer.specs.Spelling.{is_end, is_byte, is_either, begins, 
 use Rattle.cel_syntax_lexer.specs.Numbers.{is_digits, is_signed, is_power, is_exponent, is_end_or_exponent, is_after_dot, is_fraction, is_end_or_suffix, is_after_x, is_after_zero, is_hexadecimal, is_after_digits, is_decimal, is_number}
 use Rattle.cel_syntax_lexer.proofs.Spelling.{class_is_not, longest_end, longest_either, longest_no_one, longest_one, longest_one_and_more, longest_no_some, longest_some}
 
--- ---- no part begins with what goes before it
+-- ---- no part begins with a byte of the part before it
 
 digit_is_no_exponent : (b : ℕ) (z : List ℕ) → is_ascii_digit b ≡ true → is_exponent (b ∷ z) ≡ false
 unfolding is_exponent

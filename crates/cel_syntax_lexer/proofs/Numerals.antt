@@ -1,4 +1,4 @@
--- What std reads of a numeral.
+-- How std parses a numeral.
 use Rattle.std.proofs.Common.{◌≡◌, ◌≢◌, ℕ, ◌^◌, ◌<◌, ◌≤◌, refl, subst, arith, Bool, true, false, Some, None, List, [], ◌∷◌, length, get_or, cond, ◌&&◌}
 use Rattle.std.specs.Prelude.{nat_lt}
 use Rattle.std.specs.List.{list_all}
@@ -52,7 +52,7 @@ no_plus radix (c ∷ cs) h e p =
     let digit : is_digit_in radix c ≡ true = (both (is_digit_in radix c) (list_all (is_digit_in radix) cs) e).0 in
     plus_is_no_digit radix h (subst (λ (x : ℕ). is_digit_in radix x ≡ true) p digit)
 
--- ---- what a numeral is read as
+-- ---- what a numeral is parsed to
 
 pub numeral_parts : (radix : ℕ) (ds : List ℕ) → radix ≤ 36 → is_numeral radix ds ≡ true → IsNumeral radix ds × (without_leading_plus ds ≡ ds)
 unfolding is_numeral

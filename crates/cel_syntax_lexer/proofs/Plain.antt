@@ -1,4 +1,4 @@
--- Bodies that stand for themselves.
+-- Bodies that denote themselves.
 use Rattle.std.proofs.Common.{◌≡◌, ℕ, ◌-◌, refl, ◌∙◌, ap, arith, Bool, true, false, not, Some, None, List, [], ◌∷◌, ◌++◌, length, take, drop, length-append, option_map}
 use Rattle.std.specs.Prelude.{nat_eq}
 use Rattle.std.specs.Str.{is_utf8}

@@ -1,4 +1,4 @@
--- How far the bytes of a class go on at the front of a list.
+-- The number of bytes of a class at the front of a list.
 use Rattle.std.proofs.Common.{◌≡◌, ℕ, suc, zero, ◌+◌, ◌<◌, ◌≤◌, refl, arith, Bool, true, false, List, [], ◌∷◌, take, cond, length, one-add}
 use Rattle.std.specs.List.{list_all, prefix_len}
 

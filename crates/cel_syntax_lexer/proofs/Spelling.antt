@@ -1,4 +1,4 @@
--- The longest spelling of a whole from those of its parts.
+-- The longest spelling of a whole, from those of its parts.
 use Rattle.std.proofs.Common.{◌≡◌, ℕ, suc, zero, ◌+◌, ◌-◌, ◌<◌, ◌≤◌, refl, sym, ◌∙◌, ap, subst, arith, Bool, true, false, List, [], ◌∷◌, take, drop, cond, length, ◌||◌, ◌⊎◌, inl, inr, one-add, length-drop}
 use Rattle.std.specs.Prelude.{nat_eq, max}
 use Rattle.std.specs.List.{prefix_len}
@@ -17,7 +17,7 @@ or_end false = refl
 pub true_not_false : {a : Bool} → a ≡ true → a ≡ false → ⊥
 true_not_false e h = let no : true ≡ false = sym e ∙ h in cc
 
--- a byte of the class is no byte outside it
+-- a byte of the class differs from any outside it
 pub class_is_not : (p : ℕ → Bool) (v b : ℕ) → p v ≡ false → p b ≡ true → nat_eq b v ≡ false
 class_is_not p v b other is = go (nat_eq b v) refl
   where
@@ -25,7 +25,7 @@ class_is_not p v b other is = go (nat_eq b v) refl
     go true e = absurd (true_not_false (subst (λ x. p x ≡ true) (eqb-true b v e) is) other)
     go false e = refl
 
--- ---- the end, and one of two
+-- ---- the end, and one of two bytes
 
 pub longest_end : (z : List ℕ) → LongestSpelling is_end z 0
 longest_end z = record { fits = omega arith; is_one = λ h. absurd (omega arith); none_longer = λ k h w. go z k h w }
@@ -55,7 +55,7 @@ longest_either p q z m n a b = elim (le_or m n) [
     second : m ≤ n → LongestSpelling (λ y. p y || q y) z n
     second h = record { fits = b.fits; is_one = λ some. rw (b.is_one some) (or_right _); none_longer = λ k i w. neither k (omega arith) i w }
 
--- ---- one byte, and then
+-- ---- one byte, then the rest
 
 suc_is_not_zero : (n : ℕ) → nat_eq (suc n) 0 ≡ false
 suc_is_not_zero n = go (nat_eq (suc n) 0) refl
@@ -73,7 +73,7 @@ module _ (p : ℕ → Bool) (q : List ℕ → Bool) where
       go (b ∷ z) zero e h w = absurd (omega arith)
       go (b ∷ z) (suc k) e h w = rw e
 
-  -- where the rest may be empty, so that one byte is a spelling
+  -- if the rest may be empty, so that one byte is a spelling
   pub longest_one : (z : List ℕ) (n : ℕ) → begins p z ≡ true → q [] ≡ true → LongestSpelling q (drop 1 z) n → LongestSpelling (one_then p q) z (1 + n)
   longest_one [] n e end r = absurd (cc)
   longest_one (b ∷ z) n e end r = rw one-add (record {
@@ -90,7 +90,7 @@ module _ (p : ℕ → Bool) (q : List ℕ → Bool) where
       longer_ones zero h w = absurd (omega arith)
       longer_ones (suc k) h w = rw (e, r.none_longer k (omega arith) (omega arith))
 
-  -- where the rest is not empty
+  -- if the rest isn't empty
   pub longest_one_and_more : (z : List ℕ) (n : ℕ) → begins p z ≡ true → q [] ≡ false → LongestSpelling q (drop 1 z) n → LongestSpelling (one_then p q) z (longer n)
   longest_one_and_more [] n e end r = absurd (cc)
   longest_one_and_more (b ∷ z) zero e end r = record { fits = omega arith; is_one = λ h. absurd (omega arith); none_longer = λ k h w. none k h w }
@@ -109,7 +109,7 @@ module _ (p : ℕ → Bool) (q : List ℕ → Bool) where
       longer_ones zero h w = absurd (omega arith)
       longer_ones (suc k) h w = rw (e, r.none_longer k (omega arith) (omega arith))
 
--- ---- some bytes, and then what begins with none of them
+-- ---- some bytes, then what begins with none of them
 
 module _ (p : ℕ → Bool) (q : List ℕ → Bool) where
   no_some : (z : List ℕ) (k : ℕ) → prefix_len p z ≡ 0 → some_then p q (take k z) ≡ false
@@ -136,7 +136,7 @@ module _ (p : ℕ → Bool) (q : List ℕ → Bool) where
         go true is some = rejects b (take k z) is
         go false is some = absurd (omega arith)
 
-    -- the first run is the whole of the first part
+    -- the first run is the whole first part
     some_run : (z : List ℕ) (k : ℕ) → 0 < prefix_len p z → some_then p q (take (prefix_len p z + k) z) ≡ q (take k (drop (prefix_len p z) z))
     unfolding some_then
     some_run [] k some = absurd (omega arith)

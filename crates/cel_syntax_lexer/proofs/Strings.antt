@@ -10,7 +10,7 @@ use Rattle.cel_syntax_lexer.specs.Spelling.{is_byte, is_either, begins, one_then
 use Rattle.cel_syntax_lexer.specs.Strings.{is_quote, quotes_stand, quotes_length, closes, breaks, hides, end_of, is_all, is_closed, is_after_two, is_after_one, single_quotes, triple_quotes, is_string, is_raw_string, is_after_b, is_bytes, is_prefixed}
 use Rattle.cel_syntax_lexer.proofs.Spelling.{longest_either, longest_no_one, longest_one_and_more}
 
--- ---- what a step of the search sees
+-- ---- a step of the search
 
 module _ (q : Quotes) where
   at_close : (hidden : Bool) (b : ℕ) (z : List ℕ) → closes q hidden (b ∷ z) ≡ true → end_of q hidden (b ∷ z) ≡ Some (quotes_length q.tripled)
@@ -30,7 +30,7 @@ module _ (q : Quotes) where
   unfolding end_of
   no_end hidden = refl
 
--- ---- fewer bytes close the same
+-- ---- a prefix closes at the same place
 
 quotes_stand_take : (t : Bool) (quote : ℕ) (z : List ℕ) (k : ℕ) → quotes_length t ≤ k → quotes_stand t quote (take k z) ≡ quotes_stand t quote z
 quotes_stand_take false quote z zero h = absurd (omega arith)
@@ -56,7 +56,7 @@ quotes_some : (t : Bool) → 0 < quotes_length t
 quotes_some true = omega arith
 quotes_some false = omega arith
 
--- the string ends after n bytes of these
+-- the string ends after n bytes
 record Ends (q : Quotes) (hidden : Bool) (z : List ℕ) (n : ℕ) : Type 0 where
   pub enough : quotes_length q.tripled ≤ n
   pub fits : n ≤ length z
@@ -106,7 +106,7 @@ module _ (q : Quotes) where
       go false true c s again = let no = at_break q hidden b z c s in absurd (cc)
       go false false c s again = after (end_of q (hides q hidden b) z) refl c s (sym (at_text q hidden b z c s) ∙ e) again
 
-  -- more bytes do not change where the string ends
+  -- more bytes don't change where the string ends
   ends_of_front : (hidden : Bool) (z : List ℕ) (k n : ℕ) → end_of q hidden (take k z) ≡ Some n → end_of q hidden z ≡ Some n
   ends_of_front hidden [] zero n e = e
   ends_of_front hidden [] (suc k) n e = e

@@ -1,4 +1,4 @@
--- Bytes that are texts.
+-- Bytes that are UTF-8.
 use Rattle.std.proofs.Common.{◌≡◌, ℕ, refl, Bool, true, false, List}
 use Rattle.std.specs.Prelude.{string_bytes}
 use Rattle.cel_value.specs.Data.{text}

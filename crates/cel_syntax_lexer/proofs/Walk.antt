@@ -1,11 +1,11 @@
--- Where the walk over a body stands.
+-- How far the traversal of a body has come.
 use Rattle.std.proofs.Common.{◌≡◌, ◌≢◌, ℕ, zero, suc, ◌<◌, refl, sym, ◌∙◌, ap, arith, Bool, true, false, Option, Some, None, List, [], ◌∷◌, ◌++◌, length, get_or, drop, append_assoc, append-nil, option_map}
 use Rattle.std.specs.Prelude.{nat_eq}
 use Rattle.std.proofs.lemmas.Bool.{eqb-true}
 use Rattle.cel_syntax_lexer.specs.declared.content.Content.{Content}
 use Rattle.cel_syntax_lexer.specs.Escape.{escape, code_bytes, after_escape, unescaped_after, unescaped_bytes}
 
--- Bytes that belong to an escape are passed over.
+-- Bytes that belong to an escape are skipped.
 passed : (content : Content) (n : ℕ) (s : List ℕ) → unescaped_after content n s ≡ unescaped_bytes content (drop n s)
 unfolding unescaped_after
 passed content zero s = refl
@@ -16,7 +16,7 @@ joined : (made more : List ℕ) (o : Option (List ℕ)) → option_map (λ s. ma
 joined made more None = refl
 joined made more (Some s) = ap (λ (t : List ℕ). Some t) (sym (append_assoc made more s))
 
--- What is made, and then what the rest writes, is what the body writes.
+-- What was made so far, followed by what the rest denotes, is what the body denotes.
 pub record Goes (content : Content) (body made rest : List ℕ) : Type 0 where
   pub same : option_map (λ s. made ++ s) (unescaped_bytes content rest) ≡ unescaped_bytes content body
 

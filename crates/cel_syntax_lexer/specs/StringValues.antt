@@ -1,6 +1,6 @@
 -- Trusted by the headline.
--- The values of strings and bytes. Source: the sections "Syntax" (STRING_LIT, BYTES_LIT) and "String and
--- Bytes Values" of the CEL language definition.
+-- The values of strings and bytes. Source: the sections "Syntax" (STRING_LIT, BYTES_LIT) and
+-- "String and Bytes Values" of the CEL language definition.
 use Rattle.std.specs.Prelude.{ℕ, ◌-◌, nat_eq, Bool, ◌||◌, if◌then◌else◌, List, length, take, drop, slice_index, Option, Some, None, codes}
 use Rattle.std.specs.List.{starts_with, ends_with}
 use Rattle.std.specs.Option.{option_and_then, option_or}
@@ -10,7 +10,7 @@ use Rattle.cel_syntax_lexer.specs.declared.content.Content.{Content}
 use Rattle.cel_syntax_lexer.specs.declared.content.Content.TheVariants.{Text, Bytes}
 use Rattle.cel_syntax_lexer.specs.Escape.{unescaped_bytes}
 
--- what stands between these quotes
+-- the part of a spelling between these quotes
 abbrev pub after_quotes : List ℕ → List ℕ → Option (List ℕ)
 after_quotes quotes s = if starts_with nat_eq s quotes then Some (drop (length quotes) s) else None
 
@@ -20,13 +20,13 @@ before_quotes quotes s = if ends_with nat_eq s quotes then Some (take (length s 
 unfoldable pub between : List ℕ → List ℕ → Option (List ℕ)
 between quotes s = option_and_then (before_quotes quotes) (after_quotes quotes s)
 
--- Three quotes at each end, or one. Single and double quotes do the same.
+-- Tripled quotes, or single ones. `'` and `"` work alike.
 unfoldable pub body_of : List ℕ → Option (List ℕ)
 body_of s =
     option_or (between (codes "'''") s) (option_or (between (codes "\"\"\"") s)
     (option_or (between (codes "'") s) (between (codes "\"") s)))
 
--- The letter r makes the spelling raw: its body stands for itself.
+-- The prefix r makes the literal raw: its body denotes itself.
 abbrev pub is_raw : List ℕ → Bool
 is_raw s = nat_eq (slice_index s 0) 114 || nat_eq (slice_index s 0) 82
 
@@ -35,12 +35,12 @@ content_bytes content s =
     if is_raw s then body_of (drop 1 s)
     else option_and_then (unescaped_bytes content) (body_of s)
 
--- A text is of code points.
+-- A string consists of code points.
 abbrev pub content_value : Content → List ℕ → Option Data
 content_value Text s = if is_utf8 s then Some (text s) else None
 content_value Bytes s = Some (bytes s)
 
--- The letter b, first, makes bytes.
+-- The first letter b makes bytes.
 abbrev pub content_of : List ℕ → Content
 content_of s = if nat_eq (slice_index s 0) 98 || nat_eq (slice_index s 0) 66 then Bytes else Text
 

@@ -1,8 +1,8 @@
 -- Trusted by the headline.
--- How a string or bytes literal is spelled. Which escapes are right is no matter here:
--- a wrong one is a token without a value.
--- Source: STRING_LIT, BYTES_LIT and ESCAPE in the section "Syntax" of the CEL language definition, and its
--- section "String and Bytes Values".
+-- The spelling of string and bytes literals. Whether the escapes are valid doesn't
+-- matter here: a literal with an invalid one is a token without a value. Source:
+-- STRING_LIT, BYTES_LIT and ESCAPE in the section "Syntax" of the CEL language
+-- definition, and its section "String and Bytes Values".
 use Rattle.std.specs.Prelude.{ℕ, ◌+◌, Bool, true, false, not, ◌&&◌, ◌||◌, if◌then◌else◌, nat_eq, List, [], ◌∷◌, length, Option, Some, None, option_map}
 use Rattle.cel_syntax_lexer.specs.declared.string_literal.Quotes.{Quotes}
 use Rattle.cel_syntax_lexer.specs.Spelling.{is_byte, is_either, begins, one_then}
@@ -24,7 +24,7 @@ begins_three quote (b ∷ c ∷ d ∷ z) = nat_eq b quote && nat_eq c quote && n
 
 -- ---- where a string ends
 
--- tripled quotes stand at the front, or a single one
+-- tripled quotes at the front, or a single one
 abbrev pub quotes_stand : Bool → ℕ → List ℕ → Bool
 quotes_stand true quote z = begins_three quote z
 quotes_stand false quote z = begins (is_byte quote) z
@@ -33,20 +33,21 @@ abbrev pub quotes_length : Bool → ℕ
 quotes_length true = 3
 quotes_length false = 1
 
--- The closing quotes stand at the front. A byte that a backslash hides closes nothing.
+-- The closing quotes are at the front. A byte that a backslash escapes closes nothing.
 abbrev pub closes : Quotes → Bool → List ℕ → Bool
 closes q hidden z = not hidden && quotes_stand q.tripled q.byte z
 
--- may not stand in the text: a line break, unless the quotes are tripled
+-- a byte that may not be in the string: a line break, unless the quotes are tripled
 abbrev pub breaks : Quotes → ℕ → Bool
 breaks q b = not q.tripled && is_line_break b
 
--- a backslash, which hides the next byte, unless the text is raw or the backslash is hidden itself
+-- a backslash, which escapes the next byte, unless the
+-- string is raw or the backslash is itself escaped
 abbrev pub hides : Quotes → Bool → ℕ → Bool
 hides q hidden b = not hidden && not q.raw && nat_eq b 92
 
--- how many bytes of the text and the closing quotes the string has, where it closes: it ends at the first
--- offset at which they stand
+-- the number of bytes of the string's text and its closing quotes, if it
+-- is closed: it ends at the first closing quotes
 unfoldable pub end_of : Quotes → Bool → List ℕ → Option ℕ
 end_of q hidden [] = None
 end_of q hidden (b ∷ z) =
@@ -64,7 +65,7 @@ is_closed q z = is_all z (end_of q false z)
 
 -- ---- whole strings
 
--- the third quote that opens, the text and the closing quotes
+-- the third opening quote, the text and the closing quotes
 abbrev pub is_after_two : Quotes → List ℕ → Bool
 is_after_two q z = one_then (is_byte q.byte) (is_closed q) z
 
@@ -83,14 +84,14 @@ is_string raw [] = false
 is_string raw (b ∷ z) =
     is_quote b && (is_closed (single_quotes raw b) z || is_after_one (triple_quotes raw b) z)
 
--- `r` or `R`, and a string whose backslashes hide nothing
+-- `r` or `R`, then a string in which a backslash escapes nothing
 unfoldable pub is_raw_string : List ℕ → Bool
 is_raw_string z = one_then (is_either 114 82) (is_string true) z
 
 abbrev pub is_after_b : List ℕ → Bool
 is_after_b z = is_string false z || is_raw_string z
 
--- `b` or `B`, and a string, raw or not
+-- `b` or `B`, then a string, raw or not
 unfoldable pub is_bytes : List ℕ → Bool
 is_bytes z = one_then (is_either 98 66) is_after_b z
 

@@ -1,5 +1,5 @@
 -- Trusted by the headline.
--- A token, and what the code's tokens stand for.
+-- A token, and the code's tokens as contracts see them.
 use Rattle.std.specs.Prelude.{ℕ, List}
 use Rattle.cel_syntax_lexer.specs.declared.punctuator.Punctuator.{Punctuator}
 use Rattle.cel_syntax_lexer.specs.declared.token.Token as declared
@@ -12,7 +12,7 @@ pub data Token : Type 0 where
   number : List ℕ → Token
   -- the spelling of a string literal, with its quotes
   quoted : List ℕ → Token
-  -- a bracket, punctuation or an operator
+  -- a bracket, a punctuation mark or an operator
   punctuator : Punctuator → Token
 
 abbrev pub token_of : declared.Token → Token

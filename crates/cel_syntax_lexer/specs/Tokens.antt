@@ -1,5 +1,6 @@
 -- Trusted by the headline.
--- Which tokens a text cuts into, after the sections "Syntax" and "Values" of the CEL language definition.
+-- The tokens that a text splits into, by the sections
+-- "Syntax" and "Values" of the CEL language definition.
 use Rattle.std.specs.Prelude.{◌≡◌, ℕ, ◌<◌, ◌≤◌, Bool, false, true, not, ◌&&◌, ◌||◌, if◌then◌else◌, nat_eq, List, [], ◌∷◌, length, take, drop, Option, Some, None, option_map}
 use Rattle.std.specs.List.{list_all, prefix_len}
 use Rattle.std.specs.Char.{is_ascii_alphabetic, is_ascii_digit}
@@ -11,7 +12,7 @@ use Rattle.cel_syntax_lexer.specs.Strings.{is_quote, is_string, is_prefixed}
 
 -- ---- classes of bytes
 
--- a letter, or an underscore
+-- a letter or an underscore
 abbrev pub is_letter : ℕ → Bool
 is_letter b = is_ascii_alphabetic b || nat_eq b 95
 
@@ -22,11 +23,11 @@ is_word_byte b = is_letter b || is_ascii_digit b
 abbrev pub is_white_space : ℕ → Bool
 is_white_space b = nat_eq b 9 || nat_eq b 10 || nat_eq b 12 || nat_eq b 13 || nat_eq b 32
 
--- no newline, which alone ends a line
+-- any byte but a newline; only a newline ends a line
 abbrev pub is_in_line : ℕ → Bool
 is_in_line b = not (nat_eq b 10)
 
--- ---- marks
+-- ---- punctuators
 
 unfoldable pub one_byte : ℕ → Option Punctuator
 one_byte b =
@@ -63,7 +64,7 @@ two_at_front [] = None
 two_at_front (b ∷ []) = None
 two_at_front (b ∷ c ∷ z) = two_bytes b c
 
--- the punctuator that these bytes are, all of them
+-- the punctuator that these bytes make up
 abbrev pub punctuator_of : ℕ → List ℕ → Option Punctuator
 punctuator_of b [] = one_byte b
 punctuator_of b (c ∷ []) = two_bytes b c
@@ -71,7 +72,7 @@ punctuator_of b (c ∷ d ∷ z) = None
 
 -- ---- tokens
 
--- the token that these bytes are, all of them
+-- the token that these bytes make up
 unfoldable pub token_of_bytes : List ℕ → Option Token
 token_of_bytes [] = None
 token_of_bytes (b ∷ z) =
@@ -82,19 +83,19 @@ token_of_bytes (b ∷ z) =
     else (if is_number (b ∷ z) then Some (number (b ∷ z))
     else option_map punctuator (punctuator_of b z)))
 
--- The first n bytes are this token, and no more of the bytes are one.
+-- The first n bytes are this token, and no longer prefix is one.
 pub record Longest (z : List ℕ) (n : ℕ) (t : Token) : Type 0 where
   pub within : n ≤ length z
   pub token : token_of_bytes (take n z) ≡ Some t
   pub longest : (k : ℕ) → n < k → k ≤ length z → token_of_bytes (take k z) ≡ None
 
--- two slashes, which are never a division
+-- two slashes; they are never a division
 abbrev pub begins_comment : List ℕ → Bool
 begins_comment [] = false
 begins_comment (b ∷ []) = false
 begins_comment (b ∷ c ∷ z) = nat_eq b 47 && nat_eq c 47
 
--- The text cuts into these tokens, with white space and comments between.
+-- The text splits into these tokens, with white space and comments between them.
 pub data Cuts : List ℕ → List Token → Type 0 where
   done : Cuts [] []
   space : {b : ℕ} {z : List ℕ} {ts : List Token} → is_white_space b ≡ true → Cuts z ts → Cuts (b ∷ z) ts
@@ -103,7 +104,7 @@ pub data Cuts : List ℕ → List Token → Type 0 where
   token : {z : List ℕ} {n : ℕ} {t : Token} {ts : List Token}
       → begins_comment z ≡ false → Longest z n t → Cuts (drop n z) ts → Cuts z (t ∷ ts)
 
--- into these tokens and into no others
+-- into these tokens and no others
 abbrev pub CutsInto : List ℕ → List Token → Type 0
 CutsInto z ts = Cuts z ts × ((us : List Token) → Cuts z us → us ≡ ts)
 

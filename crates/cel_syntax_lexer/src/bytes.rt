@@ -1,4 +1,4 @@
-//! Classes of bytes, and how many bytes of a class stand at the front.
+//! Classes of bytes, and the number of bytes of a class at the front of a text.
 
 ghost use Rattle.std.specs.Prelude.{◌≡◌, ◌<◌, ◌≤◌, IsTrue, length, drop};
 ghost use Rattle.std.specs.List.{prefix_len};
@@ -31,14 +31,14 @@ pub(crate) fn is_quote(byte: u8) -> bool
     byte == b'"' || byte == b'\''
 }
 
-/// Newline or carriage return.
+/// Reports whether the byte is a newline or a carriage return.
 pub(crate) fn is_line_break(byte: u8) -> bool
     ensures { result ≡ strings.is_line_break byte }
 {
     byte == b'\n' || byte == b'\r'
 }
 
-/// Whether this byte stands at the front.
+/// Reports whether the text starts with this byte.
 pub(crate) fn begins(text: &[u8], byte: u8) -> bool
     ensures value { result ≡ spelling.begins (spelling.is_byte byte) text.now }
     ensures within { IsTrue result → 1 ≤ length text.now }
@@ -49,7 +49,7 @@ pub(crate) fn begins(text: &[u8], byte: u8) -> bool
     }
 }
 
-/// Whether one of these two bytes stands at the front.
+/// Reports whether the text starts with one of these two bytes.
 pub(crate) fn begins_either(text: &[u8], one: u8, other: u8) -> bool
     ensures value { result ≡ spelling.begins (spelling.is_either one other) text.now }
     ensures within { IsTrue result → 1 ≤ length text.now }
@@ -60,7 +60,7 @@ pub(crate) fn begins_either(text: &[u8], one: u8, other: u8) -> bool
     }
 }
 
-/// The text after its first `count` bytes.
+/// The text without its first `count` bytes.
 pub(crate) fn after(text: &[u8], count: usize) -> &[u8]
     requires { count ≤ length text.now }
     ensures { result.now ≡ drop count text.now }
@@ -68,7 +68,7 @@ pub(crate) fn after(text: &[u8], count: usize) -> &[u8]
     &text[count..]
 }
 
-/// A byte more than this length, unless it is 0.
+/// Returns the length plus one, or 0 if it is 0.
 pub(crate) fn longer(length: usize) -> usize
     requires { length < usize.MAX }
     ensures { result ≡ spelling.longer length }
@@ -76,7 +76,7 @@ pub(crate) fn longer(length: usize) -> usize
     if length == 0 { 0 } else { 1 + length }
 }
 
-/// How many bytes go on a word.
+/// The number of letters, digits and `_` at the front.
 pub(crate) fn word_length(text: &[u8]) -> usize
     ensures value { result ≡ prefix_len spec.is_word_byte text.now }
     ensures within { result ≤ length text.now }
@@ -84,7 +84,7 @@ pub(crate) fn word_length(text: &[u8]) -> usize
     text.iter().take_while(|byte| is_word_byte(**byte)).count()
 }
 
-/// How many bytes are decimal digits.
+/// The number of decimal digits at the front.
 pub(crate) fn digits_length(text: &[u8]) -> usize
     ensures value { result ≡ prefix_len is_ascii_digit text.now }
     ensures within { result ≤ length text.now }
@@ -92,7 +92,7 @@ pub(crate) fn digits_length(text: &[u8]) -> usize
     text.iter().take_while(|byte| byte.is_ascii_digit()).count()
 }
 
-/// How many bytes are hexadecimal digits.
+/// The number of hexadecimal digits at the front.
 pub(crate) fn hexadecimal_digits_length(text: &[u8]) -> usize
     ensures value { result ≡ prefix_len is_ascii_hexdigit text.now }
     ensures within { result ≤ length text.now }
@@ -102,7 +102,7 @@ pub(crate) fn hexadecimal_digits_length(text: &[u8]) -> usize
         .count()
 }
 
-/// How many bytes stand before the end of the line or of the text.
+/// The number of bytes before the end of the line or of the text.
 pub(crate) fn line_length(text: &[u8]) -> usize
     ensures value { result ≡ prefix_len spec.is_in_line text.now }
     ensures within { result ≤ length text.now }

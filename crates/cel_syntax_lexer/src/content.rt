@@ -1,10 +1,10 @@
-//! What a quoted literal holds.
+//! The two kinds of quoted literals.
 
-/// The kind of a quoted literal's value.
+/// The kind of value that a quoted literal denotes.
 #[derive(Clone, Copy)]
 pub(crate) enum Content {
-    /// A string, of code points.
+    /// A string of code points.
     Text,
-    /// Bytes, which the prefix `b` or `B` makes.
+    /// Bytes, denoted by the prefix `b` or `B`.
     Bytes,
 }

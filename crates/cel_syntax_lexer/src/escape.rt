@@ -1,4 +1,4 @@
-//! What the escapes of a quoted literal write.
+//! The escapes of quoted literals.
 
 ghost use Rattle.std.specs.Option.{option_and_then};
 ghost use Rattle.std.specs.Prelude.{◌≡◌, ◌≤◌, ◌<◌, ◌++◌, IfErr, MatchResult, OnOk, drop, length, option_map};
@@ -12,7 +12,7 @@ use crate::number_value::natural;
 use kube_types_refused::Refused;
 use std::alloc::Global;
 
-/// What an escape of one letter writes.
+/// The character that an escape of one letter denotes.
 #[tactic(auto, unfolding(crate::specs::Escape::letter_code))]
 fn letter_code(letter: u8) -> Option<char>
     ensures { result ≡ spec.letter_code letter }
@@ -30,7 +30,7 @@ fn letter_code(letter: u8) -> Option<char>
     }
 }
 
-/// The number that the first `count` bytes write, if 64 bits hold it.
+/// The number that the first `count` bytes denote, if it fits 64 bits.
 #[tactic(auto, unfolding(crate::specs::Escape::digits_code))]
 fn digits_code(radix: u32, count: usize, text: &[u8]) -> Option<u64>
     requires low { 2 ≤ radix }
@@ -43,7 +43,7 @@ fn digits_code(radix: u32, count: usize, text: &[u8]) -> Option<u64>
     natural(radix, &text[..count])
 }
 
-/// What an escape of 8 bits writes.
+/// The character that an 8-bit escape denotes.
 #[tactic(auto, using(crate::proofs::Codes::octet_of_bits), unfolding(crate::specs::Escape::octet_code))]
 fn octet_code(radix: u32, count: usize, text: &[u8]) -> Option<char>
     requires low { 2 ≤ radix }
@@ -57,7 +57,7 @@ fn octet_code(radix: u32, count: usize, text: &[u8]) -> Option<char>
     }
 }
 
-/// What an escape of a code point writes.
+/// The character that an escape of a code point denotes. Bytes have no such escapes.
 #[tactic(auto, using(crate::proofs::Codes::code_point_of_bits), unfolding(crate::specs::Escape::unicode_code))]
 fn unicode_code(content: Content, count: usize, text: &[u8]) -> Option<char>
     ensures { result ≡ spec.unicode_code content count text.now }
@@ -83,7 +83,8 @@ fn code_and_size(size: usize, code: Option<char>) -> Option<(char, usize)>
     }
 }
 
-/// What stands after a backslash: what it writes, and how many bytes it takes.
+/// Reads the escape after a backslash. Returns the character that it
+/// denotes and the number of bytes that it takes.
 #[tactic(auto, unfolding(crate::specs::Escape::escape))]
 fn escape(content: Content, text: &[u8]) -> Option<(char, usize)>
     ensures { result ≡ spec.escape content text.now }
@@ -98,7 +99,7 @@ fn escape(content: Content, text: &[u8]) -> Option<(char, usize)>
     }
 }
 
-/// Writes a code: as a code point in a text, and as a byte in bytes.
+/// Appends a code: as a code point in UTF-8 to a string, as a byte to bytes.
 #[tactic(auto, unfolding(crate::specs::Escape::code_bytes))]
 fn push_code(made: &mut Vec<u8>, content: Content, code: char) -> Result<(), Refused>
     requires { content ≡ Bytes → code < 256 }
@@ -122,7 +123,7 @@ fn after(text: &[u8], count: usize) -> &[u8]
     &text[count..]
 }
 
-/// The bytes that a body writes, where its escapes are ones that are read.
+/// Returns the bytes that a literal's body denotes, or None if one of its escapes is invalid.
 pub(crate) fn unescape(
     alloc: Global,
     content: Content,

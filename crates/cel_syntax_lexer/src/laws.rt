@@ -1,4 +1,5 @@
-//! Laws of tokens and of the values of literals, each the contract of a call that does nothing.
+//! Laws of tokens and of the values of literals. Each is
+//! the contract of a function whose body is empty.
 ghost use Rattle.cel_syntax_lexer.specs.Cut.{tokens_of_text};
 ghost use Rattle.cel_syntax_lexer.specs.Literal.{literal_value, takes_minus};
 ghost use Rattle.cel_syntax_lexer.specs.Plain.{is_free_of};
@@ -11,12 +12,12 @@ ghost use Rattle.std.specs.Fmt.{decimal};
 ghost use Rattle.std.specs.Prelude.{◌≡◌, ◌^◌, ◌<◌, ◌≤◌, ◌∷◌, [], ◌++◌, Bool, List, ℕ, Some, None, codes, false, neg_ℤ, pos, true, MatchOption};
 ghost use Rattle.std.specs.Str.{is_utf8};
 
-/// A literal has no value with a minus that does not belong to it.
+/// A literal that takes no minus has no value with one.
 pub fn minus_has_its_literals()
     ensures { (t : Token) → takes_minus t ≡ false → literal_value true t ≡ None }
 {}
 
-/// The decimal digits of a number have that number as their value.
+/// The decimal digits of a number denote that number.
 pub fn decimal_digits_write_their_number()
     ensures int { (n : ℕ) → n < 2 ^ 63 → literal_value false (number (decimal n)) ≡ Some (int (pos n)) }
     ensures negative { (n : ℕ) → n ≤ 2 ^ 63
@@ -25,8 +26,8 @@ pub fn decimal_digits_write_their_number()
         → literal_value false (number (decimal n ++ 117 ∷ [])) ≡ Some (uint n) }
 {}
 
-/// What stands between quotes and has neither the quote nor a backslash is the value,
-/// and a raw backslash stands for itself.
+/// A body between quotes that contains neither the quote nor a backslash denotes itself,
+/// and a backslash in a raw string denotes itself.
 pub fn plain_bodies_write_themselves()
     ensures string { (s : List ℕ) → is_free_of 34 s ≡ true → is_free_of 92 s ≡ true → is_utf8 s ≡ true
         → literal_value false (quoted (34 ∷ s ++ 34 ∷ [])) ≡ Some (text s) }
@@ -36,7 +37,8 @@ pub fn plain_bodies_write_themselves()
         → literal_value false (quoted (114 ∷ 34 ∷ s ++ 34 ∷ [])) ≡ Some (text s) }
 {}
 
-/// Strings and bytes whose values the section "String and Bytes Values" of the CEL language definition gives.
+/// Strings and bytes whose values are given by the section "String and
+/// Bytes Values" of the CEL language definition.
 pub fn strings_of_the_language_definition()
     ensures empty { literal_value false (quoted (codes "\"\"")) ≡ Some (text []) }
     ensures other_quotes { literal_value false (quoted (codes "'\"\"'")) ≡ Some (text (codes "\"\"")) }
@@ -53,7 +55,7 @@ pub fn strings_of_the_language_definition()
     ensures octal_text { literal_value false (quoted (codes "\"\\377\"")) ≡ Some (text (195 ∷ 191 ∷ [])) }
 {}
 
-/// Escapes that have no value.
+/// Invalid escapes: the literals have no value.
 pub fn escapes_that_are_not_read()
     ensures unknown { literal_value false (quoted (codes "'\\q'")) ≡ None }
     ensures cut_short { literal_value false (quoted (codes "'\\x4'")) ≡ None }
@@ -64,7 +66,7 @@ pub fn escapes_that_are_not_read()
     ensures with_minus { literal_value true (quoted (codes "'a'")) ≡ None }
 {}
 
-/// Numbers in each of their forms.
+/// Numbers in all their forms.
 pub fn forms_of_numbers()
     ensures hexadecimal { literal_value true (number (codes "0xfF")) ≡ Some (int (neg_ℤ (pos 255))) }
     ensures unsigned { literal_value false (number (codes "0x10U")) ≡ Some (uint 16) }
@@ -78,17 +80,18 @@ pub fn forms_of_numbers()
     ensures no_exponent { (negative : Bool) → literal_value negative (number (codes "1e")) ≡ None }
 {}
 
-/// A text cuts into at most one list of tokens.
+/// A text splits into at most one list of tokens.
 pub fn one_cut()
     ensures { (z : List ℕ) (ts us : List Token) → Cuts z ts → Cuts z us → ts ≡ us }
 {}
 
-/// The function `cut` answers the tokens that a text cuts into, or `None` where it cuts into none.
+/// `tokens_of_text` gives the tokens that a text splits
+/// into, or `None` if it can't be split into tokens.
 pub fn cut_is_what_a_text_cuts_into()
     ensures { (z : List ℕ) → MatchOption (tokens_of_text z) (CutsIntoNone z) (λ ts. CutsInto z ts) }
 {}
 
-/// Where a string closes it ends: its bytes begin no longer string in the same quotes.
+/// A string that is closed has ended: it is no prefix of a longer string in the same quotes.
 pub fn a_string_closes_once()
     ensures { (q : Quotes) (y z : List ℕ) → is_closed q y ≡ true → is_closed q (y ++ z) ≡ true → z ≡ [] }
 {}

@@ -1,4 +1,4 @@
-//! A scan from token to token.
+//! Splits a text into tokens.
 
 ghost use Rattle.std.specs.Prelude.{◌≡◌, ℕ, length, MatchOption, MatchResult, map};
 ghost use Rattle.kube_types_refused.specs.declared.Refused.TheVariants.{Memory};
@@ -74,7 +74,7 @@ fn begins_comment(text: &[u8]) -> bool
     }
 }
 
-/// The longest token at the front, and its length in bytes.
+/// Returns the longest token at the front, and its length in bytes.
 fn first_token(text: &[u8]) -> Option<(Token<'_>, usize)>
     ensures { MatchOption result ((n : ℕ) (t : SpecToken) → Longest text.now n t → ⊥)
         (λ found. Longest text.now found.1 (token_of found.0)) }
@@ -111,12 +111,12 @@ fn first_token(text: &[u8]) -> Option<(Token<'_>, usize)>
     }
 }
 
-/// The tokens of a text, in their order, or `None` where it cuts into none.
+/// Returns the tokens of a text in order, or `None` if it can't be split into tokens.
 ///
-/// Tokens are cut by longest match. Between them stand white space (tab, newline, form feed,
-/// carriage return, space) and comments (`//` to the newline or the text's end). A string with an
-/// escape that means nothing is a token. The only error is [`Refused::Memory`]. Source: the section
-/// "Syntax" of the CEL language definition.
+/// Each token is the longest possible one. Between tokens there may be white space (tab, newline,
+/// form feed, carriage return, space) and comments (from `//` to the newline or the end of the
+/// text). A string with an invalid escape is a token, too. The only error is [`Refused::Memory`].
+/// Source: the section "Syntax" of the CEL language definition.
 pub fn tokens(alloc: Global, text: &[u8]) -> Result<Option<Vec<Token<'_>>>, Refused>
     ensures { MatchResult result
         (λ answer. MatchOption answer (CutsIntoNone text.now)

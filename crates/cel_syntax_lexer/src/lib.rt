@@ -1,4 +1,5 @@
-//! The lexer: cuts a CEL text into tokens; and the values of literals, each of one token.
+//! The lexer: splits a CEL text into tokens, and computes the
+//! values of literals, each of which is one token.
 //!
 //! Source: the sections "Syntax" and "Values" of the CEL language definition.
 #![tactic(auto)]

@@ -1,4 +1,4 @@
-//! How many bytes at the front of a text are a number, or a part of one.
+//! The length in bytes of a number, or of a part of one, at the front of a text.
 
 ghost use Rattle.std.specs.Prelude.{◌≤◌, length};
 ghost use Rattle.cel_syntax_lexer.specs.Numbers as spec;
@@ -123,7 +123,7 @@ fn decimal_length(text: &[u8]) -> usize
     digits + after_digits_length(after(text, digits))
 }
 
-/// How many bytes are the longest number: 0 where there is none.
+/// The length in bytes of the longest number at the front, or 0 if there is none.
 pub(crate) fn number_length(text: &[u8]) -> usize
     ensures spelling { LongestSpelling spec.is_number text.now result }
     ensures within { result ≤ length text.now }

@@ -18,7 +18,7 @@ fn is_digit(radix: u32, byte: u8) -> bool
     char::from(byte).is_digit(radix)
 }
 
-/// Whether these are digits in the radix, one or more.
+/// Reports whether these are one or more digits in the radix.
 #[tactic(auto, unfolding(crate::specs::Number::is_numeral))]
 fn is_numeral(radix: u32, digits: &[u8]) -> bool
     requires low { 2 ≤ radix }
@@ -28,7 +28,7 @@ fn is_numeral(radix: u32, digits: &[u8]) -> bool
     !digits.is_empty() && digits.iter().all(|digit| is_digit(radix, *digit))
 }
 
-/// The number that digits write, if 64 bits hold it.
+/// The number that digits denote, if it fits 64 bits.
 #[tactic(auto, unfolding(crate::specs::Number::numeral_value))]
 pub(crate) fn natural(radix: u32, digits: &[u8]) -> Option<u64>
     requires low { 2 ≤ radix }
@@ -65,7 +65,7 @@ fn is_integer(spelling: &[u8]) -> bool
     is_numeral(radix, digits)
 }
 
-/// The size of an int, if 64 bits hold it.
+/// The absolute value of an int's spelling, if it fits 64 bits.
 #[tactic(auto, unfolding(crate::specs::Number::integer_value))]
 fn integer(spelling: &[u8]) -> Option<u64>
     ensures { result ≡ option_and_then spec.of_64_bits (spec.integer_value spelling.now) }
@@ -74,7 +74,7 @@ fn integer(spelling: &[u8]) -> Option<u64>
     natural(radix, digits)
 }
 
-/// The int of that sign and size.
+/// The int of this sign and absolute value, if it fits 64 bits.
 #[tactic(auto, unfolding(crate::specs::Number::int_value))]
 fn signed(negative: bool, size: u64) -> Option<i64>
     ensures { result ≡ spec.int_value negative size }
@@ -123,7 +123,7 @@ fn is_double(spelling: &[u8]) -> bool
     }
 }
 
-/// Whether a minus before the spelling belongs to it.
+/// Reports whether a minus before the spelling is part of the literal.
 #[tactic(auto, unfolding(crate::specs::Number::goes_with_minus))]
 pub(crate) fn goes_with_minus(spelling: &[u8]) -> bool
     ensures { result ≡ spec.goes_with_minus spelling.now }
@@ -146,7 +146,7 @@ fn int(negative: bool, spelling: &[u8]) -> Option<i64>
     signed(negative, size)
 }
 
-/// The value of a number, with a minus before it or without.
+/// Returns the value of a number, with or without a minus before it.
 #[tactic(auto, unfolding(crate::specs::Number::number_value))]
 pub(crate) fn number(negative: bool, spelling: &[u8]) -> Option<Value>
     ensures { option_map view result ≡ spec.number_value negative spelling.now }

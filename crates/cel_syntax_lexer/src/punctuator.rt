@@ -1,6 +1,6 @@
 //! The tokens that are brackets, punctuation and operators.
 
-/// A token that is written one way alone.
+/// A token that has only one spelling.
 #[derive(Clone, Copy, Debug, PartialEq, Eq)]
 pub enum Punctuator {
     /// `(`

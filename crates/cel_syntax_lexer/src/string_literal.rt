@@ -1,4 +1,4 @@
-//! How many bytes at the front of a text are a string literal, or a part of one.
+//! The length in bytes of a string literal, or of a part of one, at the front of a text.
 
 ghost use Rattle.std.specs.Prelude.{◌≡◌, ◌≤◌, IsTrue, false, length};
 ghost use Rattle.cel_syntax_lexer.specs.Strings as spec;
@@ -6,14 +6,14 @@ ghost use Rattle.cel_syntax_lexer.specs.Spelling.{LongestSpelling};
 
 use crate::bytes::{after, begins, begins_either, is_line_break, is_quote, longer};
 
-/// How a string is written.
+/// The form of a string literal.
 #[derive(Clone, Copy)]
 pub(crate) struct Quotes {
     /// The quote, `'` or `"`.
     byte: u8,
-    /// Whether the quote opens and closes the string three times over.
+    /// Whether the quotes are tripled.
     tripled: bool,
-    /// Whether a backslash is a character like any other.
+    /// Whether a backslash is an ordinary character.
     raw: bool,
 }
 
@@ -64,7 +64,8 @@ fn hides(quotes: Quotes, hidden: bool, byte: u8) -> bool
     !hidden && !quotes.raw && byte == b'\\'
 }
 
-/// How many bytes it is from a string's first character to the end of its closing quotes.
+/// Returns the number of bytes from a string's first character to the end of
+/// its closing quotes, or None if it isn't closed.
 fn end_of(quotes: Quotes, text: &[u8]) -> Option<usize>
     ensures { result ≡ spec.end_of quotes false text.now }
 {
@@ -113,12 +114,12 @@ fn after_one_length(quotes: Quotes, text: &[u8]) -> usize
     }
 }
 
-/// How many bytes are the longest string without a prefix: 0 where there is none.
+/// The length in bytes of the longest string without a prefix, or 0 if there is none.
 ///
-/// The time stays linear in the text. A text in single quotes is looked through to the end of its
-/// line at most, and where it does not close, no token stands there or the prefix alone does. A
-/// text in tripled quotes that does not close is looked through to the end, and then three such
-/// quotes stand nowhere behind its first two, so that this comes a few times at most.
+/// The time is linear in the text. A string in single quotes is searched to the end of its line at
+/// most; if it isn't closed, no token is there, or only its prefix is one. A string in tripled
+/// quotes that isn't closed is searched to the end of the text, and then no three such quotes come
+/// after its first two, so this happens a few times at most.
 pub(crate) fn string_length(raw: bool, text: &[u8]) -> usize
     ensures spelling { LongestSpelling (spec.is_string raw) text.now result }
     ensures within { result ≤ length text.now }
@@ -173,7 +174,7 @@ fn bytes_length(text: &[u8]) -> usize
     }
 }
 
-/// How many bytes are the longest string with a prefix: 0 where there is none.
+/// The length in bytes of the longest string with a prefix, or 0 if there is none.
 pub(crate) fn prefixed_length(text: &[u8]) -> usize
     ensures spelling { LongestSpelling spec.is_prefixed text.now result }
     ensures within { result ≤ length text.now }

@@ -12,7 +12,7 @@ use kube_types_refused::Refused;
 use std::alloc::Global;
 use std::rc::Rc;
 
-/// What stands between these quotes.
+/// The part of a spelling between these quotes.
 #[tactic(auto, unfolding(crate::specs::StringValues::between))]
 fn between<'a>(quotes: &[u8], spelling: &'a [u8]) -> Option<&'a [u8]>
     ensures { option_map (λ body. body.now) result ≡ spec.between quotes.now spelling.now }
@@ -21,7 +21,7 @@ fn between<'a>(quotes: &[u8], spelling: &'a [u8]) -> Option<&'a [u8]>
     rest.strip_suffix(quotes)
 }
 
-/// What stands between quotes: three at each end, or one.
+/// The part of a spelling between its quotes, which are tripled or single.
 #[tactic(auto, unfolding(crate::specs::StringValues::body_of))]
 fn body_of(spelling: &[u8]) -> Option<&[u8]>
     ensures { option_map (λ body. body.now) result ≡ spec.body_of spelling.now }
@@ -38,7 +38,8 @@ fn body_of(spelling: &[u8]) -> Option<&[u8]>
     between(b"\"", spelling)
 }
 
-/// The bytes that a spelling writes, raw or with escapes.
+/// Returns the bytes that a spelling denotes, raw or with
+/// escapes. Returns None if an escape is invalid.
 #[tactic(auto, unfolding(crate::specs::StringValues::content_bytes))]
 fn content_bytes(
     alloc: Global,
@@ -61,7 +62,7 @@ fn content_bytes(
     }
 }
 
-/// The value of these bytes, unless they are no text where a text is wanted.
+/// Returns the value of these bytes, or None if they should be a string and aren't UTF-8.
 #[tactic(auto, using(crate::proofs::Texts::is_text, crate::proofs::Texts::no_text))]
 fn content_value(alloc: Global, content: Content, made: Vec<u8>) -> Result<Option<Value>, Refused>
     ensures { MatchResult result
@@ -77,7 +78,7 @@ fn content_value(alloc: Global, content: Content, made: Vec<u8>) -> Result<Optio
     }
 }
 
-/// What the literal holds, and the spelling after that prefix.
+/// Splits off the prefix `b`: returns the kind of the literal and the rest of its spelling.
 fn split_content(spelling: &[u8]) -> (Content, &[u8])
     ensures content { result.0 ≡ spec.content_of spelling.now }
     ensures rest { result.1.now ≡ spec.after_content spelling.now }
@@ -88,7 +89,7 @@ fn split_content(spelling: &[u8]) -> (Content, &[u8])
     }
 }
 
-/// The value of a quoted literal, where its escapes are ones that are read.
+/// Returns the value of a quoted literal, or None if one of its escapes is invalid.
 #[tactic(auto, unfolding(crate::specs::StringValues::quoted_value))]
 pub(crate) fn quoted(alloc: Global, spelling: &[u8]) -> Result<Option<Value>, Refused>
     ensures { MatchResult result

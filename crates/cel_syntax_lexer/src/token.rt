@@ -1,16 +1,17 @@
-//! What a text is cut into.
+//! The tokens of a text.
 
 use crate::punctuator::Punctuator;
 
-/// A token, with its spelling in the text where it has several.
+/// A token, with its spelling in the text if it can have several.
 #[derive(Clone, Copy)]
 pub enum Token<'a> {
-    /// A letter or `_`, then letters, digits and `_`, all ASCII. The reserved words are such words too.
+    /// A letter or `_`, followed by letters, digits and
+    /// `_`, all ASCII. Reserved words are included.
     Word(&'a [u8]),
     /// The spelling of a number.
     Number(&'a [u8]),
-    /// The whole spelling of a string literal, with its quotes.
+    /// The full spelling of a string literal, with its quotes.
     Quoted(&'a [u8]),
-    /// A bracket, punctuation or an operator.
+    /// A bracket, a punctuation mark or an operator.
     Punctuator(Punctuator),
 }

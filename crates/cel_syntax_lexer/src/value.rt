@@ -35,7 +35,8 @@ fn word(word: &[u8]) -> Option<Value>
     }
 }
 
-/// Whether a minus before the token belongs to it: it is the spelling of an int or a double, and of no uint.
+/// Reports whether a minus before the token is part of the
+/// literal: the token is an int or a double, not a uint.
 pub fn takes_minus(token: Token<'_>) -> bool
     ensures { result ≡ spec.takes_minus (token_of token.entry) }
 {
@@ -45,12 +46,13 @@ pub fn takes_minus(token: Token<'_>) -> bool
     }
 }
 
-/// The value of a literal, where the token is one that is read; `negative` is whether a minus belongs to it.
+/// Returns the value of a literal, or None if the token is no valid
+/// literal. `negative` says that a minus is part of it.
 ///
-/// An int has 64 bits and its sign, and a uint 64 bits. A double has no number. An escape writes a
-/// code point in a string, and a byte in bytes; an unknown one, a surrogate or a code past 10FFFF
-/// makes the literal one that is not read. The only error is [`Refused::Memory`]. Source: the
-/// sections "Syntax" and "Values" of the CEL language definition.
+/// An int has 64 bits with its sign, and a uint 64 bits. A double is returned without its number.
+/// An escape denotes a code point in a string, and a byte in bytes. An unknown escape, a surrogate
+/// or a code past 10FFFF makes the literal invalid. The only error is [`Refused::Memory`]. Source:
+/// the sections "Syntax" and "Values" of the CEL language definition.
 pub fn literal(alloc: Global, negative: bool, token: Token<'_>) -> Result<Option<Value>, Refused>
     ensures { MatchResult result
         (λ value. option_map view value ≡ spec.literal_value negative (token_of token.entry))

@@ -1,4 +1,4 @@
--- Arguments, by how many there are.
+-- Arguments, by their number.
 use Rattle.std.proofs.Common.{◌≡◌, ◌≢◌, suc, refl, ap, arith, None, List, [], ◌∷◌, length, map, get_or}
 use Rattle.cel_syntax_ast.specs.Term.{Term, term}
 use Rattle.cel_syntax_ast.specs.declared.expr.Expr.{Expr}

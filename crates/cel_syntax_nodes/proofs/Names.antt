@@ -1,4 +1,4 @@
--- Which words are names.
+-- The words that are names.
 use Rattle.std.proofs.Common.{◌≡◌, ℕ, refl, Bool, true, false, List}
 use Rattle.std.specs.Str.{IsUtf8, is_utf8}
 use Rattle.std.proofs.lemmas.Str.{IsUtf8-from_is_utf8, is_utf8-from_IsUtf8}

@@ -1,7 +1,7 @@
 -- Trusted by the headline.
--- What a call stands for: a macro, a function whose name has a dot in it, or an ordinary call. Source:
--- section "Macros" of the CEL language definition, and the names of the Kubernetes CEL libraries and of
--- the CEL extension libraries.
+-- The kinds of calls: macros, functions whose names contain a dot, and ordinary calls. Source:
+-- section "Macros" of the CEL language definition, and the names of the Kubernetes CEL
+-- libraries and of the CEL extension libraries.
 use Rattle.std.specs.Prelude.{ℕ, ◌-◌, nat_eq, length, Bool, ◌&&◌, if◌then◌else◌, List, [], ◌∷◌, ◌++◌, Option, Some, None, codes}
 use Rattle.std.specs.List.{list_any}
 use Rattle.std.specs.Str.{bytes_eq}
@@ -10,7 +10,7 @@ use Rattle.cel_syntax_ast.specs.Term.{Term, Terms, terms_of}
 use Rattle.cel_syntax_ast.specs.declared.expr.MacroKind.{MacroKind}
 use Rattle.cel_syntax_ast.specs.declared.expr.MacroKind.TheVariants as kind
 
--- ---- names with a dot: the library before it, the function after it
+-- ---- names with a dot: the library's name before it, the function's after it
 
 -- the functions of a library
 unfoldable pub functions_of : List ℕ → List (List ℕ)
@@ -30,7 +30,7 @@ functions_of x =
     ∷ codes "byte" ∷ codes "date" ∷ codes "datetime" ∷ []
     else [])))))))
 
--- whether the two, with a dot between them, are the name of a function
+-- whether the two names, joined with a dot, are the name of a function
 unfoldable pub is_qualified : List ℕ → List ℕ → Bool
 is_qualified x w = list_any (bytes_eq w) (functions_of x)
 
@@ -41,7 +41,7 @@ abbrev pub identifier_of : Term → Option (List ℕ)
 identifier_of (tree.ident x) = Some x
 identifier_of _ = None
 
--- the name with a dot that the call of a method on an identifier has, if it is one of those
+-- the name with a dot that a method call on an identifier denotes, if it is one of those
 abbrev pub dotted_by : Option (List ℕ) → List ℕ → Option (List ℕ)
 dotted_by None w = None
 dotted_by (Some x) w = if is_qualified x w then Some (x ++ (46 ∷ w)) else None
@@ -50,7 +50,8 @@ abbrev pub call_by : Option (List ℕ) → Term → List ℕ → List Term → T
 call_by None t w us = tree.call (tree.term_and t tree.no_terms) w (terms_of us)
 call_by (Some name) t w us = tree.qualified name (terms_of us)
 
--- A call on an identifier that makes a name with a dot is a global one, whatever is bound.
+-- A method call on an identifier that forms a name with a dot is a call of that
+-- global function, even if the identifier is bound.
 unfoldable pub plain_method : Term → List ℕ → List Term → Term
 plain_method t w us = call_by (dotted_by (identifier_of t) w) t w us
 
@@ -65,11 +66,11 @@ kind_of_two w =
     else (if bytes_eq w (codes "map") then Some kind.Map
     else (if bytes_eq w (codes "filter") then Some kind.Filter else None))))
 
--- and those with a variable, a filter and one expression
+-- those with a variable, a filter and one expression
 unfoldable pub kind_of_three : List ℕ → Option MacroKind
 kind_of_three w = if bytes_eq w (codes "map") then Some kind.Map else None
 
--- the macro of that name with this number of arguments
+-- the macro with this name and this number of arguments
 unfoldable pub kind_of : List ℕ → ℕ → Option MacroKind
 kind_of w n = if nat_eq n 2 then kind_of_two w else (if nat_eq n 3 then kind_of_three w else None)
 
@@ -89,23 +90,23 @@ abbrev pub by_kind : Option MacroKind → Term → (MacroKind → Option Term) �
 by_kind None plain other = Some plain
 by_kind (Some k) plain other = other k
 
--- the call of a method on a target, unless it is a macro that isn't well formed
+-- the method call on a target, or None if it is a malformed macro
 unfoldable pub method_of : Term → List ℕ → List Term → Option Term
 method_of t w us = by_kind (kind_of w (length us)) (plain_method t w us) (λ k. macro_of k t us)
 
--- The argument of `has` is a selection.
+-- The argument of `has` has to be a selection.
 abbrev pub has_of : List Term → Option Term
 has_of (tree.select t w ∷ []) = Some (tree.has t w)
 has_of _ = None
 
--- the call of a global function, unless it is a macro that isn't well formed
+-- the call of a global function, or None if it is a malformed macro
 unfoldable pub call_of : List ℕ → List Term → Option Term
 call_of w us =
     if bytes_eq w (codes "has") && nat_eq (length us) 1 then has_of us
     else Some (tree.call tree.no_terms w (terms_of us))
 
--- The greatest level of a node's parts, by that of its arguments: the part of `has` is what it selects from,
--- one level below its argument.
+-- The highest level of a node's parts, given that of its arguments: the part of `has` is the
+-- operand of the selection, one level below its argument.
 abbrev pub parts_level : Term → ℕ → ℕ
 parts_level (tree.has t w) l = l - 1
 parts_level _ l = l

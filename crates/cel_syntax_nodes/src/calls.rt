@@ -1,4 +1,4 @@
-//! What a call stands for: a macro, a function whose name has a dot in it, or an ordinary call.
+//! The kinds of calls: macros, functions whose names contain a dot, and ordinary calls.
 
 ghost use Rattle.std.specs.Prelude.{◌≡◌, map, string_bytes, option_map, MatchResult};
 ghost use Rattle.kube_types_refused.specs.declared.Refused.TheVariants.{Memory};
@@ -46,7 +46,7 @@ fn plain_method(alloc: Global, target: Expr, name: &str, args: Vec<Expr>) -> Res
     }
 }
 
-/// The call of a method on a target, or `None` where it is a macro that isn't well formed.
+/// Returns the node of a method call on a target, or `None` if it is a malformed macro.
 #[tactic(auto, using(crate::proofs::Arguments::length_terms), unfolding(crate::specs::Calls::method_of))]
 pub fn method(
     alloc: Global,
@@ -63,7 +63,7 @@ pub fn method(
     }
 }
 
-/// The call of a global function, or `None` where it is a macro that isn't well formed.
+/// Returns the node of a global function call, or `None` if it is a malformed macro.
 #[tactic(auto, using(crate::proofs::Arguments::length_terms), unfolding(crate::specs::Calls::call_of))]
 pub fn call(alloc: Global, name: &str, args: Vec<Expr>) -> Result<Option<Expr>, Refused>
     ensures { MatchResult result (λ answer. option_map term answer
@@ -79,7 +79,7 @@ pub fn call(alloc: Global, name: &str, args: Vec<Expr>) -> Result<Option<Expr>, 
     }))
 }
 
-/// The greatest level of a node's parts, by that of its arguments.
+/// Returns the highest level of a node's parts, given that of its arguments.
 pub fn parts_level(tree: &Expr, level: usize) -> usize
     ensures { result ≡ spec.parts_level (term tree.now) level }
 {

@@ -1,4 +1,5 @@
-//! The nodes of a tree by their parts, what a call stands for, and the words that are names.
+//! Builds the nodes of a tree from their parts, tells the kinds of
+//! calls apart, and tells which words are names.
 #![tactic(auto)]
 
 mod calls;

@@ -1,4 +1,4 @@
-//! Macros, recognized by their names and the counts of their arguments.
+//! Macros, recognized by their names and numbers of arguments.
 
 ghost use Rattle.std.specs.Prelude.{◌≡◌, ◌∷◌, [], map, vec_len, string_bytes, option_map, MatchOption, MatchResult, Some, None};
 ghost use Rattle.kube_types_refused.specs.declared.Refused.TheVariants.{Memory};
@@ -42,7 +42,7 @@ fn kind_of_three(name: &[u8]) -> Option<MacroKind>
     }
 }
 
-/// The macro of that name with this number of arguments.
+/// The macro with this name and this number of arguments, if any.
 #[tactic(auto, unfolding(crate::specs::Calls::kind_of))]
 pub(crate) fn kind_of(name: &[u8], count: usize) -> Option<MacroKind>
     ensures { result ≡ spec.kind_of name.now count }
@@ -77,7 +77,7 @@ fn three(mut args: Vec<Expr>) -> (Expr, Expr, Expr)
     (first, second, third)
 }
 
-/// The name of a macro's variable, where the tree is a plain identifier.
+/// Returns the name of a macro's variable, or None if the tree isn't a plain identifier.
 fn variable_of(tree: Expr) -> Option<Rc<String>>
     ensures { MatchOption result (spec.identifier_of (term tree) ≡ None)
         (λ name. spec.identifier_of (term tree) ≡ Some (string_bytes name.value)) }
@@ -88,7 +88,7 @@ fn variable_of(tree: Expr) -> Option<Rc<String>>
     }
 }
 
-/// Both trees, each in memory of its own.
+/// Moves both trees into boxes.
 fn boxed(alloc: Global, first: Expr, second: Expr) -> Result<(Box<Expr>, Box<Expr>), Refused>
     ensures { MatchResult result (λ both. (term both.0.value ≡ term first)
         × (term both.1.value ≡ term second)) (λ refused. refused ≡ Memory) }

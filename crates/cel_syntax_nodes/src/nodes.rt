@@ -1,4 +1,4 @@
-//! Nodes, made of their parts.
+//! Builds nodes from their parts.
 
 ghost use Rattle.std.specs.Prelude.{◌≡◌, IfOk, MatchResult, string_bytes};
 ghost use Rattle.kube_types_refused.specs.declared.Refused.TheVariants.{Memory};
@@ -10,21 +10,21 @@ use kube_types_refused::Refused;
 use std::alloc::{AllocError, Global};
 use std::rc::Rc;
 
-/// A name of its own, to be shared.
+/// Copies a name into a shared string.
 pub(crate) fn shared(alloc: Global, name: &str) -> Result<Rc<String>, AllocError>
     ensures { IfOk result (λ shared. string_bytes shared.value ≡ name.now) }
 {
     Ok(Rc::new(alloc, String::from_str(alloc, name)?)?)
 }
 
-/// An identifier.
+/// Builds an identifier.
 pub fn ident(alloc: Global, name: &str) -> Result<Expr, Refused>
     ensures { MatchResult result (λ e. term e ≡ tree.ident name.now) (λ refused. refused ≡ Memory) }
 {
     Ok(Expr::Ident(shared(alloc, name)?))
 }
 
-/// A field of an operand.
+/// Builds the selection of a field.
 pub fn select(alloc: Global, operand: Expr, name: &str) -> Result<Expr, Refused>
     ensures { MatchResult result (λ e. term e ≡ tree.select (term operand) name.now)
         (λ refused. refused ≡ Memory) }
@@ -33,7 +33,7 @@ pub fn select(alloc: Global, operand: Expr, name: &str) -> Result<Expr, Refused>
     Ok(Expr::Select(operand, shared(alloc, name)?))
 }
 
-/// An item of a target, by its index.
+/// Builds an index expression.
 pub fn index(alloc: Global, target: Expr, index: Expr) -> Result<Expr, Refused>
     ensures { MatchResult result (λ e. term e ≡ tree.index (term target) (term index))
         (λ refused. refused ≡ Memory) }
@@ -42,7 +42,7 @@ pub fn index(alloc: Global, target: Expr, index: Expr) -> Result<Expr, Refused>
     Ok(Expr::Index(target, Box::new(alloc, index)?))
 }
 
-/// An operator with its operand.
+/// Builds a unary expression.
 pub fn unary(alloc: Global, operator: UnaryOperator, operand: Expr) -> Result<Expr, Refused>
     ensures { MatchResult result (λ e. term e ≡ tree.unary operator (term operand))
         (λ refused. refused ≡ Memory) }
@@ -50,7 +50,7 @@ pub fn unary(alloc: Global, operator: UnaryOperator, operand: Expr) -> Result<Ex
     Ok(Expr::Unary(operator, Box::new(alloc, operand)?))
 }
 
-/// An operator with its two operands.
+/// Builds a binary expression.
 pub fn binary(
     alloc: Global,
     operator: BinaryOperator,
@@ -64,7 +64,7 @@ pub fn binary(
     Ok(Expr::Binary(operator, left, Box::new(alloc, right)?))
 }
 
-/// A condition with its two branches.
+/// Builds a conditional expression.
 pub fn conditional(alloc: Global, test: Expr, yes: Expr, no: Expr) -> Result<Expr, Refused>
     ensures { MatchResult result (λ e. term e ≡ tree.conditional (term test) (term yes) (term no))
         (λ refused. refused ≡ Memory) }

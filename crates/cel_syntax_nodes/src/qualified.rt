@@ -1,4 +1,4 @@
-//! Functions whose names have a dot in them: the library before it, the function after it.
+//! Functions whose names contain a dot, between the name of a library and that of the function.
 
 ghost use Rattle.std.specs.Prelude.{◌≡◌, ◌∷◌, ◌++◌, IfOk, MatchOption, MatchResult, Some, None, map, string_bytes};
 ghost use Rattle.kube_types_refused.specs.declared.Refused.TheVariants.{Memory};
@@ -53,7 +53,7 @@ const OF_FORMAT: [&[u8]; 14] = [
     b"datetime",
 ];
 
-/// The names of the functions of a library, which stand behind its name and a dot.
+/// The names of a library's functions, without the library's name and the dot.
 #[tactic(auto, unfolding(crate::specs::Calls::functions_of))]
 fn functions_of(library: &[u8]) -> &'static [&'static [u8]]
     ensures { map (λ w. w.now) result.now ≡ spec.functions_of library.now }
@@ -86,7 +86,7 @@ fn is_qualified(library: &[u8], function: &[u8]) -> bool
     is_one_of(function, functions_of(library))
 }
 
-/// The two names with a dot between them.
+/// Joins the two names with a dot.
 fn dotted(alloc: Global, library: &str, function: &str) -> Result<Rc<String>, AllocError>
     ensures { IfOk result (λ name. string_bytes name.value ≡ library.now ++ (46 ∷ function.now)) }
 {
@@ -96,7 +96,7 @@ fn dotted(alloc: Global, library: &str, function: &str) -> Result<Rc<String>, Al
     Ok(Rc::new(alloc, name)?)
 }
 
-/// The name, where the tree is a plain identifier.
+/// The name, if the tree is a plain identifier.
 fn identifier_of(tree: &Expr) -> Option<&Rc<String>>
     ensures { MatchOption result (spec.identifier_of (term tree.now) ≡ None)
         (λ name. spec.identifier_of (term tree.now) ≡ Some (string_bytes name.now.value)) }
@@ -107,7 +107,8 @@ fn identifier_of(tree: &Expr) -> Option<&Rc<String>>
     }
 }
 
-/// The name of a function with a dot in it, where the call is one of it.
+/// Returns the full name of a function whose name contains
+/// a dot, if the call is one of such a function.
 pub(crate) fn qualified_name(
     alloc: Global,
     target: &Expr,

@@ -1,11 +1,11 @@
-//! Which words are names.
+//! The words that are names.
 
 ghost use Rattle.std.specs.Prelude.{◌≡◌, MatchOption, true, false, map};
 ghost use Rattle.std.specs.List.{list_any};
 ghost use Rattle.std.specs.Str.{bytes_eq};
 ghost use Rattle.cel_syntax_nodes.specs.Words as spec;
 
-/// The words that stand for values, and the operator that is a word.
+/// The words that denote values, and `in`, the operator that is a word.
 const LITERALS: [&[u8]; 4] = [b"true", b"false", b"null", b"in"];
 
 /// The reserved words.
@@ -29,14 +29,14 @@ const RESERVED: [&[u8]; 17] = [
     b"package",
 ];
 
-/// Whether the word is the one of that name.
+/// Reports whether the word is this name.
 pub(crate) fn is_word(word: &[u8], name: &[u8]) -> bool
     ensures { result ≡ bytes_eq word.now name.now }
 {
     word == name
 }
 
-/// Whether the word is one of these.
+/// Reports whether the word is one of these.
 pub(crate) fn is_one_of(word: &[u8], words: &[&[u8]]) -> bool
     ensures { result ≡ list_any (bytes_eq word.now) (map (λ w. w.now) words.now) }
 {
@@ -62,7 +62,7 @@ fn is_reserved(word: &[u8]) -> bool
     is_one_of(word, &RESERVED)
 }
 
-/// The word, where it may be the name of a selected field.
+/// The word, if it may be the name of a selected field.
 #[tactic(auto, using(crate::proofs::Names::selects, crate::proofs::Names::selects_none), unfolding(crate::specs::Words::is_selector))]
 pub fn selector(word: &[u8]) -> Option<&str>
     ensures { MatchOption result (spec.is_selector word.now ≡ false)
@@ -77,7 +77,7 @@ pub fn selector(word: &[u8]) -> Option<&str>
     }
 }
 
-/// The word, where it may be an identifier.
+/// The word, if it may be an identifier.
 #[tactic(auto, unfolding(crate::specs::Words::is_identifier))]
 pub fn identifier(word: &[u8]) -> Option<&str>
     ensures { MatchOption result (spec.is_identifier word.now ≡ false)

@@ -1,4 +1,4 @@
--- A map beside the entries that it stands for.
+-- Maps, and their entries as contracts see them.
 use Rattle.std.proofs.Common.{◌≡◌, Bool, true, false, cond, if◌then◌else◌, Bor, option_copied, List, [], ◌∷◌, Option, Some, None, option_map, Ordering, Less, Equal, Greater, refl, ◌∙◌}
 use Rattle.std.specs.Map.{lookup}
 use Rattle.std.specs.Ordering.{match_ordering}

@@ -1,4 +1,4 @@
--- Equality at values of one kind.
+-- Equality of values of one kind.
 use Rattle.std.proofs.Common.{◌≡◌, ◌↔◌, ◌&&◌, ◌==◌, ℕ, ℤ, pos, [], ◌∷◌, Bool, true, false, Some, refl, sym, ap, ◌∙◌, rules, arith}
 use Rattle.std.proofs.lemmas.Bool.{eqb-true, eq-eqb, false≢true}
 use Rattle.std.proofs.lemmas.Cmp.{eq_by_cmp_equiv}
@@ -43,11 +43,11 @@ pub same_maps : (xs : Entries) (b : Data) (ys : Entries) → Some ys ≡ entries
 same_maps xs (map_of es) ys h = grind (arith, common_steps, and_true_true)
 same_maps xs _ ys h = grind arith
 
--- what `==` of two quantities compares
+-- what `==` compares of two quantities
 abbrev pub same_fields : KubeQuantity → KubeQuantity → Bool
 same_fields x y = int_eq x.mantissa y.mantissa && int_eq x.scale y.scale
 
--- a quantity is held in normal form
+-- a quantity is stored in normal form
 amount_held : (x : KubeQuantity) → amount (number x) ≡ x.mantissa ∷ x.scale ∷ []
 amount_held x =
     let one = normal_unique (normal_form (number x)) (number x) (normal_form-normal (number x)) x.normal (normal_form-same (number x)) in
@@ -102,7 +102,7 @@ same_urls u (url v) w h =
     ap (λ p. same (url u) (url p)) held ∙ path_tests u.1 w.1 (pointwise nat_eq (serialize u.0) (serialize w.0))
 same_urls u _ w h = grind arith
 
--- formats are distinguished by their names
+-- formats differ exactly if their names do
 pub same_names : (f g : FormatKind) → pointwise nat_eq (name_of f) (name_of g) ≡ sameb the_type f g
 same_names f g = both_ways (pointwise nat_eq (name_of f) (name_of g)) (sameb the_type f g)
     (λ e. true_same the_type f g (names_apart f g (same_text (name_of f) (name_of g) e)))
@@ -126,7 +126,7 @@ numbers = eq_by_cmp_equiv decimal_cmp_total
 tied : (x y : Decimal) → SameNumber x y → eq_by_cmp decimal_cmp x y ≡ true
 tied x y h = (Equal-is (decimal_cmp x y)).1 (same_tied x y h)
 
--- normal forms tie exactly where the numbers do
+-- normal forms are equal exactly if the numbers are
 forms_tie : (x y : Decimal) → eq_by_cmp decimal_cmp (normal_form x) (normal_form y) ≡ eq_by_cmp decimal_cmp x y
 forms_tie x y =
     numbers.congr (normal_form x) x (normal_form y) (tied (normal_form x) x (normal_form-same x))

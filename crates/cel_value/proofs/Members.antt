@@ -1,4 +1,4 @@
--- The parts of a list and of a map, beside what they are seen as.
+-- The parts of lists and maps, as contracts see them.
 use Rattle.std.specs.Prelude.{◌≡◌, ℕ, zero, suc, max, List, [], ◌∷◌, Bool, true, false, ◌||◌, if◌then◌else◌, Some, None, refl, length, slice_get, option_map}
 use Rattle.std.proofs.Common.{arith}
 use Rattle.std.specs.declared.cmp.Ordering.{Ordering}

@@ -1,4 +1,4 @@
--- The order of values beside their equality.
+-- The order of values agrees with their equality.
 use Rattle.std.proofs.Common.{◌≡◌, ◌==◌, ℕ, ◌&&◌, if◌then◌else◌, Bool, true, false, Some, None, Ordering, Less, Equal, Greater, refl, sym, ap, ◌∙◌, arith}
 use Rattle.std.proofs.lemmas.Bool.{false≢true}
 use Rattle.std.proofs.lemmas.Bool.Decides.{nat_tests}
@@ -11,7 +11,7 @@ use Rattle.cel_value.specs.Same.{Shape, shape_of, Shapes, no_shapes, shape, same
 abbrev parts_of : Shape → Shapes
 parts_of (shape_of k ns s p) = p
 
--- what has an order has no parts
+-- values that have an order have no parts
 ordered_flat : (d : Data) → has_order d ≡ true → parts_of (shape d) ≡ no_shapes
 ordered_flat null h = refl
 ordered_flat (bool b) h = refl

@@ -1,4 +1,4 @@
--- What a value of one kind is seen as.
+-- Values of one kind as contracts see them.
 use Rattle.std.proofs.Common.{◌≡◌, refl}
 use Rattle.cel_value.specs.Data.{list, map_of, optional, quantity, semver, url, format}
 use Rattle.cel_value.specs.View.{view}

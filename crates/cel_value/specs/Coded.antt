@@ -1,5 +1,5 @@
 -- Scaffolding: only proofs and private clauses cite it.
--- The parts of lists and maps as a flat list of marks that gives them back.
+-- Lists and maps as a flat list of marks, from which they can be restored.
 use Rattle.std.specs.Prelude.{ℕ, ℤ, List, [], ◌∷◌, ◌≡◌, Bool, refl}
 use Rattle.kube_types_address.specs.Addresses.{Address}
 use Rattle.kube_types_address.specs.Prefixes.{Network}
@@ -9,7 +9,7 @@ use Rattle.kube_types_url.specs.Shown.{Shown}
 use Rattle.semver.specs.Parse.{Parts}
 use Rattle.cel_value.specs.Data.{KeyData, Data, null, bool, int, uint, double, text, bytes, list, map_of, timestamp, duration, optional, ip, cidr, quantity, semver, url, format, Items, no_items, item, Entries, no_entries, entry}
 
--- one mark: a value with no parts, or what is made of the parts that follow
+-- a mark: a value without parts, or one made of the parts that follow
 pub data Mark : Type 0 where
   m_null : Mark
   m_bool : Bool → Mark
@@ -66,7 +66,7 @@ abbrev mutual
   entries_marks no_entries = λ r. m_last ∷ r
   entries_marks (entry k d es) = λ r. m_entry k ∷ marks d (entries_marks es r)
 
--- what the marks so far are read as
+-- what the marks read so far stand for
 pub data Piece : Type 0 where
   whole : Data → Piece
   some : Items → Piece

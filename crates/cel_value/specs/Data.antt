@@ -1,5 +1,5 @@
 -- Trusted by the headline.
--- What a value and a key are, without their memory.
+-- Values and keys as contracts see them.
 use Rattle.std.specs.Prelude.{ℕ, ℤ, List, Bool}
 use Rattle.kube_types_address.specs.Addresses.{Address}
 use Rattle.kube_types_address.specs.Prefixes.{Network}
@@ -25,7 +25,8 @@ mutual
     bytes : List ℕ → Data
     list : Items → Data
     map_of : Entries → Data
-    -- the nanoseconds since 1970-01-01T00:00:00Z, and the minutes that the local clock is ahead of UTC
+    -- the nanoseconds since 1970-01-01T00:00:00Z, and the
+    -- minutes by which the local clock is ahead of UTC
     timestamp : ℤ → ℤ → Data
     -- its nanoseconds
     duration : ℤ → Data

@@ -1,5 +1,5 @@
 -- Scaffolding: only proofs and private clauses cite it.
--- Each part of a value is lighter than the whole.
+-- Each part of a value has a smaller weight than the whole.
 use Rattle.std.specs.Prelude.{◌≤◌, List, [], ◌∷◌, Option, Some, None, map}
 use Rattle.std.proofs.Common.{arith}
 use Rattle.std.specs.declared.alloc.Global.{Global}

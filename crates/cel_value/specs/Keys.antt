@@ -1,5 +1,5 @@
 -- Trusted by the headline.
--- The data that a key stands for, and the order of keys.
+-- Keys as contracts see them, and the order of keys.
 use Rattle.std.specs.Prelude.{ℕ, ℤ, pos, List, [], true, false, string_bytes}
 use Rattle.std.specs.declared.cmp.Ordering.{Ordering}
 use Rattle.std.specs.Ordering.{nat_cmp, int_cmp, on, then_cmp, eq_by_cmp, match_ordering}
@@ -16,7 +16,7 @@ key_view (key.Int n) = int_key n
 key_view (key.Uint n) = uint_key n
 key_view (key.String s) = text_key (string_bytes s.value)
 
--- bools, then numbers, then texts
+-- bools, then numbers, then strings
 abbrev pub key_class : KeyData → ℕ
 key_class (bool_key b) = 0
 key_class (int_key n) = 1
@@ -50,7 +50,7 @@ key_total = on_total key_view key_order_total
 pub key_equiv : IsEquivalence (λ (a : Key) (b : Key). eq_by_cmp key_order (key_view a) (key_view b))
 key_equiv = on_equiv key_view (eq_by_cmp_equiv key_order_total)
 
--- the entries, with d at k; a key that is there stays
+-- the entries with d at the key k; an existing key is kept as it is
 abbrev pub put : KeyData → Data → Entries → Entries
 put k d no_entries = entry k d no_entries
 put k d (entry l e es) =

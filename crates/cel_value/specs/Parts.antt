@@ -1,5 +1,5 @@
 -- Trusted by the headline.
--- What is inside a value of one kind.
+-- The contents of values of one kind.
 use Rattle.std.specs.Prelude.{ℕ, ℤ, pos, List, Bool, Option, None, Some}
 use Rattle.cel_value.specs.Data.{Data, bool, int, uint, text, bytes, list, map_of, timestamp, duration, optional, ip, cidr, quantity, semver, url, format, Items, Entries}
 use Rattle.kube_types_address.specs.Addresses.{Address}

@@ -1,7 +1,8 @@
 -- Trusted by the headline.
--- When two values are equal, and how they compare (CEL language definition, "Equality", "Ordering";
--- Kubernetes documentation, CEL libraries). Each value has a shape, in which an int and a uint are their
--- number, a timestamp is its instant and a quantity its number; two values are equal where their shapes are.
+-- When two values are equal, and how they compare (CEL language definition, "Equality",
+-- "Ordering"; Kubernetes documentation, CEL libraries). Each value has a shape, in which an int
+-- or a uint is represented by its number, a timestamp by its instant and a quantity by its
+-- number. Two values are equal if their shapes are.
 use Rattle.std.specs.Prelude.{ℕ, ℤ, pos, ◌&&◌, ◌==◌, List, [], ◌∷◌, Bool, true, false, if◌then◌else◌, Option, None, Some, nat_eq, nat_lt}
 use Rattle.std.specs.declared.cmp.Ordering.{Ordering}
 use Rattle.std.specs.Ordering.{int_eq, int_cmp, nat_cmp, eq_by_cmp, ordering_then}
@@ -18,7 +19,7 @@ use Rattle.cel_value.specs.declared.kind.Kind.{Kind}
 use Rattle.cel_value.specs.declared.kind.Kind.TheVariants as kind
 
 mutual
-  -- a class, the numbers and the text in it, and the shapes inside
+  -- a class, the numbers and the text of the value, and the shapes of its parts
   pub data Shape : Type 0 where
     shape_of : ℕ → List ℤ → List ℕ → Shapes → Shape
 
@@ -34,7 +35,7 @@ bool_number false = pos 0
 abbrev pub leaf : ℕ → List ℤ → List ℕ → Shape
 leaf k ns s = shape_of k ns s no_shapes
 
--- the mantissa and the scale of a number's normal form
+-- the mantissa and the scale of the number's normal form
 abbrev pub amount : Decimal → List ℤ
 amount q = (normal_form q).mantissa ∷ (normal_form q).scale ∷ []
 
@@ -43,7 +44,7 @@ abbrev pub address_parts : Address → List ℕ
 address_parts (four octets) = octets
 address_parts (six groups) = groups
 
--- the numbers of a version with its pre-release, and its build metadata
+-- the three numbers and the pre-release of a version, and its build metadata
 abbrev pub version_shape : Parts → Shape
 version_shape v =
     shape_of 14 [] []
@@ -93,7 +94,8 @@ abbrev mutual
 abbrev pub same : Data → Data → Bool
 same a b = same_shape (shape a) (shape b)
 
--- the classes 1 to 6, of bools, numbers, strings, bytes, timestamps and durations, have an order
+-- the classes that have an order: 1 to 6, which are bools,
+-- numbers, strings, bytes, timestamps and durations
 abbrev pub is_ordered : ℕ → Bool
 is_ordered k = nat_lt 0 k && nat_lt k 7
 
@@ -116,7 +118,7 @@ is_ordered_kind kind.Timestamp = true
 is_ordered_kind kind.Duration = true
 is_ordered_kind _ = false
 
--- whether values of this kind have an order
+-- the class of a shape
 abbrev pub class_of : Shape → ℕ
 class_of (shape_of k ns s p) = k
 

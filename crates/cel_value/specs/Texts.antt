@@ -1,5 +1,5 @@
 -- Trusted by the headline.
--- The text of a value, as `%s` prints it, and of an error.
+-- The text of a value, as `%s` prints it, and the text of an error.
 use Rattle.std.specs.Prelude.{ℕ, List, [], ◌∷◌, ◌++◌, Bool, true, false, if◌then◌else◌, Option, None, Some, Result, Ok, Err, codes, decimal, String, string_bytes}
 use Rattle.std.specs.declared.alloc.Global.{Global}
 use Rattle.std.specs.Fmt.{signed_decimal}
@@ -12,7 +12,7 @@ abbrev pub bool_text : Bool → List ℕ
 bool_text true = codes "true"
 bool_text false = codes "false"
 
--- inside a list or a map a string stands in double quotes
+-- inside a list or a map a string is in double quotes
 abbrev pub quoted_if : Bool → List ℕ → List ℕ
 quoted_if inner s = if inner then 34 ∷ (s ++ 34 ∷ []) else s
 
@@ -22,12 +22,12 @@ key_form inner (int_key n) = signed_decimal n
 key_form inner (uint_key n) = decimal n
 key_form inner (text_key s) = quoted_if inner s
 
--- what stands before an item, where another stands before it
+-- the separator before an item that isn't the first
 abbrev pub comma_if : Bool → List ℕ
 comma_if later = if later then codes ", " else []
 
 abbrev mutual
-  -- the text of a value whose parts all have one
+  -- the text of a value all of whose parts have one
   pub text_form : Bool → Data → List ℕ
   text_form inner null = codes "null"
   text_form inner (bool b) = bool_text b
@@ -38,7 +38,7 @@ abbrev mutual
   text_form inner (map_of es) = 123 ∷ entries_text false es
   text_form inner _ = []
 
-  -- with the closing bracket
+  -- including the closing bracket
   pub items_text : Bool → Items → List ℕ
   items_text later no_items = 93 ∷ []
   items_text later (item d ds) = comma_if later ++ (text_form true d ++ items_text true ds)
@@ -48,7 +48,7 @@ abbrev mutual
   entries_text later (entry k d es) =
       comma_if later ++ (key_form true k ++ 58 ∷ (text_form true d ++ entries_text true es))
 
--- the first, or the second where there is no first
+-- the first if there is one, else the second
 abbrev pub first_of_two : Option Kind → Option Kind → Option Kind
 first_of_two None p = p
 first_of_two (Some k) p = Some k

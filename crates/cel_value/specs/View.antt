@@ -1,5 +1,5 @@
 -- Trusted by the headline.
--- The data that a value stands for.
+-- Values as contracts see them.
 use Rattle.std.specs.Prelude.{List, [], ◌∷◌, Option, Some, None, map, string_bytes}
 use Rattle.std.specs.declared.alloc.Global.{Global}
 use Rattle.std.specs.declared.rc.Rc.{Rc}
@@ -56,7 +56,7 @@ entries_view es = entries_of (map (λ e. (e.0, view e.1)) es)
 abbrev pub alone : Data → Items
 alone d = item d no_items
 
--- what an optional holds
+-- the contents of an optional
 abbrev pub held_view : Option (Rc Held Global) → Items
 held_view None = no_items
 held_view (Some r) = r.value

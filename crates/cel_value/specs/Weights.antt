@@ -1,5 +1,5 @@
 -- Scaffolding: only proofs and private clauses cite it.
--- How many parts a value has, each of them counted: what recursion over a value ends by.
+-- The number of parts of a value. It decreases in recursion over a value.
 use Rattle.std.specs.Prelude.{ℕ, suc, ◌+◌}
 use Rattle.cel_value.specs.Data.{Data, list, map_of, optional, Items, no_items, item, Entries, no_entries, entry}
 
@@ -18,6 +18,6 @@ abbrev mutual
   entries_weight no_entries = 1
   entries_weight (entry k d es) = weight d + entries_weight es
 
--- of an optional, without its kind
+-- the weight of an optional without its kind
 abbrev pub held_weight : Items → ℕ
 held_weight ds = suc (items_weight ds)

@@ -1,4 +1,4 @@
-//! Making values of parts, and finding the entries of maps.
+//! Makes values from their parts, and finds the entries of maps.
 ghost use Rattle.std.specs.Prelude.{◌≡◌, IfOk, IfErr, OnErr, MatchResult, IsSome, None, option_map, string_bytes};
 ghost use Rattle.cel_value.specs.Data.{list, map_of, text};
 ghost use Rattle.cel_value.specs.Faults.{fault_view, duplicate_key};
@@ -14,7 +14,7 @@ use std::alloc::Global;
 use std::rc::Rc;
 
 impl Value {
-    /// The string value of a text. `Refused` where there is no memory to share it.
+    /// Returns the string value of a text. Returns `Refused` if there is no memory to share it.
     pub fn from_text(alloc: Global, chars: String) -> Result<Value, Refused>
         ensures value { IfOk result (λ v. view v ≡ text (string_bytes chars)) }
         ensures memory { IfErr result (λ e. e ≡ Refused.Memory) }
@@ -22,10 +22,10 @@ impl Value {
         Ok(Value::String(Rc::new(alloc, chars)?))
     }
 
-    /// The list of these items.
+    /// Returns the list of these items.
     ///
     /// # Errors
-    /// `Memory`, also where it would have more levels than
+    /// [`Refused::Memory`] if memory is refused, or if the list would have more levels than
     /// [`MAX_VALUE_LEVELS`](crate::value::MAX_VALUE_LEVELS).
     pub fn from_items(alloc: Global, items: Vec<Value>) -> Result<Value, Refused>
         ensures value { IfOk result (λ v. view v ≡ list (items_view items.items)) }
@@ -34,10 +34,10 @@ impl Value {
         Ok(Value::List(Rc::new(alloc, List::of(items)?)?))
     }
 
-    /// The map of these entries.
+    /// Returns the map of these entries.
     ///
     /// # Errors
-    /// `Memory`, also where it would have more levels than
+    /// [`Refused::Memory`] if memory is refused, or if the map would have more levels than
     /// [`MAX_VALUE_LEVELS`](crate::value::MAX_VALUE_LEVELS).
     pub fn from_entries(alloc: Global, entries: Entries) -> Result<Value, Refused>
         ensures value { IfOk result (λ v. view v ≡ map_of (entries_view entries.entries)) }
@@ -47,11 +47,11 @@ impl Value {
     }
 }
 
-/// Puts a new entry into a map, unless the key is there. The map stays where the key is there,
-/// and where the call is refused.
+/// Adds an entry to a map. The inner error is `DuplicateKey` if the key is there already. The map
+/// is unchanged then, and if the call is refused.
 ///
 /// # Errors
-/// `Memory`, also where the map would have more levels than
+/// [`Refused::Memory`] if memory is refused, or if the map would have more levels than
 /// [`MAX_VALUE_LEVELS`](crate::value::MAX_VALUE_LEVELS).
 pub fn add_entry(
     entries: &mut Map,
@@ -73,7 +73,7 @@ pub fn add_entry(
     Ok(Ok(()))
 }
 
-/// The value at a key of a map.
+/// The value at a key of a map, if any.
 pub fn find_entry<'a>(entries: &'a Map, key: &Key) -> Option<&'a Value>
     ensures { option_map (λ v. view v.now) result ≡ find (key_view key.now) entries.now }
 {

@@ -1,4 +1,4 @@
-//! The order of values, where they have one.
+//! The order of values.
 ghost use Rattle.std.specs.Prelude.{◌≡◌};
 ghost use Rattle.cel_value.specs.View.{view};
 ghost use Rattle.cel_value.specs.Same.{comparison};
@@ -7,9 +7,10 @@ use crate::value::Value;
 use std::cmp::Ordering;
 
 impl Value {
-    /// How two values compare, or `None` where they have no order: bools (false first), numbers (an int with
-    /// a uint), strings by code points, bytes, timestamps by their instants, durations, each class within
-    /// itself (CEL language definition, "Ordering").
+    /// Compares two values, or returns `None` if they have no order. There are these
+    /// ordered classes, each only within itself (CEL language definition, "Ordering"):
+    /// bools (false first), numbers (ints and uints together), strings by code points,
+    /// bytes, timestamps by their instants, and durations.
     pub fn compare(&self, other: &Value) -> Option<Ordering>
         ensures { result ≡ comparison (view self.now) (view other.now) }
     {

@@ -1,4 +1,4 @@
-//! Copies of values, which share what they hold, and their kinds.
+//! Copies of values and keys, which share their contents, and the kinds of values.
 ghost use Rattle.std.specs.Prelude.{◌≡◌, IfOk, IfErr};
 ghost use Rattle.cel_value.specs.View.{view, kind_of};
 ghost use Rattle.cel_value.specs.Keys.{key_view};
@@ -9,7 +9,7 @@ use crate::value::Value;
 use kube_types_refused::Refused;
 
 impl Key {
-    /// The same key. Its text is shared.
+    /// Returns a copy of the key. Its text is shared.
     pub fn try_clone(&self) -> Result<Key, Refused>
         ensures value { IfOk result (λ k. key_view k ≡ key_view self.now) }
         ensures memory { IfErr result (λ e. e ≡ Refused.Memory) }
@@ -24,7 +24,7 @@ impl Key {
 }
 
 impl Value {
-    /// The same value. What is large is shared, so it takes no memory.
+    /// Returns a copy of the value. What is large is shared, so it allocates nothing.
     pub fn try_clone(&self) -> Result<Value, Refused>
         ensures value { IfOk result (λ v. view v ≡ view self.now) }
         ensures memory { IfErr result (λ e. e ≡ Refused.Memory) }

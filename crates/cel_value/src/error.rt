@@ -1,31 +1,31 @@
-//! Why an execution has no value.
+//! The errors of an execution.
 use crate::key::Key;
 use kube_types_refused::Refused;
 
-/// Why an expression has no value. Its text is fixed, and says no more than this.
+/// Why an expression has no value. The display text is fixed and says no more than this.
 #[derive(Debug, Drop)]
 pub enum ExecutionError {
-    /// A name that nothing declares.
+    /// A name isn't declared.
     UndeclaredReference(String),
     /// A map has no such key.
     NoSuchKey(Key),
-    /// An operator, a macro or a function that does not take values of these kinds.
+    /// An operator, a macro or a function doesn't take values of these kinds.
     NoSuchOverload(String),
-    /// A function refused its arguments.
+    /// A function rejected its arguments.
     FunctionError { function: String, message: String },
     /// A number is out of range.
     Overflow,
     /// A division by zero.
     DivisionByZero,
-    /// A remainder of a division by zero.
+    /// A remainder by zero.
     RemainderByZero,
-    /// A list has no such index.
+    /// A list index is out of range.
     IndexOutOfBounds,
-    /// A value that is no key of a map.
+    /// A value can't be the key of a map.
     UnsupportedKey,
-    /// A key that stands twice in a map.
+    /// A key occurs twice in a map.
     DuplicateKey,
-    /// A pattern that the function cannot use.
+    /// A function was given an invalid pattern.
     InvalidPattern(String),
 }
 
@@ -33,10 +33,10 @@ impl ExecutionError {
     ghost use Rattle.std.specs.Prelude.{◌≡◌, IfErr, IfOk};
     ghost use Rattle.cel_value.specs.Faults.{fault_view};
 
-    /// The same error once more.
+    /// Returns a copy of the error.
     ///
     /// # Errors
-    /// `Memory` alone.
+    /// Only [`Refused::Memory`], if memory is refused.
     pub fn try_clone(&self) -> Result<ExecutionError, Refused>
         ensures same { IfOk result (λ e. fault_view e ≡ fault_view self.now) }
         ensures memory { IfErr result (λ e. e ≡ Refused.Memory) }

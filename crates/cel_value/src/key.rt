@@ -2,7 +2,8 @@
 use std::cmp::Ordering;
 use std::rc::Rc;
 
-/// The key of a map: bools first, then numbers, then strings by bytes. 1 and 1u are one key.
+/// The key of a map. Bools come first, then numbers, then
+/// strings by their bytes. 1 and 1u are the same key.
 #[derive(Debug, Drop)]
 pub enum Key {
     /// `true` or `false`.
@@ -11,7 +12,7 @@ pub enum Key {
     Int(i64),
     /// An unsigned number.
     Uint(u64),
-    /// A text.
+    /// A string.
     String(Rc<String>),
 }
 

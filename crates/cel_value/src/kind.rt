@@ -1,7 +1,7 @@
 //! The kinds of values.
 use std::fmt;
 
-/// A kind of values. It prints the name that CEL and Kubernetes give it.
+/// The kind of a value. It is displayed as the name that CEL and Kubernetes give it.
 #[derive(Clone, Copy, Debug, PartialEq, Eq)]
 pub enum Kind {
     /// `null`

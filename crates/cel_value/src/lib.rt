@@ -1,9 +1,9 @@
-//! The values of CEL: of 18 kinds, with their equality and order, their texts, the keys of maps,
-//! and the errors of an execution.
+//! The values of CEL, of 18 kinds, with their equality and order, their texts, the
+//! keys of maps, and the errors of an execution.
 //!
-//! A [`Value`] takes 24 bytes and shares what is large, so that a copy takes no memory. What makes one takes
-//! an allocator first, and answers [`Refused`] where there is no memory, or where the value would have more
-//! than 4,096 levels of lists, maps and optionals.
+//! A [`Value`] takes 24 bytes and shares what is large, so copying it allocates nothing. Functions
+//! that make a value take an allocator first. They return [`Refused`] if there is no memory, or if
+//! the value would have more than 4,096 levels of nested lists, maps and optionals.
 //!
 //! ```rust
 //! use cel_value::{Refused, Value};
@@ -18,9 +18,9 @@
 //! }
 //! ```
 //!
-//! Proved: `==` is an equivalence and, with `compare`, is as defined (`specs/Same.antt`); copies, parts,
-//! look-ups and texts answer theirs. A contract sees a value as `Data` (`specs/Data.antt`). A double is
-//! carried, without its number.
+//! Proved: `==` is an equivalence; `==` and `compare` agree with their definitions
+//! (`specs/Same.antt`), and so do copies, parts, lookups and texts. Contracts see a value as `Data`
+//! (`specs/Data.antt`). A double is kept without its number.
 #![tactic(auto)]
 
 pub mod build;

@@ -1,4 +1,4 @@
-//! What is inside a value of one kind. Each call answers `None` for a value of another kind.
+//! Accessors of the contents of values. Each returns `None` for a value of another kind.
 ghost use Rattle.std.specs.Prelude.{◌≡◌, option_map};
 ghost use Rattle.cel_value.specs.View.{view};
 ghost use Rattle.cel_value.specs.Parts.{number_in, bool_in, text_in, bytes_in, items_in, entries_in, held_in, timestamp_in, duration_in, ip_in, cidr_in, quantity_in, semver_in, url_in, format_in};
@@ -50,7 +50,7 @@ impl Value {
         }
     }
 
-    /// The bytes of a value of bytes.
+    /// The contents of bytes.
     pub fn as_bytes(&self) -> Option<&[u8]>
         ensures { option_map (λ s. s.now) result ≡ bytes_in (view self.now) }
     {

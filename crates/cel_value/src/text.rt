@@ -54,7 +54,7 @@ impl fmt::Display for ExecutionError {
 }
 
 impl Value {
-    /// The text that `%s` prints, or the kind of the first part that has none.
+    /// Returns the text that `%s` prints, or the kind of the first part that has no text.
     pub fn text(&self, alloc: Global) -> Result<Result<String, Kind>, Refused>
         ensures value { IfOk result (λ r. printed_view r ≡ printed_text (view self.now)) }
         ensures memory { IfErr result (λ e. e ≡ Refused.Memory) }
@@ -131,7 +131,7 @@ fn write_quoted(text: &str, out: &mut String) -> Result<(), Refused>
     Ok(())
 }
 
-// A key as it stands in a map's text.
+// Writes a key as it appears in the text of a map.
 fn write_key(key: &Key, out: &mut String) -> Result<(), Refused>
     ensures written { OnOk result (string_bytes out.new
         ≡ string_bytes out.old ++ key_form true (key_view key.now)) }

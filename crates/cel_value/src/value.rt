@@ -1,5 +1,6 @@
-//! The values of CEL. What is large is shared, so that a copy takes no memory; a list, a map and an optional
-//! know whether a double stands in them and how many levels they have, so that neither question takes a walk.
+//! The values of CEL. What is large is shared, so copying a value allocates
+//! nothing. Lists, maps and optionals store whether they hold a double and how many
+//! levels they have, so neither has to be computed.
 ghost use Rattle.std.specs.Prelude.{◌≡◌, ◌≤◌, suc, IfOk, IfErr};
 ghost use Rattle.cel_value.specs.Levels.{levels, max_levels};
 ghost use Rattle.cel_value.specs.Same.{has_double};
@@ -21,14 +22,14 @@ use std::collections::BTreeMap;
 use std::marker::Model;
 use std::rc::Rc;
 
-/// The most levels that a value has: lists, maps and optionals inside one another.
+/// The largest number of levels of a value: lists, maps and optionals nested in one another.
 ///
-/// Values are dropped, compared and printed level by level, and each level takes a part of the stack. An
-/// expression can wrap a value in one more list as often as it likes, so what would have more levels is
-/// refused as if there were no memory.
+/// Values are dropped, compared and printed level by level, and each level uses stack space.
+/// An expression can wrap a value in another list any number of times, so a value of more
+/// levels is refused as if there were no memory.
 pub const MAX_VALUE_LEVELS: u16 = 4096;
 
-/// Entries of a map that is being made, in the order of their keys.
+/// The entries of a map that is being built, in key order.
 pub type Entries = BTreeMap<Key, Value>;
 
 /// The items of a list.
@@ -40,7 +41,7 @@ pub struct List {
     levels: u16,
 }
 
-/// A map's entries, in the order of their keys.
+/// The entries of a map, in key order.
 #[derive(Debug, Drop)]
 #[cycle(values)]
 pub struct Map {
@@ -49,7 +50,7 @@ pub struct Map {
     levels: u16,
 }
 
-/// What an optional holds.
+/// The value that an optional holds, with its number of levels and whether it holds a double.
 #[derive(Debug, Drop)]
 #[cycle(values)]
 struct Held {
@@ -58,7 +59,7 @@ struct Held {
     levels: u16,
 }
 
-/// An optional value.
+/// An optional: a value that may be missing.
 #[derive(Debug, Drop)]
 #[cycle(values)]
 pub struct OptionalValue {
@@ -77,25 +78,25 @@ pub enum Value {
     Int(i64),
     /// An unsigned integer of 64 bits.
     UInt(u64),
-    /// A double, whose number is not kept.
+    /// A double. Its number is not kept.
     Float,
-    /// A text.
+    /// A string.
     String(Rc<String>),
-    /// A list of bytes.
+    /// A sequence of bytes.
     Bytes(Rc<Vec<u8>>),
     /// A list.
     List(Rc<List>),
     /// A map, in key order.
     Map(Rc<Map>),
-    /// An instant, with the offset of a local clock.
+    /// An instant with the UTC offset of a local clock.
     Timestamp(Timestamp),
     /// A length of time.
     Duration(Duration),
-    /// An optional value.
+    /// An optional.
     Optional(OptionalValue),
     /// An IP address.
     Ip(Rc<KubeIP>),
-    /// A network: an IP address with the length of its prefix.
+    /// A network: an IP address and the length of its prefix.
     Cidr(Rc<KubeCIDR>),
     /// An exact decimal number.
     Quantity(Rc<KubeQuantity>),
@@ -103,11 +104,11 @@ pub enum Value {
     Semver(Rc<KubeSemver>),
     /// A URL, or an absolute path.
     Url(Rc<KubeUrl>),
-    /// A named format of texts.
+    /// A named format of strings.
     Format(KubeFormat),
 }
 
-// What a copy of a value moves: its kind and two words.
+// A value is moved as its kind and two words.
 const _: () = prove!(size_of::<Value>() == 24);
 
 impl Model for List {
@@ -212,10 +213,10 @@ impl Model for OptionalValue {
     ghost size_decreases = { λ a h. optional_falls a };
 }
 
-/// The levels of what holds values with this number of levels.
+/// Returns the number of levels of a list, map or optional whose contents have `inner` levels.
 ///
 /// # Errors
-/// `Memory` where they are more than [`MAX_VALUE_LEVELS`].
+/// [`Refused::Memory`] if there are more than [`MAX_VALUE_LEVELS`].
 fn level_around(inner: u16) -> Result<u16, Refused>
     ensures value { IfOk result (λ n. (n ≡ suc inner) × (n ≤ max_levels)) }
     ensures memory { IfErr result (λ e. e ≡ Refused.Memory) }
@@ -228,7 +229,7 @@ fn level_around(inner: u16) -> Result<u16, Refused>
 }
 
 impl Value {
-    /// Whether a double stands in the value, at any depth.
+    /// Reports whether the value is or contains a double, at any depth.
     pub fn holds_double(&self) -> bool
         ensures { result ≡ has_double (view self.now) }
     {
@@ -244,7 +245,7 @@ impl Value {
         }
     }
 
-    /// How many lists, maps and optionals stand inside one another.
+    /// The number of levels of nested lists, maps and optionals in the value.
     pub fn levels(&self) -> u16
         ensures value { result ≡ levels (view self.now) }
         ensures limit { result ≤ max_levels }

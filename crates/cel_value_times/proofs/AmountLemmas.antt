@@ -1,4 +1,4 @@
--- The amounts of a duration's text: what the reader finds is spelled there, and what is spelled there it finds.
+-- The amounts of a duration's text: the parser finds exactly the amounts that the text spells.
 use Rattle.std.proofs.Common.{◌≡◌, ℕ, ◌+◌, ◌*◌, ◌<◌, ◌≤◌, ◌==◌, Bool, true, false, cond, List, [], ◌∷◌, ◌++◌, length, Option, Some, None, option_map, refl, sym, ap, subst, ◌∙◌, arith, inl, inr, ◌⊎◌, append_assoc, length-append}
 use Rattle.std.specs.Prelude.{codes}
 use Rattle.std.specs.Option.{option_and_then}
@@ -33,7 +33,7 @@ after_found byte (c ∷ cs) rest h =
     let more : cs ≡ rest = e.1 in
     cc
 
--- the text begins with a unit's name
+-- the text starts with a unit's name
 pub record BeginsWithUnit (text : List ℕ) (found : ℕ × List ℕ) : Type 0 where
   pub name : List ℕ
   pub unit : IsUnit name found.0
@@ -92,7 +92,7 @@ unit_found (c ∷ rest) x h =
     none_some : {P : Type 0} {y : ℕ × List ℕ} → None ≡ Some y → P
     none_some e = cc
 
--- a unit's name is read whole, unless an s follows it
+-- a unit's name is parsed whole, unless an s follows it
 pub unit_only : (name later : List ℕ) (u : ℕ) → IsUnit name u → after 115 later ≡ None → unit_at (name ++ later) ≡ Some (u, later)
 unit_only name later u (hour e k) seam = rw (e, k) refl
 unit_only name later u (minute e k) seam = rw (e, k, seam) refl
@@ -103,7 +103,7 @@ unit_only name later u (micro_sign e k) seam = rw (e, k) refl
 unit_only name later u (greek_mu e k) seam = rw (e, k) refl
 unit_only name later u (nanosecond e k) seam = rw (e, k) refl
 
--- and it begins with no digit and no dot
+-- it starts with neither a digit nor a dot
 pub unit_no_digit : (name later : List ℕ) (u : ℕ) → IsUnit name u → prefix_len is_ascii_digit (name ++ later) ≡ 0
 unit_no_digit name later u (hour e k) = rw e refl
 unit_no_digit name later u (minute e k) = rw e refl
@@ -135,7 +135,7 @@ fraction_found (c ∷ cs) = by_first c cs (c == 46) refl where
   by_first c cs true e = (ap (λ (d : ℕ). d ∷ cs) (eqb-true c 46 e) ∙ ap (λ (r : List ℕ). 46 ∷ r) (sym (digits_then_rest cs)), leading_are_digits cs)
   by_first c cs false e = (refl, refl)
 
--- the text begins with an amount
+-- the text starts with an amount
 pub record BeginsWithAmount (text : List ℕ) (nanoseconds : ℕ) (later : List ℕ) : Type 0 where
   pub amount : Amount
   pub proper : IsAmount amount
@@ -169,7 +169,7 @@ amount_found text n later h =
     none_some : {P : Type 0} {y : ℕ × List ℕ} → None ≡ Some y → P
     none_some e = cc
 
--- an amount is read where it is spelled
+-- an amount is found where it is spelled
 spelled_flat : (whole point name later : List ℕ) → (whole ++ (point ++ name)) ++ later ≡ whole ++ (point ++ (name ++ later))
 spelled_flat whole point name later = simp append_assoc
 
@@ -199,7 +199,7 @@ amount_only a later h end =
     ∙ (with_some_digit (length a.whole + length (digits_after_dot a.fraction)) (amount_of a.whole (digits_after_dot a.fraction) (unit_at (a.name ++ later))) h.some_digit
     ∙ ap (amount_of a.whole (digits_after_dot a.fraction)) (unit_only a.name later a.unit h.unit end)))))
 
--- an amount takes up some of the text
+-- an amount takes at least one byte
 pub amount_shorter : (text : List ℕ) (n : ℕ) (later : List ℕ) → amount_at text ≡ Some (n, later) → length later < length text
 amount_shorter text n later e =
     let found = amount_found text n later e in

@@ -1,4 +1,4 @@
--- The years from 1 on, in day numbers.
+-- The years from 1 on, as day numbers.
 use Rattle.std.proofs.Common.{◌≡◌, ℕ, ◌≤◌, inl, inr, refl, arith, rules, ℤ, pos, neg_ℤ, ◌<ℤ◌, ◌≤ℤ◌}
 use Rattle.std.proofs.lemmas.Bool.{cases_order}
 use Rattle.std.proofs.lemmas.Int.{by_lt_z}
@@ -24,7 +24,7 @@ count_from_one y m d date from =
       | inr (inr gt) ↦ absurd (omega arith)
     ]
 
--- a date from the year 1 on lies from 0001-01-01 to 9999-12-31
+-- a date in the years 1 to 9999 has a day number from 0001-01-01 to 9999-12-31
 pub days_in_range : (y m d : ℕ) → IsCivilDate (pos y) m d → 1 ≤ y → IsBetween (neg_ℤ (pos 719_162)) (pos 2_932_896) (days_from_civil (pos y) m d)
 days_in_range y m d date from =
     let low = count_from_one y m d date from in
@@ -32,7 +32,7 @@ days_in_range y m d date from =
     let count = days_from_civil-day_count (pos y) m d in
     (omega (arith, signed_arith), omega (arith, signed_arith))
 
--- and a date from 0001-01-01 on has a year from 1 on
+-- a date from 0001-01-01 on has a year of at least 1
 pub year_from_one : (y : ℤ) (m d : ℕ) → IsCivilDate y m d → neg_ℤ (pos 719_162) ≤ℤ days_from_civil y m d → pos 1 ≤ℤ y
 year_from_one y m d date low =
     by_lt_z y (pos 1)

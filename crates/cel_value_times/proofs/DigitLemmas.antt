@@ -1,4 +1,4 @@
--- Decimal digits and the numbers that they write.
+-- Decimal digits and the numbers that they denote.
 use Rattle.std.proofs.Common.{◌≡◌, ℕ, zero, suc, ◌+◌, ◌-◌, ◌*◌, ◌/◌, ◌%◌, ◌^◌, ◌<◌, ◌≤◌, ◌==◌, Bool, true, false, cond, List, [], ◌∷◌, ◌++◌, length, drop, append_assoc, get_or, add-one, drop-cons, subst, refl, sym, ap, ◌∙◌, arith, rules}
 use Rattle.std.proofs.Math.Nat.{mul-le-mul_left, pow-suc, pow-succ', div-div-eq-div-mul, mul-add-div_right, one-le-pow, le-mul_of_pos_right, pow-le-pow_right}
 use Rattle.std.proofs.Math.Seq.{take-append_seam, drop-append_seam}
@@ -14,14 +14,14 @@ use Rattle.std.specs.Str.{all_ascii_digits}
 use Rattle.cel_value_times.specs.Digits.{number, cut_part, places_text}
 use Rattle.cel_value_times.specs.Fronts.{leading_digits, after_digits}
 
--- a digit's value is below ten
+-- the code of a digit is from 48 to 57
 pub digit_below : (c : ℕ) → is_ascii_digit c ≡ true → (48 ≤ c) × (c < 58)
 digit_below c h = (grind (arith, nat_tests), grind (arith, nat_tests))
 
 pub first_digit : (c : ℕ) (cs : List ℕ) → all_ascii_digits (c ∷ cs) ≡ true → (is_ascii_digit c ≡ true) × (all_ascii_digits cs ≡ true)
 first_digit c cs h = and_parts (is_ascii_digit c) (all_ascii_digits cs) h
 
--- `number` is the number that the standard library's words know
+-- `number` is a model of numerals as the standard library defines it
 pub numerals : IsNumeralModel (λ ds. all_ascii_digits ds ≡ true) number
 numerals = numerals_by_weight _ tells_all_ascii_digits number (search rules)
 
@@ -31,7 +31,7 @@ tenfold k = pow-succ' 10 k
 pub pow_positive : (k : ℕ) → 0 < 10 ^ k
 pow_positive k = let h : 1 ≤ 10 ^ k = one-le-pow k 10 (omega arith) in omega arith
 
--- one more digit is read
+-- one more digit is parsed
 pub number_step : (n c : ℕ) (cs : List ℕ) → n * 10 ^ length (c ∷ cs) + number (c ∷ cs) ≡ (n * 10 + (c - 48)) * 10 ^ length cs + number cs
 number_step n c cs =
     ap (λ (p : ℕ). n * p + ((c - 48) * 10 ^ length cs + number cs)) (tenfold (length cs)) ∙ regroup n (c - 48) (10 ^ length cs) (number cs)
@@ -39,7 +39,7 @@ number_step n c cs =
     regroup : (n d x rest : ℕ) → n * (10 * x) + (d * x + rest) ≡ (n * 10 + d) * x + rest
     regroup n d x rest = omega arith
 
--- what is read so far is no more than the whole
+-- the number so far is at most the whole number
 pub number_so_far : (n : ℕ) (cs : List ℕ) → n ≤ n * 10 ^ length cs + number cs
 number_so_far n cs = let h : n ≤ n * 10 ^ length cs = le-mul_of_pos_right n (pow_positive (length cs)) in omega arith
 
@@ -61,7 +61,7 @@ cut_part_below parts (c ∷ cs) some h =
     let few : parts * (c - 48) ≤ parts * 9 = mul-le-mul_left parts (omega arith) in
     rw (cut_part_step parts c cs) (div_below (parts * (c - 48) + cut_part parts cs) 10 parts (omega arith) (omega arith))
 
--- the digits at the front are digits, and end where they should
+-- the leading digits are digits, and the text after them starts with none
 pub leading_are_digits : (text : List ℕ) → all_ascii_digits (leading_digits text) ≡ true
 leading_are_digits [] = refl
 leading_are_digits (c ∷ cs) = rw (take_while-cons is_ascii_digit c cs) (by_first c cs (is_ascii_digit c) refl (leading_are_digits cs)) where

@@ -1,4 +1,4 @@
--- What the reader of durations answers.
+-- The answers of the parser of durations.
 use Rattle.std.proofs.Common.{◌≡◌, ◌↔◌, ℕ, ◌<◌, ◌^◌, ℤ, pos, neg_ℤ, List, Option, Some, None, IsSome, IfSome, IsSomeAnd, refl, sym, ap, subst, ◌∙◌}
 use Rattle.cel_value_times.specs.declared.duration.Duration.{Duration}
 use Rattle.cel_value_times.specs.Ranges.{IsDuration}
@@ -16,7 +16,7 @@ only_in_range None z y some value e h = no_some (some.1 (subst IsDuration e h)) 
   no_some h = cc
 only_in_range (Some d) z y some value e h = value ∙ sym e
 
--- behind a minus
+-- after a minus
 pub backward_found : (text rest : List ℕ) (m : ℕ) (r : Option Duration) → after 45 text ≡ Some rest → IsMagnitude rest m → (IsSome r ↔ IsDuration (neg_ℤ (pos m))) → IfSome r (λ d. d.nanoseconds ≡ neg_ℤ (pos m)) → IfSome r (λ d. IsDurationText text d.nanoseconds)
 backward_found text rest m None e magnitude some value = tt
 backward_found text rest m (Some d) e magnitude some value =
@@ -36,7 +36,7 @@ backward_nothing text rest e only z h =
     none_some : (n : ℕ) → None ≡ Some n → ⊥
     none_some n e = cc
 
--- with no minus
+-- without a minus
 pub forward_found : (text : List ℕ) (m : ℕ) (r : Option Duration) → IsMagnitude text m → (IsSome r ↔ IsDuration (pos m)) → IfSome r (λ d. d.nanoseconds ≡ pos m) → IfSome r (λ d. IsDurationText text d.nanoseconds)
 forward_found text m None magnitude some value = tt
 forward_found text m (Some d) magnitude some value = forward m magnitude value (subst IsDuration (sym value) (some.0 refl))

@@ -1,4 +1,4 @@
--- A nanosecond in range lies in a second in range.
+-- A nanosecond in range has a second in range.
 use Rattle.std.proofs.Common.{◌≡◌, ℕ, ◌<◌, ℤ, pos, ◌+ℤ◌, ◌*ℤ◌, arith}
 use Rattle.std.proofs.lemmas.Int.{ints}
 use Rattle.cel_value_times.specs.Ranges.{IsSecond, IsNanosecond, local_second, local_nanosecond}

@@ -1,4 +1,4 @@
--- The laws over the definitions alone.
+-- The laws that concern the definitions only.
 use Rattle.std.proofs.Common.{◌≡◌, ℕ, ◌+◌, ◌*◌, ◌<◌, List, [], ◌∷◌, ◌++◌, length, subst, inl, inr, refl, sym, ap, ◌∙◌, arith, ℤ, pos, neg_ℤ, ◌+ℤ◌, ◌*ℤ◌}
 use Rattle.jiff_core.specs.declared.civil.date.Date.{Date}
 use Rattle.jiff_core.specs.Calendar.{days_from_civil}
@@ -22,7 +22,7 @@ first_second = omega (arith, signed_arith, days_from_civil-day_count (pos 1) 1 1
 pub last_second : days_from_civil (pos 9999) 12 31 *ℤ pos 86_400 +ℤ pos 86_399 ≡ pos 253_402_300_799
 last_second = omega (arith, signed_arith, days_from_civil-max)
 
--- one second of the calendar is one local time
+-- a second has one local date and time
 abbrev calendar_date : (l : Local) → IsLocal l → Date
 calendar_date l h = record { year = pos l.year; month = l.month; day = l.day; year_in = h.date.0; month_in = h.date.1; day_in = h.date.2 }
 
@@ -55,7 +55,7 @@ pub one_printed : (a b : List ℕ) (instant : ℤ) (nanoseconds : ℕ) (offset :
 one_printed a b instant nanoseconds offset h k =
     h.spelled ∙ (ap (λ (t : List ℕ). t ++ (nanoseconds_text nanoseconds ++ offset_text offset)) (one_local h.shown k.shown h.is_local k.is_local (sym h.instant ∙ k.instant)) ∙ sym k.spelled)
 
--- a text means one timestamp at most
+-- a text denotes at most one timestamp
 pub one_meaning : (text : List ℕ) (a b : ℤ) (m n : ℕ) (o p : ℤ) → IsTimestampText text a m o → IsTimestampText text b n p → (a ≡ b) × (m ≡ n) × (o ≡ p)
 one_meaning text a b m n o p h k =
     let x : Parts = record { second = a; nanoseconds = m; offset = o } in
@@ -86,7 +86,7 @@ one_magnitude text m n (inr h) (inr k) = h.1.total ∙ one_sum h.1.amounts text 
 same_rest : (a b : List ℕ) → 45 ∷ a ≡ 45 ∷ b → a ≡ b
 same_rest a b e = cc
 
--- a text means one duration at most
+-- a text denotes at most one duration
 pub one_duration : (text : List ℕ) (y z : ℤ) → IsDurationText text y → IsDurationText text z → y ≡ z
 one_duration text y z (forward m h e f) (forward n k g i) = e ∙ (ap (λ (x : ℕ). pos x) (one_magnitude text m n h k) ∙ sym g)
 one_duration text y z (forward m h e f) (backward rest n s k g i) = absurd (no_second_sign rest m (subst (λ (t : List ℕ). IsMagnitude t m) s h))

@@ -1,4 +1,4 @@
--- What is printed means what was printed.
+-- A printed text denotes what was printed.
 use Rattle.std.proofs.Common.{◌≡◌, ℕ, zero, suc, ◌+◌, ◌-◌, ◌*◌, ◌/◌, ◌%◌, ◌^◌, ◌<◌, ◌≤◌, ◌==◌, nat_lt, Bool, true, false, cond, List, [], ◌∷◌, ◌++◌, length, Option, Some, None, refl, sym, ap, subst, ◌∙◌, arith, inl, inr, append_assoc, ℤ, pos, negsuc, ◌+ℤ◌, ◌*ℤ◌}
 use Rattle.std.specs.Prelude.{codes}
 use Rattle.std.proofs.Math.Nat.{pow-suc, mul-div_cancel, div-div-eq-div-mul}
@@ -18,7 +18,7 @@ use Rattle.cel_value_times.proofs.DigitLemmas.{numerals, pow_positive, cut_part_
 use Rattle.cel_value_times.proofs.ReadLemmas.{digit_from}
 use Rattle.cel_value_times.proofs.SumLemmas.{nothing, nothing_only}
 
--- the decimal places, as they are read
+-- the decimal places, as they are parsed
 cut_part_none : (parts : ℕ) → cut_part parts [] ≡ 0
 cut_part_none parts = omega arith
 
@@ -68,7 +68,7 @@ unfolding places_text
 places_digits zero n few = refl
 places_digits (suc p) n few = digits_by_test p n (n == 0) few (places_digits p (n % 10 ^ p) (mod_below n (10 ^ p) (pow_positive p)))
 
--- a fraction with this number of places
+-- a fraction with p places
 fraction_of : ℕ → ℕ → Option (List ℕ)
 fraction_of p r = cond (r == 0) None (Some (places_text p r))
 
@@ -90,7 +90,7 @@ fraction_is p r few = by_test (r == 0) refl where
       let value = places_value p 1 r few in
       (Some (places_text p r), record { spelled = rw e refl; digits = places_digits p r few; value = ap (λ (t : ℕ). cut_part t (places_text p r)) (sym (one (10 ^ p))) ∙ (value ∙ one r) })
 
--- one amount, and those after it
+-- an amount in front of others
 with_first : (a : Amount) (text : List ℕ) (n : ℕ) → IsAmount a → AreAmounts text n → AreAmounts (amount_text a ++ text) (amount_nanoseconds a + n)
 with_first a text n h rest = record {
   amounts = a ∷ rest.amounts;
@@ -121,7 +121,7 @@ last_amount q p r name fits few is_unit =
     let flat : (decimal q ++ (fraction_text f.0 ++ name)) ++ [] ≡ decimal q ++ (decimals_text p r ++ name) = append-nil _ ∙ ap (λ (t : List ℕ). decimal q ++ (t ++ name)) (sym f.1.spelled) in
     subst (λ (t : List ℕ). AreAmounts t (q * 10 ^ p + r)) flat (subst (AreAmounts ((decimal q ++ (fraction_text f.0 ++ name)) ++ [])) sum all)
 
--- below a second
+-- below one second
 small_amounts : (n : ℕ) → n < 1_000_000_000 → AreAmounts (small_text n) n
 small_amounts n few = by_test (nat_lt n 1_000) refl where
   micro_or_milli : (b : Bool) → nat_lt n 1_000_000 ≡ b → AreAmounts (cond b (decimal (n / 1_000) ++ (decimals_text 3 (n % 1_000) ++ 0xc2 ∷ 0xb5 ∷ codes "s")) (decimal (n / 1_000_000) ++ (decimals_text 6 (n % 1_000_000) ++ codes "ms"))) n
@@ -138,11 +138,11 @@ small_amounts n few = by_test (nat_lt n 1_000) refl where
       subst (λ (t : List ℕ). AreAmounts t n) (append-nil _) (subst (AreAmounts _) sum (whole_amount n (codes "ns") [] 1 0 (omega arith) (nanosecond refl refl) nothing))
   by_test false e = micro_or_milli (nat_lt n 1_000_000) refl
 
--- from a second on
+-- from one second on
 seconds_amounts : (n : ℕ) → AreAmounts (seconds_text n) (n / 1_000_000_000 % 60 * 1_000_000_000 + n % 1_000_000_000)
 seconds_amounts n = last_amount (n / 1_000_000_000 % 60) 9 (n % 1_000_000_000) (codes "s") (omega arith) (omega arith) (second refl refl)
 
--- the clock's parts are the parts of the whole
+-- the hours, minutes and seconds add up to the whole
 abbrev parts_of_clock : ℕ → ℕ
 parts_of_clock n = n / 1_000_000_000 % 60 * 1_000_000_000 + n % 1_000_000_000
 
@@ -187,7 +187,7 @@ magnitude_is n fits = inr (by_test (n == 0) refl, magnitude_amounts n (n == 0) (
       let some : n ≡ 0 → ⊥ = eqb-false n 0 e in
       some_text _ n (magnitude_amounts n false (nat_lt n 1_000_000_000) fits e refl) (omega (arith, some))
 
--- a printed duration means that duration
+-- the printed text of a duration denotes that duration
 pub duration_round : (n : ℤ) → IsDuration n → IsDurationText (duration_text n) n
 duration_round (pos n) fits = forward n (magnitude_is n (omega (arith, ints))) refl fits
 duration_round (negsuc n) fits = backward (magnitude_text (suc n)) (suc n) refl (magnitude_is (suc n) (omega (arith, ints))) refl fits
@@ -263,7 +263,7 @@ printed_zone : (z : ℤ) → IsOffset z → IsOffsetText (offset_text z) z
 printed_zone (pos n) h = ahead n (omega (arith, ints, h.1)) refl refl
 printed_zone (negsuc n) h = behind (suc n) (omega (arith, ints, h.0)) refl refl
 
--- a printed timestamp means that timestamp
+-- the printed text of a timestamp denotes that timestamp
 pub timestamp_round : (text : List ℕ) (instant : ℤ) (nanoseconds : ℕ) (offset : ℤ) → nanoseconds < 1_000_000_000 → IsSecond instant → IsOffset offset → IsPrintedTimestamp text instant nanoseconds offset → IsTimestampText text instant nanoseconds offset
 timestamp_round text instant nanoseconds offset few range zone h =
     let part = printed_part nanoseconds few in
@@ -282,7 +282,7 @@ timestamp_round text instant nanoseconds offset few range zone h =
       in_range = range;
     }
 
--- what is written of a local time is what is printed
+-- the text that is written of a local time is the printed text
 pub printed_is : (written : List ℕ) (instant : ℤ) (nanoseconds : ℕ) (offset number : ℤ) (year month day second_of_day : ℕ) → IsCivilDate (pos year) month day → 1 ≤ year → days_from_civil (pos year) month day ≡ number → second_of_day < 86_400 → number *ℤ pos 86_400 +ℤ pos second_of_day ≡ local_second instant offset → written ≡ (([] ++ local_text (local_at year month day second_of_day) 84) ++ nanoseconds_text nanoseconds) ++ offset_text offset → IsPrintedTimestamp written instant nanoseconds offset
 printed_is written instant nanoseconds offset number year month day second_of_day date from is_number few whole spelled =
     let total : 3600 * (second_of_day / 3600) + 60 * (second_of_day / 60 % 60) + second_of_day % 60 ≡ second_of_day = clock_whole second_of_day few in

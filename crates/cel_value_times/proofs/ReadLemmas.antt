@@ -1,4 +1,4 @@
--- A timestamp's text, part by part: what the reader finds is spelled there, and what is spelled there it finds.
+-- A timestamp's text, part by part: the parser finds exactly what the text spells.
 use Rattle.std.proofs.Common.{◌≡◌, ℕ, ◌+◌, ◌-◌, ◌*◌, ◌/◌, ◌%◌, ◌<◌, ◌≤◌, ◌==◌, ◌&&◌, ◌||◌, nat_lt, nat_le, Bool, true, false, cond, List, [], ◌∷◌, ◌++◌, length, Option, Some, None, refl, sym, ap, subst, ◌∙◌, arith, inl, inr, append_assoc, ℤ, pos, neg_ℤ, ◌+ℤ◌, ◌*ℤ◌, ◌≤ℤ◌}
 use Rattle.std.specs.Prelude.{int_lt}
 use Rattle.std.proofs.lemmas.Bool.{eqb-true, and_parts, and_from, or_cases, lt-ltb, ltb-true, le-leb, leb-true}
@@ -205,7 +205,7 @@ pub letter_only : (c : ℕ) (rest : List ℕ) → IsLetter c → letter_at (c �
 letter_only c rest (inl e) = rw e refl
 letter_only c rest (inr e) = rw e refl
 
--- hours and minutes to the end
+-- hours and minutes at the end
 minutes_true : (h m : ℕ) (rest : List ℕ) → (nat_lt h 24 && (nat_lt m 60 && (length rest == 0))) ≡ true → (h < 24) × (m < 60) × (length rest ≡ 0)
 minutes_true h m rest e =
     let a = and_parts (nat_lt h 24) _ e in
@@ -288,7 +288,7 @@ zone_only text z (small_utc e k) = rw (e, k) refl
 zone_only text z (ahead n small e k) = rw (e, k) (rw (minutes_only n small) refl)
 zone_only text z (behind n small e k) = rw (e, k) (rw (minutes_only n small) refl)
 
--- an offset begins with no digit and no dot
+-- an offset starts with neither a digit nor a dot
 zone_no_digit : (text : List ℕ) (z : ℤ) → IsOffsetText text z → prefix_len is_ascii_digit text ≡ 0
 zone_no_digit text z (utc e k) = rw e refl
 zone_no_digit text z (small_utc e k) = rw e refl
@@ -331,7 +331,7 @@ part_only (Some (c ∷ cs)) zone z h offset =
     let no = zone_no_digit zone z offset in
     rw (leading_run (c ∷ cs) zone h.1 no, after_run (c ∷ cs) zone h.1 no) refl
 
--- the whole
+-- the whole text
 in_range_true : (p q : Parts) → in_range p ≡ Some q → IsSecond p.second × (p ≡ q)
 in_range_true p q h =
     elim (chosen (int_lt p.second (neg_ℤ (pos 62_135_596_800))) _ _ _ h) [
@@ -418,7 +418,7 @@ parts_only text second nanoseconds offset h =
     (rw (zone_only h.zone offset h.is_zone)
     (rw (whole, ← h.cut) (in_range_holds found h.in_range)))))))
 
--- the date, as the reader tests it
+-- the date, as the parser tests it
 pub day_number_yes : (y m d : ℕ) → IsCivilDate (pos y) m d → 1 ≤ y → day_number_of (record { year = y; month = m; day = d }) ≡ Some (days_from_civil (pos y) m d)
 day_number_yes y m d h from = rw (date_holds y m d h from) refl
 
@@ -434,7 +434,7 @@ civil_from_date y m d h = (h.0, (omega (arith, signed_arith, h.1.0), omega (arit
 pub date_from_civil : (y m d : ℕ) → IsCivilDate (pos y) m d → IsDate (pos y) (pos m) (pos d)
 date_from_civil y m d h = (h.0, (omega (arith, signed_arith, h.1.0), omega (arith, signed_arith, h.1.1)), (omega (arith, signed_arith, h.2.0), omega (arith, signed_arith, h.2.1)))
 
--- the local second of a date and a clock is in range
+-- the local second of a date and a time is in range
 pub local_in_years : (day : ℤ) (clock : ℕ) (offset : ℤ) → IsBetween (neg_ℤ (pos 719_162)) (pos 2_932_896) day → clock < 86_400 → IsSecond (local_second (utc_second day clock offset) offset)
 local_in_years day clock offset h small =
     let there = local_is (utc_second day clock offset) day offset clock refl in

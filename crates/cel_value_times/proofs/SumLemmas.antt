@@ -1,4 +1,4 @@
--- Amounts one after the other: the loop that adds them up.
+-- Sequences of amounts, and the loop that adds them up.
 use Rattle.std.proofs.Common.{◌≡◌, ℕ, ◌+◌, ◌^◌, ◌<◌, ◌≤◌, ◌==◌, true, false, List, [], ◌∷◌, ◌++◌, length, Option, Some, None, refl, sym, ap, subst, ◌∙◌, arith, ℤ, pos, neg_ℤ, inl, inr}
 use Rattle.std.specs.Prelude.{codes}
 use Rattle.std.proofs.lemmas.Bool.{ne_eqb}
@@ -12,7 +12,7 @@ use Rattle.cel_value_times.specs.Fronts.{after, amount_at}
 use Rattle.cel_value_times.proofs.DigitLemmas.{first_digit, digit_below}
 use Rattle.cel_value_times.proofs.AmountLemmas.{amount_found, amount_only, amount_shorter, after_found}
 
--- the text begins with a digit or a dot
+-- the text starts with a digit or a dot
 pub record BeginsWithNumber (text : List ℕ) : Type 0 where
   pub first : ℕ
   pub more : List ℕ
@@ -36,7 +36,7 @@ number_begins_no_s text h =
     let no : (h.first == 115) ≡ false = ne_eqb h.first 115 (λ e. omega arith) in
     rw (h.spelled, no) refl
 
--- no unit's name runs on into the next amount
+-- a unit's name can't continue into the next amount
 pub seam : (amounts : List Amount) → AllByRecursion IsAmount amounts → after 115 (flat_map amount_text amounts) ≡ None
 seam [] h = refl
 seam (a ∷ rest) h = number_begins_no_s (amount_text a ++ flat_map amount_text rest) (amount_begins a (flat_map amount_text rest) h.0)
@@ -67,7 +67,7 @@ more_amounts text later k n e h =
       total = ap (λ (m : ℕ). m + n) found.value ∙ ap (λ (m : ℕ). amount_nanoseconds found.amount + m) h.total;
     }
 
--- and what is left without the first one
+-- the rest without the first amount
 pub record WithoutFirst (text : List ℕ) (n : ℕ) : Type 0 where
   pub first : ℕ
   pub later : List ℕ
@@ -90,7 +90,7 @@ without (a ∷ rest) text n h e k some = record {
 pub less_amounts : (text : List ℕ) (n : ℕ) → AreAmounts text n → 0 < length text → WithoutFirst text n
 less_amounts text n h some = without h.amounts text n h.each h.spelled h.total some
 
--- what the loop keeps: whatever the whole means is the sum so far and what the rest means, and the other way round
+-- the loop's invariant: the whole text denotes exactly the sum so far plus what the rest denotes
 pub record SumsSoFar (text rest : List ℕ) (total : ℕ) : Type 0 where
   pub down : (n : ℕ) → AreAmounts text n → (m : ℕ) × (n ≡ total + m) × AreAmounts rest m
   pub up : (m : ℕ) → AreAmounts rest m → AreAmounts text (total + m)
@@ -125,7 +125,7 @@ sums_step text rest later total k h e = record {
       subst (λ (n : ℕ). AreAmounts text n) e2 (h.up (k + m) (more_amounts rest later k m e means));
 }
 
--- what is left cannot be read, so the whole means nothing that fits
+-- if the rest can't be parsed, the whole denotes nothing that fits
 pub sums_stuck : (text rest : List ℕ) (total n : ℕ) → 0 < length rest → SumsSoFar text rest total → ((k : ℕ) (later : List ℕ) → amount_at rest ≡ Some (k, later) → k < 2 ^ 64 → ⊥) → AreAmounts text n → n < 2 ^ 64 → ⊥
 sums_stuck text rest total n some h stuck means fits =
     let here = h.down n means in
@@ -152,7 +152,7 @@ sums_all text [] total none h = (
 )
 sums_all text (c ∷ cs) total none h = absurd (omega arith)
 
--- a sign stands before no amount, and before no sign
+-- no amount starts with a sign
 no_sign_read : (rest : List ℕ) (k : ℕ) (later : List ℕ) → amount_at (45 ∷ rest) ≡ Some (k, later) → ⊥
 unfolding amount_at
 no_sign_read rest k later e = cc
@@ -176,12 +176,12 @@ bare_zero_only n (inr h) =
     let less = less_amounts (codes "0") n h.1 h.0 in
     absurd (no_bare_zero_read less.first less.later less.read)
 
--- what a text without its sign means
+-- what a text without its sign denotes
 pub magnitude_only : (text : List ℕ) (n : ℕ) (r : Option ℕ) → (text ≡ codes "0" → ⊥) → ((m : ℕ) → AreAmounts text m → m < 2 ^ 64 → r ≡ Some m) → IsMagnitude text n → n < 2 ^ 64 → r ≡ Some n
 magnitude_only text n r never read (inl h) fits = absurd (never h.0)
 magnitude_only text n r never read (inr h) fits = read n h.1 fits
 
--- what a text with a sign means, and one without
+-- what a text with a sign denotes, and one without
 pub record MeansBackward (rest : List ℕ) (z : ℤ) : Type 0 where
   pub n : ℕ
   pub magnitude : IsMagnitude rest n

@@ -1,4 +1,4 @@
--- The functions of texts say what the relations say.
+-- The functions of texts agree with the relations.
 use Rattle.std.proofs.Common.{◌≡◌, ◌↔◌, ℕ, zero, suc, ◌+◌, ◌*◌, ◌/◌, ◌%◌, ◌<◌, ◌≤◌, ◌==◌, ◌&&◌, Bool, true, false, cond, List, [], ◌∷◌, ◌++◌, length, Option, Some, None, option_map, IfSome, IsSomeAnd, inl, inr, refl, sym, ap, subst, ◌∙◌, arith, ℤ, pos, neg_ℤ, ◌+ℤ◌, ◌-ℤ◌, ◌*ℤ◌, ◌<ℤ◌, ◌≤ℤ◌, unsigned_abs}
 use Rattle.std.specs.Prelude.{int_lt, codes}
 use Rattle.std.specs.Int.{int_div_euclid, int_rem_euclid}
@@ -145,7 +145,7 @@ unfolding timestamp_of
 timestamp_function text None e = ap (option_map instant_and_offset) e
 timestamp_function text (Some t) e = ap (option_map instant_and_offset) e
 
--- the year, the month and the day of a day's number
+-- the year, the month and the day of a day number
 year_is : (n y : ℕ) (day : ℤ) → 1 ≤ y → y ≤ n → int_lt day (days_from_civil (pos y) 1 1) ≡ false → ((later : ℕ) → y < later → int_lt day (days_from_civil (pos later) 1 1) ≡ true) → year_of n day ≡ y
 unfolding year_of
 year_is zero y day from to begun rest = absurd (omega arith)
@@ -213,7 +213,7 @@ date_is y m d date from =
       month_is y 12 m day date.1.0 date.1.1 (not_less day (days_from_civil (pos y) m 1) (month_begun y m d some)) (λ later lt. less day (days_from_civil (pos y) later 1) (month_later y m d later date lt)),
     )
 
--- a day and a second of it, and a second and its nanoseconds
+-- a day and a second of it; a second and its nanoseconds
 parts_of_second : (day : ℤ) (second : ℕ) → second < 86_400 → (int_div_euclid (day *ℤ pos 86_400 +ℤ pos second) (pos 86_400) ≡ day) × (unsigned_abs (int_rem_euclid (day *ℤ pos 86_400 +ℤ pos second) (pos 86_400)) ≡ second)
 parts_of_second day second few =
     let all = day *ℤ pos 86_400 +ℤ pos second in
@@ -232,7 +232,7 @@ parts_of_instant second nanoseconds few =
     let same : int_div_euclid all (pos 1_000_000_000) ≡ second = omega (arith, signed_arith) in
     (same, omega (arith, signed_arith))
 
--- what is shown at its own second
+-- the local date and time at the second that it denotes
 clock_parts : (h m s : ℕ) → h < 24 → m < 60 → s < 60 → let n = 3600 * h + 60 * m + s in (n / 3600 ≡ h) × (n / 60 % 60 ≡ m) × (n % 60 ≡ s)
 clock_parts h m s a b d =
     let n = 3600 * h + 60 * m + s in

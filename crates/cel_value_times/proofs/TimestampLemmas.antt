@@ -1,4 +1,4 @@
--- What the reader of timestamps answers.
+-- The answers of the parser of timestamps.
 use Rattle.std.proofs.Common.{◌≡◌, ℕ, ℤ, List, Option, Some, None, option_map, IfSome, IsSomeAnd, sym, ap, ◌∙◌}
 use Rattle.cel_value_times.specs.declared.timestamp.Timestamp.{Timestamp}
 use Rattle.cel_value_times.specs.TimestampTexts.{IsTimestampText}

@@ -1,8 +1,8 @@
 -- Trusted by the headline.
--- The texts of durations. They are read by the grammar of Go's `time.ParseDuration`, which CEL's
--- durations follow: an optional sign and decimal numbers, each with an optional fraction and a unit,
--- such as `-1.5h` and `2h45m`. Each amount is cut to whole nanoseconds. They are printed as Go's
--- `Duration.String` prints them.
+-- The texts of durations. They are parsed by the grammar of Go's `time.ParseDuration`, which
+-- CEL's durations follow: an optional sign and decimal numbers, each with an optional
+-- fraction and a unit, such as `-1.5h` and `2h45m`. Each amount is truncated to whole
+-- nanoseconds. They are printed as by Go's `Duration.String`.
 use Rattle.std.specs.Prelude.{◌≡◌, ℕ, ◌+◌, ◌*◌, ◌/◌, ◌%◌, ◌<◌, ◌==◌, ◌++◌, nat_lt, List, [], ◌∷◌, length, Option, ℤ, pos, neg_ℤ, negsuc, suc, codes, true, ◌⊎◌, if◌then◌else◌}
 use Rattle.std.specs.List.{AllByRecursion, flat_map}
 use Rattle.std.specs.Str.{all_ascii_digits}
@@ -10,7 +10,7 @@ use Rattle.std.specs.Fmt.{decimal}
 use Rattle.cel_value_times.specs.Digits.{number, cut_part, digits_after_dot, fraction_text, decimals_text}
 use Rattle.cel_value_times.specs.Ranges.{IsDuration}
 
--- a unit's name, and how many nanoseconds it has
+-- the name of a unit, and its nanoseconds
 pub data IsUnit (name : List ℕ) (nanoseconds : ℕ) : Type 0 where
   hour : name ≡ codes "h" → nanoseconds ≡ 3_600_000_000_000 → IsUnit name nanoseconds
   minute : name ≡ codes "m" → nanoseconds ≡ 60_000_000_000 → IsUnit name nanoseconds
@@ -27,7 +27,7 @@ pub data IsUnit (name : List ℕ) (nanoseconds : ℕ) : Type 0 where
 pub record Amount : Type 0 where
   -- the digits before the dot
   pub whole : List ℕ
-  -- those after the dot, where there is one
+  -- those after the dot, if there is one
   pub fraction : Option (List ℕ)
   -- the unit's name, and its nanoseconds
   pub name : List ℕ
@@ -36,14 +36,14 @@ pub record Amount : Type 0 where
 abbrev pub amount_text : Amount → List ℕ
 amount_text a = a.whole ++ (fraction_text a.fraction ++ a.name)
 
--- the amount is of a unit, and its number has a digit
+-- the unit exists, and the number has at least one digit
 pub record IsAmount (a : Amount) : Type 0 where
   pub whole : all_ascii_digits a.whole ≡ true
   pub fraction : all_ascii_digits (digits_after_dot a.fraction) ≡ true
   pub some_digit : 0 < length a.whole + length (digits_after_dot a.fraction)
   pub unit : IsUnit a.name a.unit
 
--- the whole nanoseconds of an amount
+-- the nanoseconds of an amount, truncated to a whole number
 abbrev pub amount_nanoseconds : Amount → ℕ
 amount_nanoseconds a = number a.whole * a.unit + cut_part a.unit (digits_after_dot a.fraction)
 
@@ -51,26 +51,26 @@ abbrev pub total_nanoseconds : List Amount → ℕ
 total_nanoseconds [] = 0
 total_nanoseconds (a ∷ rest) = amount_nanoseconds a + total_nanoseconds rest
 
--- the text is amounts, one after the other and perhaps none, of this number of nanoseconds together
+-- the text is a sequence of amounts, possibly empty, with this sum of nanoseconds
 pub record AreAmounts (text : List ℕ) (nanoseconds : ℕ) : Type 0 where
   pub amounts : List Amount
   pub each : AllByRecursion IsAmount amounts
   pub spelled : text ≡ flat_map amount_text amounts
   pub total : nanoseconds ≡ total_nanoseconds amounts
 
--- the text without its sign is one or more amounts, or a bare zero
+-- a text without a sign: one or more amounts, or a bare zero
 abbrev pub IsMagnitude : List ℕ → ℕ → Type 0
 IsMagnitude text n = ((text ≡ codes "0") × (n ≡ 0)) ⊎ ((0 < length text) × AreAmounts text n)
 
--- the text means a duration of this number of nanoseconds
+-- the text denotes the duration of this many nanoseconds
 pub data IsDurationText (text : List ℕ) (nanoseconds : ℤ) : Type 0 where
   forward : (n : ℕ) → IsMagnitude text n → nanoseconds ≡ pos n →
       IsDuration nanoseconds → IsDurationText text nanoseconds
-  -- behind a minus
+  -- after a minus
   backward : (magnitude : List ℕ) (n : ℕ) → text ≡ 45 ∷ magnitude → IsMagnitude magnitude n →
       nanoseconds ≡ neg_ℤ (pos n) → IsDuration nanoseconds → IsDurationText text nanoseconds
 
--- from one second on: the hours, the minutes, which hours bring with them, and the seconds
+-- from one second on: the hours, if any, the minutes, if there are any or hours, and the seconds
 abbrev pub hours_text : ℕ → List ℕ
 hours_text n =
     if nat_lt n 3_600_000_000_000 then [] else decimal (n / 3_600_000_000_000) ++ codes "h"
@@ -83,7 +83,7 @@ abbrev pub seconds_text : ℕ → List ℕ
 seconds_text n =
     decimal (n / 1_000_000_000 % 60) ++ (decimals_text 9 (n % 1_000_000_000) ++ codes "s")
 
--- below one second: the greatest unit of which there is at least one
+-- below one second: the largest unit of which there is at least one
 abbrev pub small_text : ℕ → List ℕ
 small_text n =
     if nat_lt n 1_000 then decimal n ++ codes "ns"
@@ -97,7 +97,7 @@ magnitude_text n =
     else (if nat_lt n 1_000_000_000 then small_text n
     else hours_text n ++ (minutes_text n ++ seconds_text n))
 
--- the one text that a duration is printed as
+-- the printed text of a duration
 abbrev pub duration_text : ℤ → List ℕ
 duration_text (pos n) = magnitude_text n
 duration_text (negsuc n) = 45 ∷ magnitude_text (suc n)

@@ -1,5 +1,5 @@
 -- Trusted by the headline.
--- What stands at the front of a timestamp's text, part by part: how the reader goes.
+-- Parsers of the parts of a timestamp's text, as functions. They follow the steps of the code.
 use Rattle.std.specs.Prelude.{ℕ, ◌+◌, ◌-◌, ◌*◌, ◌==◌, Bool, ◌&&◌, ◌||◌, nat_lt, nat_le, int_lt, List, [], ◌∷◌, length, Option, Some, None, option_map, ℤ, pos, neg_ℤ, ◌+ℤ◌, ◌-ℤ◌, ◌*ℤ◌, if◌then◌else◌}
 use Rattle.std.specs.Char.{is_ascii_digit}
 use Rattle.jiff_core.specs.Calendar.{days_in_month, days_from_civil}
@@ -12,7 +12,7 @@ abbrev pub ◌>>=◌ : {A B : Type 0} → Option A → (A → Option B) → Opti
 None >>= f = None
 (Some x) >>= f = f x
 
--- two digits, and four
+-- two digits; below, four
 abbrev pub two_at : List ℕ → Option (ℕ × List ℕ)
 two_at [] = None
 two_at (high ∷ []) = None
@@ -37,7 +37,7 @@ is_date d =
     nat_le 1 d.year && (nat_le 1 d.month && (nat_le d.month 12
     && (nat_le 1 d.day && nat_le d.day (days_in_month (pos d.year) d.month))))
 
--- the day number of a date, if the calendar has it and its year is not before 1
+-- the day number of a date, or None if the calendar doesn't have it or its year is below 1
 abbrev pub day_number_of : Date → Option ℤ
 day_number_of d = if is_date d then Some (days_from_civil (pos d.year) d.month d.day) else None
 
@@ -52,7 +52,7 @@ date_at text = do
   number ← day_number_of (record { year = year.0; month = month.0; day = day.0 })
   Some (number, day.1)
 
--- the seconds of the day that a clock shows
+-- whether there is such a time; below, its second of the day
 abbrev pub is_clock : ℕ → ℕ → ℕ → Bool
 is_clock hour minute second = nat_lt hour 24 && (nat_lt minute 60 && nat_lt second 60)
 
@@ -70,12 +70,12 @@ clock_at text = do
   seconds ← seconds_of_day hour.0 minute.0 second.0
   Some (seconds, second.1)
 
--- what follows the letter between date and time
+-- the text after the letter between date and time
 abbrev pub letter_at : List ℕ → Option (List ℕ)
 letter_at [] = None
 letter_at (c ∷ rest) = if (c == 84) || (c == 116) then Some rest else None
 
--- the nanoseconds of a fraction, or none
+-- the nanoseconds of a fraction, which are 0 if there is none
 abbrev pub part_of : Option (List ℕ) → List ℕ → Option (ℕ × List ℕ)
 part_of None rest = Some (0, rest)
 part_of (Some []) rest = None
@@ -97,7 +97,7 @@ minutes_at text = do
   minute ← two_at minute_text
   minutes_of hour.0 minute.0 minute.1
 
--- an offset's minutes, to the end of the text
+-- the minutes of an offset at the end of a text
 abbrev pub utc_at : List ℕ → Option ℤ
 utc_at [] = Some (pos 0)
 utc_at (c ∷ cs) = None
@@ -116,11 +116,11 @@ pub record Parts : Type 0 where
   pub nanoseconds : ℕ
   pub offset : ℤ
 
--- the second in UTC, of the day number, the second of the day and the offset
+-- the UTC second of a day number, a second of that day and the offset
 abbrev pub utc_second : ℤ → ℕ → ℤ → ℤ
 utc_second day second offset = day *ℤ pos 86_400 +ℤ pos second -ℤ pos 60 *ℤ offset
 
--- the parts, if the second is one of the years 1 to 9999
+-- the parts, if the second is in the years 1 to 9999
 abbrev pub in_range : Parts → Option Parts
 in_range p =
     if int_lt p.second (neg_ℤ (pos 62_135_596_800)) then None

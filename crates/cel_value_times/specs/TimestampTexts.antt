@@ -1,21 +1,21 @@
 -- Trusted by the headline.
 -- The texts of timestamps: `date-time` of RFC 3339, section 5.6. A second is at most 59, a year at
--- least 1, and a fraction is cut after its ninth digit. Dates and their day numbers are those of the
--- proleptic Gregorian calendar of `jiff_core`.
+-- least 1, and a fraction is truncated after its ninth digit. Dates and their day numbers are those
+-- of the proleptic Gregorian calendar of `jiff_core`.
 use Rattle.std.specs.Prelude.{◌≡◌, ℕ, suc, ◌+◌, ◌*◌, ◌/◌, ◌%◌, ◌<◌, ◌≤◌, ◌==◌, ◌++◌, List, [], ◌∷◌, length, Option, Some, None, ℤ, pos, negsuc, neg_ℤ, ◌+ℤ◌, ◌*ℤ◌, codes, true, ◌⊎◌, if◌then◌else◌}
 use Rattle.std.specs.Str.{all_ascii_digits}
 use Rattle.jiff_core.specs.Calendar.{IsCivilDate, days_from_civil}
 use Rattle.cel_value_times.specs.Digits.{cut_part, digits_after_dot, fraction_text}
 use Rattle.cel_value_times.specs.Ranges.{IsSecond, local_second}
 
--- a number below 100 in two digits, and one below 10000 in four
+-- a number below 100 as two digits; below, one under 10000 as four
 abbrev pub two_digits : ℕ → List ℕ
 two_digits n = (48 + n / 10) ∷ (48 + n % 10) ∷ []
 
 abbrev pub four_digits : ℕ → List ℕ
 four_digits n = two_digits (n / 100) ++ two_digits (n % 100)
 
--- what a local clock and its calendar show
+-- a local date and time
 pub record Local : Type 0 where
   pub year : ℕ
   pub month : ℕ
@@ -24,7 +24,7 @@ pub record Local : Type 0 where
   pub minute : ℕ
   pub second : ℕ
 
--- the date and a second of the day
+-- from the date and the second of the day
 abbrev pub local_at : ℕ → ℕ → ℕ → ℕ → Local
 local_at year month day second = record {
   year = year;
@@ -43,7 +43,7 @@ pub record IsLocal (l : Local) : Type 0 where
   pub minute : l.minute < 60
   pub second : l.second < 60
 
--- the second that it is, from 1970-01-01T00:00:00 on
+-- the second that it denotes, counted from 1970-01-01T00:00:00
 abbrev pub second_of : Local → ℤ
 second_of l =
     days_from_civil (pos l.year) l.month l.day *ℤ pos 86_400
@@ -66,7 +66,7 @@ local_text l letter =
 abbrev pub clock_text : ℕ → List ℕ
 clock_text minutes = two_digits (minutes / 60) ++ (58 ∷ two_digits (minutes % 60))
 
--- a text of the offset of a local clock, in minutes
+-- a text denotes the offset of a local clock, in minutes
 pub data IsOffsetText (text : List ℕ) (minutes : ℤ) : Type 0 where
   utc : text ≡ codes "Z" → minutes ≡ pos 0 → IsOffsetText text minutes
   small_utc : text ≡ codes "z" → minutes ≡ pos 0 → IsOffsetText text minutes
@@ -79,13 +79,13 @@ pub data IsOffsetText (text : List ℕ) (minutes : ℤ) : Type 0 where
 abbrev pub IsLetter : ℕ → Type 0
 IsLetter c = (c ≡ 84) ⊎ (c ≡ 116)
 
--- where there is a dot, digits follow it
+-- digits follow a dot
 abbrev pub IsFraction : Option (List ℕ) → Type 0
 IsFraction None = Unit {0}
 IsFraction (Some digits) = (0 < length digits) × (all_ascii_digits digits ≡ true)
 
--- the text means the timestamp of this second since 1970-01-01T00:00:00Z, the nanoseconds after it,
--- and the local clock's offset in minutes
+-- the text denotes the timestamp of this second since 1970-01-01T00:00:00Z, these nanoseconds after
+-- it, and this offset of the local clock in minutes
 pub record IsTimestampText (text : List ℕ) (second : ℤ) (nanoseconds : ℕ) (offset : ℤ) : Type 0 where
   pub shown : Local
   pub letter : ℕ
@@ -100,7 +100,7 @@ pub record IsTimestampText (text : List ℕ) (second : ℤ) (nanoseconds : ℕ) 
   pub cut : nanoseconds ≡ cut_part 1_000_000_000 (digits_after_dot fraction)
   pub in_range : IsSecond second
 
--- the fewest of no, three, six and nine digits that show the nanoseconds
+-- the nanoseconds as a fraction of 0, 3, 6 or 9 digits, the fewest that are exact
 abbrev pub three_digits : ℕ → List ℕ
 three_digits n = (48 + n / 100) ∷ two_digits (n % 100)
 
@@ -113,13 +113,13 @@ nanoseconds_text n =
     else 46 ∷ (three_digits (n / 1_000_000)
     ++ (three_digits (n / 1_000 % 1_000) ++ three_digits (n % 1_000)))))
 
--- the sign, the hours and the minutes of an offset, and a plus before none
+-- the sign, the hours and the minutes of an offset; the sign of 0 is a plus
 abbrev pub offset_text : ℤ → List ℕ
 offset_text (pos n) = 43 ∷ clock_text n
 offset_text (negsuc n) = 45 ∷ clock_text (suc n)
 
--- the text is the one that the timestamp is printed as: the local time, a capital T, and the offset
--- in digits
+-- the text is the one printed for the timestamp: the local
+-- time with a capital T, and the offset in digits
 pub record IsPrintedTimestamp (text : List ℕ) (second : ℤ) (nanoseconds : ℕ) (offset : ℤ) : Type 0 where
   pub shown : Local
   pub is_local : IsLocal shown

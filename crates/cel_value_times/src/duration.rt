@@ -2,8 +2,8 @@
 ghost use Rattle.std.specs.Prelude.{◌≡◌, ◌↔◌, ◌+ℤ◌, ◌-ℤ◌, pos, neg_ℤ, IsSome, IfSome};
 ghost use Rattle.cel_value_times.specs.Ranges.{IsDuration};
 
-/// A length of time in whole nanoseconds, as many as an `i64` holds: about 292 years forward or
-/// back.
+/// A length of time in whole nanoseconds. They fit an `i64`,
+/// which holds about 292 years in either direction.
 #[derive(Clone, Copy, Debug, PartialEq, Eq, PartialOrd, Ord)]
 pub struct Duration {
     /// The nanoseconds.
@@ -19,7 +19,7 @@ impl Duration {
         nanoseconds
     }
 
-    /// The duration of this number of nanoseconds, if there is one.
+    /// Returns the duration of this many nanoseconds, or None if it is out of range.
     pub(crate) fn of(nanoseconds: i128) -> Option<Duration>
         ensures succeeds { IsSome result ↔ IsDuration nanoseconds }
         ensures value { IfSome result (λ d. d.nanoseconds ≡ nanoseconds) }
@@ -32,7 +32,7 @@ impl Duration {
         })
     }
 
-    /// The duration that many nanoseconds forward, if there is one.
+    /// Returns the duration of this many nanoseconds, or None if it is out of range.
     pub(crate) fn forward(nanoseconds: u64) -> Option<Duration>
         ensures succeeds { IsSome result ↔ IsDuration (pos nanoseconds) }
         ensures value { IfSome result (λ d. d.nanoseconds ≡ pos nanoseconds) }
@@ -45,7 +45,7 @@ impl Duration {
         })
     }
 
-    /// The duration that many nanoseconds back, if there is one.
+    /// Returns the duration of minus this many nanoseconds, or None if it is out of range.
     pub(crate) fn backward(nanoseconds: u64) -> Option<Duration>
         ensures succeeds { IsSome result ↔ IsDuration (neg_ℤ (pos nanoseconds)) }
         ensures value { IfSome result (λ d. d.nanoseconds ≡ neg_ℤ (pos nanoseconds)) }
@@ -58,7 +58,7 @@ impl Duration {
         })
     }
 
-    /// The sum, or `None` where no duration is so long.
+    /// Adds two durations. Returns `None` if the sum is out of range.
     pub fn checked_add(self, other: Duration) -> Option<Duration>
         ensures succeeds { IsSome result ↔ IsDuration (self.nanoseconds +ℤ other.nanoseconds) }
         ensures value { IfSome result
@@ -68,7 +68,7 @@ impl Duration {
         Some(Duration { nanoseconds })
     }
 
-    /// The difference, or `None` where no duration is so long.
+    /// Subtracts a duration. Returns `None` if the difference is out of range.
     pub fn checked_sub(self, other: Duration) -> Option<Duration>
         ensures succeeds { IsSome result ↔ IsDuration (self.nanoseconds -ℤ other.nanoseconds) }
         ensures value { IfSome result

@@ -1,4 +1,4 @@
-//! Texts of durations, read and printed.
+//! Parses and prints durations.
 ghost use Rattle.std.specs.Prelude.{ℕ, ℤ, ◌≡◌, ◌+◌, ◌*◌, ◌<◌, ◌^◌, true, List, IsTrue, ◌↔◌, Some, None, IfSome, IsSome, IsSomeAnd, IfOk, IfErr, OnOk, ◌++◌, option_map, string_bytes, codes};
 ghost use Rattle.std.specs.Str.{all_ascii_digits};
 ghost use Rattle.kube_types_refused.specs.declared.Refused.TheVariants.{Memory};
@@ -27,10 +27,10 @@ const MICROSECOND: u64 = 1_000;
 const NANOSECOND: u64 = 1;
 
 impl Duration {
-    /// The duration that the text means, by the grammar of Go's `time.ParseDuration`: an optional
-    /// `-` and one or more decimal numbers, each with an optional fraction and a unit of `h`, `m`,
-    /// `s`, `ms`, `us`, `µs` and `ns`, or a bare `0`. Each number is cut to whole nanoseconds.
-    /// `None` where the text means none, or one that is too long.
+    /// Parses a duration by the grammar of Go's `time.ParseDuration`: an optional `-` and one or
+    /// more decimal numbers, each with an optional fraction and a unit (`h`, `m`, `s`, `ms`, `us`,
+    /// `µs` or `ns`), or a bare `0`. Each number is truncated to whole nanoseconds. Returns `None`
+    /// if the text is no duration, or one out of range.
     pub fn read(text: &str) -> Option<Duration>
         ensures found { IfSome result (λ d. IsDurationText text.now d.nanoseconds) }
         ensures only { (n : ℤ) → IsDurationText text.now n →
@@ -40,8 +40,8 @@ impl Duration {
         read(text.as_bytes())
     }
 
-    /// The one printed text, as Go prints it: hours, minutes and seconds from one second on, and
-    /// below that the greatest unit of which there is at least one.
+    /// Returns the text of the duration, as Go prints it: in hours, minutes and seconds if it is at
+    /// least one second, and otherwise in the largest unit of which there is at least one.
     pub fn text(&self, alloc: Global) -> Result<String, Refused>
         ensures text { IfOk result (λ text. string_bytes text ≡ duration_text self.now.nanoseconds) }
         ensures memory { IfErr result (λ e. e ≡ Memory) }
@@ -55,7 +55,7 @@ impl Duration {
     }
 }
 
-/// The duration that the text means.
+/// Parses a duration.
 fn read(text: &[u8]) -> Option<Duration>
     ensures found { IfSome result (λ d. IsDurationText text.now d.nanoseconds) }
     ensures only { (n : ℤ) → IsDurationText text.now n → IsSomeAnd result (λ d. d.nanoseconds ≡ n) }
@@ -66,7 +66,7 @@ fn read(text: &[u8]) -> Option<Duration>
     }
 }
 
-/// A unit's nanoseconds, and the text after its name.
+/// Parses the unit at the front. Returns its nanoseconds and the rest of the text.
 fn unit(text: &[u8]) -> Option<(u64, &[u8])>
     ensures found { option_front result ≡ unit_at text.now }
     ensures size { IfSome result (λ x. (0 < x.0) × (x.0 < 2 ^ 60)) }
@@ -86,7 +86,8 @@ fn unit(text: &[u8]) -> Option<(u64, &[u8])>
     }
 }
 
-/// The nanoseconds of a number with a unit, cut to whole ones, if they fit.
+/// Returns the nanoseconds of a number with a unit,
+/// truncated to whole ones, or None if they don't fit.
 fn nanoseconds(whole: &[u8], fraction: &[u8], unit: u64) -> Option<u64>
     requires whole { all_ascii_digits whole.now ≡ true }
     requires fraction { all_ascii_digits fraction.now ≡ true }
@@ -100,7 +101,8 @@ fn nanoseconds(whole: &[u8], fraction: &[u8], unit: u64) -> Option<u64>
         .checked_add(cut_part(unit, fraction))
 }
 
-/// The nanoseconds of the amount that stands first, if they fit, and what follows it.
+/// Parses the number with its unit at the front. Returns its nanoseconds and the rest of the
+/// text, or None if there is none or it doesn't fit.
 #[tactic(auto, unfolding(crate::specs::Fronts::amount_at))]
 fn amount(text: &[u8]) -> Option<(u64, &[u8])>
     ensures found { IfSome result (λ x. amount_at text.now ≡ Some (x.0, x.1.now)) }
@@ -118,7 +120,8 @@ fn amount(text: &[u8]) -> Option<(u64, &[u8])>
     Some((nanoseconds, rest))
 }
 
-/// The nanoseconds of amounts, one after the other, if they fit.
+/// Parses numbers with units and returns the sum of their nanoseconds, or None if the
+/// text is anything else or the sum doesn't fit.
 fn amounts(text: &[u8]) -> Option<u64>
     ensures found { IfSome result (λ n. AreAmounts text.now n) }
     ensures only { (n : ℕ) → AreAmounts text.now n → n < 2 ^ 64 → result ≡ Some n }
@@ -133,14 +136,14 @@ fn amounts(text: &[u8]) -> Option<u64>
     Some(total)
 }
 
-/// Whether the text is a zero with no unit.
+/// Reports whether the text is a zero without a unit.
 fn is_bare_zero(text: &[u8]) -> bool
     ensures { IsTrue result ↔ (text.now ≡ codes "0") }
 {
     matches!(text, [b'0'])
 }
 
-/// The nanoseconds of a duration's text without its sign, if they fit.
+/// Parses a duration without its sign. Returns its nanoseconds if they fit.
 fn magnitude(text: &[u8]) -> Option<u64>
     ensures found { IfSome result (λ n. IsMagnitude text.now n) }
     ensures only { (n : ℕ) → IsMagnitude text.now n → n < 2 ^ 64 → result ≡ Some n }
@@ -154,7 +157,7 @@ fn magnitude(text: &[u8]) -> Option<u64>
     amounts(text)
 }
 
-/// Writes a duration's text without its sign.
+/// Writes the text of a duration without its sign.
 fn write_magnitude(n: u64, out: &mut String) -> Result<(), AllocError>
     ensures { OnOk result (string_bytes out.new ≡ string_bytes out.old ++ magnitude_text n) }
 {
@@ -180,7 +183,7 @@ fn write_hours(n: u64, out: &mut String) -> Result<(), AllocError>
     Ok(())
 }
 
-/// Writes the minutes, if there are any or hours before them.
+/// Writes the minutes, if there are any or hours were written.
 fn write_minutes(n: u64, out: &mut String) -> Result<(), AllocError>
     ensures { OnOk result (string_bytes out.new ≡ string_bytes out.old ++ minutes_text n) }
 {
@@ -190,7 +193,7 @@ fn write_minutes(n: u64, out: &mut String) -> Result<(), AllocError>
     Ok(())
 }
 
-/// Writes the seconds, with their fraction.
+/// Writes the seconds with their fraction.
 fn write_seconds(n: u64, out: &mut String) -> Result<(), AllocError>
     ensures { OnOk result (string_bytes out.new ≡ string_bytes out.old ++ seconds_text n) }
 {
@@ -200,7 +203,7 @@ fn write_seconds(n: u64, out: &mut String) -> Result<(), AllocError>
     Ok(())
 }
 
-/// Writes less than a second, in the greatest unit of which there is at least one.
+/// Writes a duration below one second, in the largest unit of which there is at least one.
 fn write_small(n: u64, out: &mut String) -> Result<(), AllocError>
     ensures { OnOk result (string_bytes out.new ≡ string_bytes out.old ++ small_text n) }
 {

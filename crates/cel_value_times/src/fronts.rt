@@ -1,4 +1,4 @@
-//! Readers of the front of a text: each gives what it found and what follows.
+//! Parsers of the front of a text. Each returns what it found and the rest of the text.
 ghost use Rattle.std.specs.Prelude.{◌≡◌, ◌+◌, ◌*◌, ◌^◌, ◌<◌, ◌≤◌, true, length, IfSome, IsSome, ◌↔◌, option_map};
 ghost use Rattle.std.specs.List.{prefix_len};
 ghost use Rattle.std.specs.Str.{all_ascii_digits};
@@ -6,7 +6,7 @@ ghost use Rattle.std.specs.Char.{is_ascii_digit};
 ghost use Rattle.cel_value_times.specs.Digits.{number, cut_part};
 ghost use Rattle.cel_value_times.specs.Fronts.{after, leading_digits, after_digits, fraction_at};
 
-/// The text after the byte, if it begins with it.
+/// The text after the byte, if it starts with that byte.
 pub(crate) fn after(byte: u8, text: &[u8]) -> Option<&[u8]>
     ensures { option_map (λ rest. rest.now) result ≡ after byte text.now }
 {
@@ -23,7 +23,7 @@ fn digits_len(text: &[u8]) -> usize
     text.iter().take_while(|c| c.is_ascii_digit()).count()
 }
 
-/// The digits that the text begins with, and what follows them.
+/// Splits off the digits at the front.
 #[tactic(auto, using(crate::proofs::DigitLemmas::leading_are_digits))]
 pub(crate) fn digits(text: &[u8]) -> (&[u8], &[u8])
     ensures digits { result.0.now ≡ leading_digits text.now }
@@ -33,7 +33,8 @@ pub(crate) fn digits(text: &[u8]) -> (&[u8], &[u8])
     text.split_at(digits_len(text))
 }
 
-/// The digits after a dot, if one stands first, and what follows.
+/// Splits off a dot and the digits after it, if the text
+/// starts with a dot. Returns the digits and the rest.
 pub(crate) fn fraction(text: &[u8]) -> (Option<&[u8]>, &[u8])
     ensures digits { option_map (λ digits. digits.now) result.0 ≡ (fraction_at text.now).0 }
     ensures rest { result.1.now ≡ (fraction_at text.now).1 }
@@ -48,7 +49,7 @@ pub(crate) fn fraction(text: &[u8]) -> (Option<&[u8]>, &[u8])
     }
 }
 
-/// The number that the digits write, if it fits.
+/// Returns the number that the digits denote, or None if it doesn't fit.
 #[tactic(auto, using(crate::proofs::DigitLemmas::number_at_least, crate::proofs::DigitLemmas::number_at, crate::proofs::DigitLemmas::digits_left))]
 pub(crate) fn number(digits: &[u8]) -> Option<u64>
     requires { all_ascii_digits digits.now ≡ true }
@@ -62,7 +63,7 @@ pub(crate) fn number(digits: &[u8]) -> Option<u64>
     Some(n)
 }
 
-/// The part of a unit that the digits after a dot write, cut to whole parts.
+/// Returns how many of a unit's `parts` the digits after a dot denote, truncated to a whole number.
 #[tactic(auto, using(crate::proofs::DigitLemmas::digit_in, crate::proofs::DigitLemmas::cut_part_at))]
 pub(crate) fn cut_part(parts: u64, digits: &[u8]) -> u64
     requires all { all_ascii_digits digits.now ≡ true }

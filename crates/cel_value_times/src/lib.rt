@@ -1,4 +1,4 @@
-//! Timestamps and durations of CEL: their texts, their order and their sums.
+//! The timestamps and durations of CEL: their texts, their order and their sums.
 #![tactic(auto)]
 
 mod decimals;

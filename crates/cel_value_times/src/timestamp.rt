@@ -1,4 +1,4 @@
-//! Timestamps: instants with the offset of a local clock.
+//! Timestamps: instants with the UTC offset of a local clock.
 ghost use Rattle.std.specs.Prelude.{◌≡◌, ◌↔◌, ◌<◌, ◌+ℤ◌, ◌-ℤ◌, ◌*ℤ◌, pos, IsTrue, IsSome, IfSome, Some, refl};
 ghost use Rattle.std.specs.Ordering.{int_cmp, int_eq, on};
 ghost use Rattle.std.specs.Cmp.{on_equiv, on_total, on_po, partial_equiv_from_equiv, int_eq_equiv, int_cmp_total, signed_po};
@@ -15,17 +15,17 @@ const FIRST_NANOSECOND: i128 = -62_135_596_800_000_000_000;
 
 const LAST_NANOSECOND: i128 = 253_402_300_799_999_999_999;
 
-/// An instant from 0001-01-01T00:00:00Z to 9999-12-31T23:59:59.999999999Z, with the offset of the
-/// local clock that it is printed by.
+/// An instant from 0001-01-01T00:00:00Z to 9999-12-31T23:59:59.999999999Z, with the
+/// offset of the local clock whose time is printed.
 ///
-/// The local clock, too, shows a year from 1 to 9999. Timestamps are compared by their instants.
+/// The local time has a year from 1 to 9999, too. Timestamps are compared by their instants only.
 #[derive(Clone, Copy, Debug)]
 pub struct Timestamp {
     /// The whole seconds since 1970-01-01T00:00:00Z, rounded down.
     pub seconds: i64,
-    /// The nanoseconds after them.
+    /// The nanoseconds after that second.
     pub nanoseconds: u32,
-    /// The minutes that the local clock is ahead of UTC.
+    /// The minutes by which the local clock is ahead of UTC.
     pub offset_minutes: i16,
     pub ghost within_second: { nanoseconds < 1_000_000_000 },
     pub ghost instant_in_range: { IsSecond seconds },
@@ -43,14 +43,14 @@ impl Timestamp {
         self.seconds as i128 * NANOSECONDS_OF_SECOND + self.nanoseconds as i128
     }
 
-    /// The instant that many nanoseconds later.
+    /// The instant this many nanoseconds later, in nanoseconds since 1970-01-01T00:00:00Z.
     fn instant_after(self, nanoseconds: i64) -> i128
         ensures { result ≡ instant self +ℤ nanoseconds }
     {
         self.instant() + nanoseconds as i128
     }
 
-    /// The instant that many nanoseconds earlier.
+    /// The instant this many nanoseconds earlier, in nanoseconds since 1970-01-01T00:00:00Z.
     fn instant_before(self, nanoseconds: i64) -> i128
         ensures { result ≡ instant self -ℤ nanoseconds }
     {
@@ -64,7 +64,8 @@ impl Timestamp {
         self.instant() - earlier.instant()
     }
 
-    /// The timestamp of an instant, if it and the local clock's time are in range.
+    /// Returns the timestamp of an instant, or None if
+    /// the instant or the local time is out of range.
     fn at(nanosecond: i128, offset_minutes: i16) -> Option<Timestamp>
         requires { IsOffset offset_minutes }
         ensures succeeds { IsSome result ↔ HasTimestamp nanosecond offset_minutes }
@@ -80,7 +81,7 @@ impl Timestamp {
         Some(Timestamp::made(nanosecond, offset_minutes))
     }
 
-    /// The timestamp of an instant in range.
+    /// Returns the timestamp of an instant that is in range.
     #[tactic(auto, using(crate::proofs::InstantLemmas::second_in_range, crate::proofs::InstantLemmas::local_in_range))]
     fn made(nanosecond: i128, offset_minutes: i16) -> Timestamp
         requires offset { IsOffset offset_minutes }
@@ -96,8 +97,8 @@ impl Timestamp {
         }
     }
 
-    /// The timestamp that much later, by the same local clock, or `None` where it would leave the
-    /// range of instants or of local years.
+    /// Adds a duration and keeps the offset. Returns `None` if the
+    /// instant or the local time would be out of range.
     pub fn checked_add(self, duration: Duration) -> Option<Timestamp>
         ensures succeeds { IsSome result ↔
             HasTimestamp (instant self +ℤ duration.nanoseconds) self.offset_minutes }
@@ -110,8 +111,8 @@ impl Timestamp {
         )
     }
 
-    /// The timestamp that much earlier, by the same local clock, or `None` where it would leave the
-    /// range of instants or of local years.
+    /// Subtracts a duration and keeps the offset. Returns `None` if the
+    /// instant or the local time would be out of range.
     pub fn checked_sub(self, duration: Duration) -> Option<Timestamp>
         ensures succeeds { IsSome result ↔
             HasTimestamp (instant self -ℤ duration.nanoseconds) self.offset_minutes }
@@ -124,7 +125,7 @@ impl Timestamp {
         )
     }
 
-    /// How long after the other timestamp this one is, or `None` where no duration is so long.
+    /// Returns the duration from the other timestamp to this one, or `None` if it is out of range.
     pub fn since(self, earlier: Timestamp) -> Option<Duration>
         ensures succeeds { IsSome result ↔ IsDuration (instant self -ℤ instant earlier) }
         ensures value { IfSome result (λ d. d.nanoseconds ≡ instant self -ℤ instant earlier) }
@@ -179,14 +180,14 @@ impl Ord for Timestamp {
     }
 }
 
-/// Whether the nanosecond is one of the years 1 to 9999.
+/// Reports whether the nanosecond is in the years 1 to 9999.
 fn is_nanosecond(nanosecond: i128) -> bool
     ensures { IsTrue result ↔ IsNanosecond nanosecond }
 {
     FIRST_NANOSECOND <= nanosecond && nanosecond <= LAST_NANOSECOND
 }
 
-/// What a clock this number of minutes ahead of UTC shows at the instant.
+/// Returns the local time at an instant, in nanoseconds, of a clock this many minutes ahead of UTC.
 fn local_nanosecond(nanosecond: i128, offset_minutes: i16) -> i128
     requires instant { IsNanosecond nanosecond }
     requires offset { IsOffset offset_minutes }
@@ -195,7 +196,7 @@ fn local_nanosecond(nanosecond: i128, offset_minutes: i16) -> i128
     nanosecond + 60 * NANOSECONDS_OF_SECOND * offset_minutes as i128
 }
 
-/// The second in which the nanosecond lies, and the nanoseconds after it.
+/// Splits a nanosecond into its whole second, rounded down, and the nanoseconds after it.
 fn split_second(nanosecond: i128) -> (i64, u32)
     requires { IsNanosecond nanosecond }
     ensures whole { result.0 *ℤ pos 1_000_000_000 +ℤ pos result.1 ≡ nanosecond }

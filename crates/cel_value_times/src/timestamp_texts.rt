@@ -1,4 +1,4 @@
-//! Texts of timestamps, read and printed.
+//! Parses and prints timestamps.
 ghost use Rattle.std.specs.Prelude.{ℕ, ℤ, ◌≡◌, ◌+◌, ◌*◌, ◌/◌, ◌%◌, ◌<◌, ◌≤◌, ◌++◌, pos, neg_ℤ, ◌≤ℤ◌, ◌+ℤ◌, ◌*ℤ◌, IfSome, IsSomeAnd, IsOk, ◌↔◌, IfOk, IfErr, OnOk, option_map, string_bytes};
 ghost use Rattle.kube_types_refused.specs.declared.Refused.TheVariants.{Memory};
 ghost use Rattle.cel_value_times.specs.Ranges.{IsSecond, IsOffset, local_second};
@@ -25,9 +25,9 @@ const FIRST_DAY: i64 = -719_162;
 const SECONDS_OF_DAY: u64 = 86_400;
 
 impl Timestamp {
-    /// The timestamp that the text means by RFC 3339, section 5.6, with a second of at most 59, a
-    /// year of at least 1 and a fraction that is cut after its ninth digit. `None` where the text
-    /// means none, or an instant that is out of range.
+    /// Parses a timestamp by RFC 3339, section 5.6. A second is at most 59, a year at least
+    /// 1, and a fraction is truncated after its ninth digit. Returns `None` if the text is
+    /// no timestamp, or its instant is out of range.
     pub fn read(text: &str) -> Option<Timestamp>
         ensures found { IfSome result
             (λ t. texts.IsTimestampText text.now t.seconds t.nanoseconds t.offset_minutes) }
@@ -41,8 +41,8 @@ impl Timestamp {
         read_parts(text.as_bytes())
     }
 
-    /// The one printed text: local time with `T`, the fewest of 0, 3, 6 and 9 digits that are
-    /// exact, and the offset in digits.
+    /// Returns the text of the timestamp: the local time with `T`, a fraction of 0, 3, 6 or 9
+    /// digits (the fewest that are exact), and the offset in digits.
     pub fn text(&self, alloc: Global) -> Result<String, Refused>
         ensures text { IfOk result (λ text. texts.IsPrintedTimestamp (string_bytes text)
             self.now.seconds self.now.nanoseconds self.now.offset_minutes) }
@@ -59,7 +59,7 @@ impl Timestamp {
         Ok(out)
     }
 
-    /// The second that the local clock shows, from 1970-01-01T00:00:00 on.
+    /// The second that the local clock shows, since 1970-01-01T00:00:00.
     fn local_second(&self) -> i64
         ensures value { result ≡ local_second self.now.seconds self.now.offset_minutes }
         ensures range { IsSecond result }
@@ -68,7 +68,7 @@ impl Timestamp {
     }
 }
 
-/// The day number of a second, and the second of that day.
+/// Returns the day number of a second, and the second of that day.
 fn day_and_second(second: i64) -> (i64, u32)
     requires { IsSecond second }
     ensures whole { result.0 *ℤ pos 86_400 +ℤ pos result.1 ≡ second }
@@ -80,7 +80,7 @@ fn day_and_second(second: i64) -> (i64, u32)
     (day, (since_first % SECONDS_OF_DAY) as u32)
 }
 
-/// The year, month and day of a day number in the years 1 to 9999.
+/// Returns the year, month and day of a day number in the years 1 to 9999.
 #[tactic(auto, using(crate::proofs::CalendarFacts::year_from_one))]
 fn date_of(number: i64) -> (u16, u8, u8)
     requires { IsBetween (neg_ℤ (pos 719_162)) (pos 2_932_896) number }
@@ -92,7 +92,7 @@ fn date_of(number: i64) -> (u16, u8, u8)
     (unsigned_year(date.year), date.month, date.day)
 }
 
-/// A year that is not before 1.
+/// Converts a year that is at least 1.
 fn unsigned_year(year: i16) -> u16
     requires { pos 1 ≤ℤ year }
     ensures { pos result ≡ year }
@@ -100,7 +100,7 @@ fn unsigned_year(year: i16) -> u16
     year as u16
 }
 
-/// The timestamp that the text means, part by part.
+/// Parses a timestamp part by part.
 #[tactic(auto, using(crate::proofs::ReadLemmas::local_in_years), unfolding(crate::specs::TimestampFronts::parts_at))]
 fn read_parts(text: &[u8]) -> Option<Timestamp>
     ensures { option_map fronts.timestamp_parts result ≡ fronts.parts_at text.now }
@@ -116,7 +116,7 @@ fn read_parts(text: &[u8]) -> Option<Timestamp>
     )
 }
 
-/// The second in UTC of a day, a second of it and the local clock's offset.
+/// Returns the UTC second of a day, a second of that day and the offset of the local clock.
 fn utc_second(day: i32, second: u32, offset_minutes: i16) -> i64
     requires day { IsBetween (neg_ℤ (pos 719_162)) (pos 2_932_896) day }
     requires second { second < 86_400 }
@@ -126,7 +126,7 @@ fn utc_second(day: i32, second: u32, offset_minutes: i16) -> i64
     day as i64 * SECONDS_OF_DAY as i64 + second as i64 - 60 * offset_minutes as i64
 }
 
-/// The timestamp of its parts, if its second is in range.
+/// Returns the timestamp with these parts, or None if its second is out of range.
 fn timestamp(seconds: i64, nanoseconds: u32, offset_minutes: i16) -> Option<Timestamp>
     requires nanoseconds { nanoseconds < 1_000_000_000 }
     requires offset { IsOffset offset_minutes }
@@ -147,7 +147,7 @@ fn timestamp(seconds: i64, nanoseconds: u32, offset_minutes: i16) -> Option<Time
     })
 }
 
-/// The two digits that the text begins with, and what follows.
+/// Parses the two digits at the front. Returns their number and the rest of the text.
 fn two_digits(text: &[u8]) -> Option<(u8, &[u8])>
     ensures value { option_front result ≡ fronts.two_at text.now }
     ensures below { IfSome result (λ x. x.0 < 100) }
@@ -160,7 +160,7 @@ fn two_digits(text: &[u8]) -> Option<(u8, &[u8])>
     }
 }
 
-/// The four digits that the text begins with, and what follows.
+/// Parses the four digits at the front. Returns their number and the rest of the text.
 #[tactic(auto, unfolding(crate::specs::TimestampFronts::four_at))]
 fn four_digits(text: &[u8]) -> Option<(u16, &[u8])>
     ensures value { option_front result ≡ fronts.four_at text.now }
@@ -171,7 +171,8 @@ fn four_digits(text: &[u8]) -> Option<(u16, &[u8])>
     Some((century as u16 * 100 + year as u16, rest))
 }
 
-/// The day number of a date, if the calendar has it and its year is not before 1.
+/// Returns the day number of a date, or None if the
+/// calendar doesn't have it or its year is below 1.
 #[tactic(auto, using(crate::proofs::CalendarFacts::days_in_range, crate::proofs::ReadLemmas::day_number_yes, crate::proofs::ReadLemmas::day_number_no))]
 fn day_number(year: u16, month: u8, day: u8) -> Option<i32>
     requires year { year < 10_000 }
@@ -190,7 +191,7 @@ fn day_number(year: u16, month: u8, day: u8) -> Option<i32>
     }
 }
 
-/// The date of these numbers, if the calendar has it.
+/// Returns the date of these numbers, or an error if the calendar doesn't have it.
 fn civil_date(year: u16, month: u8, day: u8) -> Result<Date, Error>
     requires year { year < 10_000 }
     requires month { month < 100 }
@@ -202,7 +203,7 @@ fn civil_date(year: u16, month: u8, day: u8) -> Result<Date, Error>
     Date::new(year as i16, month as i8, day as i8)
 }
 
-/// The day number of the date that the text begins with, and what follows.
+/// Parses the date at the front. Returns its day number and the rest of the text.
 #[tactic(auto, unfolding(crate::specs::TimestampFronts::date_at))]
 fn date(text: &[u8]) -> Option<(i32, &[u8])>
     ensures value { option_front result ≡ fronts.date_at text.now }
@@ -214,7 +215,7 @@ fn date(text: &[u8]) -> Option<(i32, &[u8])>
     Some((day_number(year, month, day)?, rest))
 }
 
-/// What follows the letter between date and time.
+/// Skips the letter between date and time.
 fn letter(text: &[u8]) -> Option<&[u8]>
     ensures { rest_front result ≡ fronts.letter_at text.now }
 {
@@ -224,7 +225,7 @@ fn letter(text: &[u8]) -> Option<&[u8]>
     }
 }
 
-/// The second of the day that a clock shows.
+/// Returns the second of the day of a time, or None if there is no such time.
 fn second_of_day(hour: u8, minute: u8, second: u8) -> Option<u32>
     ensures value { result ≡ fronts.seconds_of_day hour minute second }
     ensures below { IfSome result (λ n. n < 86_400) }
@@ -236,7 +237,7 @@ fn second_of_day(hour: u8, minute: u8, second: u8) -> Option<u32>
     }
 }
 
-/// The second of the day that the text begins with, and what follows.
+/// Parses the time at the front. Returns its second of the day and the rest of the text.
 #[tactic(auto, unfolding(crate::specs::TimestampFronts::clock_at))]
 fn clock(text: &[u8]) -> Option<(u32, &[u8])>
     ensures value { option_front result ≡ fronts.clock_at text.now }
@@ -248,7 +249,8 @@ fn clock(text: &[u8]) -> Option<(u32, &[u8])>
     Some((second_of_day(hour, minute, second)?, rest))
 }
 
-/// The nanoseconds of the fraction that stands first, if one does, and what follows.
+/// Parses the fraction at the front, if there is one.
+/// Returns its nanoseconds and the rest of the text.
 fn part(text: &[u8]) -> Option<(u32, &[u8])>
     ensures value { option_front result ≡ fronts.part_at text.now }
     ensures below { IfSome result (λ x. x.0 < 1_000_000_000) }
@@ -261,7 +263,7 @@ fn part(text: &[u8]) -> Option<(u32, &[u8])>
     }
 }
 
-/// The minutes of the hours and minutes that the text is.
+/// Parses the hours and minutes of an offset, which are the whole text. Returns them in minutes.
 #[tactic(auto, unfolding(crate::specs::TimestampFronts::minutes_at))]
 fn minutes(text: &[u8]) -> Option<i16>
     ensures value { result ≡ option_map (λ n. pos n) (fronts.minutes_at text.now) }
@@ -276,7 +278,7 @@ fn minutes(text: &[u8]) -> Option<i16>
     }
 }
 
-/// The offset that the text is, in minutes.
+/// Parses the offset, which is the whole text. Returns it in minutes.
 fn zone(text: &[u8]) -> Option<i16>
     ensures value { result ≡ fronts.zone_at text.now }
     ensures range { IfSome result IsOffset }
@@ -289,7 +291,7 @@ fn zone(text: &[u8]) -> Option<i16>
     }
 }
 
-/// Writes a number in two digits.
+/// Writes a number as two digits.
 fn write_two(n: u8, out: &mut String) -> Result<(), AllocError>
     requires { n < 100 }
     ensures { OnOk result (string_bytes out.new ≡ string_bytes out.old ++ texts.two_digits n) }
@@ -299,7 +301,7 @@ fn write_two(n: u8, out: &mut String) -> Result<(), AllocError>
     Ok(())
 }
 
-/// Writes a number in three digits.
+/// Writes a number as three digits.
 fn write_three(n: u32, out: &mut String) -> Result<(), AllocError>
     requires { n < 1_000 }
     ensures { OnOk result (string_bytes out.new ≡ string_bytes out.old ++ texts.three_digits n) }
@@ -308,7 +310,7 @@ fn write_three(n: u32, out: &mut String) -> Result<(), AllocError>
     write_two((n % 100) as u8, out)
 }
 
-/// Writes a number in four digits.
+/// Writes a number as four digits.
 fn write_four(n: u16, out: &mut String) -> Result<(), AllocError>
     requires { n < 10_000 }
     ensures { OnOk result (string_bytes out.new ≡ string_bytes out.old ++ texts.four_digits n) }
@@ -332,7 +334,7 @@ fn write_date(year: u16, month: u8, day: u8, out: &mut String) -> Result<(), All
     write_two(day, out)
 }
 
-/// Writes a date, a capital T and the time of a second of the day.
+/// Writes a date, a `T` and the time of a second of the day.
 fn write_local(
     year: u16,
     month: u8,
@@ -365,7 +367,7 @@ fn write_clock(second: u32, out: &mut String) -> Result<(), AllocError>
     write_two((second % 60) as u8, out)
 }
 
-/// Writes the nanoseconds in the fewest of 0, 3, 6 and 9 digits that are exact.
+/// Writes the nanoseconds as a fraction of 0, 3, 6 or 9 digits, the fewest that are exact.
 fn write_nanoseconds(n: u32, out: &mut String) -> Result<(), AllocError>
     requires { n < 1_000_000_000 }
     ensures { OnOk result

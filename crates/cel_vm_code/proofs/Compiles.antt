@@ -1,4 +1,4 @@
--- Code that is written from its end on, and the codes of several trees.
+-- Code that is stored in reverse, and the codes of several trees.
 use Rattle.std.proofs.Common.{◌≡◌, ℕ, suc, ◌+◌, List, [], ◌∷◌, ◌++◌, length, map, reverse, Bool, false, true, Option, Some, None, MatchOption, Result, Ok, Err, IfOk, Vec, refl, sym, ap, ◌∙◌, arith}
 use Rattle.std.proofs.lemmas.List.{map-append, reverse-append, reverse-reverse, length-reverse, length-map}
 use Rattle.std.specs.declared.alloc.Global.{Global}
@@ -13,7 +13,7 @@ map_reverse f [] = refl
 map_reverse f (x ∷ xs) =
     ap (map f) (reverse-append (x ∷ []) xs) ∙ map-append f (reverse xs) (x ∷ []) ∙ ap (λ l. l ++ f x ∷ []) (map_reverse f xs) ∙ sym (reverse-append (f x ∷ []) (map f xs))
 
--- code that was turned round
+-- reversing gives the code itself
 pub from_end_reversed : (xs ys : List Instr) → ys ≡ reverse xs → from_end ys ≡ map op xs
 from_end_reversed xs ys h = ap from_end h ∙ ap reverse (map_reverse op xs) ∙ reverse-reverse (map op xs)
 
@@ -33,7 +33,7 @@ pub operand_front : (old mid new c : List Instr) (front : List Instr) (under : �
 operand_front old mid new c front under s sure m r e =
     ap from_end (e ∙ ap (λ f. mid ++ f) r) ∙ from_end_front mid c ∙ ap (λ t. map op c ++ t) (m ∙ ap (λ b. with_guard b under (from_end old)) sure)
 
--- a test for an error in front
+-- a guard in front
 pub check_front : (old mid : List Instr) (under offset : ℕ) → offset ≡ length old → from_end mid ≡ guard under offset ∷ from_end old → from_end mid ≡ with_guard false under (from_end old)
 check_front old mid under offset n g =
     let l : offset ≡ length (from_end old) = n ∙ sym (length_from_end old) in
@@ -47,7 +47,7 @@ operands_push (d ∷ cs) c k rest =
     let e : suc k + length cs ≡ k + length (d ∷ cs) = omega arith in
     ap (operand d k) (operands_push cs c (suc k) rest ∙ ap (λ n. operands cs (suc k) (operand c n rest)) e)
 
--- the last operand left is in front
+-- the last of the remaining operands is put in front
 pub operands_step : (old new : List (Vec Instr Global)) (c : Vec Instr Global) (k n : ℕ) (before after : List Op) → old ≡ new ++ c ∷ [] → n ≡ k + length new → after ≡ operand (map op c.items) n before
     → operands (codes_view old) k before ≡ operands (codes_view new) k after
 operands_step old new c k n before after h e a =

@@ -1,4 +1,4 @@
--- The code of a tree is short: fewer than five instructions for a node.
+-- The code of a tree has fewer than five instructions per node.
 use Rattle.std.proofs.Common.{◌≡◌, Bool, true, false, ℕ, suc, ◌+◌, ◌*◌, ◌≤◌, ◌<◌, List, [], ◌∷◌, ◌++◌, length, Option, Some, None, refl, sym, true≢false, arith, length-append}
 use Rattle.std.specs.Prelude.{codes}
 use Rattle.cel_syntax_ast.specs.Term.{Term, Terms, Pairs, literal, ident, select, has, index, unary, binary, conditional, list_of, map_with, call, qualified, macro, no_terms, term_and, count_of, no_pairs, pair_and}
@@ -11,13 +11,13 @@ use Rattle.cel_vm_code.specs.Code.{is_sure, with_guard, operand, one_with, both_
 use Rattle.cel_vm_code.specs.Op.{Op, Work, one_value, two_values, with_literal, selected_at, has_at, indexed_by, as_list, put_entry, push, guard, apply, invoke, branch, skip, absorb, join, begin, next}
 use Rattle.cel_vm_code.specs.Size.{nodes, all_nodes, pair_nodes}
 
--- an instruction is the whole of code that is sure
+-- code that is sure is one instruction
 is_one : (c : List Op) → is_sure c ≡ true → length c ≡ 1
 is_one [] h = absurd (true≢false (sym h))
 is_one (i ∷ []) h = refl
 is_one (i ∷ j ∷ c) h = absurd (true≢false (sym h))
 
--- so no longer code is
+-- so longer code isn't sure
 pub not_sure : {P : Type 0} (c : List Op) → 1 < length c → is_sure c ≡ true → P
 not_sure c n h = absurd (omega (arith, n, is_one c h))
 

@@ -1,5 +1,5 @@
 -- Trusted by the clauses of other library calls.
--- How many nodes a tree has.
+-- The number of nodes of a tree.
 use Rattle.std.specs.Prelude.{ℕ, ◌+◌}
 use Rattle.cel_syntax_ast.specs.Term.{Term, Terms, Pairs, literal, ident, select, has, index, unary, binary, conditional, list_of, map_with, call, qualified, macro, no_terms, term_and, no_pairs, pair_and}
 

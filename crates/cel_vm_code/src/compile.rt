@@ -1,4 +1,4 @@
-//! From trees to code.
+//! Compiles trees to code.
 ghost use Rattle.std.specs.Prelude.{◌≡◌, ◌≤◌, ◌<◌, [], ◌∷◌, ℕ, List, IfOk, IfErr, IfSome, OnOk, map, length, option_map, string_bytes, codes};
 ghost use Rattle.cel_value.specs.Data.{map_of, no_entries};
 ghost use Rattle.cel_value.specs.View.{view};
@@ -13,7 +13,7 @@ use cel_value::{Entries, Key, Refused, Value};
 use std::alloc::{AllocError, Global};
 use std::rc::Rc;
 
-/// The code of a tree.
+/// Compiles a tree.
 pub fn compile_tree(alloc: Global, expr: &Expr) -> Result<Vec<Instr>, Refused>
     ensures value { IfOk result (λ code. map op code.items ≡ code_of (term expr.now)) }
     ensures memory { IfErr result (λ e. e ≡ Refused.Memory) }
@@ -22,7 +22,8 @@ pub fn compile_tree(alloc: Global, expr: &Expr) -> Result<Vec<Instr>, Refused>
     compile_in(alloc, names.as_slice(), expr)
 }
 
-/// How many loops outward a name is bound, of loops over these variables, the innermost of which stands last.
+/// Returns how many loops out a name is bound, 0 being the innermost, or None if no loop binds it.
+/// `names` are the loops' variables, the innermost last.
 fn loop_index(names: &[&str], name: &str) -> Option<usize>
     ensures pc { result ≡ loop_index name.now (variables names.now) }
     ensures few { IfSome result (λ k. k < length names.now) }
@@ -42,7 +43,7 @@ fn loop_index(names: &[&str], name: &str) -> Option<usize>
     }
 }
 
-/// What loads a name inside loops over these variables.
+/// Returns the instruction that loads a name inside loops over these variables.
 fn load(names: &[&str], name: &Rc<String>) -> Result<Instr, AllocError>
     ensures { IfOk result (λ i. op i ≡ load_of (string_bytes name.now.value)
         (loop_index (string_bytes name.now.value) (variables names.now))) }
@@ -53,7 +54,7 @@ fn load(names: &[&str], name: &Rc<String>) -> Result<Instr, AllocError>
     }
 }
 
-/// The variables inside one more loop.
+/// Returns the variables inside one more loop.
 fn with_variable<'n>(
     alloc: Global,
     names: &[&'n str],
@@ -67,7 +68,7 @@ fn with_variable<'n>(
     Ok(all)
 }
 
-/// The code of a tree inside loops over these variables.
+/// Compiles a tree inside loops over these variables.
 #[cycle(compile)]
 fn compile_in<'e>(alloc: Global, names: &[&'e str], expr: &'e Expr) -> Result<Vec<Instr>, Refused>
     ensures value { IfOk result (λ code. map op code.items ≡ code_in (variables names.now) (term expr.now)) }
@@ -158,7 +159,7 @@ fn compile_in<'e>(alloc: Global, names: &[&'e str], expr: &'e Expr) -> Result<Ve
     }
 }
 
-/// The code of each tree.
+/// Compiles each tree.
 #[cycle(compile)]
 fn compile_all<'e>(
     alloc: Global,
@@ -176,7 +177,7 @@ fn compile_all<'e>(
     Ok(codes)
 }
 
-/// The code of each key with that of its value.
+/// Compiles each key and its value.
 #[cycle(compile)]
 fn compile_pairs<'e>(
     alloc: Global,
@@ -204,7 +205,7 @@ fn one(alloc: Global, instr: Instr) -> Result<Vec<Instr>, AllocError>
     Ok(code)
 }
 
-/// Whether an instruction leaves no error.
+/// Reports whether an instruction leaves a value for sure, never an error.
 fn leaves_value(instr: &Instr) -> bool
     ensures { result ≡ leaves_value (op instr.now) }
 {
@@ -215,14 +216,15 @@ fn leaves_value(instr: &Instr) -> bool
     }
 }
 
-/// Whether code is such an instruction alone.
+/// Reports whether the code is a single such instruction.
 fn is_sure(code: &[Instr]) -> bool
     ensures { result ≡ is_sure (map op code.now) }
 {
     code.len() == 1 && leaves_value(&code[0])
 }
 
-/// An operand of a strict form, over the values of the operands before it, and what follows it there.
+/// Joins an operand of a strict form and the code after it, with a guard between them unless the
+/// operand is sure. `depth` is the number of operands below it on the stack.
 fn join_operand(
     code: Vec<Instr>,
     depth: usize,
@@ -242,7 +244,7 @@ fn join_operand(
     Ok(all)
 }
 
-/// One more instruction in front of code that is written from its end on.
+/// Adds an instruction in front of code that is stored in reverse.
 fn prepend_one(rest: &mut Vec<Instr>, instr: Instr) -> Result<(), AllocError>
     ensures { OnOk result (from_end rest.new.items ≡ op instr ∷ from_end rest.old.items) }
 {
@@ -250,8 +252,8 @@ fn prepend_one(rest: &mut Vec<Instr>, instr: Instr) -> Result<(), AllocError>
     Ok(())
 }
 
-/// A test for an error over a number of values, unless it is sure that there is none, in front of code that
-/// is written from its end on.
+/// Adds a guard in front of code that is stored in reverse, unless the operand is sure.
+/// `depth` is the number of values below the operand.
 fn prepend_check(sure: bool, depth: usize, rest: &mut Vec<Instr>) -> Result<(), AllocError>
     ensures { OnOk result (from_end rest.new.items ≡ with_guard sure depth (from_end rest.old.items)) }
 {
@@ -262,7 +264,7 @@ fn prepend_check(sure: bool, depth: usize, rest: &mut Vec<Instr>) -> Result<(), 
     prepend_one(rest, Instr::Guard { depth, offset })
 }
 
-/// An operand, over a number of values, in front of code that is written from its end on.
+/// Adds an operand, over `depth` values, in front of code that is stored in reverse.
 fn prepend_operand(code: Vec<Instr>, depth: usize, rest: &mut Vec<Instr>) -> Result<(), AllocError>
     ensures { OnOk result (from_end rest.new.items
         ≡ operand (map op code.items) depth (from_end rest.old.items)) }
@@ -275,7 +277,7 @@ fn prepend_operand(code: Vec<Instr>, depth: usize, rest: &mut Vec<Instr>) -> Res
     Ok(())
 }
 
-/// The operands of a strict form, over a number of values, and what follows them there.
+/// Joins the operands of a strict form, the first over `depth` values, and the code after them.
 fn join_operands(
     codes: Vec<Vec<Instr>>,
     depth: usize,
@@ -295,7 +297,7 @@ fn join_operands(
     Ok(rest)
 }
 
-/// The code of a list.
+/// Returns the code of a list, from the codes of its items.
 fn join_list(alloc: Global, codes: Vec<Vec<Instr>>) -> Result<Vec<Instr>, AllocError>
     ensures { IfOk result (λ all. (xs : List (List ℕ)) (ts : Terms)
         → codes_view codes.items ≡ codes_in xs ts → map op all.items ≡ code_in xs (list_of ts)) }
@@ -304,7 +306,7 @@ fn join_list(alloc: Global, codes: Vec<Vec<Instr>>) -> Result<Vec<Instr>, AllocE
     join_operands(codes, 0, last)
 }
 
-/// The code of an operation on one value.
+/// Returns the code of an operation on one value, from the code of its operand.
 fn join_one(alloc: Global, operation: Operation, code: Vec<Instr>) -> Result<Vec<Instr>, AllocError>
     requires { operands_of operation ≡ 1 }
     ensures { IfOk result (λ all. map op all.items ≡ one_with (work_of operation) (map op code.items)) }
@@ -313,7 +315,7 @@ fn join_one(alloc: Global, operation: Operation, code: Vec<Instr>) -> Result<Vec
     join_operand(code, 0, last)
 }
 
-/// The code of an operation on two values.
+/// Returns the code of an operation on two values, from the codes of its operands.
 fn join_both(
     alloc: Global,
     operation: Operation,
@@ -329,7 +331,7 @@ fn join_both(
     join_operand(left, 0, rest)
 }
 
-/// An entry of a map literal in front of code that is written from its end on.
+/// Adds an entry of a map literal in front of code that is stored in reverse.
 fn prepend_entry(
     key: Vec<Instr>,
     value: Vec<Instr>,
@@ -345,7 +347,7 @@ fn prepend_entry(
     prepend_operand(key, 1, rest)
 }
 
-/// Pushes a map with no entry.
+/// Returns the instruction that pushes an empty map.
 fn empty_map(alloc: Global) -> Result<Instr, Refused>
     ensures value { IfOk result (λ i. op i ≡ push (map_of no_entries)) }
     ensures memory { IfErr result (λ e. e ≡ Refused.Memory) }
@@ -353,7 +355,7 @@ fn empty_map(alloc: Global) -> Result<Instr, Refused>
     Ok(Instr::Push(Value::from_entries(alloc, Entries::new(alloc))?))
 }
 
-/// The code of a map literal.
+/// Returns the code of a map literal, from the codes of its keys and values.
 fn join_map(alloc: Global, pairs: Vec<(Vec<Instr>, Vec<Instr>)>) -> Result<Vec<Instr>, Refused>
     ensures value { IfOk result (λ all. map op all.items
         ≡ push (map_of no_entries) ∷ entries_code (pairs_view pairs.items) []) }
@@ -370,7 +372,7 @@ fn join_map(alloc: Global, pairs: Vec<(Vec<Instr>, Vec<Instr>)>) -> Result<Vec<I
     Ok(rest)
 }
 
-/// How a name may be called, and then the call.
+/// Adds the test of a call's form in front of the call's code.
 fn join_form(
     alloc: Global,
     name: &Rc<String>,
@@ -405,7 +407,7 @@ fn call_instr(name: &Rc<String>, receiver: bool, count: usize) -> Result<Instr, 
     })
 }
 
-/// The code of a call without a receiver.
+/// Returns the code of a call without a receiver, from the codes of its arguments.
 fn join_function(
     alloc: Global,
     name: &Rc<String>,
@@ -421,7 +423,7 @@ fn join_function(
     join_form(alloc, name, false, count, rest)
 }
 
-/// The code of a call with a receiver.
+/// Returns the code of a call with a receiver.
 fn join_method(
     alloc: Global,
     name: &Rc<String>,
@@ -440,7 +442,7 @@ fn join_method(
     join_form(alloc, name, true, count, rest)
 }
 
-/// The code of `&&` and `||`.
+/// Returns the code of `&&` or `||`; `stop` is the bool that decides the operator.
 fn join_logic(stop: bool, left: Vec<Instr>, mut right: Vec<Instr>) -> Result<Vec<Instr>, AllocError>
     ensures { IfOk result (λ all. map op all.items ≡ logic stop (map op left.items) (map op right.items)) }
 {
@@ -452,7 +454,7 @@ fn join_logic(stop: bool, left: Vec<Instr>, mut right: Vec<Instr>) -> Result<Vec
     Ok(all)
 }
 
-/// The value of a literal.
+/// The value of a literal, or None for any other tree.
 fn literal(expr: &Expr) -> Option<&Value>
     ensures { option_map (λ v. view v.now) result ≡ literal_of (term expr.now) }
 {
@@ -462,7 +464,8 @@ fn literal(expr: &Expr) -> Option<&Value>
     }
 }
 
-/// The code of a strict operator on two values, of which the right one may be a literal.
+/// Returns the code of a strict binary operator.
+/// `literal` is its right operand if that is a literal.
 fn join_strict(
     alloc: Global,
     operator: BinaryOperator,
@@ -484,7 +487,7 @@ fn join_strict(
     }
 }
 
-/// The code of an operator on two values, of which the right one may be a literal.
+/// Returns the code of a binary operator. `literal` is its right operand if that is a literal.
 fn join_binary(
     alloc: Global,
     operator: BinaryOperator,
@@ -504,7 +507,7 @@ fn join_binary(
     }
 }
 
-/// The code of a test and its two branches.
+/// Returns the code of a test and its two branches.
 fn join_branches(
     kind: Test,
     test: Vec<Instr>,
@@ -528,7 +531,7 @@ fn join_branches(
     Ok(all)
 }
 
-/// A body behind a filter.
+/// Returns the code of a body with a filter.
 fn join_filter(alloc: Global, test: Vec<Instr>, body: Vec<Instr>) -> Result<Vec<Instr>, AllocError>
     ensures { IfOk result (λ all. map op all.items ≡ filter_code (map op test.items) (map op body.items)) }
 {
@@ -538,7 +541,7 @@ fn join_filter(alloc: Global, test: Vec<Instr>, body: Vec<Instr>) -> Result<Vec<
     join_branches(Test::Filter, test, yes, no)
 }
 
-/// A macro's range and its body.
+/// Returns the code of a macro's range and of the loop over it.
 fn join_loop(
     kind: MacroKind,
     filtered: bool,
@@ -556,7 +559,7 @@ fn join_loop(
     Ok(all)
 }
 
-/// The code of a macro, with that of its filter. No other macro than `map` has one.
+/// Returns the code of a macro. A filter is used only for `map`.
 fn join_macro(
     alloc: Global,
     kind: MacroKind,

@@ -1,92 +1,96 @@
-//! The instructions of an expression.
+//! The instructions of the machine.
 
 use cel_syntax_ast::{BinaryOperator, MacroKind, UnaryOperator};
 use cel_value::{Key, Value};
 use std::rc::Rc;
 
-/// What is tested: a condition, or the filter of a macro. Its fault bears its name.
+/// What a branch tests: a condition, or the filter of a macro. Errors refer to it by its name.
 #[derive(Clone, Copy, Debug, PartialEq, Eq)]
 pub enum Test {
     Condition,
     Filter,
 }
 
-/// What is done with values once all of them are there.
+/// An operation on values. None of its operands is an error.
 #[derive(Debug, Drop)]
 pub enum Operation {
-    /// An operator on one value.
+    /// A unary operator.
     Unary(UnaryOperator),
-    /// An operator on two values.
+    /// A binary operator.
     Binary(BinaryOperator),
-    /// An operator on a value and the literal on its right.
+    /// A binary operator whose right operand is a literal.
     WithLiteral(BinaryOperator, Value),
-    /// The member of a map at a key.
+    /// Selects the member of a map at a key.
     Select(Key),
-    /// Whether a map has a member at a key.
+    /// Reports whether a map has a member at a key.
     Has(Key),
-    /// The item or the member of the lower value at the index on top.
+    /// Indexes the lower value by the topmost one.
     Index,
-    /// A list of this number of values.
+    /// Makes a list of this many values.
     List(usize),
-    /// A map with one more entry: takes the map so far, the key, the value.
+    /// Adds an entry to a map literal: its operands are the map so far, the key and the value.
     Put,
 }
 
-/// One instruction. It takes its operands from a stack of values, each of them a value or the error that
-/// stands for it, and leaves its result there. A jump says how many instructions it jumps over.
+/// An instruction. It takes its operands from a stack whose entries are values
+/// or errors, and leaves its result there. An `offset` or `on_false` is the
+/// number of instructions that a jump passes over.
 #[derive(Debug, Drop)]
 pub enum Instr {
     /// Pushes a value.
     Push(Value),
-    /// Pushes what the context binds a name to.
+    /// Pushes the value that the context binds to a name, or an error if it binds none.
     Load(Rc<String>),
-    /// Pushes the item of the loop that is `outward` loops further out; the innermost loop is 0.
+    /// Pushes the item of the loop this many levels out; the innermost loop is 0.
     LoadItem(usize),
-    /// Where the top is an error, drops `depth` values under it and jumps over `offset` instructions.
+    /// If an error is on top, drops `depth` values below it and jumps over `offset` instructions.
     Guard {
         depth: usize,
         offset: usize,
     },
-    /// An operation on the topmost values.
+    /// Applies an operation to the topmost values.
     Apply(Operation),
-    /// How a name may be called with a receiver or without, with `count` arguments: goes on, or jumps over
-    /// `offset` instructions with an error.
+    /// Tests whether a name may be called in this form: with a receiver or without, and with
+    /// `count` arguments. If not, pushes an error and jumps over `offset` instructions.
     Form {
         name: Rc<String>,
         receiver: bool,
         count: usize,
         offset: usize,
     },
-    /// A call with a receiver or without, with `count` arguments.
+    /// Calls a function with a receiver or without, and with `count` arguments.
     Call {
         name: Rc<String>,
         receiver: bool,
         count: usize,
     },
-    /// A test: goes on where it holds, jumps over `on_false` instructions where it does not, or over `offset`
-    /// instructions, both branches, with an error.
+    /// Pops a bool: goes on if it is true, and jumps over `on_false` instructions if it is false.
+    /// An error stays on top, and a value of another kind is replaced by an error; then `offset`
+    /// instructions (both branches) are jumped over.
     Branch {
         test: Test,
         on_false: usize,
         offset: usize,
     },
-    /// Jumps over this number of instructions.
+    /// Jumps over this many instructions.
     Skip(usize),
-    /// Takes the left operand: jumps over the right one where it is the bool `stop`,
-    /// or else keeps its error pending.
+    /// Pops the left operand of `&&` or `||`. If it is the bool `stop`, leaves `stop` and jumps
+    /// over the right operand; else keeps its error pending, if any.
     Absorb {
         stop: bool,
         offset: usize,
     },
-    /// Takes the right operand.
+    /// Pops the right operand and the pending error of `&&` or `||`, and pushes
+    /// the outcome. The bool is the one that decides.
     Join(bool),
-    /// Takes a macro's range: goes on with its first item, or jumps over the loop where there is none.
+    /// Pops a macro's range: goes on with its first item, or jumps over the
+    /// loop if there is none, with the macro's outcome.
     Begin {
         kind: MacroKind,
         offset: usize,
     },
-    /// Takes what the body leaves at an item: ends the loop, or goes back with the next item. Behind a filter
-    /// that is `true` over the outcome, or `false` alone.
+    /// Pops what the body left at an item: ends the loop, or goes back to the body with the next
+    /// item. After a filter that is `true` with the result below it, or `false` alone.
     Next {
         kind: MacroKind,
         filtered: bool,

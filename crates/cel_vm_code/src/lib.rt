@@ -1,4 +1,4 @@
-//! Flat code of CEL expressions, made of their trees.
+//! Flat code of CEL expressions, compiled from their trees.
 #![tactic(auto)]
 
 mod compile;

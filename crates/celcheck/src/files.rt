@@ -1,11 +1,11 @@
-//! The real files.
+//! Reads the machine's files.
 
 use celcheck_cli::Sources;
 use kube_cel::Refused;
 use std::alloc::Global;
 use std::{fs, io};
 
-/// The files of the machine.
+/// The machine's files.
 #[derive(Drop)]
 pub struct Files<'a> {
     pub rt: &'a HostRuntime,

@@ -1,19 +1,21 @@
 //! `celcheck` evaluates the CEL rules of Kubernetes resources without an API server.
 //!
 //! ```text
-//! celcheck check SCHEMA OBJECT [OLD]    the errors of an object; OLD is the old object, for `oldSelf`
+//! celcheck check SCHEMA OBJECT [OLD]    the errors of an object; OLD is the old one, for `oldSelf`
 //! celcheck vap POLICY OBJECT            a line for each validation of a policy
 //! celcheck eval TEXT                    the value of an expression, or why it has none
 //! celcheck lint SCHEMA                  what is wrong with the rules of a schema
 //! ```
 //!
-//! The status is 0 where there is no error, all validations pass, there is a value, or nothing is wrong; 1 otherwise; and 2 where
-//! nothing could be judged: other words, a file that can't be read or holds no JSON, a policy of another shape, no memory, a failed
-//! write.
+//! The exit status is 0 if there are no errors, all validations pass, the expression has a value,
+//! or nothing is wrong with the rules; 2 if nothing could be judged (the words aren't a command, a
+//! file can't be read or isn't JSON, a policy has the wrong shape, memory is refused, a write
+//! fails); and 1 otherwise.
 //!
-//! All that it does stands in `celcheck_cli`, whose `run` is proved for every kind of source and of writer, in the terms in which that
-//! kind shows what it holds. The files of the machine and standard output show nothing of that: that this program reads the files
-//! that it names, and writes what `run` writes, is tested.
+//! The commands are in `celcheck_cli`. Its `run` is proved for every kind of source and writer, in
+//! terms of what that kind shows of its contents. The machine's files and standard output show
+//! nothing of theirs. So it is tested, not proved, that this program reads the files that it names
+//! and writes what `run` writes.
 #![tactic(auto)]
 
 mod files;
@@ -25,7 +27,8 @@ use std::io::Write;
 use std::process::ExitCode;
 use std::{env, io};
 
-/// The words after the program's name, none where one of them is no UTF-8, so that the usage is reported.
+/// Returns the words after the program's name. Returns none if one of them isn't UTF-8, so that the
+/// usage is reported.
 fn words_given(rt: &HostRuntime) -> Result<Vec<String>, Refused> {
     let mut words = Vec::new(rt.alloc());
     let given = match env::args(rt) {

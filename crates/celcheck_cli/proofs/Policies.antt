@@ -7,11 +7,11 @@ use Rattle.serde_json.specs.declared.value.Value.{Value}
 use Rattle.std.proofs.Common.{◌≡◌, ◌+◌, ◌<◌, ◌≤◌, ℕ, List, [], ◌∷◌, ◌++◌, get_or, length, map, drop, Option, Some, None, option_map, refl, sym, ap, ◌∙◌}
 use Rattle.std.proofs.lemmas.List.{at_drop_all, at_drop_more, map-append}
 
--- what the values say
+-- the validations in the values
 abbrev pub read : List Value → Option (List ExpressionData)
 read vs = expressions_in (items_view vs)
 
--- these, and then the others, if there are any
+-- the validations in xs followed by those in ys, if there are any
 abbrev pub joined : List ExpressionData → Option (List ExpressionData) → Option (List ExpressionData)
 joined xs ys = option_map (λ zs. xs ++ zs) ys
 
@@ -31,7 +31,7 @@ first_read : (vs : List Value) (i : ℕ) (v : Value) → i < length vs → v ≡
 unfolding expressions_in
 first_read vs i v below is = at_drop_more read vs i v below ∙ ap (λ w. before (expression_in (view w)) (read (drop (i + 1) vs))) (sym is)
 
--- one value more is read
+-- one more value is read
 pub read_on : (vs : List Value) (i : ℕ) (v : Value) (done after : List VapExpression) (x : VapExpression) (p : ExpressionData) → i < length vs → v ≡ get_or vs i v
     → Some p ≡ expression_in (view v) → expression_view x ≡ p → after ≡ done ++ x ∷ []
     → joined (map expression_view done) (read (drop i vs)) ≡ joined (map expression_view after) (read (drop (i + 1) vs))
@@ -41,7 +41,7 @@ read_on vs i v done after x p below is says same pushed =
     ∙ one_joined (map expression_view done) p rest
     ∙ ap (λ xs. joined xs rest) (ap (λ y. map expression_view done ++ y ∷ []) (sym same) ∙ sym (ap (map expression_view) pushed ∙ map-append expression_view done (x ∷ [])))
 
--- a value that is no validation ends it
+-- a value that isn't a validation ends the reading
 pub read_ends : (vs : List Value) (i : ℕ) (v : Value) (xs : List ExpressionData) → i < length vs → v ≡ get_or vs i v → None ≡ expression_in (view v)
     → joined xs (read (drop i vs)) ≡ None
 read_ends vs i v xs below is says = ap (joined xs) (first_read vs i v below is ∙ ap (λ o. before o (read (drop (i + 1) vs))) (sym says))

@@ -1,4 +1,4 @@
--- What a status says of what was judged.
+-- The meaning of the exit statuses.
 use Rattle.cel_patterns.proofs.Books.{HoldsForExtensions-here}
 use Rattle.cel_patterns.specs.Book.{Book, IsBook}
 use Rattle.cel_patterns.specs.Extensions.{HoldsForExtensions}
@@ -31,7 +31,7 @@ errors_reported P Q (Ok (Ok u)) p q = absurd q
 errors_reported P Q (Ok (Err errors)) p q = (errors, p, q)
 errors_reported P Q (Err stop) p q = absurd q
 
--- a value that is lent is seen as itself
+-- the view of a borrowed value is that of the value
 pub lent_view : (o : Option (Bor Value)) → option_map (λ v. view v.now) o ≡ option_map view (option_copied o)
 lent_view None = refl
 lent_view (Some v) = refl
@@ -52,7 +52,7 @@ unread_found text errors h = record {
   reported = subst (λ o. IsReportedAs (option_map (λ t. meaning all_library no_book t []) o) (found.Unread errors)) h (refl, refl);
 }
 
--- a text that derives this tree, which came to this outcome
+-- a text with this tree, whose execution had this outcome
 pub came_to : (text : List ℕ) (t : Term) (e : Bindings) (o r : Outcome) (f : Found) → Some t ≡ tree_of text → e ≡ [] → o ≡ r
     → (book : Book) × IsBook book × HoldsForExtensions book r (λ b. meaning all_library b t e) → IsReportedAs (Some o) f → IsFound text f
 came_to text t e o r f reads empty same holds_for_all reported =
@@ -77,7 +77,7 @@ evaluated_so text status W f is reported = record {
 
 -- ---- `vap`
 
--- what is left from a result that passed
+-- the results after one that passed
 pub passed_on : (xs : List VapResult) (i : ℕ) (x : VapResult) → i < length xs → x ≡ get_or xs i x → x.passed ≡ true
     → results_status (map result_view (drop i xs)) ≡ results_status (map result_view (drop (i + 1) xs))
 unfolding results_status
@@ -85,7 +85,7 @@ passed_on xs i x below is passes =
     let rest = results_status (map result_view (drop (i + 1) xs)) in
     at_drop_more (λ rs. results_status (map result_view rs)) xs i x below ∙ ap (λ r. if r.passed then rest else 1) (sym is) ∙ ap (λ b. if b then rest else 1) passes
 
--- what is left from a result that didn't pass
+-- the results from one that didn't pass
 pub failed_here : (xs : List VapResult) (i : ℕ) (x : VapResult) → i < length xs → x ≡ get_or xs i x → x.passed ≡ false
     → results_status (map result_view (drop i xs)) ≡ 1
 unfolding results_status

@@ -1,5 +1,5 @@
 -- Trusted by the clauses of celcheck.
--- What `lint` reports, and with which status.
+-- The report of `lint`, and its exit status.
 use Rattle.celcheck_cli.specs.Runs.{IsRead}
 use Rattle.kube_cel_analysis.specs.declared.finding.LintFinding.{LintFinding}
 use Rattle.kube_cel_analysis.specs.declared.finding.LintKind.{LintKind}
@@ -19,24 +19,24 @@ kind_text Cost = codes "cost"
 kind_text Bounds = codes "bounds"
 kind_text Depth = codes "depth"
 
--- the line of a finding, with its line feed
+-- the line of a finding, including its line feed
 abbrev pub finding_line : Finding → List ℕ
 finding_line f =
     codes "#" ++ (f.pointer ++ (codes ": " ++ (kind_text f.kind ++ (codes ": " ++ (f.message ++ 10 ∷ [])))))
 
--- 0 where nothing was found, else 1
+-- 0 if there are no findings, else 1
 abbrev pub findings_status : List Finding → ℕ
 findings_status [] = 0
 findings_status (f ∷ fs) = 1
 
 module _ {S : Type 0} (reads : S → List ℕ → Option (List ℕ) → S → Type 0) where
-  -- the schema was read, nothing else was, and this is all that is wrong with its rules
+  -- the schema was read, nothing else was, and these are all findings about its rules
   pub record AreFindings (before : S) (path : List ℕ) (after : S) (found : List LintFinding) : Type 0 where
     pub schema : Data
     pub given : IsRead reads before path schema after
     pub all : (names : Naming) → map finding_view found ≡ findings names [] (view_of 65 schema)
 
-  -- so it was, this status stands for the findings, and a line of each was written
+  -- the same, the exit status is that of the findings, and a line for each was written
   pub record IsLinted (before : S) (path : List ℕ) (after : S)
       (status : ℕ) (Writes : List ℕ → Type 0) : Type 0 where
     pub found : List LintFinding

@@ -1,5 +1,5 @@
 -- Trusted by the clauses of celcheck.
--- What `eval` and `vap` report, and with which status.
+-- The reports of `eval` and `vap`, and their exit statuses.
 use Rattle.cel_patterns.specs.Book.{Book, IsBook}
 use Rattle.cel_semantics.specs.Meaning.{meaning}
 use Rattle.cel_semantics.specs.Outcome.{Outcome}
@@ -26,12 +26,12 @@ use Rattle.std.specs.declared.io.Error.{Error}
 use Rattle.std.specs.List.{flat_map}
 use Rattle.std.specs.Prelude.{◌≡◌, ℕ, List, [], ◌∷◌, ◌++◌, if◌then◌else◌, map, Option, Some, None, option_map, Result, Ok, Err, codes, string_bytes}
 
--- the status after what was found with this status was written, or could not be
+-- the exit status n if the results were written, else that of a failed write
 abbrev pub status_after : ℕ → Result (Unit {0}) Error → ℕ
 status_after n (Ok u) = n
 status_after n (Err e) = 2
 
--- the command stops because of this path, unless there is no memory to say so
+-- the command stops because of this path, unless there is no memory to report that
 abbrev pub IsOfPath : List ℕ → Stop → Type 0
 IsOfPath path (stop.Refused r) = r ≡ Memory
 IsOfPath path (stop.Unreadable p) = string_bytes p ≡ path
@@ -39,11 +39,11 @@ IsOfPath path stop.BadPolicy = ⊥
 
 -- ---- `eval`
 
--- what a text means with all functions and no variable; none where it is no expression
+-- the meaning of a text with all functions and no variables; none if it isn't an expression
 abbrev pub evaluation : Book → List ℕ → Option Outcome
 evaluation b text = option_map (λ t. meaning all_library b t []) (tree_of text)
 
--- the text that `%s` shows, or the kind of the whole value where it shows none
+-- the text that `%s` formats, or the kind of the whole value if `%s` can't format it
 abbrev pub shown_line : Kind → Result (List ℕ) Kind → List ℕ
 shown_line kind (Ok text) = text
 shown_line kind (Err part) = codes "<" ++ (kind_name kind ++ codes ">")
@@ -58,7 +58,7 @@ outcome_status None = 1
 outcome_status (Some (Ok v)) = 0
 outcome_status (Some (Err e)) = 1
 
--- this status stands for what the text comes to under some book, and its line was written
+-- the exit status is that of the text's outcome under some book, and its line was written
 pub record IsEvaluated (text : List ℕ) (status : ℕ) (Writes : List ℕ → Type 0) : Type 0 where
   pub book : Book
   pub is_book : IsBook book
@@ -67,7 +67,7 @@ pub record IsEvaluated (text : List ℕ) (status : ℕ) (Writes : List ℕ → T
 
 -- ---- `vap`
 
--- the line of a result, with its line feed
+-- the line of a result, including its line feed
 abbrev pub report_line : List ℕ → Option (List ℕ) → List ℕ
 report_line expression None = codes "pass " ++ (expression ++ 10 ∷ [])
 report_line expression (Some message) = codes "fail " ++ (expression ++ (codes ": " ++ (message ++ 10 ∷ [])))
@@ -75,17 +75,18 @@ report_line expression (Some message) = codes "fail " ++ (expression ++ (codes "
 abbrev pub result_line : ResultData → List ℕ
 result_line r = report_line r.expression r.message
 
--- 0 where all passed, else 1
+-- 0 if all passed, else 1
 unfoldable pub results_status : List ResultData → ℕ
 results_status [] = 0
 results_status (r ∷ rs) = if r.passed then results_status rs else 1
 
--- an object is set, and nothing else
+-- only `object` is known
 abbrev pub with_object : Data → Variables
 with_object d = record no_variables { object = Some d }
 
 module _ {S : Type 0} (reads : S → List ℕ → Option (List ℕ) → S → Type 0) where
-  -- policy and object were read in order, nothing else was, and these are the results of the policy's validations
+  -- policy and object were read in order, nothing else was, and these are the results of the
+  -- policy's validations
   pub record AreResults (before : S) (policy object : List ℕ)
       (after : S) (results : List VapResult) : Type 0 where
     pub policy_read : Data
@@ -97,7 +98,7 @@ module _ {S : Type 0} (reads : S → List ℕ → Option (List ℕ) → S → Ty
     pub shaped : validations_in policy_read ≡ Some validations
     pub judged : AreResultsOf (with_object object_read) validations results
 
-  -- so they were, this status stands for the results, and a line of each was written
+  -- the same, the exit status is that of the results, and a line for each was written
   pub record IsReviewed (before : S) (policy object : List ℕ)
       (after : S) (status : ℕ) (Writes : List ℕ → Type 0) : Type 0 where
     pub results : List VapResult
@@ -119,11 +120,11 @@ found_line (found.Textless kind) = codes "<" ++ (kind_name kind ++ codes ">")
 found_line (found.Fault fault) = codes "error: " ++ fault_text (fault_view fault)
 found_line (found.Unread errors) = codes "error: invalid CEL expression"
 
--- this is reported of the outcome
+-- this is the report of the outcome
 abbrev pub IsReportedAs : Option Outcome → Found → Type 0
 IsReportedAs outcome f = (found_status f ≡ outcome_status outcome) × (found_line f ≡ outcome_line outcome)
 
--- this is reported of what the text comes to under some book
+-- this is the report of the text's outcome under some book
 pub record IsFound (text : List ℕ) (f : Found) : Type 0 where
   pub book : Book
   pub is_book : IsBook book

@@ -1,5 +1,6 @@
 -- Trusted by the clauses of celcheck.
--- What a run of `celcheck check` rests on: the files that it names, read one after another, and the answer to what they hold.
+-- The meaning of a run of `celcheck check`: the files that it names, read in order, and the answer
+-- for their contents.
 use Rattle.celcheck_cli.specs.declared.status.Stop.{Stop}
 use Rattle.celcheck_cli.specs.Words.{Paths}
 use Rattle.kube_cel.specs.Answers.{IsReportOf}
@@ -12,26 +13,26 @@ use Rattle.std.specs.declared.io.Error.{Error}
 use Rattle.std.specs.Global.{Global}
 use Rattle.std.specs.Prelude.{◌≡◌, ℕ, List, Option, Some, None, Result, Ok, Err, String, string_bytes}
 
--- what a read gave: a text, or none
+-- the result of a read: a text, or none
 abbrev pub text_seen : Result (String Global) Error → Option (List ℕ)
 text_seen (Ok text) = Some (string_bytes text)
 text_seen (Err e) = None
 
 module _ {S : Type 0} (reads : S → List ℕ → Option (List ℕ) → S → Type 0) where
-  -- the file at the path is the text of this JSON value
+  -- the text of the file at this path is this JSON value
   pub record IsRead (before : S) (path : List ℕ) (value : Data) (after : S) : Type 0 where
     pub text : List ℕ
     pub given : reads before path (Some text) after
     pub means : read_text text ≡ Some value
 
-  -- so is a file that may not be named; then nothing is read
+  -- the same for a file that may not be named, in which case nothing is read
   abbrev pub IsReadWhereNamed : S → Option (List ℕ) → Option Data → S → Type 0
   IsReadWhereNamed before None None after = before ≡ after
   IsReadWhereNamed before None (Some value) after = ⊥
   IsReadWhereNamed before (Some path) None after = ⊥
   IsReadWhereNamed before (Some path) (Some value) after = IsRead before path value after
 
-  -- the named files were read in order, nothing else was, and this is the answer to what they hold
+  -- the named files were read in order, nothing else was, and this is the answer for their contents
   pub record IsAnswered (before : S) (named : Paths) (after : S)
       (answered : Result (Unit {0}) ValidationErrors) : Type 0 where
     pub schema : Data

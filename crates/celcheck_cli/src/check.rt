@@ -1,4 +1,4 @@
-//! `check`: the errors of an object.
+//! `check`: validates an object.
 ghost use Rattle.celcheck_cli.specs.Runs.{IfErrors, IsAnswered};
 ghost use Rattle.celcheck_cli.specs.Words.{named_view};
 ghost use Rattle.kube_cel.specs.Answers.{IsReportOf};
@@ -18,7 +18,7 @@ use serde_json::Value;
 use std::alloc::Global;
 use std::io::Write;
 
-/// Validates an object and reports its errors.
+/// Validates an object, writes its errors and returns the exit status.
 pub(crate) fn run_check<S: Sources, O: Write, E: Write>(
     alloc: Global,
     named: Named<'_>,
@@ -37,7 +37,7 @@ pub(crate) fn run_check<S: Sources, O: Write, E: Write>(
     report_errors(validation_of, out, err)
 }
 
-/// The errors of an object. All files are read, in order, before anything is judged.
+/// Validates an object. All files are read, in order, before anything is judged.
 fn errors_of<S: Sources>(
     alloc: Global,
     named: Named<'_>,
@@ -51,7 +51,8 @@ fn errors_of<S: Sources>(
     Ok(validation_of(alloc, &schema, &object, old.as_ref())?)
 }
 
-/// The errors of an object by its schema, which is compiled first, so that each rule is compiled once and not at each place.
+/// Validates an object by its schema. The schema is compiled first, so that each rule is compiled
+/// once and not at each place.
 fn validation_of(
     alloc: Global,
     schema: &Value,
@@ -65,7 +66,7 @@ fn validation_of(
     validate_compiled(alloc, &compiled, object, old)
 }
 
-/// Writes the errors that were found, or why nothing was judged.
+/// Writes the errors that were found, or why nothing was judged. Returns the exit status.
 fn report_errors<O: Write, E: Write>(
     validation_of: Result<Result<(), ValidationErrors>, Stop>,
     out: &mut O,

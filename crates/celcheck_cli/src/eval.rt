@@ -1,4 +1,4 @@
-//! `eval`: what an expression comes to.
+//! `eval`: evaluates an expression.
 ghost use Rattle.cel_value.specs.View.{view};
 ghost use Rattle.celcheck_cli.specs.Reports.{IsEvaluated, IsFound, IsReportedAs, found_line, found_status};
 ghost use Rattle.std.specs.Io.KnownBytes.{Appends};
@@ -12,20 +12,20 @@ use kube_functions_format::printed;
 use std::alloc::Global;
 use std::io::Write;
 
-/// What is reported of an expression.
+/// The result of an expression as it is reported.
 #[derive(Drop)]
 pub(crate) enum Found {
-    /// The text that `%s` shows of its value.
+    /// The text of its value, as `%s` formats it.
     Shown(String),
-    /// The kind of its value, where `%s` shows none.
+    /// The kind of its value, which `%s` can't format.
     Textless(Kind),
-    /// Why it has no value.
+    /// The error of its evaluation.
     Fault(ExecutionError),
-    /// Why it was not read.
+    /// The errors of parsing it.
     Unread(ParseErrors),
 }
 
-/// Evaluates an expression and reports what it comes to.
+/// Evaluates an expression, writes the result and returns the exit status.
 pub(crate) fn run_eval<O: Write, E: Write>(
     alloc: Global,
     text: &str,
@@ -42,7 +42,7 @@ pub(crate) fn run_eval<O: Write, E: Write>(
     }
 }
 
-/// What an expression comes to, with all functions and no variable.
+/// Evaluates an expression, with all functions and no variables.
 fn found_of(alloc: Global, text: &str) -> Result<Found, Refused>
     ensures { IfOk result (IsFound text.now) }
 {
@@ -57,7 +57,7 @@ fn found_of(alloc: Global, text: &str) -> Result<Found, Refused>
     }
 }
 
-/// What is reported of a value. One that holds a double has no text.
+/// Returns the report of a value. A value that holds a double has no text.
 fn found_value(alloc: Global, value: &Value) -> Result<Found, Refused>
     ensures { IfOk result (IsReportedAs (Some (Ok (view value.now)))) }
 {
@@ -67,7 +67,7 @@ fn found_value(alloc: Global, value: &Value) -> Result<Found, Refused>
     }
 }
 
-/// Writes what an expression came to.
+/// Writes the result of an expression and returns the exit status.
 fn report_found<O: Write>(found: Found, out: &mut O) -> u8
     ensures reported { result ≤ 1 → (result ≡ found_status found)
         × Appends (O.contents out.old) (O.contents out.new) (found_line found ++ 10 ∷ []) }

@@ -1,4 +1,4 @@
-//! The files that a command names.
+//! Reads the files that a command names.
 ghost use Rattle.celcheck_cli.specs.Runs.{IsRead, IsReadWhereNamed, text_seen};
 ghost use Rattle.serde_json.specs.View.{view};
 ghost use Rattle.std.specs.Prelude.{⊤, ℕ, List, Option, IfOk, option_map};
@@ -9,18 +9,19 @@ use serde_json::Value;
 use std::alloc::Global;
 use std::io;
 
-/// The files that a command names.
+/// A source of the files that a command names.
 pub trait Sources {
-    // That a read at a path, from the first state on, may give this text, or none where it can't be read, and leave the second
-    // state. Of real files nothing is promised.
+    // The relation `reads before path text after`: in the state `before`, a read at `path` may
+    // return `text`, or none if the file can't be read, and leave the state `after`. For real files
+    // nothing is promised.
     ghost reads: { Self → List ℕ → Option (List ℕ) → Self → Type 0 } = { λ _ _ _ _. ⊤ };
 
-    /// The text of a file, or why it can't be read.
+    /// Reads the text of a file. The inner error is the reason why it can't be read.
     fn read(&mut self, alloc: Global, path: &str) -> Result<io::Result<String>, Refused>
         ensures { IfOk result (λ text. reads self.old path.now (text_seen text) self.new) };
 }
 
-/// The JSON of a file that may not be named.
+/// Reads the JSON of a file. `None` if no file is named.
 pub(crate) fn read_where_named<S: Sources>(
     alloc: Global,
     path: Option<&str>,
@@ -35,7 +36,7 @@ pub(crate) fn read_where_named<S: Sources>(
     }
 }
 
-/// The JSON of a file.
+/// Reads the JSON of a file.
 pub(crate) fn read_json<S: Sources>(alloc: Global, path: &str, files: &mut S) -> Result<Value, Stop>
     ensures { IfOk result (λ value. IsRead S.reads files.old path.now (view value) files.new) }
 {

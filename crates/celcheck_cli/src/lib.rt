@@ -1,4 +1,5 @@
-//! The commands of `celcheck`: what the words of a command line ask for, over any source of files and any writers.
+//! The commands of `celcheck`: reads and runs a command line, over any source of files and any
+//! writers.
 #![tactic(auto)]
 
 mod check;
@@ -33,14 +34,17 @@ use std::io::Write;
 const USAGE: &str =
     "usage: celcheck check SCHEMA OBJECT [OLD] | eval TEXT | vap POLICY OBJECT | lint SCHEMA";
 
-/// Does what the words after the program's name ask for, and answers the exit status.
+/// Runs the command in the words after the program's name, and returns the exit status.
 ///
-/// `check` answers 0 where all its files were read, in order, before the object was judged, and the answer is `Ok`, which
-/// writes nothing to `out`, and 1 where it is errors, which were written to `out` whole, and a line feed. `eval` answers 0 where the expression came to
-/// a value and 1 where it didn't, `vap` 0 where each validation of the policy passed and 1 where one didn't, and `lint` 0 where nothing is wrong with the
-/// rules of the schema and 1 where something is; what is found is written to `out`. Every other case ends with 2: other words, a file that can't be read or holds no JSON, a policy of another shape, no memory, a failed
-/// write. No contract can say that 2 comes in no further case, since whether there is memory, and whether a write succeeds, is
-/// known to no caller.
+/// `check` returns 0 if the object has no errors, in which case it writes nothing to `out`, and 1
+/// if it has errors, which are then written to `out` whole, followed by a line feed; in both cases
+/// all its files were read, in order, before the object was judged. `eval` returns 0 if the
+/// expression has a value, and 1 if not. `vap` returns 0 if every validation of the policy passes,
+/// and 1 if one doesn't. `lint` returns 0 if nothing is wrong with the rules of the schema, and 1
+/// if something is. The results are written to `out`. In all other cases the status is 2: the words
+/// aren't a command, a file can't be read or isn't JSON, a policy has the wrong shape, memory is
+/// refused, or a write fails. No contract can rule out a status of 2 in further cases, since no
+/// caller knows whether there is memory or whether a write succeeds.
 pub fn run<S: Sources, O: Write, E: Write>(
     alloc: Global,
     words: &[String],
@@ -74,7 +78,7 @@ pub fn run<S: Sources, O: Write, E: Write>(
     }
 }
 
-/// Does what a command asks for.
+/// Runs a command.
 fn dispatch<S: Sources, O: Write, E: Write>(
     alloc: Global,
     command: Command<'_>,

@@ -1,4 +1,4 @@
-//! `lint`: what is wrong with the rules of a schema.
+//! `lint`: reviews the rules of a schema.
 ghost use Rattle.celcheck_cli.specs.Linted.{AreFindings, IsLinted, finding_line, findings_status, kind_text};
 ghost use Rattle.kube_cel_analysis.specs.Findings.{finding_view};
 ghost use Rattle.std.specs.Io.KnownBytes.{Appends};
@@ -12,7 +12,7 @@ use std::alloc::Global;
 use std::io;
 use std::io::Write;
 
-/// Finds what is wrong with the rules of a schema, and reports it.
+/// Lints the rules of a schema, writes the findings and returns the exit status.
 pub(crate) fn run_lint<S: Sources, O: Write, E: Write>(
     alloc: Global,
     schema: &str,
@@ -31,7 +31,7 @@ pub(crate) fn run_lint<S: Sources, O: Write, E: Write>(
     }
 }
 
-/// What is wrong with the rules of a schema.
+/// Returns the findings about the rules of a schema.
 fn findings_of<S: Sources>(
     alloc: Global,
     schema: &str,
@@ -44,7 +44,7 @@ fn findings_of<S: Sources>(
     Ok(lint_schema(alloc, &compiled)?)
 }
 
-/// Writes a line for each finding, and answers the status that stands for them.
+/// Writes a line for each finding and returns the exit status.
 fn report_findings<O: Write>(findings: &[LintFinding], out: &mut O) -> u8
     ensures reported { result ≤ 1 → (result ≡ findings_status (map finding_view findings.now))
         × Appends (O.contents out.old) (O.contents out.new)
@@ -54,7 +54,7 @@ fn report_findings<O: Write>(findings: &[LintFinding], out: &mut O) -> u8
     status_reported(status_of(findings), write_findings(findings, out))
 }
 
-/// 0 where nothing was found, else 1.
+/// Returns 0 if there are no findings, else 1.
 fn status_of(findings: &[LintFinding]) -> u8
     ensures status { result ≡ findings_status (map finding_view findings.now) }
     ensures within { result ≤ 1 }
@@ -65,7 +65,7 @@ fn status_of(findings: &[LintFinding]) -> u8
     }
 }
 
-/// Writes a line for each finding. The first write that fails ends it.
+/// Writes a line for each finding. Stops at the first write that fails.
 fn write_findings<O: Write>(findings: &[LintFinding], out: &mut O) -> io::Result<()>
     ensures { OnOk result (Appends (O.contents out.old) (O.contents out.new)
         (flat_map finding_line (map finding_view findings.now))) }
@@ -85,7 +85,7 @@ fn write_finding<O: Write>(finding: &LintFinding, out: &mut O) -> io::Result<()>
     writeln!(out, "#{}: {kind}: {}", finding.pointer, finding.message)
 }
 
-/// The word that a kind of finding prints as.
+/// Returns the word for a kind of finding.
 fn kind_text(kind: LintKind) -> &'static str
     ensures { result.now ≡ kind_text kind }
 {

@@ -1,4 +1,5 @@
-//! The validations of a policy, read from JSON (Kubernetes API reference, ValidatingAdmissionPolicySpec and Validation).
+//! Reads the validations of a policy from JSON (Kubernetes API reference,
+//! ValidatingAdmissionPolicySpec and Validation).
 ghost use Rattle.celcheck_cli.specs.Policies.{expression_in, expressions_in, parts_view, text_at, validation_items, validations_in};
 ghost use Rattle.kube_cel_vap.specs.Validations.{expression_view};
 ghost use Rattle.serde_json.specs.View.{items_view, view};
@@ -9,7 +10,7 @@ use kube_cel_vap::VapExpression;
 use serde_json::Value;
 use std::alloc::{AllocError, Global};
 
-// The texts of a validation, where they stand in JSON.
+// The strings of a validation, borrowed from its JSON.
 #[derive(Clone, Copy)]
 struct Parts<'v> {
     expression: &'v str,
@@ -17,8 +18,9 @@ struct Parts<'v> {
     message_expression: Option<&'v str>,
 }
 
-/// The validations of a policy in order: the array `spec.validations` of objects, each with a string `expression`, and with a string, null or
-/// nothing in `message` and `messageExpression`. Other keys are ignored. None where the policy has another shape.
+/// Reads the validations of a policy, in order: the array `spec.validations` of objects. Each has a
+/// string `expression`; its `message` and `messageExpression` are strings, null or missing. Other
+/// keys are ignored. `None` if the policy has another shape.
 pub(crate) fn validations_of(
     alloc: Global,
     policy: &Value,
@@ -32,7 +34,7 @@ pub(crate) fn validations_of(
     }
 }
 
-/// The array of a policy's validations.
+/// The array of a policy's validations, if there is one.
 fn validation_values(policy: &Value) -> Option<&[Value]>
     ensures { option_map (λ v. items_view v.now) result ≡ validation_items (view policy.now) }
 {
@@ -40,7 +42,7 @@ fn validation_values(policy: &Value) -> Option<&[Value]>
     Some(validations.as_slice())
 }
 
-/// The validations that these values are, none where one of them is none.
+/// Reads these values as validations. `None` if one of them isn't a validation.
 fn expressions_of(alloc: Global, values: &[Value]) -> Result<Option<Vec<VapExpression>>, Refused>
     ensures { IfOk result (λ o. option_map (λ v. map expression_view v.items) o
         ≡ expressions_in (items_view values.now)) }
@@ -55,7 +57,7 @@ fn expressions_of(alloc: Global, values: &[Value]) -> Result<Option<Vec<VapExpre
     Ok(Some(expressions))
 }
 
-/// What stands in one validation, none where the value is none.
+/// Reads one validation. `None` if the value isn't one.
 fn parts_of(validation: &Value) -> Option<Parts<'_>>
     ensures { option_map parts_view result ≡ expression_in (view validation.now) }
 {
@@ -66,7 +68,8 @@ fn parts_of(validation: &Value) -> Option<Parts<'_>>
     })
 }
 
-/// The text of a member, if the member is there and not null. None where it is something else.
+/// The string in a member, if the member is there and not null. The outer option is `None` if it is
+/// something else.
 fn text_at<'v>(validation: &'v Value, key: &str) -> Option<Option<&'v str>>
     ensures { option_map (option_map (λ s. s.now)) result ≡ text_at key.now (view validation.now) }
 {
@@ -77,7 +80,7 @@ fn text_at<'v>(validation: &'v Value, key: &str) -> Option<Option<&'v str>>
     }
 }
 
-/// The validation of these texts.
+/// Builds a validation from its strings.
 fn expression_of(alloc: Global, parts: Parts<'_>) -> Result<VapExpression, AllocError>
     ensures { IfOk result (λ x. expression_view x ≡ parts_view parts.entry) }
 {

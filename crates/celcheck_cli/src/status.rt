@@ -1,4 +1,4 @@
-//! The exit statuses, and why a command stops.
+//! Exit statuses, and the reasons why a command stops.
 ghost use Rattle.celcheck_cli.specs.Reports.{IsOfPath, status_after};
 ghost use Rattle.std.specs.Prelude.{◌≡◌};
 
@@ -7,20 +7,20 @@ use std::alloc::{AllocError, Global};
 use std::io;
 use std::io::Write;
 
-/// All that was asked holds.
+/// The exit status if everything that was asked holds.
 pub(crate) const PASSED: u8 = 0;
-/// Something that was asked doesn't hold.
+/// The exit status if something that was asked doesn't hold.
 pub(crate) const FAILED: u8 = 1;
-/// Nothing was judged, or what was found could not be written.
+/// The exit status if nothing was judged, or if the results couldn't be written.
 pub(crate) const STOPPED: u8 = 2;
 
-/// Why a command stops before it has reported what it found.
+/// Why a command stops before it reports its results.
 #[derive(Drop)]
 pub(crate) enum Stop {
     Refused(Refused),
-    /// The path of a file that is missing, can't be read, or holds no JSON.
+    /// The file at this path is missing, can't be read, or isn't JSON.
     Unreadable(String),
-    /// A policy has another shape.
+    /// The policy has the wrong shape.
     BadPolicy,
 }
 
@@ -36,7 +36,7 @@ impl From<AllocError> for Stop {
     }
 }
 
-/// Why a command stops where the file at the path can't be read.
+/// Returns the reason for a command to stop if the file at `path` can't be read.
 pub(crate) fn unreadable(alloc: Global, path: &str) -> Stop
     ensures { IsOfPath path.now result }
 {
@@ -46,7 +46,7 @@ pub(crate) fn unreadable(alloc: Global, path: &str) -> Stop
     }
 }
 
-/// The status of a command that found this status, after it has written that.
+/// Returns the exit status `found` if the report was written, else that of a failed write.
 pub(crate) fn status_reported(found: u8, written: io::Result<()>) -> u8
     ensures { result ≡ status_after found written }
 {
@@ -56,7 +56,7 @@ pub(crate) fn status_reported(found: u8, written: io::Result<()>) -> u8
     }
 }
 
-/// Reports why nothing was judged.
+/// Writes why nothing was judged and returns the exit status.
 pub(crate) fn report_stop<E: Write>(stop: Stop, err: &mut E) -> u8
     ensures { result ≡ 2 }
 {
@@ -67,7 +67,8 @@ pub(crate) fn report_stop<E: Write>(stop: Stop, err: &mut E) -> u8
     }
 }
 
-/// The status after a line that reports why nothing was judged. Where that line can't be written there is nothing more to report.
+/// Returns the exit status after writing why nothing was judged. If that write failed too, there is
+/// nothing left to report.
 pub(crate) fn stop_status(written: io::Result<()>) -> u8
     ensures { result ≡ 2 }
 {

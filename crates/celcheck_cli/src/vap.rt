@@ -1,4 +1,4 @@
-//! `vap`: the results of a policy's validations.
+//! `vap`: evaluates the validations of a policy.
 ghost use Rattle.celcheck_cli.specs.Reports.{AreResults, IsReviewed, result_line, results_status};
 ghost use Rattle.kube_cel_vap.specs.Validations.{result_view};
 ghost use Rattle.std.specs.Io.KnownBytes.{Appends};
@@ -13,7 +13,8 @@ use std::alloc::Global;
 use std::io;
 use std::io::Write;
 
-/// Evaluates the validations of a policy over an object, and reports what each comes to.
+/// Evaluates the validations of a policy over an object, writes their results and returns the exit
+/// status.
 pub(crate) fn run_vap<S: Sources, O: Write, E: Write>(
     alloc: Global,
     policy: &str,
@@ -33,7 +34,7 @@ pub(crate) fn run_vap<S: Sources, O: Write, E: Write>(
     }
 }
 
-/// The results of a policy's validations. Both files are read, in order, before anything is judged.
+/// Evaluates the validations of a policy. Both files are read, in order, before anything is judged.
 fn results_of<S: Sources>(
     alloc: Global,
     policy: &str,
@@ -53,7 +54,7 @@ fn results_of<S: Sources>(
     }
 }
 
-/// Writes a line for each result, and answers the status that stands for them.
+/// Writes a line for each result and returns the exit status.
 fn report_results<O: Write>(results: &[VapResult], out: &mut O) -> u8
     ensures reported { result ≤ 1 → (result ≡ results_status (map result_view results.now))
         × Appends (O.contents out.old) (O.contents out.new)
@@ -63,7 +64,7 @@ fn report_results<O: Write>(results: &[VapResult], out: &mut O) -> u8
     status_reported(status_of(results), write_results(results, out))
 }
 
-/// 0 where all passed, else 1.
+/// Returns 0 if all validations passed, else 1.
 fn status_of(results: &[VapResult]) -> u8
     ensures status { result ≡ results_status (map result_view results.now) }
     ensures within { result ≤ 1 }
@@ -76,7 +77,7 @@ fn status_of(results: &[VapResult]) -> u8
     PASSED
 }
 
-/// Writes a line for each result. The first write that fails ends it.
+/// Writes a line for each result. Stops at the first write that fails.
 fn write_results<O: Write>(results: &[VapResult], out: &mut O) -> io::Result<()>
     ensures { OnOk result (Appends (O.contents out.old) (O.contents out.new)
         (flat_map result_line (map result_view results.now))) }

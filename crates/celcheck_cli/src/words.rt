@@ -1,4 +1,4 @@
-//! What the words of a command line ask for.
+//! Reads the command line.
 ghost use Rattle.celcheck_cli.specs.Words.{command_of, command_of_one, command_of_two, command_of_three, command_view};
 ghost use Rattle.std.specs.Prelude.{◌≡◌, map, option_map, string_bytes};
 
@@ -10,11 +10,11 @@ pub(crate) struct Named<'w> {
     pub(crate) old: Option<&'w str>,
 }
 
-/// A command with what it is given.
+/// A command with its arguments.
 #[derive(Clone, Copy)]
 pub(crate) enum Command<'w> {
     Check(Named<'w>),
-    /// The text of an expression.
+    /// The source of an expression.
     Eval(&'w str),
     /// The paths of a policy and of an object.
     Vap { policy: &'w str, object: &'w str },
@@ -22,7 +22,8 @@ pub(crate) enum Command<'w> {
     Lint(&'w str),
 }
 
-/// The command that the words ask for: `check SCHEMA OBJECT [OLD]`, `eval TEXT`, `vap POLICY OBJECT` or `lint SCHEMA`.
+/// Returns the command in these words, if they are one: `check SCHEMA OBJECT [OLD]`, `eval TEXT`,
+/// `vap POLICY OBJECT` or `lint SCHEMA`.
 #[tactic(auto, unfolding(crate::specs::Words::command_of))]
 pub(crate) fn command_in(words: &[String]) -> Option<Command<'_>>
     ensures { option_map command_view result ≡ command_of (map string_bytes words.now) }

@@ -1,4 +1,4 @@
-//! Asks whether the rules of a schema admit an object, and why they don't.
+//! Prints whether an object meets the rules of a schema, and if not, why.
 #![tactic(auto)]
 
 ghost use Rattle.kube_cel.specs.Answers.{IsReportOf};
@@ -14,7 +14,7 @@ use serde_json::{Value, json};
 use std::alloc::Global;
 use std::io;
 
-/// Why an object is denied; `None` where it is admitted. `Refused` is neither: there was no memory.
+/// Returns why an object is denied, or `None` if it is admitted. `Refused` is neither: memory ran out.
 fn denial(alloc: Global, schema: &Value, object: &Value) -> Result<Option<String>, Refused>
     ensures admitted { result ≡ Ok None
         → IsReportOf raw_accessors (call_start schema.now object.now None None) (Ok tt) }

@@ -1,4 +1,4 @@
--- Rules that are added leave all other errors as they were.
+-- Added rules leave all other errors as they were.
 use Rattle.cel_patterns.specs.Book.{Book}
 use Rattle.kube_cel.proofs.AddedKept.{same_at}
 use Rattle.kube_cel.proofs.AddedParts.{added, at_key}
@@ -77,17 +77,17 @@ module _ (b : Book) (more : Items) where
   unfolding place_bindings
   bindings_alike r s = λ i. with_root s.root (with_old (old_alike r s s.old i) ((codes "self", value_alike r s s.value i) ∷ []))
 
-  -- what a rule reports at a visit
+  -- the errors of a rule at a visit
   reported : Visit Data → Result Compiled Malformed → List ErrorData
   reported s q = list_of_option (verdict b (place_bindings raw_accessors s) s.old s.path q)
 
-  -- the same bindings, whatever the rules
+  -- the bindings are the same, whatever the rules
   same_reported : (r : Option (List NodeStep)) (s : Visit Data)
       → rule_verdicts raw_accessors b (place_bindings raw_accessors (with_node_of (added more r) s)) (with_node_of (added more r) s) ≡ flat_map (reported s) (compiled_rules (rule_items (added more r s.node)))
   unfolding rule_verdicts raw_accessors reported
   same_reported r s = ap (λ e. flat_map (λ q. list_of_option (verdict b e s.old s.path q)) (compiled_rules (rule_items (added more r s.node)))) (bindings_alike r s)
 
-  -- the rules of a node, and those behind them where the node is the one that got them
+  -- the rules of a node, followed by the added ones if it is the node that gets them
   all_reported : (r : Option (List NodeStep)) (s : Visit Data)
       → flat_map (reported s) (compiled_rules (rule_items (added more r s.node))) ≡ flat_map (reported s) (compiled_rules (rule_items s.node)) ++ if_there r (flat_map (reported s) (added_rules more s.node))
   all_reported None s = sym (append-nil (flat_map (reported s) (compiled_rules (rule_items s.node))))
@@ -119,7 +119,7 @@ module _ (b : Book) (more : Items) where
   reached_added None r e = sym (nothing_there r)
   reached_added (Some u) r e = verdicts_added u.node.1 (with_node_of as_was u) ∙ ap (λ r. verdicts raw_accessors b (with_node_of as_was u) ++ if_there r (added_verdicts b more (with_node_of as_was u))) (e u refl)
 
-  -- ---- all places, where a walk begins at a marked node
+  -- ---- all places, for a walk that begins at a marked node
 
   place_added : (node : List NodeStep) (m : Visit Marked) → m.node.1 ≡ Some node → (p : List Step)
       → if_some (verdicts raw_accessors b) (leads (goes raw_steps) p (with_node_of (as_is more) m)) ≡ found_at b (with_node_of as_was m) p ++ added_at b more node (with_node_of as_was m) p

@@ -1,4 +1,4 @@
--- What stays in a schema where rules were added to one of its nodes.
+-- The keywords that stay the same when rules are added to a node of a schema.
 use Rattle.std.proofs.Common.{◌≡◌, ℕ, List, [], ◌∷◌, Bool, true, false, if◌then◌else◌, Option, Some, None, option_map, option_and_then, unwrap_or, refl, ap, ◌∙◌, codes}
 use Rattle.std.specs.List.{AllByRecursion}
 use Rattle.std.specs.Option.{option_map_or}
@@ -21,7 +21,7 @@ use Rattle.kube_cel.proofs.AddedParts.{added, additional_added, at_key, bools_st
 abbrev kept_keywords : List (List ℕ)
 kept_keywords = codes "default" ∷ codes "format" ∷ codes "x-kubernetes-int-or-string" ∷ codes "x-kubernetes-embedded-resource" ∷ codes "x-kubernetes-preserve-unknown-fields" ∷ []
 
--- it is none of them
+-- it isn't one of them
 abbrev IsOther : List ℕ → Type 0
 IsOther k = AllByRecursion (λ l. bytes_eq k l ≡ false) kept_keywords
 
@@ -58,9 +58,9 @@ module _ (more : Items) where
   preserving_stays None d = refl
   preserving_stays (Some ts) d = same_at (codes "x-kubernetes-preserve-unknown-fields") ts d (is_other ts).1.1.1.1.0
 
-  -- ---- what is seen of keywords that may be changed
+  -- ---- what is read of keywords that may be changed
 
-  -- what is seen of them stays where they do
+  -- what is read of them is the same away from the changed keyword
   elsewhere : {A : Type 0} (see : Option Data → A) (l : List ℕ) (ts : List NodeStep) (d : Data) → bytes_eq (changed_key more ts) l ≡ false → see (get l (with_rules more ts d)) ≡ see (get l d)
   elsewhere see l ts d e = ap see (same_at l ts d e)
 
@@ -88,7 +88,7 @@ module _ (more : Items) where
   branch_at AnyOf OneOf i ts d = elsewhere count_at (codes "anyOf") (to_branch OneOf i ∷ ts) d refl
   branch_at AnyOf AnyOf i ts d = ap count_at (at_key more (codes "anyOf") (to_branch AnyOf i ∷ ts) d) ∙ count_at_stays i (with_rules more ts) (get (codes "anyOf") d)
 
-  -- it is no keyword of branches
+  -- it isn't a keyword of branches
   abbrev IsAlone : List ℕ → Type 0
   IsAlone k = (kind : BranchKind) → bytes_eq k (keyword kind) ≡ false
 
@@ -120,7 +120,7 @@ module _ (more : Items) where
   counts_added kind (Some (to_additional ∷ ts)) d = elsewhere count_at (keyword kind) (to_additional ∷ ts) d (additional_alone kind)
   counts_added kind (Some (to_branch other i ∷ ts)) d = branch_at kind other i ts d
 
-  -- a bool stands where one stood, or none
+  -- the value read as a bool, and as true if it is something else; false if it is absent
   abbrev bool_at : Option Data → Bool
   bool_at o = option_map_or (λ d. unwrap_or (as_bool d) true) o false
 

@@ -1,4 +1,4 @@
--- What the parts of a schema are where rules were added to one of its nodes.
+-- The parts of a schema to which rules were added at one node.
 use Rattle.std.proofs.Common.{◌≡◌, ◌==◌, ◌&&◌, ℕ, List, [], ◌∷◌, Bool, true, false, if◌then◌else◌, Option, Some, None, option_map, option_and_then, is_some, refl, sym, ap, ◌∙◌, codes}
 use Rattle.std.specs.Str.{bytes_eq}
 use Rattle.serde_json.specs.Data.{Data, null, boolean, number, string, array, object, Items}
@@ -12,7 +12,7 @@ use Rattle.kube_schema_values.specs.DefaultsAccessors.{keys_in as names_in, memb
 use Rattle.kube_cel.specs.Added.{NodeStep, to_property, to_items, to_additional, to_branch, keyword_of, left_after, with_items, with_rules, with_key, with_index, within}
 use Rattle.kube_cel.proofs.Changed.{where_true, get_changed, at_changed, names_stay, length_stays}
 
--- ---- values of which a part was changed
+-- ---- values with one part changed
 
 pub same_option : (o : Option Data) → option_map (λ d. d) o ≡ o
 same_option None = refl
@@ -59,12 +59,12 @@ count_at_stays i f (Some (object ms)) = refl
 
 -- ---- a schema with more rules
 
--- an object `additionalProperties`
+-- an object under `additionalProperties`
 abbrev pub if_object : Data → Option Data
 if_object d = if is_some (as_object d) then Some d else None
 
 module _ (more : Items) where
-  -- the schema with more rules where these steps are left, or as it was
+  -- the schema with the rules added if these steps remain, else as it was
   abbrev pub added : Option (List NodeStep) → Data → Data
   added None d = d
   added (Some ts) d = with_rules more ts d
@@ -86,7 +86,7 @@ module _ (more : Items) where
   chosen true ts o = refl
   chosen false ts o = refl
 
-  -- elsewhere
+  -- at another keyword
   other : (l : List ℕ) (h : Data → Option Data) (ts : List NodeStep) (d : Data) → bytes_eq (changed_key ts) l ≡ false → option_and_then h (get l (with_rules more ts d)) ≡ option_map (λ d. d) (option_and_then h (get l d))
   other l h ts d e =
       ap (option_and_then h) (at_key l ts d)

@@ -1,4 +1,4 @@
--- A schema and its tree are answered alike.
+-- A schema and its tree have the same answer.
 use Rattle.cel_patterns.specs.Book.{Book}
 use Rattle.kube_cel.specs.Compiled.{compiled_accessors}
 use Rattle.kube_cel.specs.Raw.{raw_accessors}
@@ -37,7 +37,7 @@ pub compiled_accessors_counts_all : CountsAll compiled_accessors.steps
 unfolding compiled_accessors
 compiled_accessors_counts_all = compiled_counts_all
 
--- ---- what is bound
+-- ---- bindings
 
 bound_alike : (n : ℕ) (s : Visit Data) (value : Data) → s.depth + n ≡ 65 → bound_at raw_accessors s value ≡ bound_at compiled_accessors (with_node_of (view_of n) s) value
 unfolding raw_accessors compiled_accessors
@@ -53,7 +53,7 @@ bindings_alike : (n : ℕ) (s : Visit Data) → s.depth + n ≡ 65 → place_bin
 unfolding place_bindings
 bindings_alike n s e = λ i. with_root s.root (with_old (old_alike n s s.old e i) ((codes "self", bound_alike n s s.value e i) ∷ []))
 
--- ---- what is found
+-- ---- errors
 
 deep_alike : (b : Book) (s : Visit Data) (t : Visit Node) → s.path ≡ t.path → (s.depth == 65) ≡ true → (t.depth == 65) ≡ true → verdicts raw_accessors b s ≡ verdicts compiled_accessors b t
 unfolding verdicts
@@ -74,7 +74,7 @@ verdicts_alike b zero s e =
     deep_alike b s (with_node_of (view_of 0) s) refl d d
 verdicts_alike b (suc n) s e = ap (λ vs. if s.depth == 65 then too_deep s.path ∷ [] else vs) (rules_alike n b s e)
 
--- what is found at all places of a schema is found at all places of its tree
+-- the errors at all places of a schema are those at all places of its tree
 pub answered_alike : (b : Book) (schema value : Data) (old : Option Data) (root : Option Root)
     → answer raw_accessors b 65 (root_visit schema value old root) ≡ answer compiled_accessors b 65 (root_visit (view_of 65 schema) value old root)
 unfolding answer raw_accessors compiled_accessors
@@ -86,7 +86,7 @@ defaults_alike : (schema : Data) (old : Option Data) → option_map (with_schema
 defaults_alike schema None = refl
 defaults_alike schema (Some old) = ap Some (filled_same 65 schema old)
 
--- what is found where a schema and a value begin is found where its tree and the value do, each with its defaults
+-- the answer for a schema and a value is that for its tree and the value, each with its defaults
 pub judged_alike : (b : Book) (schema value : Data) (old : Option Data) (root : Option Root) (tree : Node) → tree ≡ view_of 65 schema
     → answer compiled_accessors b 65 (root_visit tree (defaulted_value tree_fill.tree_accessors 65 tree value) (option_map (defaulted_value tree_fill.tree_accessors 65 tree) old) root)
     ≡ answer raw_accessors b 65 (root_visit schema (with_schema_defaults schema value) (option_map (with_schema_defaults schema) old) root)
@@ -100,6 +100,6 @@ pub compiled_found : (b : Book) (schema : Data) (c : CompiledSchema) (value : Va
 compiled_found b schema c value old root e =
     judged_alike b schema (view value) (option_map (λ v. view v.now) old) (option_map (λ r. root_view r.now) root) (whole c) e
 
--- a walk over a tree that begins with equal values begins alike
+-- walks over equal trees and equal values have equal starts
 pub trees_alike : {n m : Node} {d e : Data} {o p : Option Data} (r : Option Root) → n ≡ m → d ≡ e → o ≡ p → root_visit n d o r ≡ root_visit m e p r
 trees_alike r n d o = λ i. root_visit (n i) (d i) (o i) r

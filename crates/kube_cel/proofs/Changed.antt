@@ -1,4 +1,4 @@
--- What stands in a value of which one part was changed.
+-- The members and items of a value of which one part was changed.
 use Rattle.std.proofs.Common.{◌≡◌, ◌==◌, ℕ, zero, suc, List, ◌∷◌, Bool, false, if◌then◌else◌, Option, Some, None, option_map, refl, sym, ap, ◌∙◌, Ordering, Less, Equal, Greater}
 use Rattle.std.specs.Ordering.{match_ordering}
 use lib.Dec.{eqb-zero-suc, eqb-suc-zero, eqb-suc-suc}
@@ -10,9 +10,9 @@ use Rattle.kube_schema_rules.proofs.Sorted.{key_cmp, same_key}
 use Rattle.kube_schema_values.specs.DefaultsAccessors.{keys_in as names_in}
 use Rattle.kube_cel.specs.Added.{members_with, items_with, with_key, with_index}
 
--- ---- what is found
+-- ---- look-ups
 
--- f where the test holds
+-- f applied if the test is true
 abbrev pub where_true : Bool → (Data → Data) → Data → Data
 where_true b f d = if b then f d else d
 

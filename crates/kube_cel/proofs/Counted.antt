@@ -1,4 +1,4 @@
--- The tree of a schema counts all its branches.
+-- The branch counts of the tree of a schema cover all its branches.
 use Rattle.std.proofs.Common.{◌<◌, ℕ, zero, suc, IsSome, arith}
 use Rattle.kube_schema_rules.proofs.Candidates.{CountsAll}
 use Rattle.kube_schema.specs.Tree.{Nodes, no_nodes, more, nodes_length, nth_node}

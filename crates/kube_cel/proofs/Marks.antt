@@ -1,5 +1,5 @@
--- The nodes of a schema, each with the steps that are left from it to the one that gets more rules: what a walk sees of the schema as it was,
--- and with those rules.
+-- The nodes of a schema, each with the steps that remain from it to the node that gets more
+-- rules: what a walk reads of the schema as it was, and of the schema with those rules.
 use Rattle.std.proofs.Common.{◌≡◌, ◌+◌, ℕ, zero, suc, List, [], ◌∷◌, Option, Some, None, option_map, option_and_then, unwrap_or, false, if◌then◌else◌, refl, sym, ap, ◌∙◌}
 use Rattle.std.specs.Option.{option_map_or}
 use Rattle.serde_json.specs.Data.{Data, Items}
@@ -25,7 +25,7 @@ use Rattle.kube_schema.proofs.SameBinding as binding
 use Rattle.kube_cel.proofs.AddedKept.{counts_added, default_stays, embedded_stays, format_stays, int_or_string_stays, maps_added, names_added, undeclared_added}
 use Rattle.kube_cel.proofs.AddedParts.{added, additional_added, branch_added, items_added, property_added}
 
--- a node, and the steps that are left, or none where they lead elsewhere
+-- a node and the steps that remain; none if they lead elsewhere
 abbrev pub Marked : Type 0
 Marked = Data × Option (List NodeStep)
 
@@ -42,7 +42,7 @@ pub was : (r : Option (List NodeStep)) (o : Option Data) → option_map as_was (
 was r None = refl
 was r (Some d) = refl
 
--- ---- what walks and defaults see of them
+-- ---- what walks and defaults read of them
 
 unfoldable pub marked_steps : StepAccessors Marked
 marked_steps = record {
@@ -160,7 +160,7 @@ module _ (more : Items) where
   filled_is zero m d = refl
   filled_is (suc n) m d = filling.filled_by_same marked_fill fill.raw as_is (defaulted_value marked_fill n) (defaulted_value fill.raw n) (filled_is n) m (as_is m) (fill_is m) d
 
-  -- defaults see no rules
+  -- defaults don't depend on rules
   pub filled_alike : (n : ℕ) (r : Option (List NodeStep)) (s d : Data) → defaulted_value fill.raw n (added more r s) d ≡ defaulted_value fill.raw n s d
   filled_alike n r s d = sym (filled_is n (s, r) d) ∙ filled_was n (s, r) d
 
@@ -185,7 +185,7 @@ module _ (more : Items) where
   bound_is zero m d = refl
   bound_is (suc n) m d = binding.bound_by_same marked_bind bind.raw as_is (to_cel marked_bind n) (to_cel bind.raw n) (bound_is n) m (as_is m) (bind_is m) d
 
-  -- and so does binding
+  -- neither does binding
   pub bound_alike : (n : ℕ) (r : Option (List NodeStep)) (s d : Data) → to_cel bind.raw n (added more r s) d ≡ to_cel bind.raw n s d
   bound_alike n r s d = sym (bound_is n (s, r) d) ∙ bound_was n (s, r) d
 
@@ -195,7 +195,7 @@ module _ (more : Items) where
   pub leads_is : (ps : List step.Step) (s : Visit Marked) → option_map (with_node_of as_is) (leads (goes marked_steps) ps s) ≡ leads (goes raw_steps) ps (with_node_of as_is s)
   leads_is ps s = walk.leads_same marked_steps raw_steps (λ n. as_is) (λ n. walk_is) 0 ps s
 
--- ---- which steps are left at a place
+-- ---- which steps remain at a place
 
 one_item : (i j : ℕ) (r : Option (List NodeStep)) → option_and_then (left_after (step.item i)) r ≡ option_and_then (left_after (step.item j)) r
 one_item i j None = refl

@@ -1,4 +1,4 @@
--- What stands at a place is a part of what stands at the root.
+-- The value at a place is a part of the value at the root.
 use Rattle.cel_semantics.specs.Members.{index_outcome, nth_item, selection}
 use Rattle.cel_value.specs.Data as cel
 use Rattle.cel_value.specs.Data.{text_key}
@@ -61,7 +61,7 @@ module _ {S : Type 0} (accessors : ConversionAccessors S) (n : ℕ) (node p : S)
       ap (λ o. index_outcome (option_map_or (λ q. cel.list (items_by (to_cel accessors n q) ds)) o (to_cel accessors 0 node (array ds))) (cel.int (pos i))) here
       ∙ ap (λ o. option_map_or Ok o (Err out_of_bounds)) (nth_bound (to_cel accessors n p) i ds ∙ ap (option_map (to_cel accessors n p)) found)
 
--- ---- forms in which the walk and the binding see the same nodes
+-- ---- forms in which the walk and the binding read the same nodes
 
 pub record SeesAlike {S : Type 0} (form : WalkAccessors S) : Type 0 where
   pub property : (k : List ℕ) (node : S) → form.steps.property k node ≡ form.conversion.property k node
@@ -82,7 +82,7 @@ tree_sees_alike = record { property = λ k node. refl; items = λ node. refl; ad
 
 -- ---- one step of a walk
 
--- a visit that one step further leads to, part by part
+-- a visit one step further, part by part
 record Reached {S : Type 0} (depth : ℕ) (node : Option S) (value old : Option Data) (t : Visit S) : Type 0 where
   node_there : node ≡ Some t.node
   value_there : value ≡ Some t.value
@@ -110,7 +110,7 @@ module _ {S : Type 0} (form : WalkAccessors S) (alike : SeesAlike form) where
       let u = undeclared (form.steps.property k node) (form.steps.additional_property node) p e in
       ap (λ o. or_else o (form.conversion.additional node)) (sym (alike.property k node) ∙ u.0) ∙ alike.additional node p u.1
 
-  -- by the levels of nodes that count there, and one fewer a step further
+  -- with the levels that apply there, one fewer after each step
   value_part : (p : Step) (s t : Visit S) (n : ℕ) → is_branch p ≡ false → goes form.steps p s ≡ Some t
       → part_at form s.node p (to_cel form.conversion (suc n) s.node s.value) ≡ Ok (to_cel form.conversion n t.node t.value)
   unfolding goes
@@ -208,7 +208,7 @@ module _ {S : Type 0} (form : WalkAccessors S) (alike : SeesAlike form) where
   olds_along (p ∷ ps) s t (suc n) o q b d l e before after =
       by (goes form.steps p s) refl e (λ u w bs below led there. olds_along ps u t n w q bs below (omega (arith, l)) led there after)
     where
-      -- where the old value goes on, and it has to
+      -- if the step leads on in the old value, as it must
       on : (u : Visit S) → goes form.steps p s ≡ Some u → leads (goes form.steps) ps u ≡ Some t
           → ((w : Data) → list_any is_branch ps ≡ false → u.depth + n ≡ 65 → u.old ≡ Some w → part_along form ps u (bound_at form u w) ≡ Some (bound_at form t q))
           → (m : Option Data) → u.old ≡ m → option_and_then (part_along form ps u) (result_ok (part_at form s.node p (bound_at form s o))) ≡ Some (bound_at form t q)
@@ -229,7 +229,7 @@ module _ {S : Type 0} (form : WalkAccessors S) (alike : SeesAlike form) where
       by None g e rec = cc
       by (Some u) g e rec = on u g e (λ w bs below there. rec u w bs below e there) u.old refl
 
-  -- within the levels that count
+  -- within the levels that apply
   pub values_within : (s t : Visit S) (ps : List Step) → s.depth + length ps ≤ 65 → list_any is_branch ps ≡ false → leads (goes form.steps) ps s ≡ Some t
       → part_along form ps s (bound_at form s s.value) ≡ Some (bound_at form t t.value)
   values_within s t ps within b e =

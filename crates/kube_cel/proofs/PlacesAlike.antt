@@ -1,4 +1,4 @@
--- Walks over two forms of a schema that answer alike.
+-- Walks over two forms of a schema that have the same answer.
 use Rattle.std.proofs.Common.{◌≡◌, ◌+◌, ℕ, zero, suc, List, [], ◌∷◌, ◌++◌, length, map, Option, Some, None, option_map, option_and_then, refl, sym, ap, ◌∙◌, arith}
 use Rattle.std.specs.List.{flat_map}
 use Rattle.serde_json.specs.Data.{Data}
@@ -37,7 +37,7 @@ deeper steps (additional_property k) s u e = further_deeper None s.depth (member
 deeper steps (branch kind j) s u e = further_deeper s.root s.depth s.path (steps.branch kind j s.node) (Some s.value) s.old u e
 
 module _ {S T : Type 0} (ls : StepAccessors S) (lt : StepAccessors T) (view : S → T) where
-  -- t is what s looks like
+  -- t is the view of s
   pub record Alike (s : S) (t : T) : Type 0 where
     pub property : (k : List ℕ) → option_map view (ls.property k s) ≡ lt.property k t
     pub items : option_map view (ls.items s) ≡ lt.items t
@@ -70,7 +70,7 @@ module _ {S T : Type 0} (ls : StepAccessors S) (lt : StepAccessors T) (view : S 
         ++ (map additional_property (in_order (keys_at (Some s.value)))
         ++ (map (branch AllOf) (up_to (h.branch_count AllOf i)) ++ (map (branch OneOf) (up_to (h.branch_count OneOf i)) ++ map (branch AnyOf) (up_to (h.branch_count AnyOf i))))))
 
--- ---- the whole walk, where n levels are left
+-- ---- the whole walk, with n levels left
 
 module _ {S T : Type 0} (ls : StepAccessors S) (lt : StepAccessors T) (view : ℕ → S → T) (alike : (n : ℕ) (s : S) → Alike ls lt (view n) s (view (suc n) s)) where
   goes_on : (n : ℕ) (p : Step) (s : Visit S) → option_map (with_node_of (view n)) (goes ls p s) ≡ goes lt p (with_node_of (view (suc n)) s)
@@ -111,7 +111,7 @@ module _ {S T : Type 0} (ls : StepAccessors S) (lt : StepAccessors T) (view : �
   pub leads_same : (n : ℕ) (ps : List Step) (s : Visit S) → option_map (with_node_of (view n)) (leads (goes ls) ps s) ≡ leads (goes lt) ps (with_node_of (view (n + length ps)) s)
   leads_same n ps s = leads_from n (n + length ps) ps s refl
 
-  -- what is found at a visit, by the levels that are left
+  -- the findings at a visit, by the levels that are left
   module _ {E : Type 0} (found : Visit S → List E) (hound : Visit T → List E) (levels : ℕ) (agree : (n : ℕ) (s : Visit S) → s.depth + n ≡ levels → found s ≡ hound (with_node_of (view n) s)) where
     reached_same : (n : ℕ) (s : Visit S) → s.depth + suc n ≡ levels → ((u : Visit S) → u.depth + n ≡ levels → answers (goes ls) (candidates ls) found n u ≡ answers (goes lt) (candidates lt) hound n (with_node_of (view n) u))
         → (p : Step) (o : Option (Visit S)) → goes ls p s ≡ o → if_some (answers (goes ls) (candidates ls) found n) o ≡ if_some (answers (goes lt) (candidates lt) hound n) (option_map (with_node_of (view n)) o)

@@ -1,4 +1,4 @@
--- A schema as JSON, as a walk asks of it.
+-- A schema as JSON, as the walk reads it.
 use Rattle.kube_cel.specs.Raw.{raw_accessors}
 use Rattle.kube_schema_rules.proofs.Candidates.{CountsAll}
 use Rattle.kube_schema_rules.proofs.Raw.{raw_counts_all}
@@ -21,7 +21,7 @@ raw_accessors_counts_all = raw_counts_all
 
 -- ---- rules
 
--- what rules give that are read one by one
+-- the errors of rules that are read one by one
 pub read_in_turn : {E : Type 0} (f : Result Compiled Malformed → List E) (vs : List Value) → flat_map f (compiled_rules (items_view vs)) ≡ flat_map (λ v. f (compiled_rule (view v))) vs
 unfolding compiled_rules
 read_in_turn f [] = refl

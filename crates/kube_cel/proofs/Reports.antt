@@ -1,4 +1,4 @@
--- What is reported of the errors that were found.
+-- The report of a list of errors.
 use Rattle.cel_patterns.proofs.Entries.{faithful-IsBook}
 use Rattle.cel_patterns.specs.Book.{Book, Extends, IsBook}
 use Rattle.cel_patterns.specs.declared.book.PatternBook.{PatternBook}
@@ -19,7 +19,7 @@ use Rattle.std.proofs.Common.{◌≡◌, ◌<◌, List, [], ◌∷◌, map, leng
 pub agrees_itself : (b : Book) → Extends b b
 agrees_itself b = record { keeps = λ text built e. e }
 
--- what a `PatternBook` shows is a book
+-- the view of a `PatternBook` is a book
 pub shown_is_book : (book : PatternBook) → IsBook (entries_of book)
 unfolding entries_of
 shown_is_book book = faithful-IsBook book.answers book.faithful
@@ -32,14 +32,14 @@ pub some_reported : (es : List ValidationError) (found : List ErrorData) → 0 <
 some_reported [] found h q = absurd (omega arith)
 some_reported (e ∷ es) found h q = ap report_of q
 
--- what was reported was found
+-- the errors that are reported are the errors that were found
 pub reported_found : (r : Result (Unit {0}) ValidationErrors) (found : List ErrorData) → answer_view r ≡ report_of found → found_in r ≡ found
 reported_found (Ok u) [] q = refl
 reported_found (Ok u) (e ∷ es) q = cc
 reported_found (Err x) [] q = cc
 reported_found (Err x) (e ∷ es) q = let same : map error_view (errors_in x) ≡ e ∷ es = cc in same
 
--- the computed answer is what stands at the places
+-- the computed answer consists of the errors at the places
 pub is_answer : {S : Type 0} (form : WalkAccessors S) → CountsAll form.steps → (b : Book) (root : Visit S) (found : List ErrorData) → found ≡ answer form b 65 root → IsAnswer form b root found
 unfolding IsAnswer answer
 is_answer form all b root found e = subst (λ f. AreFoundAtPlaces (goes form.steps) (verdicts form b) 65 root f) (sym e) (visit_answers form.steps all (verdicts form b) 65 root)
@@ -48,6 +48,6 @@ pub if_ok_both : {T E : Type 0} {P Q R : T → Type 0} (r : Result T E) → ((x 
 if_ok_both (Ok x) f p q = f x p q
 if_ok_both (Err e) f p q = tt
 
--- a walk that begins with equal values begins alike
+-- walks with equal values have equal starts
 pub filled_alike : {d e : Data} {o p : Option Data} (node : Data) (r : Option Root) → d ≡ e → o ≡ p → root_visit node d o r ≡ root_visit node e p r
 filled_alike node r d o = λ i. root_visit node (d i) (o i) r

@@ -1,4 +1,4 @@
--- A walk looks only at what the tree keeps of a schema.
+-- A walk reads only what the tree keeps of a schema.
 use Rattle.std.proofs.Common.{◌≡◌, ◌+◌, ℕ, zero, suc, List, length, Option, Some, None, option_map, option_and_then, unwrap_or, refl, ap, ◌∙◌, codes}
 use Rattle.serde_json.specs.Data.{Data, null, boolean, number, string, array, object, Items, no_items, item}
 use Rattle.serde_json.specs.Events.{items_len}
@@ -71,7 +71,8 @@ tree_places = places_same raw_steps compiled_steps view_of alike
 pub tree_leads : (n : ℕ) (ps : List Step) (s : Visit Data) → option_map (with_node_of (view_of n)) (leads (goes raw_steps) ps s) ≡ leads (goes compiled_steps) ps (with_node_of (view_of (n + length ps)) s)
 tree_leads = leads_same raw_steps compiled_steps view_of alike
 
--- what is found at all places of the tree is what is found at all places of the schema, where the same is found at each visit
+-- if schema and tree have the same findings at each
+-- visit, then they have the same findings at all places
 pub tree_answers : {E : Type 0} (found : Visit Data → List E) (found_in_tree : Visit Node → List E) (levels : ℕ) → ((n : ℕ) (s : Visit Data) → s.depth + n ≡ levels → found s ≡ found_in_tree (with_node_of (view_of n) s))
     → (n : ℕ) (s : Visit Data) → s.depth + n ≡ levels → answers (goes raw_steps) (candidates raw_steps) found n s ≡ answers (goes compiled_steps) (candidates compiled_steps) found_in_tree n (with_node_of (view_of n) s)
 tree_answers = answers_same raw_steps compiled_steps view_of alike

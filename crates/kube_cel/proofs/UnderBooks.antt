@@ -1,4 +1,4 @@
--- What is found under books that refuse the same texts.
+-- The errors under books that refuse the same texts.
 use Rattle.cel_patterns.proofs.Entries.{entries-IsBook}
 use Rattle.cel_patterns.specs.Book.{Book, Extends, IsBook, IsPlain, IsRefused}
 use Rattle.cel_patterns.specs.Entries.{entries_of}
@@ -62,7 +62,8 @@ plain_same a b is_a is_b plain_a plain_b form root = answer_same a b (plain_alik
 abbrev Report : Type 0
 Report = Result (Unit {0}) (List ErrorData)
 
--- one call after the other, by the schema and by its tree in either order: under the book as it is at the end both answer one list
+-- two calls with one lent book, by the schema and by its tree in
+-- either order: under the book as it is at the end, both give one list
 pub tree_after_schema : (between after : Book) (schema value : Data) (old : Option Data) (root : Option Root) (first second : Report) → Extends after between
     → ((b : Book) → Extends b between → first ≡ report_of (answer raw_accessors b 65 (defaulted_start schema value old root)))
     → ((b : Book) → Extends b after → second ≡ report_of (answer compiled_accessors b 65 (tree_start (view_of 65 schema) value old root)))

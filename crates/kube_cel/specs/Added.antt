@@ -1,5 +1,5 @@
 -- Trusted by laws alone.
--- A schema with rules added to those of one of its nodes.
+-- A schema with rules appended to those of one of its nodes.
 use Rattle.kube_schema_rules.specs.declared.branches.BranchKind.{BranchKind}
 use Rattle.kube_schema_rules.specs.Step as step
 use Rattle.kube_schema_rules.specs.Step.{branch_rank, keyword}
@@ -22,7 +22,7 @@ abbrev pub all_items : Items → Items → Items
 all_items no_items more = more
 all_items (item d ds) more = item d (all_items ds more)
 
--- an object with f of what stands at a key
+-- an object with f applied to the member at a key
 abbrev pub with_key : List ℕ → (Data → Data) → Data → Data
 with_key k f null = null
 with_key k f (boolean b) = boolean b
@@ -31,7 +31,7 @@ with_key k f (string s) = string s
 with_key k f (array ds) = array ds
 with_key k f (object ms) = object (members_with k f ms)
 
--- a list with f of one item
+-- a list with f applied to the item at an index
 abbrev pub with_index : ℕ → (Data → Data) → Data → Data
 with_index i f null = null
 with_index i f (boolean b) = boolean b
@@ -40,7 +40,7 @@ with_index i f (string s) = string s
 with_index i f (array ds) = array (items_with i f ds)
 with_index i f (object ms) = object ms
 
--- a list with more items behind its last one
+-- a list with more items appended
 abbrev pub with_items : Items → Data → Data
 with_items more null = null
 with_items more (boolean b) = boolean b
@@ -58,7 +58,7 @@ pub data NodeStep : Type 0 where
   to_additional : NodeStep
   to_branch : BranchKind → ℕ → NodeStep
 
--- where that node stands: at a keyword, and within what is there
+-- where that node stands: under a keyword, and within the value there
 abbrev pub keyword_of : NodeStep → List ℕ
 keyword_of (to_property k) = codes "properties"
 keyword_of to_items = codes "items"
@@ -71,15 +71,15 @@ within to_items f = f
 within to_additional f = f
 within (to_branch kind i) f = with_index i f
 
--- the schema with these rules behind the last one of the node that the steps lead to,
--- if that node has a list of rules
+-- the schema with these rules appended to those of the node
+-- that the steps lead to, if that node has a list of rules
 abbrev pub with_rules : Items → List NodeStep → Data → Data
 with_rules more [] = with_key (codes "x-kubernetes-validations") (with_items more)
 with_rules more (t ∷ ts) = with_key (keyword_of t) (within t (with_rules more ts))
 
 -- ---- the places of that node
 
--- the step of the schema in a step of a schema and a value
+-- the schema's step in a step through schema and value
 abbrev pub node_step : step.Step → NodeStep
 node_step (step.property k) = to_property k
 node_step (step.item i) = to_items
@@ -101,12 +101,12 @@ content (to_branch kind i) = i ∷ []
 abbrev pub same_step : NodeStep → NodeStep → Bool
 same_step t u = (rank t == rank u) && bytes_eq (content t) (content u)
 
--- the steps to the node that are left behind one step of a place, or none, where it leads elsewhere
+-- the steps that remain to the node after one step of a place; none if that step leads elsewhere
 abbrev pub left_after : step.Step → List NodeStep → Option (List NodeStep)
 left_after p [] = None
 left_after p (t ∷ ts) = if same_step t (node_step p) then Some ts else None
 
--- and behind all steps of a place
+-- the steps that remain after all steps of a place
 abbrev pub left_behind : List step.Step → Option (List NodeStep) → Option (List NodeStep)
 left_behind [] r = r
 left_behind (p ∷ ps) r = left_behind ps (option_and_then (left_after p) r)

@@ -1,5 +1,5 @@
 -- Trusted by laws alone.
--- What is answered where rules were added to those of one node of a schema.
+-- The answer of a schema to which rules were added at one node.
 use Rattle.cel_patterns.specs.Book.{Book}
 use Rattle.kube_cel.specs.Added.{NodeStep, left_behind}
 use Rattle.kube_cel.specs.Raw.{raw_accessors}
@@ -16,37 +16,37 @@ use Rattle.serde_json.specs.Find.{as_array, get}
 use Rattle.std.specs.List.{flat_map}
 use Rattle.std.specs.Prelude.{◌≡◌, ◌==◌, List, [], ◌∷◌, ◌++◌, if◌then◌else◌, Option, Some, None, option_and_then, is_some, Result, codes}
 
--- the rules that were added, where the node has a list of rules
+-- the rules that are added, if the node has a list of rules
 abbrev pub added_rules : Items → Data → List (Result Compiled Malformed)
 added_rules more node =
     if is_some (option_and_then as_array (get (codes "x-kubernetes-validations") node))
     then compiled_rules more else []
 
--- their verdicts at a visit, by the bindings that all rules have there; past depth 64 none
+-- their verdicts at a visit, under the bindings that all rules have there; none beyond depth 64
 unfoldable pub added_verdicts : Book → Items → Visit Data → List ErrorData
 added_verdicts b more s =
     if s.depth == 65 then []
     else flat_map (λ r. list_of_option (verdict b (place_bindings raw_accessors s) s.old s.path r))
     (added_rules more s.node)
 
--- only where no step is left
+-- the list if no step remains, else the empty list
 abbrev pub if_there : {E : Type 0} → Option (List NodeStep) → List E → List E
 if_there None es = []
 if_there (Some []) es = es
 if_there (Some (t ∷ ts)) es = []
 
--- what is found at a place
+-- the errors at a place
 unfoldable pub found_at : Book → Visit Data → List Step → List ErrorData
 found_at b root p = if_some (verdicts raw_accessors b) (leads (goes raw_steps) p root)
 
--- and what the rules add that were added to the node at these steps: their verdicts at the places of that
--- node, and nothing elsewhere
+-- the errors that the added rules give: their verdicts at the
+-- places of the node at these steps, and nothing elsewhere
 unfoldable pub added_at : Book → Items → List NodeStep → Visit Data → List Step → List ErrorData
 added_at b more node root p =
     if_there (left_behind p (Some node)) (if_some (added_verdicts b more) (leads (goes raw_steps) p root))
 
--- The errors before and after: those at the same places in the same order, and at each place what was found
--- there before, and behind it what the rules add that were added.
+-- The errors before and after: those at the same places in the same order, and
+-- at each place the errors from before, followed by those of the added rules.
 pub record AddsAlone (b : Book) (more : Items) (node : List NodeStep)
     (root : Visit Data) (before after : List ErrorData) : Type 0 where
   pub all_places : List (List Step)

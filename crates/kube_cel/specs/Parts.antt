@@ -1,5 +1,6 @@
 -- Trusted by laws alone.
--- What an expression of CEL finds in the value of `self` at a place, where steps lead on from that place.
+-- The part that a CEL expression finds in the value of
+-- `self` along the steps that lead on from a place.
 use Rattle.cel_semantics.specs.Members.{index_outcome, selection}
 use Rattle.cel_semantics.specs.Outcome.{Outcome}
 use Rattle.cel_value.specs.Data.{Data, int, text_key}
@@ -10,7 +11,7 @@ use Rattle.kube_schema_values.specs.Conversion.{member_key}
 use Rattle.std.specs.Prelude.{List, [], ◌∷◌, Bool, true, false, pos, Option, Some, Ok, option_and_then}
 use Rattle.std.specs.Result.{result_ok}
 
--- to a branch, while the value stays
+-- a step to a branch, which stays at the same value
 abbrev pub is_branch : Step → Bool
 is_branch (property k) = false
 is_branch (item i) = false
@@ -18,14 +19,15 @@ is_branch (additional_property k) = false
 is_branch (branch kind j) = true
 
 module _ {S : Type 0} (form : WalkAccessors S) where
-  -- in the value at a node: `self.name`, where the name is a map's own or else escaped, and `self[index]`
+  -- one step into the value at a node: `self.name`, where the name
+  -- is escaped unless the node is a map node, or `self[index]`
   abbrev pub part_at : S → Step → Data → Outcome
   part_at node (property k) v = selection (text_key (member_key form.conversion node k)) v
   part_at node (item i) v = index_outcome v (int (pos i))
   part_at node (additional_property k) v = selection (text_key (member_key form.conversion node k)) v
   part_at node (branch kind j) v = Ok v
 
-  -- and so on, along all steps, if each is allowed
+  -- along all steps, if the walk can take each of them
   unfoldable pub part_along : List Step → Visit S → Data → Option Data
   part_along [] s v = Some v
   part_along (p ∷ ps) s v =

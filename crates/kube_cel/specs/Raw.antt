@@ -7,7 +7,7 @@ use Rattle.kube_schema_rules.specs.Rules.{rule_items}
 use Rattle.kube_schema_values.specs.Conversion.{raw}
 use Rattle.serde_json.specs.Data.{Data}
 
--- its rules are read where they stand
+-- the rules are read where they stand in the schema
 unfoldable pub raw_accessors : WalkAccessors Data
 raw_accessors = record {
   steps = raw_steps;

@@ -1,6 +1,6 @@
 -- Scaffolding: only proofs and private clauses cite it.
--- Compiled rules are a set: an equation between two of them has one proof at most. So a struct can hold such
--- an equation in a ghost field.
+-- Compiled rules form a set: any two proofs of an equation between two of
+-- them are equal. So a struct can hold such an equation in a ghost field.
 use Rattle.std.proofs.Common.{◌≡◌, ℕ, List, [], ◌∷◌, Bool, Option, Some, None, Result, Ok, Err, refl, ap}
 use Rattle.std.proofs.Math.Bool.{Bool-set}
 use Rattle.std.proofs.Math.Nat.{ℕ_set}
@@ -17,7 +17,7 @@ use Rattle.cel_value.specs.Data.{Data}
 use Rattle.kube_schema_rules.specs.Compilation.{Compiled, Malformed, unread, unread_message, invalid, past_depth}
 use Rattle.kube_schema_rules.specs.Rules.{Fields, Fault, not_object, rule_not_string, not_string_or_null, not_bool_or_null}
 
--- trees, lists of them and lists of pairs in one type
+-- trees, lists of trees and lists of pairs, all in one type
 data Plain : Type 0 where
   p_literal : Data → Plain
   p_ident : List ℕ → Plain
@@ -61,7 +61,7 @@ abbrev mutual
   to_pairs no_pairs = p_end
   to_pairs (pair_and t u ps) = p_pair (to_plain t) (to_plain u) (to_pairs ps)
 
--- back: the tree, the list of trees and the list of pairs that one stands for
+-- the way back: the tree, the list of trees and the list of pairs that a value stands for
 abbrev back : Plain → Term × Terms × Pairs
 back (p_literal d) = (literal d, no_terms, no_pairs)
 back (p_ident x) = (ident x, no_terms, no_pairs)
@@ -136,7 +136,7 @@ fields_set = hlevel (text_set, option_set, Bool-set)
 compiled_set : IsSet Compiled
 compiled_set = hlevel (fields_set, term_set, Bool-set, option_set)
 
--- a compiled rule, or why it is malformed
+-- a compiled rule, or the reason why it is malformed
 data Seen : Type 0 where
   s_compiled : Compiled → Seen
   s_unread : List ℕ → Seen

@@ -7,7 +7,7 @@ ghost use Rattle.kube_schema.specs.Tree.{nodes_length, nth_node};
 use kube_schema::SchemaNode;
 use kube_schema_rules::BranchKind;
 
-/// The number of branches of a keyword.
+/// Returns the number of branches under a keyword.
 pub fn branch_count(node: &SchemaNode<'_>, kind: BranchKind) -> usize
     ensures { result ≡ nodes_length (branches_of kind (node_tree node.now)) }
 {
@@ -18,7 +18,7 @@ pub fn branch_count(node: &SchemaNode<'_>, kind: BranchKind) -> usize
     }
 }
 
-/// A branch of a keyword.
+/// Returns the branch at an index under a keyword, if any.
 pub fn branch_of<'a>(
     node: &SchemaNode<'a>,
     kind: BranchKind,

@@ -1,4 +1,4 @@
-//! Rules that are compiled once, at however many places they stand.
+//! A cache of compiled rules: each rule is compiled once, at however many places it applies.
 ghost use Rattle.kube_cel.specs.RuleSets.{same_compiled-prop};
 ghost use Rattle.kube_schema_rules.specs.Compilation.{compile_result, compiled_rule, compiled_seen};
 ghost use Rattle.kube_schema_rules.specs.Rules.{rule_view};
@@ -13,7 +13,7 @@ use std::cell::RefCell;
 use std::cmp::Ordering;
 use std::rc::Rc;
 
-/// A rule with what it is compiled to.
+/// A rule and the result of compiling it.
 #[derive(Drop)]
 struct Entry {
     rule: Rule,
@@ -21,19 +21,20 @@ struct Entry {
     ghost right: { compiled_seen made.value ≡ compile_result (rule_view rule) } by { same_compiled-prop _ _ },
 }
 
-/// The rules that were compiled so far, those whose texts aren't read among them.
+/// The rules compiled so far, including those whose text doesn't parse.
 ///
-/// No contract says what it holds: each entry carries the proof that it is what its own rule is compiled to.
+/// No contract says which rules it holds. Instead, each entry
+/// carries the proof that it is the compilation of its own rule.
 #[derive(Drop)]
 pub(crate) struct RuleCache {
     alloc: Global,
-    /// In the order of their rules, by which one of them is found.
+    /// Sorted by rule, for binary search.
     entries: RefCell<Vec<Entry>>,
 }
 
-/// The order of a cache: the rule with the shorter text first.
+/// The order of a cache's entries: rules with shorter texts first.
 fn order(rule: &Rule, other: &Rule) -> Ordering {
-    // Asked first, since a test for equal texts is cheaper than their order.
+    // Asked first, because comparing texts for equality is cheaper than ordering them.
     if is_same_rule(rule, other) {
         return Ordering::Equal;
     }
@@ -46,7 +47,7 @@ fn order(rule: &Rule, other: &Rule) -> Ordering {
         .then_with(|| rule.optional_old_self.cmp(&other.optional_old_self))
 }
 
-/// Whether two texts, which may be missing, are the same.
+/// Reports whether two optional texts are equal. The contract only covers true.
 fn is_same_text(text: &Option<String>, other: &Option<String>) -> bool
     ensures { IsTrue result → option_map string_bytes text.now ≡ option_map string_bytes other.now }
 {
@@ -57,7 +58,7 @@ fn is_same_text(text: &Option<String>, other: &Option<String>) -> bool
     }
 }
 
-/// Whether two rules say the same.
+/// Reports whether two rules have equal fields. The contract only covers true.
 fn is_same_rule(rule: &Rule, other: &Rule) -> bool
     ensures { IsTrue result → rule_view rule.now ≡ rule_view other.now }
 {
@@ -70,7 +71,7 @@ fn is_same_rule(rule: &Rule, other: &Rule) -> bool
 }
 
 impl RuleCache {
-    /// A cache without rules.
+    /// Returns an empty cache.
     pub(crate) fn new(alloc: Global) -> RuleCache {
         RuleCache {
             alloc,
@@ -78,7 +79,7 @@ impl RuleCache {
         }
     }
 
-    /// What a rule is compiled to, where it was compiled before.
+    /// Returns the cached compilation of a rule, if there is one.
     fn held(
         &self,
         rule: &Rule,
@@ -98,7 +99,7 @@ impl RuleCache {
         }
     }
 
-    /// Takes an entry in, unless its rule is there.
+    /// Inserts an entry, unless its rule is already there.
     fn hold(&self, entry: Entry) -> Result<(), AllocError> {
         let Ok(mut entries) = self.entries.try_borrow_mut() else {
             return Ok(());
@@ -109,11 +110,12 @@ impl RuleCache {
         }
     }
 
-    /// What the rule that a JSON value gives is compiled to. It is compiled where it wasn't before.
+    /// Returns the compilation of the rule that a JSON value
+    /// holds, compiling the rule if it isn't in the cache.
     ///
     /// # Errors
     ///
-    /// [`Refused`] where memory is refused.
+    /// [`Refused`] if memory is refused.
     #[tactic(auto, unfolding(kube_schema_rules::specs::Compilation::compiled_rule))]
     pub(crate) fn compiled(
         &self,

@@ -1,4 +1,4 @@
-//! The nodes of a schema that was compiled.
+//! The walk's view of a compiled schema.
 ghost use Rattle.cel_patterns.specs.Book.{Extends, Book};
 ghost use Rattle.cel_patterns.specs.Entries.{entries_of};
 ghost use Rattle.cel_semantics.specs.Bindings.{bindings_of};
@@ -24,13 +24,13 @@ use kube_types::Refused;
 use serde_json::Value;
 use std::alloc::Global;
 
-/// A node of a schema that was compiled.
+/// A node of a compiled schema.
 #[derive(Clone, Copy)]
 pub(crate) struct CompiledNode<'a> {
     pub(crate) node: SchemaNode<'a>,
 }
 
-/// The node of the members whose names aren't declared.
+/// The node that `additionalProperties` declares, if any.
 #[tactic(auto, unfolding(crate::specs::CompiledSteps::compiled_steps))]
 fn additional_property<'a>(node: &SchemaNode<'a>) -> Option<SchemaNode<'a>>
     ensures { option_map node_tree result ≡ compiled_steps.additional_property (node_tree node.now) }
@@ -41,7 +41,7 @@ fn additional_property<'a>(node: &SchemaNode<'a>) -> Option<SchemaNode<'a>>
     node.additional_properties()
 }
 
-/// Adds the verdicts of rules that were compiled, in their order.
+/// Adds the verdicts of compiled rules, in order.
 fn add_verdicts(
     rules: &[Result<CompilationResult, CompilationError>],
     context: &Context<'_>,

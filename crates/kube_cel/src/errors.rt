@@ -1,4 +1,4 @@
-//! The answer of a walk from the root on.
+//! The answer of a whole walk.
 ghost use Rattle.cel_patterns.specs.Book.{Extends, Book};
 ghost use Rattle.cel_patterns.specs.Entries.{entries_of};
 ghost use Rattle.kube_cel.specs.Answers.{report_of, answer_view};
@@ -12,7 +12,8 @@ use kube_types::Refused;
 use serde_json::Value;
 use std::alloc::Global;
 
-/// Judges an object that has its defaults, and its old state where there is one, by a schema with this root.
+/// Validates an object that already has its defaults, and its old
+/// object if there is one, by the schema whose root is `node`.
 pub(crate) fn validation_of<N: Node>(
     alloc: Global,
     node: N,

@@ -1,4 +1,4 @@
-//! Laws of validation and of places, each the contract of a call that does nothing.
+//! Laws of validation and of places, each stated as the contract of a function with an empty body.
 ghost use Rattle.cel_patterns.specs.Book.{Book, Extends, IsBook, IsPlain, IsRefused};
 ghost use Rattle.cel_patterns.specs.Entries.{entries_of};
 ghost use Rattle.cel_patterns.specs.declared.book.PatternBook.{PatternBook};
@@ -24,8 +24,8 @@ ghost use Rattle.serde_json.specs.Data.{Data, Items};
 ghost use Rattle.std.specs.List.{list_any};
 ghost use Rattle.std.specs.Prelude.{◌≡◌, ◌+◌, ℕ, List, length, option_map, ◌≤◌, ◌↔◌, Option, Result, Some, false};
 
-/// The places of a schema are those of its tree, in the same order, and the same steps lead to the same
-/// visits: the node is the tree of the schema there.
+/// A schema has the same places as its tree, in the same order, and the same steps lead to
+/// the same visits. The node of a visit in the tree is the tree of the schema's node there.
 pub fn the_tree_has_the_same_places()
     ensures places { (n : ℕ) (s : Visit Data) → places (goes raw_steps) (candidates raw_steps) n s
         ≡ places (goes compiled_steps) (candidates compiled_steps) n (with_node_of (view_of n) s) }
@@ -34,8 +34,8 @@ pub fn the_tree_has_the_same_places()
         ≡ leads (goes compiled_steps) p (with_node_of (view_of (n + length p)) s) }
 {}
 
-/// What is found at all places of a schema is found at all places of its tree,
-/// if at each visit the same is found.
+/// If a schema and its tree have the same findings at each visit,
+/// then they have the same findings at all places together.
 pub fn the_tree_is_answered_alike<E>()
     ensures { (found : Visit Data → List E) (found_in_tree : Visit Node → List E) (levels : ℕ)
         → ((n : ℕ) (s : Visit Data) → s.depth + n ≡ levels → found s
@@ -46,9 +46,9 @@ pub fn the_tree_is_answered_alike<E>()
         (with_node_of (view_of n) s) }
 {}
 
-/// Under one book the tree of a schema, which is what is left of it when it is compiled, answers as the
-/// schema does, also at depth 65: of values that each has filled with its defaults,
-/// and of values as they are.
+/// Under one book, a schema and its tree, which is the form it has when compiled,
+/// have the same answer. This includes depth 65, and holds both for values that
+/// each form has filled with its defaults and for values as they are.
 pub fn a_compiled_schema_answers_alike()
     ensures filled { (b : Book) (schema value : Data) (old : Option Data) (root : Option Root)
         → answer raw_accessors b 65 (defaulted_start schema value old root)
@@ -58,9 +58,9 @@ pub fn a_compiled_schema_answers_alike()
         ≡ answer compiled_accessors b 65 (root_visit (view_of 65 schema) value old root) }
 {}
 
-/// Under one book, rules that are added behind the last one of a node leave all other errors as they were: at
-/// each place stands what was found there before, in the same order, and behind it, at the places of that
-/// node alone, the verdicts of the added rules.
+/// Under one book, appending rules to the list of a node leaves all other errors
+/// as they were: at each place the same errors stand in the same order, followed,
+/// at the places of that node alone, by the verdicts of the added rules.
 pub fn added_rules_leave_all_other_errors()
     ensures { (b : Book) (schema value : Data) (old : Option Data)
         (root : Option Root) (more : Items) (node : List NodeStep)
@@ -69,8 +69,8 @@ pub fn added_rules_leave_all_other_errors()
         (answer raw_accessors b 65 (defaulted_start (with_rules more node schema) value old root)) }
 {}
 
-/// What is answered rests on a book only by which texts the book refuses, whatever form the schema has. So
-/// all plain books give one list.
+/// An answer depends on a book only through the set of texts that the book
+/// refuses, in either form of the schema. So all plain books give one list.
 pub fn books_that_refuse_alike_give_one_list<S>()
     ensures alike { (a b : Book) → ((text : List ℕ) → IsRefused a text ↔ IsRefused b text)
         → (form : WalkAccessors S) (root : Visit S) → answer form a 65 root ≡ answer form b 65 root }
@@ -78,9 +78,9 @@ pub fn books_that_refuse_alike_give_one_list<S>()
         → (form : WalkAccessors S) (root : Visit S) → answer form a 65 root ≡ answer form b 65 root }
 {}
 
-/// One book that is lent to two calls, by the schema and by its tree in either order, gives one list: what
-/// the first call answers holds under each book that has the entries between the calls,
-/// and the book has them also at the end.
+/// If one book is lent to two calls, one by the schema and one by its tree, in either
+/// order, both give one list. The first answer holds under each book that extends the
+/// lent one as it is between the calls, and the lent book at the end is such a book.
 pub fn one_lent_book_gives_one_list()
     ensures tree_second { (between after : Book) (schema value : Data)
         (old : Option Data) (root : Option Root)
@@ -99,8 +99,8 @@ pub fn one_lent_book_gives_one_list()
         → first ≡ second }
 {}
 
-/// Where a lent book refuses at the end only what reads as no pattern,
-/// the call has answered what every plain book gives.
+/// If a lent book, as it is after the call, refuses only texts that don't read
+/// as patterns, the call has returned the answer that every plain book gives.
 pub fn a_plain_lent_book_gives_the_plain_list<S>()
     ensures { (lent : PatternBook) (plain : Book) → IsPlain (entries_of lent) → IsBook plain → IsPlain plain
         → (form : WalkAccessors S) (root : Visit S) (answered : Result (Unit {0}) (List ErrorData))
@@ -108,10 +108,11 @@ pub fn a_plain_lent_book_gives_the_plain_list<S>()
         → answered ≡ report_of (answer form plain 65 root) }
 {}
 
-/// What `self` is at a place is the part of the root's `self` that CEL finds along the steps: at each step
-/// the member at the property's name (escaped, but in a map), or the item at the index. Steps to branches
-/// stay at the value, whose node then binds it anew: they are left out. The same holds of `oldSelf`, where
-/// there is one. So a value that was bound at the root need not be bound again at the places within it.
+/// The value of `self` at a place is the part of the root's `self` that CEL finds along the
+/// steps: at each step the member at the property's name (escaped, except in a map node),
+/// or the item at the index. Paths with steps to branches are left out, because a branch
+/// binds the same value anew by its own node. The same holds of `oldSelf`, if there is one.
+/// So a value that was bound at the root need not be bound again at the places within it.
 pub fn self_is_the_part_of_the_roots()
     ensures schema { (root place : Visit Data) (steps : List Step)
         → root.depth + length steps ≤ 65 → list_any is_branch steps ≡ false

@@ -1,16 +1,16 @@
-//! Validation of Kubernetes objects by the CEL rules of their schemas
-//! (`x-kubernetes-validations`), without an API server.
+//! Validation of Kubernetes objects by the CEL rules of their
+//! schemas (`x-kubernetes-validations`), without an API server.
 //!
-//! In go a schema (a custom resource's `openAPIV3Schema`) and an object, as JSON, and the old object where
-//! there is one. Out come the errors, each with its field.
-//! A rule that can't be read or evaluated is an error, never a pass.
+//! The input is a schema (a custom resource's `openAPIV3Schema`) and an object, as
+//! JSON, and the old object if there is one. The output is a list of errors, each with
+//! its field. A rule that can't be parsed or evaluated is an error, never a pass.
 //!
 //! ```rust
 //! use kube_cel::{Refused, validate};
 //! use serde_json::Value;
 //! use std::alloc::Global;
 //!
-//! /// Why an object is denied; `None` where it is admitted.
+//! /// Why an object is denied; `None` if it is admitted.
 //! fn denial(alloc: Global, schema: &Value, object: &Value) -> Result<Option<String>, Refused> {
 //!     match validate(alloc, schema, object, None)? {
 //!         Ok(()) => Ok(None),
@@ -19,14 +19,15 @@
 //! }
 //! ```
 //!
-//! [`Validator`] has all forms of the call: with a root context, with a lent book of patterns, by a schema
-//! compiled once. Besides there are policies ([`VapEvaluator`]), the analysis of rules ([`analyze_rule`]) and
-//! a linter ([`lint_schema`]).
+//! [`Validator`] has all forms of the call: with a root context, with a lent book of
+//! patterns, and by a compiled schema. The crate also evaluates policies ([`VapEvaluator`]),
+//! analyzes rules ([`analyze_rule`]) and lints schemas ([`lint_schema`]).
 //!
-//! Proved: `validate` and each call of [`Validator`] answer exactly one list of errors, unless there is no
-//! memory: for every place that schema and defaulted object share, in order, the errors of the rules there,
-//! and one error where they go on past depth 64; `Ok` exactly where that list is empty. The clause is
-//! `answer`; `specs/Answers.antt` begins what it says.
+//! Proved: unless memory is refused, `validate` and each call of [`Validator`]
+//! return exactly one list of errors: for every place that schema and defaulted
+//! object share, in order, the errors of the rules there, and one error at each
+//! place where both go on past depth 64. They return `Ok` exactly if that list is
+//! empty. The clause is `answer`, whose definition begins in `specs/Answers.antt`.
 #![tactic(auto)]
 
 mod branches;

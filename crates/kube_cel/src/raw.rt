@@ -1,4 +1,4 @@
-//! The nodes of a schema as JSON.
+//! The walk's view of a schema as JSON.
 ghost use Rattle.cel_demand.specs.Demand.{part_of};
 ghost use Rattle.cel_demand.specs.Part.{both_read};
 ghost use Rattle.cel_patterns.specs.Book.{Extends, Book};
@@ -28,14 +28,14 @@ use kube_types::Refused;
 use serde_json::Value;
 use std::alloc::Global;
 
-/// A node of a schema as JSON, with the rules that were compiled so far.
+/// A node of a schema as JSON, with the cache of rules compiled so far.
 #[derive(Clone, Copy)]
 pub(crate) struct JsonNode<'a> {
     pub(crate) schema: &'a Value,
     pub(crate) cache: &'a RuleCache,
 }
 
-/// The schema of a declared name.
+/// The schema that `properties` declares for a name, if any.
 #[tactic(auto, unfolding(kube_schema_rules::specs::Raw::declared_property))]
 fn declared<'a>(node: &'a Value, key: &str) -> Option<&'a Value>
     ensures { option_map (λ v. view v.now) result ≡ declared_property key.now (view node.now) }
@@ -43,7 +43,8 @@ fn declared<'a>(node: &'a Value, key: &str) -> Option<&'a Value>
     node.get("properties")?.get(key)
 }
 
-/// The schema of all names that aren't declared.
+/// The schema under `additionalProperties`, if that is an
+/// object and the node doesn't preserve unknown fields.
 #[tactic(auto, unfolding(kube_schema_rules::specs::Raw::undeclared_property))]
 fn undeclared(node: &Value) -> Option<&Value>
     ensures { option_map (λ v. view v.now) result ≡ undeclared_property (view node.now) }
@@ -63,7 +64,7 @@ fn undeclared(node: &Value) -> Option<&Value>
     }
 }
 
-/// The branches of a keyword.
+/// The branches under a keyword, if it holds a list.
 fn branches_of(node: &Value, kind: BranchKind) -> Option<&Vec<Value>>
     ensures { option_map (λ v. items_view v.now.items) result
         ≡ option_and_then as_array (get (keyword kind) (view node.now)) }
@@ -71,7 +72,7 @@ fn branches_of(node: &Value, kind: BranchKind) -> Option<&Vec<Value>>
     node.get(kind.keyword())?.as_array()
 }
 
-/// What a rule reads or what is read besides.
+/// Adds what a rule reads to these demands.
 fn with_demands(
     alloc: Global,
     rule: &Value,
@@ -91,7 +92,7 @@ fn with_demands(
     Ok(more)
 }
 
-/// What rules read as JSON gives them.
+/// Returns what the rules in a JSON list read.
 fn demands_of(alloc: Global, rules: &[Value], cache: &RuleCache) -> Result<Demands, Refused>
     ensures demands { IfOk result
         (λ d. AreDemands d (λ x. rules_read x (compiled_rules (items_view rules.now)))) }
@@ -106,7 +107,7 @@ fn demands_of(alloc: Global, rules: &[Value], cache: &RuleCache) -> Result<Deman
     Ok(demands)
 }
 
-/// Adds the verdict of a rule as JSON gives it, if it has one.
+/// Adds the verdict of the rule in a JSON value, if it is an error.
 fn add_raw_verdict(
     rule: &Value,
     cache: &RuleCache,
@@ -126,7 +127,7 @@ fn add_raw_verdict(
     add_verdict(&compiled, context, old, path, book, errors)
 }
 
-/// Adds the verdicts of rules as JSON gives them, in their order.
+/// Adds the verdicts of the rules in a JSON list, in order.
 fn add_verdicts(
     rules: &[Value],
     cache: &RuleCache,

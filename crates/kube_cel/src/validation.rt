@@ -1,4 +1,4 @@
-//! The validation of an object by the rules of its schema.
+//! Validation of an object by the rules of its schema.
 ghost use Rattle.cel_patterns.specs.Book.{Extends, Book};
 ghost use Rattle.cel_patterns.specs.Entries.{entries_of};
 ghost use Rattle.kube_cel.specs.Answers.{found_in, report_of, answer_view, IsReportOf};
@@ -22,24 +22,24 @@ use kube_types::Refused;
 use serde_json::Value;
 use std::alloc::Global;
 
-/// Judges objects by the CEL rules of their schemas (`x-kubernetes-validations`).
-/// It keeps nothing from call to call.
+/// Validates objects by the CEL rules of their schemas
+/// (`x-kubernetes-validations`). It keeps no state between calls.
 #[derive(Clone, Copy, Debug, Default, PartialEq, Eq)]
 pub struct Validator;
 
 impl Validator {
-    /// A validator. There is one such value alone, so that no contract distinguishes it from
-    /// another. It takes no memory.
+    /// Returns the validator. The type has a single value, so no contract
+    /// needs to distinguish one from another. Allocates nothing.
     pub fn new() -> Validator {
         Validator
     }
 
-    /// Judges an object, and its old state where there is one: all errors of all rules, in order,
-    /// or `Ok` where there is none.
+    /// Validates an object by the rules of a schema, with the old object if
+    /// there is one. Returns all errors, in order, or `Ok` if there are none.
     ///
     /// # Errors
     ///
-    /// [`Refused`] where memory is refused.
+    /// [`Refused`] if memory is refused.
     pub fn validate(
         &self,
         alloc: Global,
@@ -54,11 +54,11 @@ impl Validator {
         self.validate_with_context(alloc, schema, object, old, None)
     }
 
-    /// As `validate`, with what is known of the whole object, which its rules at the root may ask.
+    /// Validates like `validate`, with a root context that the rules at the root may read.
     ///
     /// # Errors
     ///
-    /// [`Refused`] where memory is refused.
+    /// [`Refused`] if memory is refused.
     pub fn validate_with_context(
         &self,
         alloc: Global,
@@ -75,12 +75,12 @@ impl Validator {
         self.validate_in(alloc, schema, object, old, root, &mut book)
     }
 
-    /// As `validate_with_context`, with a lent book of patterns,
-    /// which holds afterwards what it held and perhaps more.
+    /// Validates like `validate_with_context`, with a lent book of patterns.
+    /// Afterwards the book has all the entries that it had, and perhaps more.
     ///
     /// # Errors
     ///
-    /// [`Refused`] where memory is refused.
+    /// [`Refused`] if memory is refused.
     pub fn validate_in(
         &self,
         alloc: Global,
@@ -113,11 +113,11 @@ impl Validator {
         Ok(answer)
     }
 
-    /// As `validate`, by a schema that was compiled.
+    /// Validates like `validate`, by a compiled schema.
     ///
     /// # Errors
     ///
-    /// [`Refused`] where memory is refused.
+    /// [`Refused`] if memory is refused.
     pub fn validate_compiled(
         &self,
         alloc: Global,
@@ -132,11 +132,12 @@ impl Validator {
         self.validate_compiled_with_context(alloc, compiled, object, old, None)
     }
 
-    /// As `validate_with_context`, by a schema that was compiled: it answers as the schema itself does.
+    /// Validates like `validate_with_context`, by a compiled
+    /// schema: the answer is that of the schema itself.
     ///
     /// # Errors
     ///
-    /// [`Refused`] where memory is refused.
+    /// [`Refused`] if memory is refused.
     pub fn validate_compiled_with_context(
         &self,
         alloc: Global,
@@ -153,11 +154,12 @@ impl Validator {
         self.validate_compiled_in(alloc, compiled, object, old, root, &mut book)
     }
 
-    /// As `validate_in`, by a schema that was compiled: with one book lent to both, both answer alike.
+    /// Validates like `validate_in`, by a compiled schema. With
+    /// one book lent to both calls, both give the same answer.
     ///
     /// # Errors
     ///
-    /// [`Refused`] where memory is refused.
+    /// [`Refused`] if memory is refused.
     pub fn validate_compiled_in(
         &self,
         alloc: Global,
@@ -192,11 +194,11 @@ impl Validator {
         Ok(answer)
     }
 
-    /// Equal to `validate`: defaults always count.
+    /// Same as `validate`, which always applies defaults.
     ///
     /// # Errors
     ///
-    /// [`Refused`] where memory is refused.
+    /// [`Refused`] if memory is refused.
     pub fn validate_with_defaults(
         &self,
         alloc: Global,
@@ -211,11 +213,11 @@ impl Validator {
         self.validate(alloc, schema, object, old)
     }
 
-    /// Equal to `validate_with_context`: defaults always count.
+    /// Same as `validate_with_context`, which always applies defaults.
     ///
     /// # Errors
     ///
-    /// [`Refused`] where memory is refused.
+    /// [`Refused`] if memory is refused.
     pub fn validate_with_defaults_and_context(
         &self,
         alloc: Global,
@@ -232,11 +234,11 @@ impl Validator {
     }
 }
 
-/// Judges an object by a validator that is made for this call.
+/// Validates an object by the rules of a schema, like [`Validator::validate`].
 ///
 /// # Errors
 ///
-/// [`Refused`] where memory is refused.
+/// [`Refused`] if memory is refused.
 pub fn validate(
     alloc: Global,
     schema: &Value,
@@ -250,11 +252,11 @@ pub fn validate(
     Validator::new().validate(alloc, schema, object, old)
 }
 
-/// Judges an object by a schema that was compiled and a validator that is made for this call.
+/// Validates an object by a compiled schema, like [`Validator::validate_compiled`].
 ///
 /// # Errors
 ///
-/// [`Refused`] where memory is refused.
+/// [`Refused`] if memory is refused.
 pub fn validate_compiled(
     alloc: Global,
     compiled: &CompiledSchema,

@@ -1,4 +1,4 @@
--- The names of a tree as lists, in order: there is always such a list.
+-- The names of a tree as lists, in order: such lists always exist.
 use Rattle.std.proofs.Common.{◌≡◌, ℕ, List, [], ◌∷◌, ◌++◌, Bool, true, false, not, ◌&&◌, ◌||◌, Ordering, Less, Equal, Greater, refl, sym, ap, ◌∙◌}
 use Rattle.std.proofs.lemmas.List.Folds.{list_any-append}
 use Rattle.std.proofs.lemmas.Map.Views.{any-filter_same}
@@ -162,7 +162,7 @@ mutual
 pub free_names : (t : Term) → (names : List (List ℕ)) × AreNames names (λ x. is_free x t)
 free_names t = (in_order (frees t), record { ascending = keys_sorted (frees t); exactly = λ x. ordered_any x (frees t) ∙ free_here x t })
 
--- ---- all trees at once
+-- ---- for all trees at once
 
 pub naming : Naming
 naming = record { called = λ t. (called_names t).0; free = λ t. (free_names t).0; called_are = λ t. (called_names t).1; free_are = λ t. (free_names t).1 }

@@ -26,7 +26,7 @@ use Rattle.std.specs.List.{AllByRecursion, flat_map}
 use Rattle.std.specs.List.Sorted.{IsStrictlySortedBy}
 use Rattle.std.specs.Ordering.{match_ordering, ordering_reverse}
 
--- ---- nodes whose properties are in name order
+-- ---- nodes whose properties are in the order of names
 
 abbrev mutual
   pub IsOrdered : Node → Type 0
@@ -210,7 +210,7 @@ steps_short (p ∷ steps) n h = by (goes p n) refl h (λ m. steps_short steps m)
     by None e h rec = cc
     by (Some m) e h rec = let short = rec m h in let falls = step_falls p n m e in omega (arith, short, falls)
 
--- ---- what is found from a node on
+-- ---- the findings from a node on
 
 module _ (naming : Naming) where
   abbrev found_from : ℕ → At → List Finding
@@ -335,6 +335,6 @@ pub schema_ordered : (schema : CompiledSchema) → IsOrdered (whole schema)
 unfolding whole tree
 schema_ordered schema = tree_ordered (length schema.table.nodes.items) schema.table.nodes.items schema.table.ordered 0
 
--- what is found of a compiled schema is found at all of its nodes
+-- the findings of a compiled schema are those at all of its nodes
 pub schema_found : (naming : Naming) (schema : CompiledSchema) → AreFoundAtNodes naming (whole schema) (findings naming [] (whole schema))
 schema_found naming schema = found_at_all naming (whole schema) (schema_ordered schema)

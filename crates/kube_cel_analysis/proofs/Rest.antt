@@ -1,4 +1,4 @@
--- What is left of the properties of a node, behind the first ones.
+-- The properties of a node that are left after the first ones.
 use Rattle.std.proofs.Common.{◌≡◌, ◌∙◌, ◌+◌, ◌≤◌, ℕ, zero, suc, List, length, Option, Some, None, refl, sym, ap, add-one, arith, Bool, false, ◌||◌, unwrap_or}
 use Rattle.kube_schema.specs.Tree.{Node, Named, no_named, named, names, nth_named}
 use Rattle.kube_cel_analysis.specs.Bounds.{first_bound, is_unbounded, has_unbounded}
@@ -46,7 +46,7 @@ no_bound_at f i ns e = ap (first_bound f) (sym (rest_none i ns e))
 pub no_bound_past : (f : Node → Option ℕ) (i : ℕ) (ns : Named) → length (names ns) ≤ i → 1000 ≡ first_bound f (rest i ns)
 no_bound_past f i ns h = ap (first_bound f) (sym (rest_past i ns h))
 
--- ---- lists of any length among them
+-- ---- unbounded lists among them
 
 pub unbounded_at : (i : ℕ) (ns : Named) (k : List ℕ) (n : Node) (b : Bool) → Some (k, n) ≡ nth_named i ns → is_unbounded n ≡ b → (b || has_unbounded (rest (i + 1) ns)) ≡ has_unbounded (rest i ns)
 unbounded_at i ns k n b e h = ap (λ b. b || has_unbounded (rest (i + 1) ns)) (sym h) ∙ ap has_unbounded (sym (rest_at i ns k n e))

@@ -1,4 +1,4 @@
--- What is found of one rule, part by part.
+-- The findings of one rule, part by part.
 use Rattle.std.proofs.Common.{◌≡◌, ℕ, List, [], ◌∷◌, ◌++◌, map, Some, refl, ap, ◌∙◌, subst, append_assoc}
 use Rattle.cel_syntax.specs.CallNames.{is_called}
 use Rattle.cel_syntax.specs.Names.{AreNames}
@@ -22,7 +22,7 @@ mapped : (p : List ℕ) (ws : List AnalysisWarning) → map (λ w. warning_findi
 mapped p [] = refl
 mapped p (w ∷ ws) = ap (λ fs. warning_finding p (warning_view w) ∷ fs) (mapped p ws)
 
--- which functions there aren't, then what is warned of
+-- the unknown functions, then the warnings
 pub rule_reported : (names : Naming) (p rule text : List ℕ) (n : Node) (t u : Term) (called shown_called : List (List ℕ)) (ws : List AnalysisWarning) (e0 e1 e2 : List Finding)
     → text ≡ rule → u ≡ t → shown_called ≡ called → AreNames called (λ x. is_called x t)
     → AreWarnings CrdValidation text n (Some u) (map warning_view ws)

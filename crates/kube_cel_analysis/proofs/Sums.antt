@@ -1,10 +1,10 @@
--- Sums that are cut.
+-- Saturating sums.
 use native.Mathlib.Omega.{arith}
 use Rattle.std.proofs.Common.{◌≡◌, ℕ}
 use Rattle.cel_syntax_ast.specs.Term.{Terms, no_terms, term_and}
 use Rattle.kube_cel_analysis.specs.Cost.{Sizes, cost_of_all, sum}
 
--- what is added in turn
+-- saturating addition is associative
 pub sum_on : (a b c : ℕ) → sum (sum a b) c ≡ sum a (sum b c)
 unfolding sum
 sum_on a b c = omega arith

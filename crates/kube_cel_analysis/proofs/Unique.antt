@@ -1,4 +1,4 @@
--- Names in order are determined by which they are.
+-- Two sorted lists with the same names are equal.
 use Rattle.std.proofs.Common.{◌≡◌, ℕ, List, [], ◌∷◌, Bool, true, false, ◌||◌, Ordering, Less, Equal, Greater, nat_cmp, is_eq, refl, sym, ap, ◌∙◌, subst}
 use Rattle.std.proofs.lemmas.Cmp.{nat_list_cmp_total}
 use Rattle.std.proofs.lemmas.Map.Text.{is_eq-slice_cmp}
@@ -30,15 +30,15 @@ below_all : (x y : List ℕ) (ys : List (List ℕ)) → name_cmp x y ≡ Less �
 below_all x y [] e h = tt
 below_all x y (z ∷ ys) e h = (nat_list_cmp_total.trans x y z e h.0, below_all x y ys e h.1)
 
--- the first of a list is in it
+-- the first name of a list is in it
 first_in : (x : List ℕ) (xs : List (List ℕ)) → list_any (bytes_eq x) (x ∷ xs) ≡ true
 first_in x xs = ap (λ b. b || list_any (bytes_eq x) xs) (itself x)
 
--- a name below the first of a list in order isn't in it
+-- a name below the first of a sorted list isn't in it
 not_in : (x y : List ℕ) (ys : List (List ℕ)) → name_cmp x y ≡ Less → AllByRecursion (λ z. name_cmp y z ≡ Less) ys → list_any (bytes_eq x) (y ∷ ys) ≡ false
 not_in x y ys e h = below_out x (y ∷ ys) (e, below_all x y ys e h)
 
--- without their first, lists that agree still agree
+-- sorted lists with the same names and the same first name have the same names after it
 rest_agrees : (x : List ℕ) (xs ys : List (List ℕ)) → AllByRecursion (λ z. name_cmp x z ≡ Less) xs → AllByRecursion (λ z. name_cmp x z ≡ Less) ys
     → ((z : List ℕ) → list_any (bytes_eq z) (x ∷ xs) ≡ list_any (bytes_eq z) (x ∷ ys)) → (z : List ℕ) → list_any (bytes_eq z) xs ≡ list_any (bytes_eq z) ys
 rest_agrees x xs ys hx hy e z = by (bytes_eq z x) refl
@@ -65,6 +65,6 @@ lists_alike (x ∷ xs) (y ∷ ys) hx hy e = by (name_cmp x y) refl (λ h. lists_
         let e0 : (z : List ℕ) → list_any (bytes_eq z) (x ∷ xs) ≡ list_any (bytes_eq z) (x ∷ ys) = λ z. e z ∙ ap (λ w. list_any (bytes_eq z) (w ∷ ys)) same in
         ap (λ w. w ∷ xs) (sym same) ∙ ap (λ ws. y ∷ ws) (r (rest_agrees x xs ys hx.0 hy0 e0))
 
--- one list alone has exactly these names in order
+-- sorted lists of exactly these names are equal
 pub names_alike : (xs ys : List (List ℕ)) (has : List ℕ → Bool) → AreNames xs has → AreNames ys has → xs ≡ ys
 names_alike xs ys has hx hy = lists_alike xs ys hx.ascending hy.ascending (λ z. hx.exactly z ∙ sym (hy.exactly z))

@@ -1,4 +1,5 @@
--- What is found at a node, part by part, and that the nodes within a node are fewer.
+-- The findings at a node, part by part; and that the
+-- nodes within a node are fewer than those of the node.
 use Rattle.std.proofs.Common.{◌≡◌, ◌<◌, ◌≤◌, ◌+◌, ℕ, zero, suc, List, ◌++◌, length, Option, Some, None, refl, sym, ap, ◌∙◌, add-one, append_assoc, append-nil, arith}
 use Rattle.kube_cel_analysis.proofs.Rest.{rest, rest_at, rest_none, rest_past}
 use Rattle.kube_cel_analysis.specs.Findings.{Finding, Naming, rules_findings}
@@ -115,7 +116,7 @@ module _ (names : Naming) (p : List ℕ) where
   regroup : (a v q i x l o n : List Finding) → (((((((a ++ v) ++ q) ++ i) ++ x) ++ l) ++ o) ++ n) ≡ a ++ (v ++ (q ++ (i ++ (x ++ (l ++ (o ++ n))))))
   regroup a v q i x l o n = simp append_assoc
 
-  -- what the calls at one node find, in turn, is what is found there
+  -- what the calls at one node add, one after the other, is the findings there
   pub gathered : (m : Node) (e0 e1 e2 e3 e4 e5 e6 e7 : List Finding)
       → e1 ≡ e0 ++ rules_findings names p m (own m).validations
       → e2 ≡ e1 ++ named_findings names p (named_of m)

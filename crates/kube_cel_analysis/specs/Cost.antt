@@ -1,7 +1,7 @@
 -- Trusted by the clauses of analysis and linter.
--- What an expression is estimated to cost, over the greatest sizes that a schema allows (Kubernetes
--- documentation, "Resource use by validation functions": cost grows with the lists and texts that a rule goes
--- over). Each sum and product is cut at the greatest number of 64 bits.
+-- The estimated cost of an expression, for the greatest sizes that a schema allows
+-- (Kubernetes documentation, "Resource use by validation functions": cost grows with
+-- the lists and strings that a rule goes over). Sums and products saturate at 64 bits.
 use Rattle.std.specs.Prelude.{ℕ, ◌+◌, ◌*◌, ◌-◌, ◌^◌, ◌/◌, min, max, List, [], ◌∷◌, codes, Bool, true, false, if◌then◌else◌}
 use Rattle.std.specs.List.{list_any}
 use Rattle.std.specs.Str.{bytes_eq}
@@ -11,19 +11,20 @@ use Rattle.cel_syntax_ast.specs.Term.{Term, literal, ident, select, has, index, 
 
 -- the greatest sizes that a schema allows
 pub record Sizes : Type 0 where
-  -- how many items a list has at most
+  -- the greatest number of items of a list
   pub items : ℕ
-  -- how long a text is at most
+  -- the greatest length of a string
   pub length : ℕ
 
--- a sum and a product, each cut at the greatest number of 64 bits
+-- sum and product, both saturating at 64 bits
 unfoldable pub sum : ℕ → ℕ → ℕ
 sum a b = min (a + b) (2 ^ 64 - 1)
 
 unfoldable pub product : ℕ → ℕ → ℕ
 product a b = min (a * b) (2 ^ 64 - 1)
 
--- the functions that go over a whole text; of the names with a dot one ends alike
+-- the functions whose cost grows with the length of a string; among the
+-- names with a dot only `sets.contains`, which ends like one of them
 unfoldable pub reads_text : List ℕ → Bool
 reads_text name = list_any (bytes_eq name) (
     codes "contains"
@@ -39,7 +40,7 @@ reads_text name = list_any (bytes_eq name) (
     ∷ codes "sets.contains"
     ∷ [])
 
--- what a call costs beside its parts: it goes over ten characters at a time
+-- the cost of a call without its operands; a string costs one for every ten characters
 abbrev pub call_cost : Sizes → List ℕ → ℕ
 call_cost s name = if reads_text name then 1 + s.length / 10 else 1
 
@@ -47,7 +48,8 @@ abbrev pub is_there : Terms → Bool
 is_there no_terms = false
 is_there (term_and t ts) = true
 
--- what a macro adds to its parts for each item; `map` more where it has a filter
+-- the cost per item that a macro adds to that of its
+-- filter and body; `map` costs more with a filter
 abbrev pub step_cost : MacroKind → Bool → ℕ
 step_cost All is_filtered = 2
 step_cost Exists is_filtered = 2
@@ -57,8 +59,9 @@ step_cost Map false = 2
 step_cost Map true = 4
 
 abbrev mutual
-  -- a literal, a name, a map: one; all else one and its parts, but a list, which costs its items alone and at
-  -- least one, and a macro, which costs its filter and body and its step for each item of the longest list
+  -- A literal, a name and a map cost 1. A list costs the sum of its items, but at least 1. A
+  -- macro costs its filter, its body and its step for each item of the longest list; its range
+  -- isn't counted. Anything else costs 1, or the cost of its call, and the sum of its operands.
   pub cost : Sizes → Term → ℕ
   cost s (literal v) = 1
   cost s (ident x) = 1
@@ -71,7 +74,7 @@ abbrev mutual
   cost s (list_of ts) = max 1 (cost_of_all s ts)
   cost s (map_with ps) = 1
   cost s (call target name ts) = sum (call_cost s name) (sum (cost_of_all s target) (cost_of_all s ts))
-  -- what stands before the dot counts as a name
+  -- what stands before the dot costs as a name
   cost s (qualified name ts) = sum (call_cost s name) (sum 1 (cost_of_all s ts))
   cost s (macro k r x f b) =
       product s.items (sum (step_cost k (is_there f)) (sum (cost_of_all s f) (cost s b)))

@@ -1,6 +1,6 @@
 -- Trusted by the clauses of analysis and linter.
--- The warnings of a rule's cost at a node of a schema (Kubernetes documentation, "Resource use by validation
--- functions"), and all warnings of the rule.
+-- The warnings of a rule's cost at a node of a schema (Kubernetes documentation,
+-- "Resource use by validation functions"), and all warnings of the rule.
 use Rattle.std.specs.Prelude.{◌≡◌, ℕ, List, [], ◌∷◌, ◌++◌, Bool, true, false, ◌&&◌, Option, Some, None, if◌then◌else◌, codes, decimal, nat_lt}
 use Rattle.cel_syntax_ast.specs.Term.{Term, literal, ident, select, has, index, unary, binary, conditional, list_of, map_with, call, qualified, macro}
 use Rattle.kube_cel_analysis.specs.Cost.{cost}
@@ -27,11 +27,11 @@ bounds_warning rule = record {
   kind = MissingBounds;
 }
 
--- a rule may cost a million
+-- the budget of a rule is a million
 abbrev pub cost_warnings : List ℕ → ℕ → List Warning
 cost_warnings rule c = if nat_lt 1000000 c then cost_warning rule c ∷ [] else []
 
--- whether the whole goes over a list; the test `has` doesn't
+-- the expression as a whole is a macro over a list; `has` isn't one
 abbrev pub is_macro : Term → Bool
 is_macro (literal v) = false
 is_macro (ident x) = false
@@ -50,16 +50,16 @@ is_macro (macro k r x f b) = true
 abbrev pub bounds_warnings : List ℕ → Node → Term → List Warning
 bounds_warnings rule n t = if is_macro t && has_unbounded (named_of n) then bounds_warning rule ∷ [] else []
 
--- of the cost, then of the bounds, of a rule of this text and tree
+-- the warnings of the cost, then those of the bounds, for a rule with this text and tree
 unfoldable pub estimates : List ℕ → Node → Term → List Warning
 estimates rule n t = cost_warnings rule (cost (sizes_of n) t) ++ bounds_warnings rule n t
 
--- a text that has no tree costs nothing
+-- a text without a tree gives no warnings
 abbrev pub text_estimates : List ℕ → Node → Option Term → List Warning
 text_estimates rule n None = []
 text_estimates rule n (Some t) = estimates rule n t
 
--- exactly all warnings: of the names, then of the cost, then of the bounds
+-- the list is exactly all warnings: of the names, then of the cost, then of the bounds
 abbrev pub AreWarnings : ScopeContext → List ℕ → Node → Option Term → List Warning → Type 0
 AreWarnings scope rule n tree found =
     (reported : List Warning) × AreScopeWarnings scope rule tree reported

@@ -1,6 +1,6 @@
 -- Trusted by the clauses of analysis and linter.
--- The findings of the rules of one node: why a rule isn't compiled, which functions it calls that there
--- aren't, what an analysis warns of.
+-- The findings of the rules of one node: why a rule doesn't compile,
+-- which unknown functions it calls, and the warnings of its analysis.
 use Rattle.std.specs.Prelude.{ℕ, List, [], ◌∷◌, ◌++◌, map, Bool, true, false, Result, Ok, Err, if◌then◌else◌, codes, string_bytes}
 use Rattle.std.specs.List.{flat_map}
 use Rattle.cel_semantics.specs.declared.functions.Form.{Form}
@@ -36,7 +36,7 @@ finding_view f = record {
   message = string_bytes f.message;
 }
 
--- ---- a rule that isn't compiled
+-- ---- a rule that doesn't compile
 
 abbrev pub kind_of_error : Malformed → LintKind
 kind_of_error (unread rule) = Compile
@@ -44,7 +44,7 @@ kind_of_error (unread_message rule m) = Compile
 kind_of_error (invalid f) = Compile
 kind_of_error (past_depth n) = Depth
 
--- the text of the rule, where there is one
+-- the text of the rule; empty if there is none
 abbrev pub rule_of_error : Malformed → List ℕ
 rule_of_error (unread rule) = rule
 rule_of_error (unread_message rule m) = rule
@@ -66,7 +66,7 @@ is_unknown_form Unknown = true
 is_unknown_form Wrong = false
 is_unknown_form Known = false
 
--- whether no function of CEL or Kubernetes has this name
+-- no function of CEL or Kubernetes has this name
 unfoldable pub is_unknown : List ℕ → Bool
 is_unknown name = is_unknown_form (all_library.form_of name false 0)
 
@@ -81,12 +81,12 @@ unknown_finding p rule name = record {
 abbrev pub name_findings : List ℕ → List ℕ → List ℕ → List Finding
 name_findings p rule name = if is_unknown name then unknown_finding p rule name ∷ [] else []
 
--- of these names, in their order
+-- the findings of these names, in order
 abbrev pub names_findings : List ℕ → List ℕ → List (List ℕ) → List Finding
 names_findings p rule [] = []
 names_findings p rule (n ∷ ns) = name_findings p rule n ++ names_findings p rule ns
 
--- ---- what an analysis warns of
+-- ---- the warnings of an analysis
 
 abbrev pub kind_of_warning : WarningKind → LintKind
 kind_of_warning WrongScope = Scope
@@ -103,15 +103,15 @@ warning_finding p w = record {
 
 -- ---- all rules of a node
 
--- the names of each tree, those of its calls and its free ones, each once and in order:
--- there is one such list of each tree
+-- for each tree, the names of its calls and its free names,
+-- each once and in order: each tree has exactly one such list
 pub record Naming : Type 0 where
   pub called : Term → List (List ℕ)
   pub free : Term → List (List ℕ)
   pub called_are : (t : Term) → AreNames (called t) (λ x. is_called x t)
   pub free_are : (t : Term) → AreNames (free t) (λ x. is_free x t)
 
--- all warnings of a rule with this node as the root of a schema
+-- all warnings of a rule, with this node as the root of a schema
 abbrev pub warnings_at : Naming → List ℕ → Node → Term → List Warning
 warnings_at names rule n t = names_warnings CrdValidation rule (names.free t) ++ estimates rule n t
 
@@ -124,6 +124,6 @@ abbrev pub rule_findings : Naming → List ℕ → Node → Result Compiled Malf
 rule_findings names p n (Ok c) = compiled_findings names p n c
 rule_findings names p n (Err m) = error_finding p m ∷ []
 
--- rule by rule, in their order
+-- the findings of rules, in order
 abbrev pub rules_findings : Naming → List ℕ → Node → List (Result Compiled Malformed) → List Finding
 rules_findings names p n rs = flat_map (rule_findings names p n) rs

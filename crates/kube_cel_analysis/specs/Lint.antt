@@ -1,7 +1,7 @@
 -- Trusted by the clauses of analysis and linter.
--- The findings of all rules of a schema: those of a node before those of the nodes within it, and these in
--- the order in which Kubernetes' walk over an object takes them (properties by name, list items, other keys,
--- the branches of allOf, oneOf and anyOf).
+-- The findings of all rules of a schema: those of a node before those of the nodes within
+-- it, and these in the order in which Kubernetes' walk over an object visits them
+-- (properties by name, list items, undeclared keys, the branches of allOf, oneOf and anyOf).
 use Rattle.std.specs.Prelude.{ℕ, suc, List, [], ◌++◌, Option, Some, None}
 use Rattle.kube_cel_analysis.specs.Findings.{Finding, Naming, rules_findings}
 use Rattle.kube_cel_analysis.specs.Pointers.{property_pointer, items_pointer, additional_pointer, branch_pointer}
@@ -10,7 +10,7 @@ use Rattle.kube_schema_rules.specs.declared.branches.BranchKind.TheVariants.{All
 use Rattle.kube_schema.specs.Tree.{Node, node, Maybe, nothing, just, Named, no_named, named, Nodes, no_nodes, more, all_of, one_of, any_of}
 
 unfoldable mutual
-  -- of a node at this pointer
+  -- the findings of a node at this pointer
   pub findings : Naming → List ℕ → Node → List Finding
   findings names p (node o ps it ad xs ys zs) =
       rules_findings names p (node o ps it ad xs ys zs) o.validations
@@ -25,18 +25,18 @@ unfoldable mutual
   maybe_findings names p nothing = []
   maybe_findings names p (just n) = findings names p n
 
-  -- of the properties of the node at this pointer
+  -- the findings of the properties of the node at this pointer
   pub named_findings : Naming → List ℕ → Named → List Finding
   named_findings names p no_named = []
   named_findings names p (named k n ns) = findings names (property_pointer p k) n ++ named_findings names p ns
 
-  -- of its branches from the i-th on
+  -- the findings of its branches from index i on
   pub branch_findings : Naming → BranchKind → List ℕ → ℕ → Nodes → List Finding
   branch_findings names kind p i no_nodes = []
   branch_findings names kind p i (more n ns) =
       findings names (branch_pointer kind p i) n ++ branch_findings names kind p (suc i) ns
 
--- of a node that may be there
+-- the findings of a node, if there is one
 abbrev pub findings_at : Naming → List ℕ → Option Node → List Finding
 findings_at names p None = []
 findings_at names p (Some n) = findings names p n

@@ -6,11 +6,11 @@ use Rattle.std.specs.Str.{chars}
 use Rattle.kube_schema_rules.specs.declared.branches.BranchKind.{BranchKind}
 use Rattle.kube_schema_rules.specs.Step.{keyword}
 
--- a character of a name, in UTF-8: `~` and `/` have other meanings in a pointer
+-- a character of a name, escaped, in UTF-8; `~` and `/` have other meanings in a pointer
 abbrev pub escaped_character : ℕ → List ℕ
 escaped_character c = if c == 126 then codes "~0" else (if c == 47 then codes "~1" else encode_utf8 c)
 
--- a name as one step
+-- a name as one step of a pointer
 unfoldable pub token : List ℕ → List ℕ
 token name = flat_map escaped_character (chars name)
 

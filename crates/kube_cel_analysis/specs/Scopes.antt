@@ -1,6 +1,6 @@
 -- Trusted by the clauses of analysis and linter.
--- Which names a rule may use where it runs (Kubernetes documentation, "Validation rules" for schemas and
--- "Validating Admission Policy" for policies).
+-- The names that a rule may use where it runs (Kubernetes documentation,
+-- "Validation rules" for schemas and "Validating Admission Policy" for policies).
 use Rattle.std.specs.Prelude.{◌≡◌, ℕ, List, [], ◌∷◌, ◌++◌, codes, Bool, Option, Some, None, if◌then◌else◌}
 use Rattle.std.specs.List.{list_any}
 use Rattle.std.specs.Str.{bytes_eq}
@@ -16,7 +16,7 @@ abbrev pub scope_name : ScopeContext → List ℕ
 scope_name CrdValidation = codes "CrdValidation"
 scope_name AdmissionPolicy = codes "AdmissionPolicy"
 
--- the names that are there
+-- the names that are available
 abbrev pub variables : ScopeContext → List (List ℕ)
 variables CrdValidation =
     codes "self" ∷ codes "oldSelf" ∷ codes "apiVersion" ∷ codes "apiGroup" ∷ codes "kind" ∷ []
@@ -25,7 +25,7 @@ variables AdmissionPolicy =
     ∷ codes "request" ∷ codes "params" ∷ codes "namespaceObject"
     ∷ codes "authorizer" ∷ codes "variables" ∷ []
 
--- the same names, as a warning lists them
+-- the same names, in the form in which a warning lists them
 abbrev pub valid_variables : ScopeContext → List ℕ
 valid_variables CrdValidation = codes "[\"self\", \"oldSelf\", \"apiVersion\", \"apiGroup\", \"kind\"]"
 valid_variables AdmissionPolicy =
@@ -43,16 +43,17 @@ scope_warning scope rule name = record {
   kind = WrongScope;
 }
 
--- of one name
+-- the warnings of one name
 abbrev pub name_warnings : ScopeContext → List ℕ → List ℕ → List Warning
 name_warnings scope rule name = if is_available scope name then [] else scope_warning scope rule name ∷ []
 
--- of these names, in their order
+-- the warnings of these names, in order
 abbrev pub names_warnings : ScopeContext → List ℕ → List (List ℕ) → List Warning
 names_warnings scope rule [] = []
 names_warnings scope rule (n ∷ ns) = name_warnings scope rule n ++ names_warnings scope rule ns
 
--- exactly the warnings of a text: of each free name of its tree, in the order of names
+-- the list is exactly the warnings of a text: one for each free
+-- name of its tree that isn't available, in the order of names
 abbrev pub AreScopeWarnings : ScopeContext → List ℕ → Option Term → List Warning → Type 0
 AreScopeWarnings scope rule None found = found ≡ []
 AreScopeWarnings scope rule (Some t) found =

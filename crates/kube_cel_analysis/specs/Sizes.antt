@@ -1,5 +1,5 @@
 -- Trusted by the clauses of analysis and linter.
--- What the code's sizes stand for.
+-- The view of sizes.
 use Rattle.kube_cel_analysis.specs.Cost as spec
 use Rattle.kube_cel_analysis.specs.declared.cost.Sizes.{Sizes}
 

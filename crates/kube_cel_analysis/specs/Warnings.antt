@@ -1,5 +1,5 @@
 -- Trusted by the clauses of analysis and linter.
--- What a warning says.
+-- The view of warnings.
 use Rattle.std.specs.Prelude.{ℕ, List, string_bytes}
 use Rattle.kube_cel_analysis.specs.declared.warning.AnalysisWarning.{AnalysisWarning}
 use Rattle.kube_cel_analysis.specs.declared.warning.WarningKind.{WarningKind}

@@ -1,4 +1,4 @@
-//! What an analysis says of a rule at a schema.
+//! The analysis of a rule at a schema: the warnings of its names, its cost and its bounds.
 ghost use Rattle.std.specs.Prelude.{◌≡◌, ◌++◌, IfErr, IfOk, OnOk, Some, map};
 ghost use Rattle.cel_syntax.specs.Reading.{tree_of};
 ghost use Rattle.cel_syntax_ast.specs.Term.{term};
@@ -18,10 +18,10 @@ use kube_schema::{CompiledSchema, SchemaNode};
 use kube_types_refused::Refused;
 use std::alloc::{AllocError, Global};
 
-/// What a rule may cost.
+/// The greatest cost of a rule that gives no warning.
 const BUDGET: u64 = 1_000_000;
 
-/// The warning of a cost above the budget.
+/// Returns the warning of a cost above the budget.
 fn cost_warning(alloc: Global, rule: &str, cost: u64) -> Result<AnalysisWarning, AllocError>
     ensures { IfOk result (λ w. warning_view w ≡ cost_warning rule.now cost) }
 {
@@ -34,7 +34,7 @@ fn cost_warning(alloc: Global, rule: &str, cost: u64) -> Result<AnalysisWarning,
     })
 }
 
-/// The warning of a list of any length.
+/// Returns the warning of an unbounded list.
 fn bounds_warning(alloc: Global, rule: &str) -> Result<AnalysisWarning, AllocError>
     ensures { IfOk result (λ w. warning_view w ≡ bounds_warning rule.now) }
 {
@@ -48,7 +48,7 @@ fn bounds_warning(alloc: Global, rule: &str) -> Result<AnalysisWarning, AllocErr
     })
 }
 
-/// Whether the expression as a whole is a macro that goes over a list.
+/// Reports whether the expression as a whole is a macro over a list.
 fn is_macro(expression: &Expr) -> bool
     ensures { result ≡ is_macro (term expression.now) }
 {
@@ -69,7 +69,7 @@ fn is_macro(expression: &Expr) -> bool
     }
 }
 
-/// Adds the warning of a cost, where it is above the budget.
+/// Adds a warning if the cost is above the budget.
 fn add_cost(
     alloc: Global,
     rule: &str,
@@ -85,8 +85,8 @@ fn add_cost(
     Ok(())
 }
 
-/// Adds the warning of a list of any length, where the expression goes over a list and a
-/// property may be such a one.
+/// Adds a warning if the expression is a macro over a
+/// list and a property of the node is an unbounded list.
 fn add_bounds(
     alloc: Global,
     rule: &str,
@@ -104,7 +104,7 @@ fn add_bounds(
     Ok(())
 }
 
-/// Adds the warnings of cost, then of bounds.
+/// Adds the warnings of cost, then those of bounds.
 #[tactic(auto, unfolding(crate::specs::Estimates::estimates))]
 fn add_estimates(
     alloc: Global,
@@ -123,7 +123,7 @@ fn add_estimates(
     Ok(())
 }
 
-/// The warnings of cost, then of bounds.
+/// Returns the warnings of cost, then those of bounds.
 fn estimated(
     alloc: Global,
     rule: &str,
@@ -138,13 +138,13 @@ fn estimated(
     Ok(warnings)
 }
 
-/// Warns of what a rule costs, then of what it goes over, at the root of a schema: where the cost is above a
-/// million, and where the rule is a macro and a property is a list of any length.
-/// A text that isn't read gives no warning.
+/// Estimates the cost of a rule at the root of a schema. Warns if the cost
+/// is above a million, then if the rule as a whole is a macro and a property
+/// is an unbounded list. A text that doesn't parse gives no warnings.
 ///
 /// # Errors
 ///
-/// [`Refused`] where memory is refused.
+/// [`Refused`] if memory is refused.
 pub fn estimate_rule_cost(
     alloc: Global,
     rule: &str,
@@ -160,12 +160,12 @@ pub fn estimate_rule_cost(
     }
 }
 
-/// All warnings of an expression at a node of a schema: of its names, then of its cost, then of its bounds.
-/// The text of the rule is reported with each warning.
+/// Returns all warnings of an expression at a node of a schema: of its names,
+/// then of its cost, then of its bounds. Each warning has the text of the rule.
 ///
 /// # Errors
 ///
-/// [`Refused`] where memory is refused.
+/// [`Refused`] if memory is refused.
 pub fn analyze_expression(
     alloc: Global,
     rule: &str,
@@ -183,12 +183,12 @@ pub fn analyze_expression(
     Ok(warnings)
 }
 
-/// All warnings of a rule at the root of a schema: of its names, then of its cost, then of its bounds. A text
-/// that isn't read gives no warning.
+/// Returns all warnings of a rule at the root of a schema: of its names, then of
+/// its cost, then of its bounds. A text that doesn't parse gives no warnings.
 ///
 /// # Errors
 ///
-/// [`Refused`] where memory is refused.
+/// [`Refused`] if memory is refused.
 pub fn analyze_rule(
     alloc: Global,
     rule: &str,

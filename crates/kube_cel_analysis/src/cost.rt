@@ -1,4 +1,4 @@
-//! What an expression is estimated to cost.
+//! The estimated cost of an expression.
 ghost use Rattle.std.specs.Prelude.{◌≡◌, map};
 ghost use Rattle.cel_syntax_ast.specs.Term.{term, terms_of};
 ghost use Rattle.kube_cel_analysis.specs.Cost.{call_cost, cost, cost_of_all, product, reads_text, step_cost, sum};
@@ -11,13 +11,13 @@ use std::cmp::max;
 /// The greatest sizes that a schema allows.
 #[derive(Clone, Copy, Debug, PartialEq, Eq)]
 pub struct Sizes {
-    /// How many items a list has at most.
+    /// The greatest number of items of a list.
     pub items: u64,
-    /// How many characters a text has at most.
+    /// The greatest number of characters of a string.
     pub length: u64,
 }
 
-/// The functions that go over a whole text.
+/// The functions whose cost grows with the length of a string.
 const TEXT_FUNCTIONS: [&str; 11] = [
     "contains",
     "startsWith",
@@ -32,7 +32,7 @@ const TEXT_FUNCTIONS: [&str; 11] = [
     "sets.contains",
 ];
 
-/// Whether the function of this name goes over a whole text.
+/// Reports whether the cost of the function of this name grows with the length of a string.
 #[tactic(auto, unfolding(crate::specs::Cost::reads_text))]
 fn reads_text(name: &str) -> bool
     ensures { result ≡ reads_text name.now }
@@ -40,7 +40,7 @@ fn reads_text(name: &str) -> bool
     is_one_of(name, &TEXT_FUNCTIONS)
 }
 
-/// What a call costs beside its parts.
+/// Returns the cost of a call without its operands.
 fn call_cost(name: &str, sizes: Sizes) -> u64
     ensures { result ≡ call_cost (sizes_view sizes) name.now }
 {
@@ -51,7 +51,7 @@ fn call_cost(name: &str, sizes: Sizes) -> u64
     }
 }
 
-/// What a macro adds to its parts for each item.
+/// Returns the cost per item that a macro adds to that of its filter and body.
 fn step_cost(kind: MacroKind, has_filter: bool) -> u64
     ensures { result ≡ step_cost kind has_filter }
 {
@@ -64,22 +64,21 @@ fn step_cost(kind: MacroKind, has_filter: bool) -> u64
     }
 }
 
-/// A sum, or the greatest number where it is more than that.
+/// Adds with saturation at `u64::MAX`.
 fn sum(left: u64, right: u64) -> u64
     ensures { result ≡ sum left right }
 {
     left.saturating_add(right)
 }
 
-/// A product, or the greatest number where it is more than that.
+/// Multiplies with saturation at `u64::MAX`.
 fn product(left: u64, right: u64) -> u64
     ensures { result ≡ product left right }
 {
     left.saturating_mul(right)
 }
 
-/// What an expression is estimated to cost over these sizes: its cost,
-/// or `u64::MAX` where it is more than that.
+/// Estimates the cost of an expression for values of these sizes. Saturates at `u64::MAX`.
 #[cycle(cost)]
 pub fn estimated_cost(expr: &Expr, sizes: Sizes) -> u64
     ensures { result ≡ cost (sizes_view sizes) (term expr.now) }
@@ -151,7 +150,7 @@ pub fn estimated_cost(expr: &Expr, sizes: Sizes) -> u64
     }
 }
 
-/// What expressions cost together.
+/// Returns the sum of the costs of expressions.
 #[cycle(cost)]
 fn cost_of_all(items: &Vec<Expr>, sizes: Sizes) -> u64
     ensures { result ≡ cost_of_all (sizes_view sizes) (terms_of (map term items.now.items)) }

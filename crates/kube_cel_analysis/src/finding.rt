@@ -1,31 +1,31 @@
-//! What a linter finds.
+//! The findings of the linter.
 
-/// What is wrong with a rule, or with the schema where it would stand.
+/// The kind of a finding: what is wrong with a rule, or with the schema in its place.
 #[derive(Clone, Copy, Debug, PartialEq, Eq)]
 pub enum LintKind {
-    /// The rule is malformed, or one of its texts isn't read.
+    /// The rule is malformed, or one of its texts doesn't parse.
     Compile,
-    /// It calls an unknown function.
+    /// The rule calls an unknown function.
     Function,
-    /// It uses a name that isn't there where it runs.
+    /// The rule uses a name that isn't available where it runs.
     Scope,
-    /// It may cost more than the API server lets a rule cost.
+    /// The estimated cost of the rule is above the budget of a million.
     Cost,
-    /// It goes over a list that may be of any length.
+    /// The rule is a macro, and a property of its node is a list without `maxItems`.
     Bounds,
-    /// The schema goes on past the greatest depth.
+    /// The schema goes on past the maximum depth.
     Depth,
 }
 
-/// What is wrong at one node of a schema.
+/// A finding at one node of a schema.
 #[derive(Debug, Drop, PartialEq)]
 pub struct LintFinding {
     /// The JSON Pointer of the node in the schema (RFC 6901).
     pub pointer: String,
-    /// The text of the rule, empty where there is none.
+    /// The text of the rule; empty if there is none.
     pub rule: String,
-    /// What is wrong, for programs.
+    /// The kind of the finding.
     pub kind: LintKind,
-    /// What is wrong, in words.
+    /// The message of the finding.
     pub message: String,
 }

@@ -1,5 +1,5 @@
-//! Laws of findings and warnings, each the contract of a call:
-//! where findings come from, and what `==` compares.
+//! Laws of findings and warnings, each stated as the contract of
+//! a function: where findings come from, and what `==` compares.
 ghost use Rattle.cel_semantics.specs.declared.functions.Form.TheVariants.{Unknown};
 ghost use Rattle.cel_syntax_ast.specs.FreeNames.{is_free};
 ghost use Rattle.cel_syntax_ast.specs.Term.{Term};
@@ -18,23 +18,24 @@ use crate::finding::{LintFinding, LintKind};
 use crate::scope::ScopeContext;
 use crate::warning::{AnalysisWarning, WarningKind};
 
-/// Each tree has a list of the names of its calls and one of its free names:
-/// the names that findings speak of are always there.
+/// Each tree has a list of the names of its calls and a list of its
+/// free names. So the names that findings speak of always exist.
 pub fn each_tree_has_its_names()
     ensures called { (t : Term) → (names : List (List ℕ)) × AreNames names (λ x. is_called x t) }
     ensures free { (t : Term) → (names : List (List ℕ)) × AreNames names (λ x. is_free x t) }
     ensures naming { Naming }
 {}
 
-/// What is found of a compiled schema is what is found of the rules at exactly its nodes, each a list of
-/// steps from the root, in the order of places, with the JSON Pointer of those steps.
+/// The findings of a compiled schema are those of the rules at exactly
+/// its nodes. Each node is a list of steps from the root, and has the
+/// JSON Pointer of those steps. The nodes are in the order of places.
 pub fn findings_are_those_of_all_nodes()
     ensures { (names : Naming) (schema : CompiledSchema)
         → AreFoundAtNodes names (whole schema) (findings names [] (whole schema)) }
 {}
 
-/// A name is reported as unknown exactly where no form of it is known or wrong, with a receiver or without
-/// and with any number of arguments.
+/// A name is reported as unknown exactly if no form of it is known or
+/// wrong, with or without a receiver, for any number of arguments.
 pub fn reported_names_have_no_form()
     ensures reported { (name : List ℕ) → is_unknown name ≡ true → (receiver : Bool) (count : ℕ)
         → all_library.form_of name receiver count ≡ Unknown }
@@ -43,35 +44,35 @@ pub fn reported_names_have_no_form()
         → is_unknown name ≡ true }
 {}
 
-/// Two findings are equal exactly where all their fields are.
+/// Two findings are equal exactly if all their fields are equal.
 pub fn equal_findings(a: &LintFinding, b: &LintFinding) -> bool
     ensures { IsTrue result ↔ (finding_view a.now ≡ finding_view b.now) }
 {
     a == b
 }
 
-/// Two kinds of findings are equal exactly where they are the same one.
+/// Two kinds of findings are equal exactly if they are the same variant.
 pub fn equal_lint_kinds(a: LintKind, b: LintKind) -> bool
     ensures { IsTrue result ↔ (a ≡ b) }
 {
     a == b
 }
 
-/// Two warnings are equal exactly where all their fields are.
+/// Two warnings are equal exactly if all their fields are equal.
 pub fn equal_warnings(a: &AnalysisWarning, b: &AnalysisWarning) -> bool
     ensures { IsTrue result ↔ (warning_view a.now ≡ warning_view b.now) }
 {
     a == b
 }
 
-/// Two kinds of warnings are equal exactly where they are the same one.
+/// Two kinds of warnings are equal exactly if they are the same variant.
 pub fn equal_kinds(a: WarningKind, b: WarningKind) -> bool
     ensures { IsTrue result ↔ (a ≡ b) }
 {
     a == b
 }
 
-/// Two scopes are equal exactly where they are the same one.
+/// Two scopes are equal exactly if they are the same variant.
 pub fn equal_scopes(a: ScopeContext, b: ScopeContext) -> bool
     ensures { IsTrue result ↔ (a ≡ b) }
 {

@@ -1,5 +1,5 @@
-//! What can be found of a rule without an object: the names that it may not use, what it is estimated to cost
-//! over the sizes that a schema allows; and what is wrong with the rules of a compiled schema.
+//! Analysis of rules without an object: the names that a rule may not use, and its estimated
+//! cost for the sizes that a schema allows; and a linter for the rules of a compiled schema.
 #![tactic(auto)]
 
 pub mod analysis;

@@ -5,7 +5,7 @@ ghost use Rattle.kube_cel_analysis.specs.Pointers.{additional_pointer, branch_po
 use kube_schema_rules::BranchKind;
 use std::alloc::{AllocError, Global};
 
-/// Adds a character of a name.
+/// Appends a character of a name, escaped.
 fn push_escaped(out: &mut String, character: char) -> Result<(), AllocError>
     ensures { OnOk result (string_bytes out.new ≡ string_bytes out.old ++ escaped_character character) }
 {
@@ -16,7 +16,7 @@ fn push_escaped(out: &mut String, character: char) -> Result<(), AllocError>
     }
 }
 
-/// Adds a name, as one step of a pointer.
+/// Appends a name, escaped, as one step of a pointer.
 fn push_name(out: &mut String, name: &str) -> Result<(), AllocError>
     ensures { OnOk result (string_bytes out.new ≡ string_bytes out.old ++ token name.now) }
 {
@@ -26,7 +26,7 @@ fn push_name(out: &mut String, name: &str) -> Result<(), AllocError>
     Ok(())
 }
 
-/// The pointer of a property.
+/// Returns the pointer of a property.
 pub(crate) fn property_pointer(
     alloc: Global,
     pointer: &str,
@@ -39,21 +39,21 @@ pub(crate) fn property_pointer(
     Ok(inner)
 }
 
-/// The pointer of the node of list items.
+/// Returns the pointer of the node of list items.
 pub(crate) fn items_pointer(alloc: Global, pointer: &str) -> Result<String, AllocError>
     ensures { IfOk result (λ s. string_bytes s ≡ items_pointer pointer.now) }
 {
     format!(in alloc; "{pointer}/items")
 }
 
-/// The pointer of the node of keys that aren't declared.
+/// Returns the pointer of the node of undeclared keys.
 pub(crate) fn additional_pointer(alloc: Global, pointer: &str) -> Result<String, AllocError>
     ensures { IfOk result (λ s. string_bytes s ≡ additional_pointer pointer.now) }
 {
     format!(in alloc; "{pointer}/additionalProperties")
 }
 
-/// The pointer of a branch.
+/// Returns the pointer of a branch.
 pub(crate) fn branch_pointer(
     alloc: Global,
     kind: BranchKind,

@@ -1,4 +1,4 @@
-//! What is wrong with the rules of one node.
+//! The findings of the rules of one node.
 ghost use Rattle.std.specs.Prelude.{◌≡◌, ◌++◌, [], ◌∷◌, IfErr, IfOk, OnOk, map};
 ghost use Rattle.cel_syntax.specs.Names.{names_of};
 ghost use Rattle.kube_cel_analysis.specs.Warnings.{warning_view};
@@ -18,7 +18,7 @@ use kube_schema_rules::{CompilationError, CompilationResult};
 use kube_types_refused::Refused;
 use std::alloc::{AllocError, Global};
 
-/// What kind of finding an error is.
+/// The kind of finding for a compilation error.
 fn kind_of_error(error: &CompilationError) -> LintKind
     ensures { result ≡ kind_of_error (error_view error.now) }
 {
@@ -30,7 +30,7 @@ fn kind_of_error(error: &CompilationError) -> LintKind
     }
 }
 
-/// The text of the rule that an error speaks of, where it has one.
+/// The text of the rule in a compilation error; empty if it has none.
 fn rule_of_error(error: &CompilationError) -> &str
     ensures { result.now ≡ rule_of_error (error_view error.now) }
 {
@@ -42,7 +42,7 @@ fn rule_of_error(error: &CompilationError) -> &str
     }
 }
 
-/// Adds why a rule isn't compiled.
+/// Adds the finding for a rule that doesn't compile.
 fn add_error(
     alloc: Global,
     pointer: &str,
@@ -61,7 +61,7 @@ fn add_error(
     Ok(())
 }
 
-/// Whether there is no function of this name.
+/// Reports whether no function has this name.
 #[tactic(auto, unfolding(crate::specs::Findings::is_unknown))]
 fn is_unknown(name: &str) -> bool
     ensures { result ≡ is_unknown name.now }
@@ -73,7 +73,7 @@ fn is_unknown(name: &str) -> bool
     }
 }
 
-/// The finding for an unknown function.
+/// Returns the finding for an unknown function.
 fn unknown_finding(
     alloc: Global,
     pointer: &str,
@@ -107,7 +107,7 @@ fn add_name(
     Ok(())
 }
 
-/// Adds a finding for each unknown function, in their order.
+/// Adds a finding for each unknown function, in order.
 fn add_names(
     alloc: Global,
     pointer: &str,
@@ -124,7 +124,7 @@ fn add_names(
     Ok(())
 }
 
-/// What kind of finding a warning is.
+/// The kind of finding for a warning.
 fn kind_of_warning(kind: WarningKind) -> LintKind
     ensures { result ≡ kind_of_warning kind }
 {
@@ -135,7 +135,7 @@ fn kind_of_warning(kind: WarningKind) -> LintKind
     }
 }
 
-/// Adds a warning.
+/// Adds a warning as a finding.
 fn add_warning(
     alloc: Global,
     pointer: &str,
@@ -154,7 +154,7 @@ fn add_warning(
     Ok(())
 }
 
-/// Adds warnings, in their order.
+/// Adds warnings as findings, in order.
 fn add_warnings(
     alloc: Global,
     pointer: &str,
@@ -171,8 +171,7 @@ fn add_warnings(
     Ok(())
 }
 
-/// Adds what is wrong with a rule that is compiled: which functions there aren't,
-/// then what an analysis warns of.
+/// Adds the findings of a compiled rule: its unknown functions, then the warnings of its analysis.
 fn add_compiled(
     alloc: Global,
     pointer: &str,
@@ -194,7 +193,7 @@ fn add_compiled(
     Ok(())
 }
 
-/// Adds what is wrong with a rule.
+/// Adds the findings of a rule.
 fn add_rule(
     alloc: Global,
     pointer: &str,
@@ -213,7 +212,7 @@ fn add_rule(
     }
 }
 
-/// Adds what is wrong with the rules of a node, in their order.
+/// Adds the findings of the rules of a node, in order.
 pub(crate) fn add_rules(
     alloc: Global,
     pointer: &str,

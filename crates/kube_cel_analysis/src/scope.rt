@@ -22,10 +22,10 @@ pub enum ScopeContext {
     AdmissionPolicy,
 }
 
-/// The names of rules in schemas.
+/// The names available to rules in schemas.
 const CRD_VARIABLES: [&str; 5] = ["self", "oldSelf", "apiVersion", "apiGroup", "kind"];
 
-/// The names of expressions in policies.
+/// The names available to expressions in policies.
 const POLICY_VARIABLES: [&str; 9] = [
     "self",
     "oldSelf",
@@ -39,7 +39,7 @@ const POLICY_VARIABLES: [&str; 9] = [
 ];
 
 impl ScopeContext {
-    /// Its name.
+    /// The name of the scope.
     fn name(self) -> &'static str
         ensures { result.now ≡ scope_name self }
     {
@@ -49,7 +49,7 @@ impl ScopeContext {
         }
     }
 
-    /// Its names, as a warning lists them.
+    /// The names that are available, in the form in which a warning lists them.
     fn valid_variables(self) -> &'static str
         ensures { result.now ≡ valid_variables self }
     {
@@ -63,7 +63,7 @@ impl ScopeContext {
         }
     }
 
-    /// Whether a name is there.
+    /// Reports whether a name is available.
     #[tactic(auto, unfolding(crate::specs::Scopes::is_available))]
     fn has(self, name: &str) -> bool
         ensures { result ≡ is_available self name.now }
@@ -75,7 +75,7 @@ impl ScopeContext {
     }
 }
 
-/// Whether the name is one of these.
+/// Reports whether the name is one of these.
 pub(crate) fn is_one_of(name: &str, names: &[&str]) -> bool
     ensures { result ≡ list_any (bytes_eq name.now) (map (λ n. n.now) names.now) }
 {
@@ -87,7 +87,7 @@ pub(crate) fn is_one_of(name: &str, names: &[&str]) -> bool
     false
 }
 
-/// The warning of a name that isn't there.
+/// Returns the warning of a name that isn't available.
 fn scope_warning(
     alloc: Global,
     rule: &str,
@@ -107,7 +107,7 @@ fn scope_warning(
     })
 }
 
-/// Adds the warning of a name, if it isn't there.
+/// Adds a warning if the name isn't available.
 fn add_name(
     alloc: Global,
     rule: &str,
@@ -125,7 +125,7 @@ fn add_name(
     Ok(())
 }
 
-/// Adds the warnings of names, in their order.
+/// Adds the warnings of names, in order.
 fn add_names(
     alloc: Global,
     rule: &str,
@@ -142,12 +142,12 @@ fn add_names(
     Ok(())
 }
 
-/// Warns of each free name of an expression that isn't there where the rule runs, in the order of names. The
-/// text of the rule is reported with each warning.
+/// Warns of each free name of an expression that isn't available where the
+/// rule runs, in the order of names. Each warning has the text of the rule.
 ///
 /// # Errors
 ///
-/// [`Refused`] where memory is refused.
+/// [`Refused`] if memory is refused.
 pub fn check_expression_scope(
     alloc: Global,
     rule: &str,
@@ -164,12 +164,12 @@ pub fn check_expression_scope(
     Ok(warnings)
 }
 
-/// Warns of each free name of a rule that isn't there where the rule runs, in the order of names. A text that
-/// isn't read gives no warning.
+/// Warns of each free name of a rule that isn't available where the rule
+/// runs, in the order of names. A text that doesn't parse gives no warnings.
 ///
 /// # Errors
 ///
-/// [`Refused`] where memory is refused.
+/// [`Refused`] if memory is refused.
 pub fn check_rule_scope(
     alloc: Global,
     rule: &str,

@@ -8,12 +8,13 @@ ghost use Rattle.kube_schema.specs.Tree.{named_of};
 use crate::cost::Sizes;
 use kube_schema::SchemaNode;
 
-/// The size that is taken where a schema says none.
+/// The size that is assumed if a schema sets none.
 const USUAL_SIZE: u64 = 1000;
 
-/// The greatest sizes that a node allows: those that it says itself, else those of its properties, else 1000.
-/// Of the properties, the first in name order that has items counts for lists, also where it says no size,
-/// and the first that says a length counts for texts.
+/// Returns the greatest sizes of lists and strings that a node allows: those that
+/// it sets itself, else those of its properties, else 1000. Among the properties,
+/// the first in name order with `items` decides the size of lists, as 1000 if it
+/// sets no `maxItems`. The first with `maxLength` decides the size of strings.
 #[tactic(auto, unfolding(crate::specs::Bounds::sizes_of))]
 pub fn sizes_of(node: &SchemaNode<'_>) -> Sizes
     ensures { sizes_view result ≡ sizes_of (node_tree node.now) }
@@ -24,7 +25,7 @@ pub fn sizes_of(node: &SchemaNode<'_>) -> Sizes
     }
 }
 
-/// How many items a node's list may have, where the node has items.
+/// The greatest number of items of a node's list; None if the node has no `items`.
 fn list_bound(node: &SchemaNode<'_>) -> Option<u64>
     ensures { result ≡ list_bound (node_tree node.now) }
 {
@@ -34,7 +35,7 @@ fn list_bound(node: &SchemaNode<'_>) -> Option<u64>
     }
 }
 
-/// How many items the first property that has items allows.
+/// The greatest number of items that the first property with `items` allows.
 fn list_size(node: &SchemaNode<'_>) -> u64
     ensures { result ≡ first_bound list_bound (named_of (node_tree node.now)) }
 {
@@ -49,7 +50,7 @@ fn list_size(node: &SchemaNode<'_>) -> u64
     USUAL_SIZE
 }
 
-/// How long the first property that says a length lets a text be.
+/// The greatest length of strings that the first property with `maxLength` allows.
 fn text_size(node: &SchemaNode<'_>) -> u64
     ensures { result ≡ first_bound text_bound (named_of (node_tree node.now)) }
 {
@@ -64,7 +65,7 @@ fn text_size(node: &SchemaNode<'_>) -> u64
     USUAL_SIZE
 }
 
-/// Whether a node has items, but says no size.
+/// Reports whether a node has `items` but no `maxItems`.
 fn is_unbounded(node: &SchemaNode<'_>) -> bool
     ensures { result ≡ is_unbounded (node_tree node.now) }
 {
@@ -74,7 +75,7 @@ fn is_unbounded(node: &SchemaNode<'_>) -> bool
     }
 }
 
-/// Whether a property has items, but says no size.
+/// Reports whether any property has `items` but no `maxItems`.
 pub(crate) fn has_unbounded(node: &SchemaNode<'_>) -> bool
     ensures { result ≡ has_unbounded (named_of (node_tree node.now)) }
 {

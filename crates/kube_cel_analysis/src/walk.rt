@@ -15,13 +15,14 @@ use kube_schema_rules::BranchKind;
 use kube_types_refused::Refused;
 use std::alloc::Global;
 
-/// All that is wrong with the rules of a schema, node by node: a node before those within it, those in the
-/// order of properties by their names, `items`, `additionalProperties`, and the branches of `allOf`, `oneOf`
-/// and `anyOf`. Each rule is analysed with its node as the root of a schema.
+/// Returns the findings of all rules of a schema, node by node. A node comes
+/// before the nodes within it, and these in the order of properties by name,
+/// `items`, `additionalProperties`, and the branches of `allOf`, `oneOf` and
+/// `anyOf`. Each rule is analyzed with its node as the root of a schema.
 ///
 /// # Errors
 ///
-/// [`Refused`] where memory is refused.
+/// [`Refused`] if memory is refused.
 pub fn lint_schema(alloc: Global, schema: &CompiledSchema) -> Result<Vec<LintFinding>, Refused>
     ensures nodes { IfOk result (λ v. (names : Naming)
         × AreFoundAtNodes names (whole schema.now) (map finding_view v.items)) }
@@ -34,7 +35,7 @@ pub fn lint_schema(alloc: Global, schema: &CompiledSchema) -> Result<Vec<LintFin
     Ok(found)
 }
 
-/// Adds what is wrong with the rules of a node and of those within it.
+/// Adds the findings of a node and of the nodes within it.
 #[cycle(walk)]
 fn lint_node(
     alloc: Global,
@@ -57,7 +58,7 @@ fn lint_node(
     Ok(())
 }
 
-/// Adds what is wrong within the properties of a node, in the order of their names.
+/// Adds the findings within the properties of a node, in the order of their names.
 #[cycle(walk)]
 fn lint_properties(
     alloc: Global,
@@ -81,7 +82,7 @@ fn lint_properties(
     Ok(())
 }
 
-/// Adds what is wrong within the items of a list.
+/// Adds the findings within the node of list items.
 #[cycle(walk)]
 fn lint_items(
     alloc: Global,
@@ -103,7 +104,7 @@ fn lint_items(
     Ok(())
 }
 
-/// Adds what is wrong within the members that aren't declared.
+/// Adds the findings within the node of undeclared keys.
 #[cycle(walk)]
 fn lint_additional(
     alloc: Global,
@@ -124,7 +125,7 @@ fn lint_additional(
     Ok(())
 }
 
-/// Adds what is wrong within the branches of one keyword, in their order.
+/// Adds the findings within the branches under one keyword, in order.
 #[cycle(walk)]
 fn lint_branches(
     alloc: Global,
@@ -149,7 +150,7 @@ fn lint_branches(
     Ok(())
 }
 
-/// The number of branches of a keyword.
+/// Returns the number of branches under a keyword.
 fn branch_count(kind: BranchKind, node: &SchemaNode<'_>) -> usize
     ensures { result ≡ nodes_length (branches_of kind (node_tree node.now)) }
 {
@@ -160,7 +161,7 @@ fn branch_count(kind: BranchKind, node: &SchemaNode<'_>) -> usize
     }
 }
 
-/// A branch of a keyword.
+/// Returns the branch at an index under a keyword, if any.
 fn branch<'a>(kind: BranchKind, node: &SchemaNode<'a>, index: usize) -> Option<SchemaNode<'a>>
     ensures { option_map node_tree result ≡ nth_node index (branches_of kind (node_tree node.now)) }
 {

@@ -1,38 +1,38 @@
-//! What an analysis warns of.
+//! The warnings of an analysis.
 ghost use Rattle.std.specs.Prelude.{◌≡◌, IfErr, IfOk};
 ghost use Rattle.kube_cel_analysis.specs.Warnings.{warning_view};
 
 use kube_types_refused::Refused;
 use serde::{Deserialize, Serialize};
 
-/// What is wrong with a rule.
+/// The kind of a warning: what is wrong with a rule.
 #[derive(Clone, Copy, Debug, PartialEq, Eq, Serialize, Deserialize)]
 pub enum WarningKind {
-    /// It uses a name that isn't there where it runs.
+    /// The rule uses a name that isn't available where it runs.
     WrongScope,
-    /// It may cost more than the API server lets a rule cost.
+    /// The estimated cost of the rule is above the budget of a million.
     CostExceeded,
-    /// It goes over a list that may be of any length.
+    /// The rule is a macro, and a property of its node is a list without `maxItems`.
     MissingBounds,
 }
 
-/// What an analysis warns of.
+/// A warning of an analysis.
 #[derive(Debug, Drop, PartialEq, Eq, Serialize, Deserialize)]
 pub struct AnalysisWarning {
     /// The text of the rule.
     pub rule: String,
-    /// What is wrong, in words.
+    /// The message of the warning.
     pub message: String,
-    /// What is wrong, for programs.
+    /// The kind of the warning.
     pub kind: WarningKind,
 }
 
 impl AnalysisWarning {
-    /// The same warning once more.
+    /// Returns an equal warning.
     ///
     /// # Errors
     ///
-    /// [`Refused`] where memory is refused.
+    /// [`Refused`] if memory is refused.
     pub fn try_clone(&self) -> Result<AnalysisWarning, Refused>
         ensures copy { IfOk result (λ w. warning_view w ≡ warning_view self.now) }
         ensures memory { IfErr result (λ e. e ≡ Refused.Memory) }

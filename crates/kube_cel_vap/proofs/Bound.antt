@@ -1,4 +1,5 @@
--- A meaning depends only on what the names are bound to, and what they are bound to in the expressions of a policy.
+-- A meaning depends only on what the names are bound
+-- to; and the bindings of a policy's expressions.
 use Rattle.cel_patterns.specs.Book.{Book}
 use Rattle.cel_semantics.specs.Bindings.{Bindings, binding}
 use Rattle.cel_semantics.specs.Decisions.{truth, branch_outcome}
@@ -23,7 +24,7 @@ use Rattle.std.specs.Option.{option_map_or}
 use Rattle.std.specs.Bool.{Decides}
 use Rattle.std.specs.Str.{bytes_eq}
 
--- the same names are bound where one more is
+-- equal bindings stay equal if one more name is bound in both
 under : (x : List ℕ) (d : Data) (e f : Bindings) → ((y : List ℕ) → binding y e ≡ binding y f) → (y : List ℕ) → binding y ((x, d) ∷ e) ≡ binding y ((x, d) ∷ f)
 under x d e f h y = ap (λ o. if bytes_eq y x then Some d else o) (h y)
 
@@ -64,17 +65,17 @@ decided_alike false false d e f g = refl
 bytes_eq_turned : (x y : List ℕ) → bytes_eq x y ≡ bytes_eq y x
 bytes_eq_turned x y = decided_alike (bytes_eq x y) (bytes_eq y x) (bytes_eq-Decides x y) (bytes_eq-Decides y x) (λ e. sym e) (λ e. sym e)
 
--- one more name
+-- one more name is bound
 pub bound : (x name : List ℕ) (v d : Data) (r o : Option Data) (es : Bindings) → r ≡ (if bytes_eq name x then Some v else o) → v ≡ d → o ≡ binding x es → r ≡ binding x ((name, d) ∷ es)
 bound x name v d r o es e p q = e ∙ (λ i. if bytes_eq_turned name x i then Some (p i) else q i)
 
--- ---- the names of a policy
+-- ---- the bindings of a policy
 
 given_under : (name : List ℕ) (o : Option Json) (e f : Bindings) → ((y : List ℕ) → binding y e ≡ binding y f) → (y : List ℕ) → binding y (with_given name o e) ≡ binding y (with_given name o f)
 given_under name None e f h y = h y
 given_under name (Some d) e f h y = under name (plain d) e f h y
 
--- one more name, where something was set
+-- one more name is bound, if a value was set
 pub given : (name : List ℕ) (o : Option Json) (d : Json) (v : Data) (e f : Bindings) → o ≡ Some d → v ≡ plain d
     → ((x : List ℕ) → binding x f ≡ (if bytes_eq name x then Some v else binding x e)) → (x : List ℕ) → binding x f ≡ binding x (with_given name o e)
 given name o d v e f p q h x = bound x name v (plain d) (binding x f) (binding x e) e (h x) q refl ∙ sym (ap (λ o. binding x (with_given name o e)) p)
@@ -93,7 +94,7 @@ always v e0 e1 e2 e3 object old request empty po pq pr h1 h2 h3 x =
     let q2 = bound x (codes "oldObject") old (value_or_null v.old_object) (binding x e2) (binding x e1) f1 (h2 x) pq q1 in
     bound x (codes "request") request (request_in v) (binding x e3) (binding x e2) f2 (h3 x) pr q2
 
--- then those that are bound where something was set
+-- then those that are bound if a value was set
 pub all_bound : (v : Variables) (e0 e1 e2 : Bindings) → ((x : List ℕ) → binding x e0 ≡ binding x (bindings_always v))
     → ((x : List ℕ) → binding x e1 ≡ binding x (with_given (codes "params") v.params e0))
     → ((x : List ℕ) → binding x e2 ≡ binding x (with_given (codes "namespaceObject") v.namespace_object e1))

@@ -1,4 +1,4 @@
--- Results of lists of expressions, and of expressions whose names are bound alike.
+-- Results of lists of expressions, and of expressions under equal bindings.
 use Rattle.cel_patterns.specs.Book.{Book}
 use Rattle.cel_semantics.specs.Bindings.{Bindings, binding}
 use Rattle.cel_semantics.specs.Outcome.{Outcome}
@@ -55,7 +55,7 @@ unfolding policy_results result_in
 messages_reported b v [] = refl
 messages_reported b v (x ∷ xs) = λ i. reported_unless_passed b (policy_bindings v) (compile_result x) i ∷ messages_reported b v xs i
 
--- ---- names that are bound alike
+-- ---- names that are bound to the same values
 
 outcome_same : (b : Book) (t : Term) (e f : Bindings) → ((x : List ℕ) → binding x e ≡ binding x f) → outcome_in b e t ≡ outcome_in b f t
 unfolding outcome_in
@@ -79,7 +79,7 @@ unfolding compiled_results
 results_same b v [] e h = refl
 results_same b v (c ∷ cs) e h = λ i. result_same b c e (policy_bindings v) h i ∷ results_same b v cs e h i
 
--- ---- what is reported of one expression
+-- ---- the message of one expression
 
 pub message_reported : (b : Book) (e : Bindings) (c : Compiled) (o : Option Term) (t : Term) (s : List ℕ) (outcome : Outcome) → o ≡ Some t → outcome ≡ outcome_in b e t
     → s ≡ false_message c (Some outcome) → s ≡ false_message c (option_map (outcome_in b e) o)

@@ -1,5 +1,5 @@
 -- Trusted by the clauses of policies.
--- What calls answer, each with a book of its own.
+-- The results of calls, each with a book of its own.
 use Rattle.cel_patterns.specs.Book.{Extends, Book, IsBook}
 use Rattle.cel_semantics.specs.Bindings.{Bindings}
 use Rattle.kube_cel_vap.specs.Validations.{ExpressionData, result_view}
@@ -13,12 +13,12 @@ use Rattle.std.specs.Prelude.{◌≡◌, List, map, Result}
 abbrev pub AreResultsOf : Variables → List ExpressionData → List VapResult → Type 0
 AreResultsOf v xs reported = (b : Book) × IsBook b × (map result_view reported ≡ policy_results b v xs)
 
--- the same of expressions that were compiled
+-- the results of these compiled expressions, under some book
 abbrev pub AreResultsOfCompiled : Variables → List (Result Compiled Unread) → List VapResult → Type 0
 AreResultsOfCompiled v cs reported =
     (b : Book) × IsBook b × (map result_view reported ≡ compiled_results b v cs)
 
--- the results where the names are bound so, under every book that agrees with this one
+-- the results under these bindings, and under every book that extends this one
 abbrev pub AreResultsUnder : Book → Bindings → List (Result Compiled Unread) → List VapResult → Type 0
 AreResultsUnder known e cs reported =
     (b : Book) → Extends b known → map result_view reported ≡ map (compiled_result b e) cs

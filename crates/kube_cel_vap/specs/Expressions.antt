@@ -10,7 +10,8 @@ use Rattle.kube_cel_vap.specs.declared.compilation.CompiledVapExpression.{Compil
 use Rattle.kube_cel_vap.specs.declared.compilation.VapError.{VapError}
 use Rattle.std.specs.Prelude.{ℕ, List, ◌++◌, codes, Option, Some, None, option_map, Result, Ok, Err, string_bytes}
 
--- an expression with its tree, its own message, and the tree of its messageExpression, where it has one
+-- an expression with its tree, its own message, and
+-- the tree of its messageExpression, if it has one
 pub record Compiled : Type 0 where
   pub expression : List ℕ
   pub message : Option (List ℕ)
@@ -27,7 +28,7 @@ abbrev pub ◌>>=◌ : {A B E : Type 0} → Result A E → (A → Result B E) �
 Ok a >>= f = f a
 Err e >>= f = Err e
 
--- a tree, or why there has to be one
+-- the tree, or the fault if there is none
 abbrev pub required_tree : Unread → Option Term → Result Term Unread
 required_tree u (Some t) = Ok t
 required_tree u None = Err u
@@ -36,7 +37,7 @@ required_tree u None = Err u
 abbrev pub tree_in : ExpressionData → List ℕ → Result Term Unread
 tree_in x s = required_tree (record { text = s; original = x.expression }) (tree_of s)
 
--- the tree of a messageExpression, where there is one
+-- the tree of a messageExpression, if there is one
 abbrev pub message_tree_in : ExpressionData → Option (List ℕ) → Result (Option Term) Unread
 message_tree_in x None = Ok None
 message_tree_in x (Some m) = do
@@ -52,7 +53,7 @@ with_trees x tree message_tree = record {
   message_tree = message_tree;
 }
 
--- an expression with this tree: its messageExpression has to derive one too
+-- an expression with this tree, if its messageExpression derives a tree as well
 abbrev pub with_tree : ExpressionData → Term → Result Compiled Unread
 with_tree x tree = do
   message_tree ← message_tree_in x x.message_expression
@@ -67,7 +68,7 @@ compile_result x = do
 abbrev pub unread_text : Unread → List ℕ
 unread_text u = codes "failed to compile VAP expression \"" ++ (u.text ++ codes "\": invalid CEL expression")
 
--- ---- what the code's values stand for
+-- ---- views of the code's values
 
 abbrev pub compiled_view : CompiledVapExpression → Compiled
 compiled_view c = record {

@@ -1,7 +1,7 @@
 -- Trusted by the clauses of policies.
--- What an admission request says (Kubernetes API reference, AdmissionRequest of admission.k8s.io/v1), and the
--- CEL value that it is to the expressions of a policy (Kubernetes documentation,
--- "Validating Admission Policy").
+-- Admission requests (Kubernetes API reference, AdmissionRequest of
+-- admission.k8s.io/v1), and the CEL values by which the expressions of a
+-- policy read them (Kubernetes documentation, "Validating Admission Policy").
 use Rattle.cel_value.specs.Data.{Data, Entries, bool, list, map_of, no_entries, text, text_key}
 use Rattle.cel_value.specs.Keys.{put}
 use Rattle.cel_value.specs.View.{items_of}
@@ -10,13 +10,13 @@ use Rattle.kube_cel_vap.specs.declared.request.GroupVersionKind.{GroupVersionKin
 use Rattle.kube_cel_vap.specs.declared.request.GroupVersionResource.{GroupVersionResource}
 use Rattle.std.specs.Prelude.{ℕ, List, [], ◌∷◌, map, Bool, false, codes, string_bytes}
 
--- a kind of objects
+-- the kind of an object
 pub record KindData : Type 0 where
   pub group : List ℕ
   pub version : List ℕ
   pub kind : List ℕ
 
--- the name under which such objects are served
+-- the resource under which objects of a kind are served
 pub record ResourceData : Type 0 where
   pub group : List ℕ
   pub version : List ℕ
@@ -39,7 +39,7 @@ empty_kind = record { group = []; version = []; kind = [] }
 abbrev pub empty_resource : ResourceData
 empty_resource = record { group = []; version = []; resource = [] }
 
--- a request of which nothing is known
+-- the empty request
 abbrev pub empty_request : RequestData
 empty_request = record {
   operation = [];
@@ -55,7 +55,7 @@ empty_request = record {
 
 -- ---- the CEL value
 
--- a map with these entries; the keys are as they are, none is escaped
+-- a map with these entries, whose keys aren't escaped
 abbrev pub entries_with : List (List ℕ × Data) → Entries
 entries_with [] = no_entries
 entries_with (e ∷ es) = put (text_key e.0) e.1 (entries_with es)
@@ -76,7 +76,7 @@ resource_value r =
     map_with ((codes "group", text r.group) ∷ (codes "version", text r.version)
     ∷ (codes "resource", text r.resource) ∷ [])
 
--- who asks
+-- the user of the request
 unfoldable pub user_value : RequestData → Data
 user_value r =
     map_with ((codes "username", text r.username) ∷ (codes "uid", text r.uid)
@@ -93,7 +93,7 @@ request_value r = map_with (
     ∷ (codes "userInfo", user_value r)
     ∷ [])
 
--- ---- what the code's values stand for
+-- ---- views of the code's values
 
 abbrev pub kind_view : GroupVersionKind → KindData
 kind_view k = record {

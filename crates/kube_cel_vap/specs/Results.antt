@@ -1,6 +1,6 @@
 -- Trusted by the clauses of policies.
--- The results of a policy's expressions (Kubernetes documentation, "Validating Admission Policy"; Kubernetes
--- API reference, Validation of ValidatingAdmissionPolicySpec).
+-- The results of a policy's expressions (Kubernetes documentation, "Validating Admission
+-- Policy"; Kubernetes API reference, Validation of ValidatingAdmissionPolicySpec).
 use Rattle.cel_patterns.specs.Book.{Book}
 use Rattle.cel_semantics.specs.Bindings.{Bindings}
 use Rattle.cel_semantics.specs.Library.{Library}
@@ -22,26 +22,26 @@ use Rattle.std.specs.Prelude.{ℕ, List, ◌++◌, map, codes, Bool, true, false
 abbrev pub policy_library : Library
 policy_library = all_library
 
--- what an expression means where its names are bound so
+-- the meaning of an expression under these bindings
 unfoldable pub outcome_in : Book → Bindings → Term → Outcome
 outcome_in b e t = meaning policy_library b t e
 
--- the string that a messageExpression came to; another value and an error give none
+-- the string that a messageExpression evaluated to; none for another value or an error
 abbrev pub message_text : Outcome → Option (List ℕ)
 message_text (Ok v) = text_in v
 message_text (Err e) = None
 
--- the expression's own message, else its text
+-- the expression's own message, or one made of its text
 abbrev pub own_message : Compiled → List ℕ
 own_message c =
     unwrap_or c.message (codes "validation expression '" ++ (c.expression ++ codes "' evaluated to false"))
 
--- what is reported of an expression that is false: the string that its messageExpression came to,
--- if it did, else its own message
+-- the message of an expression that is false: the string that its
+-- messageExpression evaluated to, if it did, else its own message
 abbrev pub false_message : Compiled → Option Outcome → List ℕ
 false_message c reported = unwrap_or (option_and_then message_text reported) (own_message c)
 
--- nothing is reported of true; of false this; of another value its kind
+-- the message of a value: none for true, m for false, and its kind for any other value
 abbrev pub value_message : List ℕ → Data → Option Bool → Option (List ℕ)
 value_message m v (Some true) = None
 value_message m v (Some false) = Some m
@@ -51,12 +51,12 @@ abbrev pub outcome_message : List ℕ → Outcome → Option (List ℕ)
 outcome_message m (Ok v) = value_message m v (bool_in v)
 outcome_message m (Err e) = Some (codes "evaluation error: " ++ fault_text e)
 
--- what is reported of an expression where its names are bound so
+-- the message of an expression under these bindings
 unfoldable pub message_in : Book → Bindings → Compiled → Option (List ℕ)
 message_in b e c =
     outcome_message (false_message c (option_map (outcome_in b e) c.message_tree)) (outcome_in b e c.tree)
 
--- an expression passes exactly where nothing is reported of it
+-- an expression passes exactly if it has no message
 abbrev pub result_with : List ℕ → Option (List ℕ) → ResultData
 result_with expression message = record {
   expression = expression;
@@ -64,7 +64,7 @@ result_with expression message = record {
   message = message;
 }
 
--- the result of an expression that was compiled, where its names are bound so
+-- the result of an expression that was compiled, under these bindings
 abbrev pub compiled_result : Book → Bindings → Result Compiled Unread → ResultData
 compiled_result b e (Err u) = result_with u.original (Some (unread_text u))
 compiled_result b e (Ok c) = result_with c.expression (message_in b e c)

@@ -1,6 +1,6 @@
 -- Trusted by the clauses of policies.
--- What the expressions of a policy may ask of (Kubernetes documentation, "Validating Admission Policy",
--- variables of expressions).
+-- The variables of a policy's expressions (Kubernetes documentation,
+-- "Validating Admission Policy", variables of expressions).
 use Rattle.cel_semantics.specs.Bindings.{Bindings}
 use Rattle.cel_value.specs.Data.{Data, null}
 use Rattle.kube_cel_vap.specs.declared.evaluator.VapEvaluator.{VapEvaluator}
@@ -12,7 +12,7 @@ use Rattle.serde_json.specs.Data.{Data as Json}
 use Rattle.serde_json.specs.View.{view}
 use Rattle.std.specs.Prelude.{ℕ, List, [], ◌∷◌, codes, Option, Some, None, option_map, unwrap_or}
 
--- what was set
+-- the variables that were set
 pub record Variables : Type 0 where
   pub object : Option Json
   pub old_object : Option Json
@@ -33,12 +33,12 @@ abbrev pub value_or_null : Option Json → Data
 value_or_null None = null
 value_or_null (Some d) = plain d
 
--- a name that is bound only where something was set
+-- a name that is bound only if a value was set
 abbrev pub with_given : List ℕ → Option Json → Bindings → Bindings
 with_given name None e = e
 with_given name (Some d) e = (name, plain d) ∷ e
 
--- the request that was set, else the one of which nothing is known
+-- the request that was set, else the empty one
 abbrev pub request_in : Variables → Data
 request_in v = request_value (unwrap_or v.request empty_request)
 
@@ -54,7 +54,7 @@ policy_bindings v =
     with_given (codes "namespaceObject") v.namespace_object
     (with_given (codes "params") v.params (bindings_always v))
 
--- ---- what the code's values stand for
+-- ---- views of the code's values
 
 abbrev pub given_view : Given → Variables
 given_view g = record {

@@ -1,4 +1,4 @@
-//! The expressions of a policy with the programs of their texts.
+//! Compilation of the expressions of a policy.
 ghost use Rattle.cel.specs.Program.{program_term};
 ghost use Rattle.kube_cel_vap.specs.Validations.{expression_view};
 ghost use Rattle.kube_cel_vap.specs.Expressions.{compile_result, compiled_seen, compiled_view, error_view, message_program_seen, message_tree_in, program_seen, tree_in, unread_text, with_tree, with_trees};
@@ -10,7 +10,7 @@ use kube_types_refused::Refused;
 use std::alloc::{AllocError, Global};
 use std::fmt;
 
-/// An expression of a policy that was read, with its programs.
+/// A compiled expression of a policy, with the programs of its texts.
 #[derive(Debug, Drop)]
 pub struct CompiledVapExpression {
     expression: String,
@@ -19,14 +19,14 @@ pub struct CompiledVapExpression {
     pub(crate) message_program: Option<Program>,
 }
 
-/// Why an expression of a policy was not compiled: one of its texts is no CEL expression.
+/// The reason why an expression of a policy doesn't compile: one of its texts doesn't parse as CEL.
 #[derive(Debug, Drop)]
 pub struct VapError {
-    /// The text that was not read: the expression or, where that was read, its messageExpression.
+    /// The text that doesn't parse: the expression or, if that parses, its messageExpression.
     pub expression: String,
     /// The text of the expression.
     pub original: String,
-    /// Why the text was not read.
+    /// The parse errors.
     pub source: ParseErrors,
 }
 
@@ -51,8 +51,8 @@ impl CompiledVapExpression {
     }
 }
 
-/// Compiles an expression, then its messageExpression, where it has one.
-/// The first text that isn't read counts.
+/// Compiles an expression, then its messageExpression, if it has
+/// one. Returns the error of the first text that doesn't parse.
 #[tactic(auto, unfolding(crate::specs::Expressions::compile_result))]
 pub(crate) fn compile_expression(
     alloc: Global,
@@ -83,7 +83,7 @@ fn compile_message(
     }
 }
 
-/// The program of the messageExpression of an expression, where it has one.
+/// Compiles the messageExpression of an expression, if it has one.
 fn read_message(
     alloc: Global,
     expression: &VapExpression,
@@ -102,7 +102,7 @@ fn read_message(
     }
 }
 
-/// The program of a text of an expression.
+/// Compiles one of the texts of an expression.
 fn read(
     alloc: Global,
     expression: &VapExpression,
@@ -117,7 +117,7 @@ fn read(
     }
 }
 
-/// An expression with the programs of its texts.
+/// Returns an expression with the programs of its texts.
 fn with_programs(
     expression: &VapExpression,
     program: Program,
@@ -136,7 +136,7 @@ fn with_programs(
     })
 }
 
-/// The text of an expression, and its message.
+/// Copies the text of an expression and its message.
 fn texts_of(expression: &VapExpression) -> Result<(String, Option<String>), AllocError>
     ensures { IfOk result (λ t. (string_bytes t.0 ≡ (expression_view expression.now).expression)
         × (option_map string_bytes t.1 ≡ (expression_view expression.now).message)) }
@@ -145,7 +145,7 @@ fn texts_of(expression: &VapExpression) -> Result<(String, Option<String>), Allo
     Ok((text, clone_text(&expression.message)?))
 }
 
-/// The error of a text that was not read, of this expression.
+/// Returns the error of a text of this expression that doesn't parse.
 fn error_of(
     alloc: Global,
     text: &str,

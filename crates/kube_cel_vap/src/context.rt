@@ -1,4 +1,4 @@
-//! The names that the expressions of a policy may use, and the functions that they may call.
+//! The bindings and functions of a policy's expressions.
 ghost use Rattle.cel.specs.Program.{program_term};
 ghost use Rattle.cel_patterns.specs.Book.{Extends};
 ghost use Rattle.cel_patterns.specs.Entries.{entries_of};
@@ -23,17 +23,17 @@ use kube_types_refused::Refused;
 use serde_json::Value as Json;
 use std::alloc::Global;
 
-/// The context of a policy's expressions. They may call all functions of Kubernetes.
+/// The context of a policy's expressions, with all functions of Kubernetes.
 pub(crate) type PolicyContext<'a> = Context<'a, AllFunctions>;
 
-/// A context with no name and all functions that the expressions of a policy may call.
+/// Returns a context with all functions that the expressions of a policy may call, and no bindings.
 fn empty_context<'a>(alloc: Global) -> PolicyContext<'a>
     ensures { bindings_of result ≡ [] }
 {
     Context::default(alloc)
 }
 
-/// What a program means in a context.
+/// Evaluates a program in a context.
 #[tactic(auto, unfolding(crate::specs::Results::outcome_in))]
 pub(crate) fn outcome_of(
     alloc: Global,
@@ -49,7 +49,7 @@ pub(crate) fn outcome_of(
     program.execute_with(alloc, context, book)
 }
 
-/// The value that was set, or null.
+/// Returns the value that was set, or null.
 fn value_or_null(alloc: Global, value: &Option<Json>) -> Result<Value, Refused>
     ensures value { IfOk result (λ v. view v ≡ value_or_null (option_map json_view value.now)) }
     ensures memory { IfErr result (λ e. e ≡ Refused.Memory) }
@@ -60,7 +60,7 @@ fn value_or_null(alloc: Global, value: &Option<Json>) -> Result<Value, Refused>
     }
 }
 
-/// The value of the request that was set, or of an empty request.
+/// Returns the value of the request that was set, or of an empty request.
 fn request_or_empty(alloc: Global, request: &Option<AdmissionRequest>) -> Result<Value, Refused>
     ensures value { IfOk result (λ v. view v
         ≡ request_value (unwrap_or (option_map request_view request.now) empty_request)) }
@@ -72,7 +72,7 @@ fn request_or_empty(alloc: Global, request: &Option<AdmissionRequest>) -> Result
     }
 }
 
-/// Binds a name to the value that was set, if one was.
+/// Binds a name to the value that was set, if any.
 fn bind_given(
     alloc: Global,
     context: &mut PolicyContext<'_>,
@@ -89,7 +89,7 @@ fn bind_given(
     context.add_variable(name, bind_plain(alloc, value)?)
 }
 
-/// A context with the names that are always bound.
+/// Returns a context with the names that are always bound.
 fn context_always<'a>(alloc: Global, given: &Given) -> Result<PolicyContext<'a>, Refused>
     ensures bound { IfOk result (λ c. (x : List ℕ) → binding x (bindings_of c)
         ≡ binding x (bindings_always (given_view given.now))) }
@@ -102,7 +102,7 @@ fn context_always<'a>(alloc: Global, given: &Given) -> Result<PolicyContext<'a>,
     Ok(context)
 }
 
-/// The context of a policy's expressions, where this was set.
+/// Returns the context of a policy's expressions, with the variables that were set.
 pub(crate) fn context_of<'a>(alloc: Global, given: &Given) -> Result<PolicyContext<'a>, Refused>
     ensures bound { IfOk result (λ c. (x : List ℕ) → binding x (bindings_of c)
         ≡ binding x (policy_bindings (given_view given.now))) }

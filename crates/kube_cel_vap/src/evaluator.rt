@@ -1,4 +1,4 @@
-//! The evaluation of a policy's expressions.
+//! Evaluation of a policy's expressions.
 ghost use Rattle.kube_cel_vap.specs.Requests.{request_view};
 ghost use Rattle.kube_cel_vap.specs.Validations.{expression_view};
 ghost use Rattle.kube_cel_vap.specs.Expressions.{compile_result, compiled_seen};
@@ -18,22 +18,22 @@ use kube_types_refused::Refused;
 use serde_json::Value;
 use std::alloc::Global;
 
-/// Sets what the expressions of a policy may ask of. Nothing of it takes memory.
-/// What is set again replaces what was set before.
+/// Sets the variables of a policy's expressions. Setters
+/// allocate nothing, and replace what was set before.
 #[derive(Debug, Drop)]
 pub struct VapEvaluatorBuilder {
     given: Given,
 }
 
 impl VapEvaluatorBuilder {
-    /// A builder by which nothing is set yet, as [`VapEvaluator::builder`] makes it. It takes no memory.
+    /// Returns a builder with nothing set, like [`VapEvaluator::builder`]. Allocates nothing.
     pub fn default(_alloc: Global) -> VapEvaluatorBuilder
         ensures { builder_view result ≡ no_variables }
     {
         VapEvaluator::builder()
     }
 
-    /// Sets the object that is asked for, `object`.
+    /// Sets `object`, the object of the request.
     pub fn object(mut self, object: Value) -> VapEvaluatorBuilder
         ensures { builder_view result ≡ record (builder_view self) { object = Some (view object) } }
     {
@@ -41,7 +41,7 @@ impl VapEvaluatorBuilder {
         self
     }
 
-    /// Sets the object as it was, `oldObject`.
+    /// Sets `oldObject`, the existing object.
     pub fn old_object(mut self, object: Value) -> VapEvaluatorBuilder
         ensures { builder_view result ≡ record (builder_view self) { old_object = Some (view object) } }
     {
@@ -49,7 +49,7 @@ impl VapEvaluatorBuilder {
         self
     }
 
-    /// Sets the parameters of the policy, `params`.
+    /// Sets `params`, the parameters of the policy.
     pub fn params(mut self, params: Value) -> VapEvaluatorBuilder
         ensures { builder_view result ≡ record (builder_view self) { params = Some (view params) } }
     {
@@ -57,7 +57,7 @@ impl VapEvaluatorBuilder {
         self
     }
 
-    /// Sets the object's namespace, `namespaceObject`.
+    /// Sets `namespaceObject`, the namespace of the object.
     pub fn namespace_object(mut self, namespace: Value) -> VapEvaluatorBuilder
         ensures { builder_view result
             ≡ record (builder_view self) { namespace_object = Some (view namespace) } }
@@ -66,7 +66,7 @@ impl VapEvaluatorBuilder {
         self
     }
 
-    /// Sets the request, `request`.
+    /// Sets `request`, the admission request.
     pub fn request(mut self, request: AdmissionRequest) -> VapEvaluatorBuilder
         ensures { builder_view result ≡ record (builder_view self) { request = Some (request_view request) } }
     {
@@ -74,7 +74,7 @@ impl VapEvaluatorBuilder {
         self
     }
 
-    /// The evaluator with what was set.
+    /// Returns the evaluator with what was set.
     pub fn build(self) -> VapEvaluator
         ensures { evaluator_view result ≡ builder_view self }
     {
@@ -82,14 +82,15 @@ impl VapEvaluatorBuilder {
     }
 }
 
-/// Evaluates the expressions of a policy over what was set. It keeps nothing from call to call.
+/// Evaluates the expressions of a policy with the variables
+/// that were set. It keeps no state between calls.
 #[derive(Debug, Drop)]
 pub struct VapEvaluator {
     given: Given,
 }
 
 impl VapEvaluator {
-    /// A builder by which nothing is set yet. It takes no memory.
+    /// Returns a builder with nothing set. Allocates nothing.
     pub fn builder() -> VapEvaluatorBuilder
         ensures { builder_view result ≡ no_variables }
     {
@@ -104,12 +105,12 @@ impl VapEvaluator {
         }
     }
 
-    /// Compiles expressions, each with its messageExpression, in order.
-    /// One that isn't read is an error in its place.
+    /// Compiles expressions, each with its messageExpression.
+    /// Returns a compiled expression or an error for each, in order.
     ///
     /// # Errors
     ///
-    /// [`Refused`] where memory is refused.
+    /// [`Refused`] if memory is refused.
     pub fn compile_expressions(
         &self,
         alloc: Global,
@@ -126,11 +127,12 @@ impl VapEvaluator {
         Ok(all)
     }
 
-    /// Evaluates compiled expressions, also those of another evaluator: one result for each, in order.
+    /// Evaluates compiled expressions, which may come from
+    /// another evaluator. Returns one result for each, in order.
     ///
     /// # Errors
     ///
-    /// [`Refused`] where memory is refused.
+    /// [`Refused`] if memory is refused.
     pub fn evaluate_compiled(
         &self,
         alloc: Global,
@@ -146,12 +148,12 @@ impl VapEvaluator {
         Ok(results)
     }
 
-    /// Compiles expressions and evaluates them: one result for each, in order,
-    /// also for those that aren't read.
+    /// Compiles and evaluates expressions. Returns one result
+    /// for each, in order, including those that don't compile.
     ///
     /// # Errors
     ///
-    /// [`Refused`] where memory is refused.
+    /// [`Refused`] if memory is refused.
     pub fn evaluate(
         &self,
         alloc: Global,

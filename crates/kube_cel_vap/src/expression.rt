@@ -1,20 +1,20 @@
-//! The expressions of a policy, and what is reported of them.
+//! The expressions of a policy, and their results.
 ghost use Rattle.std.specs.Prelude.{◌≡◌, IfOk, option_map, string_bytes};
 
 use kube_types_refused::Refused;
 use serde::{Deserialize, Serialize};
 use std::alloc::AllocError;
 
-/// One validation of a policy.
+/// A validation of a policy.
 #[derive(Debug, Drop, PartialEq, Eq, Serialize, Deserialize)]
 #[serde(rename_all = "camelCase")]
 pub struct VapExpression {
     /// The CEL expression that has to be true.
     pub expression: String,
-    /// What is reported where it is false.
+    /// The message if it is false.
     pub message: Option<String>,
-    /// A CEL expression that gives what is reported where the expression is false. A string that it comes to
-    /// stands before the message.
+    /// A CEL expression for the message if the expression is false.
+    /// If it evaluates to a string, that replaces `message`.
     pub message_expression: Option<String>,
 }
 
@@ -22,11 +22,11 @@ impl VapExpression {
     ghost use Rattle.kube_cel_vap.specs.Validations.{expression_view};
     ghost use Rattle.std.specs.Prelude.{◌≡◌, IfErr, IfOk};
 
-    /// An equal one.
+    /// Returns an equal expression.
     ///
     /// # Errors
     ///
-    /// [`Refused`] where memory is refused.
+    /// [`Refused`] if memory is refused.
     pub fn try_clone(&self) -> Result<VapExpression, Refused>
         ensures same { IfOk result (λ x. expression_view x ≡ expression_view self.now) }
         ensures memory { IfErr result (λ e. e ≡ Refused.Memory) }
@@ -39,14 +39,14 @@ impl VapExpression {
     }
 }
 
-/// What an expression of a policy came to.
+/// The result of an expression of a policy.
 #[derive(Debug, Drop, PartialEq, Eq, Serialize, Deserialize)]
 pub struct VapResult {
     /// The text of the expression.
     pub expression: String,
     /// Whether the expression is true.
     pub passed: bool,
-    /// What is reported of an expression that isn't true. There is none exactly where the expression passed.
+    /// The message of an expression that isn't true; None exactly if it passed.
     pub message: Option<String>,
 }
 
@@ -54,11 +54,11 @@ impl VapResult {
     ghost use Rattle.kube_cel_vap.specs.Validations.{result_view};
     ghost use Rattle.std.specs.Prelude.{◌≡◌, IfErr, IfOk};
 
-    /// An equal one.
+    /// Returns an equal result.
     ///
     /// # Errors
     ///
-    /// [`Refused`] where memory is refused.
+    /// [`Refused`] if memory is refused.
     pub fn try_clone(&self) -> Result<VapResult, Refused>
         ensures same { IfOk result (λ r. result_view r ≡ result_view self.now) }
         ensures memory { IfErr result (λ e. e ≡ Refused.Memory) }
@@ -71,11 +71,11 @@ impl VapResult {
     }
 }
 
-/// An equal text, if there is one.
+/// Returns a copy of the text, if there is one.
 ///
 /// # Errors
 ///
-/// [`AllocError`] where memory is refused.
+/// [`AllocError`] if memory is refused.
 pub fn clone_text(text: &Option<String>) -> Result<Option<String>, AllocError>
     ensures { IfOk result (λ o. option_map string_bytes o ≡ option_map string_bytes text.now) }
 {

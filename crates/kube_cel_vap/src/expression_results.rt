@@ -20,7 +20,7 @@ use cel_value::Value;
 use kube_types_refused::Refused;
 use std::alloc::{AllocError, Global};
 
-/// The result of an expression of which this is reported.
+/// Returns the result of an expression with this message. It passed if there is none.
 fn result_with(
     alloc: Global,
     expression: &str,
@@ -36,7 +36,7 @@ fn result_with(
     })
 }
 
-/// The string that a messageExpression came to.
+/// The string that a messageExpression evaluated to, if it did.
 fn message_text(outcome: &Answer) -> Option<&str>
     ensures { option_map (λ s. s.now) result ≡ message_text (outcome_view outcome.now) }
 {
@@ -46,7 +46,7 @@ fn message_text(outcome: &Answer) -> Option<&str>
     }
 }
 
-/// What an expression that is false says itself: its message, else its text.
+/// Returns the message of an expression or, if it has none, a message made of its text.
 fn own_message(alloc: Global, compiled: &CompiledVapExpression) -> Result<String, AllocError>
     ensures { IfOk result (λ s. string_bytes s ≡ own_message (compiled_view compiled.now)) }
 {
@@ -57,8 +57,8 @@ fn own_message(alloc: Global, compiled: &CompiledVapExpression) -> Result<String
     format!(in alloc; "validation expression '{text}' evaluated to false")
 }
 
-/// What is reported of an expression that is false: the string that its messageExpression comes to, if it
-/// does, else what it says itself.
+/// Returns the message of an expression that is false: the string that
+/// its messageExpression evaluates to, if it does, else its own message.
 fn false_message(
     alloc: Global,
     compiled: &CompiledVapExpression,
@@ -79,7 +79,7 @@ fn false_message(
     Ok(report_message(alloc, compiled, &outcome)?)
 }
 
-/// What is reported of an expression that is false, where its messageExpression came to this.
+/// Returns the message of an expression that is false, by the outcome of its messageExpression.
 fn report_message(
     alloc: Global,
     compiled: &CompiledVapExpression,
@@ -94,7 +94,7 @@ fn report_message(
     }
 }
 
-/// What is reported of an expression with this value, unless it is true.
+/// Returns the message of an expression that evaluated to this value; None if the value is true.
 fn value_message(
     alloc: Global,
     compiled: &CompiledVapExpression,
@@ -125,7 +125,7 @@ fn value_message(
     }
 }
 
-/// What is reported of a compiled expression, unless it is true.
+/// Evaluates a compiled expression. Returns its message; None if it is true.
 fn message_of(
     alloc: Global,
     compiled: &CompiledVapExpression,
@@ -149,7 +149,7 @@ fn message_of(
     }
 }
 
-/// The result of an expression that was not read.
+/// Returns the result of an expression that doesn't compile.
 fn unread_result(alloc: Global, error: &VapError) -> Result<VapResult, AllocError>
     ensures { IfOk result (λ r. result_view r
         ≡ result_with (error_view error.now).original (Some (unread_text (error_view error.now)))) }
@@ -158,7 +158,7 @@ fn unread_result(alloc: Global, error: &VapError) -> Result<VapResult, AllocErro
     result_with(alloc, error.original.as_str(), Some(message))
 }
 
-/// The result of one expression.
+/// Returns the result of one expression.
 fn result_of(
     alloc: Global,
     compiled: &Result<CompiledVapExpression, VapError>,
@@ -180,7 +180,7 @@ fn result_of(
     }
 }
 
-/// The results of expressions, one for each, in order.
+/// Returns the results of expressions, one for each, in order.
 pub(crate) fn results_of(
     alloc: Global,
     compiled: &[Result<CompiledVapExpression, VapError>],

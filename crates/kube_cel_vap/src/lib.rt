@@ -1,5 +1,5 @@
-//! The expressions of Kubernetes' ValidatingAdmissionPolicy, evaluated without an API server; the admission
-//! requests that they are evaluated over, and their results.
+//! Evaluation of the expressions of Kubernetes' ValidatingAdmissionPolicy without
+//! an API server; the admission requests that they read, and their results.
 #![tactic(auto)]
 
 mod compilation;

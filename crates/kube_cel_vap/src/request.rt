@@ -1,18 +1,18 @@
-//! What an admission request says (Kubernetes API reference, AdmissionRequest of `admission.k8s.io/v1`).
+//! Admission requests (Kubernetes API reference, AdmissionRequest of `admission.k8s.io/v1`).
 ghost use Rattle.std.specs.Prelude.{◌≡◌, IfOk, map, string_bytes};
 
 use kube_types_refused::Refused;
 use serde::{Deserialize, Serialize};
 use std::alloc::{AllocError, Global};
 
-/// A kind of objects.
+/// The kind of an object, with its API group and version.
 #[derive(Debug, Drop, PartialEq, Eq, Hash, Serialize, Deserialize)]
 pub struct GroupVersionKind {
-    /// The group of the objects' interface, as `apps`; empty for the core.
+    /// The API group, such as `apps`; empty for the core group.
     pub group: String,
-    /// Its version, as `v1`.
+    /// The version, such as `v1`.
     pub version: String,
-    /// The kind, as `Deployment`.
+    /// The kind, such as `Deployment`.
     pub kind: String,
 }
 
@@ -20,7 +20,7 @@ impl GroupVersionKind {
     ghost use Rattle.kube_cel_vap.specs.Requests.{empty_kind, kind_view};
     ghost use Rattle.std.specs.Prelude.{◌≡◌, IfErr, IfOk};
 
-    /// Three empty texts. It takes no memory.
+    /// Returns a kind of three empty strings. Allocates nothing.
     pub fn default(alloc: Global) -> GroupVersionKind
         ensures { kind_view result ≡ empty_kind }
     {
@@ -31,11 +31,11 @@ impl GroupVersionKind {
         }
     }
 
-    /// An equal one.
+    /// Returns an equal kind.
     ///
     /// # Errors
     ///
-    /// [`Refused`] where memory is refused.
+    /// [`Refused`] if memory is refused.
     pub fn try_clone(&self) -> Result<GroupVersionKind, Refused>
         ensures same { IfOk result (λ k. kind_view k ≡ kind_view self.now) }
         ensures memory { IfErr result (λ e. e ≡ Refused.Memory) }
@@ -48,14 +48,14 @@ impl GroupVersionKind {
     }
 }
 
-/// The name under which objects of a kind are served.
+/// The resource under which objects of a kind are served.
 #[derive(Debug, Drop, PartialEq, Eq, Hash, Serialize, Deserialize)]
 pub struct GroupVersionResource {
-    /// The group of the objects' interface, as `apps`; empty for the core.
+    /// The API group, such as `apps`; empty for the core group.
     pub group: String,
-    /// Its version, as `v1`.
+    /// The version, such as `v1`.
     pub version: String,
-    /// The name, as `deployments`.
+    /// The name of the resource, such as `deployments`.
     pub resource: String,
 }
 
@@ -63,7 +63,7 @@ impl GroupVersionResource {
     ghost use Rattle.kube_cel_vap.specs.Requests.{empty_resource, resource_view};
     ghost use Rattle.std.specs.Prelude.{◌≡◌, IfErr, IfOk};
 
-    /// Three empty texts. It takes no memory.
+    /// Returns a resource of three empty strings. Allocates nothing.
     pub fn default(alloc: Global) -> GroupVersionResource
         ensures { resource_view result ≡ empty_resource }
     {
@@ -74,11 +74,11 @@ impl GroupVersionResource {
         }
     }
 
-    /// An equal one.
+    /// Returns an equal resource.
     ///
     /// # Errors
     ///
-    /// [`Refused`] where memory is refused.
+    /// [`Refused`] if memory is refused.
     pub fn try_clone(&self) -> Result<GroupVersionResource, Refused>
         ensures same { IfOk result (λ r. resource_view r ≡ resource_view self.now) }
         ensures memory { IfErr result (λ e. e ≡ Refused.Memory) }
@@ -91,15 +91,15 @@ impl GroupVersionResource {
     }
 }
 
-/// A request to change an object: what is asked, of which object, and by whom.
+/// An admission request: the operation, its object and its user.
 #[derive(Debug, Drop, PartialEq, Eq, Serialize, Deserialize)]
 #[serde(rename_all = "camelCase")]
 pub struct AdmissionRequest {
-    /// What is asked, as `CREATE`.
+    /// The operation, such as `CREATE`.
     pub operation: String,
-    /// The name of the user who asks.
+    /// The name of the user.
     pub username: String,
-    /// The user's identifier.
+    /// The UID of the user.
     pub uid: String,
     /// The groups that the user belongs to.
     pub groups: Vec<String>,
@@ -107,11 +107,11 @@ pub struct AdmissionRequest {
     pub name: String,
     /// The namespace of the object.
     pub namespace: String,
-    /// Whether nothing is to be kept of what the request changes.
+    /// Whether this is a dry run, whose changes aren't persisted.
     pub dry_run: bool,
     /// The kind of the object.
     pub kind: GroupVersionKind,
-    /// The name under which such objects are served.
+    /// The resource of the object.
     pub resource: GroupVersionResource,
 }
 
@@ -119,7 +119,7 @@ impl AdmissionRequest {
     ghost use Rattle.kube_cel_vap.specs.Requests.{empty_request, request_view};
     ghost use Rattle.std.specs.Prelude.{◌≡◌, IfErr, IfOk};
 
-    /// A request of which nothing is known: empty texts, no group, no dry run. It takes no memory.
+    /// Returns an empty request: empty strings, no groups, no dry run. Allocates nothing.
     pub fn default(alloc: Global) -> AdmissionRequest
         ensures { request_view result ≡ empty_request }
     {
@@ -136,11 +136,11 @@ impl AdmissionRequest {
         }
     }
 
-    /// An equal one.
+    /// Returns an equal request.
     ///
     /// # Errors
     ///
-    /// [`Refused`] where memory is refused.
+    /// [`Refused`] if memory is refused.
     pub fn try_clone(&self) -> Result<AdmissionRequest, Refused>
         ensures same { IfOk result (λ r. request_view r ≡ request_view self.now) }
         ensures memory { IfErr result (λ e. e ≡ Refused.Memory) }
@@ -159,7 +159,7 @@ impl AdmissionRequest {
     }
 }
 
-/// Equal texts.
+/// Returns copies of the texts.
 fn clone_texts(texts: &Vec<String>) -> Result<Vec<String>, AllocError>
     ensures { IfOk result (λ v. map string_bytes v.items ≡ map string_bytes texts.now.items) }
 {

@@ -1,4 +1,4 @@
-//! The CEL value of an admission request: a map whose keys are as they are, none escaped.
+//! The CEL value of an admission request: a map whose keys aren't escaped.
 ghost use Rattle.cel_value.specs.Data.{bool, text, text_key};
 ghost use Rattle.cel_value.specs.Keys.{put};
 ghost use Rattle.cel_value.specs.View.{entries_view, view};
@@ -11,7 +11,7 @@ use kube_schema_values::{bind_text, put_entry};
 use kube_types_refused::Refused;
 use std::alloc::Global;
 
-/// Puts a value into a map.
+/// Inserts a value into a map.
 fn put_value(alloc: Global, entries: &mut Entries, key: &str, value: Value) -> Result<(), Refused>
     ensures entered { OnOk result (entries_view entries.new.entries
         ≡ put (text_key key.now) (view value) (entries_view entries.old.entries)) }
@@ -21,7 +21,7 @@ fn put_value(alloc: Global, entries: &mut Entries, key: &str, value: Value) -> R
     put_entry(alloc, entries, key, value)
 }
 
-/// Puts a text into a map.
+/// Inserts a string into a map.
 fn put_text(alloc: Global, entries: &mut Entries, key: &str, chars: &str) -> Result<(), Refused>
     ensures entered { OnOk result (entries_view entries.new.entries
         ≡ put (text_key key.now) (text chars.now) (entries_view entries.old.entries)) }
@@ -31,14 +31,14 @@ fn put_text(alloc: Global, entries: &mut Entries, key: &str, chars: &str) -> Res
     put_value(alloc, entries, key, value)
 }
 
-/// The value of a bool.
+/// Returns a CEL bool.
 fn bool_value(truth: bool) -> Value
     ensures { view result ≡ bool truth }
 {
     Value::Bool(truth)
 }
 
-/// The list of these texts.
+/// Returns the CEL list of these strings.
 fn texts_value(alloc: Global, texts: &Vec<String>) -> Result<Value, Refused>
     ensures value { IfOk result (λ v. view v ≡ texts_value (map string_bytes texts.now.items)) }
     ensures memory { IfErr result (λ e. e ≡ Refused.Memory) }
@@ -51,7 +51,7 @@ fn texts_value(alloc: Global, texts: &Vec<String>) -> Result<Value, Refused>
     Ok(value)
 }
 
-/// The value of a kind of objects.
+/// Returns the CEL value of a kind.
 fn kind_value(alloc: Global, kind: &GroupVersionKind) -> Result<Value, Refused>
     ensures value { IfOk result (λ v. view v ≡ kind_value (kind_view kind.now)) }
     ensures memory { IfErr result (λ e. e ≡ Refused.Memory) }
@@ -64,7 +64,7 @@ fn kind_value(alloc: Global, kind: &GroupVersionKind) -> Result<Value, Refused>
     Ok(value)
 }
 
-/// The value of a name under which objects are served.
+/// Returns the CEL value of a resource.
 fn resource_value(alloc: Global, resource: &GroupVersionResource) -> Result<Value, Refused>
     ensures value { IfOk result (λ v. view v ≡ resource_value (resource_view resource.now)) }
     ensures memory { IfErr result (λ e. e ≡ Refused.Memory) }
@@ -77,7 +77,7 @@ fn resource_value(alloc: Global, resource: &GroupVersionResource) -> Result<Valu
     Ok(value)
 }
 
-/// The value of who asks.
+/// Returns the CEL value of the user of a request.
 fn user_value(alloc: Global, request: &AdmissionRequest) -> Result<Value, Refused>
     ensures value { IfOk result (λ v. view v ≡ user_value (request_view request.now)) }
     ensures memory { IfErr result (λ e. e ≡ Refused.Memory) }
@@ -91,11 +91,11 @@ fn user_value(alloc: Global, request: &AdmissionRequest) -> Result<Value, Refuse
     Ok(value)
 }
 
-/// The value of a request, as the expressions of a policy see it.
+/// Returns the CEL value of a request, as the expressions of a policy read it.
 ///
 /// # Errors
 ///
-/// [`Refused`] where memory is refused.
+/// [`Refused`] if memory is refused.
 pub fn request_value(alloc: Global, request: &AdmissionRequest) -> Result<Value, Refused>
     ensures value { IfOk result (λ v. view v ≡ request_value (request_view request.now)) }
     ensures memory { IfErr result (λ e. e ≡ Refused.Memory) }

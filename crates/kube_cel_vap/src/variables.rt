@@ -1,8 +1,8 @@
-//! What the expressions of a policy may ask of.
+//! The variables of a policy's expressions.
 use crate::request::AdmissionRequest;
 use serde_json::Value;
 
-/// What was set, each of it once at most.
+/// The variables that were set.
 #[derive(Debug, Drop)]
 pub(crate) struct Given {
     pub(crate) object: Option<Value>,

@@ -1,4 +1,4 @@
--- A meaning depends only on what the names are bound to, and what they are bound to at a place.
+-- A meaning depends only on what the names are bound to; and the bindings at a place.
 use Rattle.cel_patterns.specs.Book.{Book}
 use Rattle.cel_semantics.specs.Bindings.{Bindings, binding}
 use Rattle.cel_semantics.specs.Decisions.{truth, branch_outcome}
@@ -22,7 +22,7 @@ use Rattle.std.specs.Option.{option_map_or}
 use Rattle.std.specs.Bool.{Decides}
 use Rattle.std.specs.Str.{bytes_eq}
 
--- the same names are bound where one more is
+-- equal bindings stay equal if one more name is bound in both
 pub under : (x : List ℕ) (d : Data) (e f : Bindings) → ((y : List ℕ) → binding y e ≡ binding y f) → (y : List ℕ) → binding y ((x, d) ∷ e) ≡ binding y ((x, d) ∷ f)
 under x d e f h y = ap (λ o. if bytes_eq y x then Some d else o) (h y)
 
@@ -63,11 +63,11 @@ decided_alike false false d e f g = refl
 bytes_eq_turned : (x y : List ℕ) → bytes_eq x y ≡ bytes_eq y x
 bytes_eq_turned x y = decided_alike (bytes_eq x y) (bytes_eq y x) (bytes_eq-Decides x y) (bytes_eq-Decides y x) (λ e. sym e) (λ e. sym e)
 
--- one more name
+-- one more name is bound
 pub bound : (x name : List ℕ) (v d : Data) (r o : Option Data) (es : Bindings) → r ≡ (if bytes_eq name x then Some v else o) → v ≡ d → o ≡ binding x es → r ≡ binding x ((name, d) ∷ es)
 bound x name v d r o es e p q = e ∙ (λ i. if bytes_eq_turned name x i then Some (p i) else q i)
 
--- ---- more names
+-- ---- more names are bound
 
 pub old_under : (o : Option Data) (e f : Bindings) → ((y : List ℕ) → binding y e ≡ binding y f) → (y : List ℕ) → binding y (with_old o e) ≡ binding y (with_old o f)
 old_under None e f h y = h y
@@ -80,7 +80,7 @@ root_under (Some r) e f h y =
     let g : List ℕ × Data = (codes "apiGroup", text r.api_group) in
     under (codes "kind") (text r.kind) (g ∷ v ∷ e) (g ∷ v ∷ f) (under (codes "apiGroup") (text r.api_group) (v ∷ e) (v ∷ f) (under (codes "apiVersion") (text r.api_version) e f h)) y
 
--- the names of the whole object, one by one
+-- the names of the root context, one by one
 pub rooted : (o : Option Root) (r : Root) (e0 e1 e2 e3 : Bindings) (v g k : Data) → o ≡ Some r → v ≡ text r.api_version → g ≡ text r.api_group → k ≡ text r.kind
     → ((x : List ℕ) → binding x e1 ≡ (if bytes_eq (codes "apiVersion") x then Some v else binding x e0))
     → ((x : List ℕ) → binding x e2 ≡ (if bytes_eq (codes "apiGroup") x then Some g else binding x e1))

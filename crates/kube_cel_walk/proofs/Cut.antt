@@ -1,4 +1,4 @@
--- A path that was lengthened is cut back.
+-- A path that was extended is truncated again.
 use Rattle.kube_schema_rules.specs.Visit.{member_path, item_path}
 use Rattle.std.proofs.Common.{◌≡◌, ◌<◌, ℕ, List, [], ◌∷◌, ◌++◌, length, take, refl, arith, get_or, lit<, length-append}
 use Rattle.std.proofs.Math.Seq.{take-append_seam}

@@ -1,4 +1,4 @@
--- A map's entries, as a walk meets them.
+-- The entries of a map, in the order in which the walk visits them.
 use Rattle.kube_schema_rules.proofs.Sorted.{key_cmp, ordered_already}
 use Rattle.kube_schema_rules.specs.Inside.{keys_in, keys_at, in_order}
 use Rattle.serde_json.proofs.Views.{Entry}
@@ -20,7 +20,7 @@ below_middle first (x ∷ es) e more h = below_middle first es e more h.1
 above : (first : Entry) (es : List Entry) (e : Entry) (more : List Entry) → AllByRecursion (λ y. string_cmp first.0 y ≡ Less) (keys_of (es ++ e ∷ more)) → slice_cmp nat_cmp (string_bytes e.0) (string_bytes first.0) ≡ Greater
 above first es e more h = nat_list_cmp_total.antisymm (string_bytes e.0) (string_bytes first.0) ∙ ap ordering_reverse (below_middle first es e more h)
 
--- the member at a key is the entry's value
+-- the member at a key is the value of its entry
 pub member_in_order : (done : List Entry) (e : Entry) (more : List Entry) → IsStrictlySortedBy string_cmp (keys_of (done ++ e ∷ more))
     → get_member (string_bytes e.0) (members_view (done ++ e ∷ more)) ≡ Some (view e.1)
 unfolding IsStrictlySortedBy
@@ -34,7 +34,7 @@ pub names_more : (done : List Entry) (e : Entry) → names_of (done ++ e ∷ [])
 names_more [] e = refl
 names_more (x ∷ done) e = ap (λ r. string_bytes x.0 ∷ r) (names_more done e)
 
--- a map's keys are in order
+-- the keys of a map are in order
 
 keys_named : (es : List Entry) → keys_in (members_view es) ≡ names_of es
 keys_named [] = refl

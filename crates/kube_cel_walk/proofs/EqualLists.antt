@@ -1,4 +1,4 @@
--- What `==` of lists of errors decides.
+-- What `==` of error lists decides.
 use denote.Enum.Bare.{sameb, same_true, true_same}
 use Rattle.kube_cel_walk.proofs.Equals.{and_decides, reasons_decide, texts_decide}
 use Rattle.kube_cel_walk.specs.contracts.error.ErrorKind.{the_type}

@@ -1,4 +1,4 @@
--- What a walk finds through the steps of each kind, and that it is the answer when joined.
+-- What the walk finds through the steps of each kind; joined, that is the answer.
 use Rattle.cel_patterns.specs.Book.{Book}
 use Rattle.kube_cel_walk.specs.Errors.{ErrorData}
 use Rattle.kube_schema_rules.proofs.Found.{flat_map-map, flat_map_none, answers_end, answers_more}
@@ -137,7 +137,7 @@ module _ {S : Type 0} (form : WalkAccessors S) where
   unfolding additional_steps
   no_additional_property b n s old e = none_goes b n s old additional_property (in_order (keys_at (Some s.value))) (λ k. no_additional_goes form.steps s k e)
 
-  -- ---- a loop that gathers
+  -- ---- a loop that accumulates
 
   pub one_more : (b : Book) (n : ℕ) (s : Visit S) {X : Type 0} (f : X → Step) (xs : List X) (x : X) (old had new : List ErrorData) → had ≡ old ++ found_through form b n s (map f xs)
       → new ≡ had ++ answer_if_reached form b n (goes form.steps (f x) s) → new ≡ old ++ found_through form b n s (map f (xs ++ x ∷ []))
@@ -168,7 +168,7 @@ module _ {S : Type 0} (form : WalkAccessors S) where
   unfolding found_through
   through_both b n s ps qs rest e = flat_map-append (λ p. answer_if_reached form b n (goes form.steps p s)) ps qs ∙ ap (λ r. found_through form b n s ps ++ r) e
 
-  -- what the calls at one place find, in turn, is the answer there
+  -- what the calls at one place add, one after the other, is the answer there
   pub gathered : (b : Book) (fuel n : ℕ) (s : Visit S) (e0 e1 e2 e3 e4 e5 e6 e7 : List ErrorData) → fuel ≡ suc n
       → e1 ≡ e0 ++ verdicts form b s
       → e2 ≡ e1 ++ found_through form b n s (property_steps form.steps s)

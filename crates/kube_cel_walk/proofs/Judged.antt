@@ -1,4 +1,4 @@
--- What is found at one place.
+-- The errors at one place.
 use Rattle.cel_demand.specs.Alike.{NamesAlike}
 use Rattle.cel_demand.specs.Part.{Part}
 use Rattle.cel_patterns.specs.Book.{Book}
@@ -20,7 +20,7 @@ none_in f [] h = refl
 none_in f (x ∷ xs) h = cc
 
 module _ {S : Type 0} (form : WalkAccessors S) where
-  -- `self`, then `oldSelf`, then the names of the whole object
+  -- `self`, then `oldSelf`, then the names of the root context
   pub placed : (read : List ℕ → Option Part) (s : Visit S) (e1 e2 : Bindings) → NamesAlike read e1 (with_old (option_map (bound_at form s) s.old) ((codes "self", bound_at form s s.value) ∷ []))
       → ((y : List ℕ) → binding y e2 ≡ binding y (with_root s.root e1)) → NamesAlike read e2 (place_bindings form s)
   unfolding place_bindings

@@ -33,7 +33,7 @@ same_more : (p : Option Part) (b : Bool) (v : Data) (o q : Option Data) → Read
 same_more p true v o q h = read-refl p (Some v)
 same_more p false v o q h = h
 
--- the same in both
+-- bound to the same value in both
 pub names_under : (read : List ℕ → Option Part) (n : List ℕ) (v : Data) (e f : Bindings) → NamesAlike read e f → NamesAlike read ((n, v) ∷ e) ((n, v) ∷ f)
 names_under read n v e f h x = same_more (read x) (bytes_eq x n) v (binding x e) (binding x f) (h x)
 
@@ -45,7 +45,7 @@ named_at : (read : List ℕ → Option Part) (n : List ℕ) (v : Data) (d e f : 
 named_at read n v d e f h here others x true is = subst (λ y. ReadAlike (read y) (binding y d) (Some v)) (sym ((bytes_eq-Decides x n).0 is)) here
 named_at read n v d e f h here others x false is = subst (λ o. ReadAlike (read x) o (binding x f)) (sym (others x (other_name x n is))) (h x)
 
--- in the first as far as it is read
+-- bound in the first to as much as is read
 pub names_named : (read : List ℕ → Option Part) (n : List ℕ) (v : Data) (d e f : Bindings) → NamesAlike read e f → ReadAlike (read n) (binding n d) (Some v) → ((x : List ℕ) → bytes_eq n x ≡ false → binding x d ≡ binding x e)
     → NamesAlike read d ((n, v) ∷ f)
 names_named read n v d e f h here others x = named_at read n v d e f h here others x (bytes_eq x n) refl
@@ -57,12 +57,12 @@ named_new n v e d h = h n ∙ ap (λ b. if b then Some v else binding n e) ((byt
 pub named_others : (n : List ℕ) (v : Data) (e d : Bindings) → ((x : List ℕ) → binding x d ≡ (if bytes_eq n x then Some v else binding x e)) → (x : List ℕ) → bytes_eq n x ≡ false → binding x d ≡ binding x e
 named_others n v e d h x other = h x ∙ ap (λ b. if b then Some v else binding x e) other
 
--- no name
+-- no name is bound
 pub none_read : (p : Option Part) → ReadAlike p None None
 none_read None = tt
 none_read (Some p) = tt
 
--- what is known of the whole object
+-- the names of the root context
 pub names_rooted : (read : List ℕ → Option Part) (root : Option Root) (d e f : Bindings) → NamesAlike read e f → ((x : List ℕ) → binding x d ≡ binding x (with_root root e)) → NamesAlike read d (with_root root f)
 names_rooted read None d e f h same x = subst (λ o. ReadAlike (read x) o (binding x f)) (sym (same x)) (h x)
 names_rooted read (Some r) d e f h same x =
@@ -102,7 +102,7 @@ verdict_reads b e f old path (Ok c) h =
     ap (λ x. if is_applicable old c then x else None)
     (compiled_reads b path c (rule_bindings e old c.fields) (rule_bindings f old c.fields) (null_under (is_old_null old c.fields) (λ x. texts_read x c.tree c.message_tree) e f h))
 
--- those of all rules of a node
+-- the verdicts of all rules of a node
 pub verdicts_read : (b : Book) (e f : Bindings) (old : Option Json) (path : List ℕ) (rs : List (Result Compiled Malformed)) → NamesAlike (λ x. rules_read x rs) e f
     → flat_map (λ r. list_of_option (verdict b e old path r)) rs ≡ flat_map (λ r. list_of_option (verdict b f old path r)) rs
 verdicts_read b e f old path [] h = refl

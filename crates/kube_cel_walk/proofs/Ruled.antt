@@ -1,4 +1,4 @@
--- The verdict of one rule, way by way.
+-- The verdict of one rule, case by case.
 use Rattle.cel_patterns.specs.Book.{Book}
 use Rattle.cel_semantics.specs.Bindings.{Bindings, binding}
 use Rattle.cel_semantics.specs.Outcome.{Outcome}
@@ -26,7 +26,7 @@ pub compiled_found : (b : Book) (e : Bindings) (old : Option Json) (path : List 
 unfolding verdict
 compiled_found b e old path r c o p q = q ∙ ap (verdict b e old path) p
 
--- ---- names that are bound alike
+-- ---- names that are bound to the same values
 
 pub outcome_same : (b : Book) (t : Term) (e f : Bindings) → ((x : List ℕ) → binding x e ≡ binding x f) → outcome_in b e t ≡ outcome_in b f t
 unfolding outcome_in
@@ -40,7 +40,7 @@ pub verdict_same : (b : Book) (path : List ℕ) (c : Compiled) (e f : Bindings) 
 unfolding bound_verdict
 verdict_same b path c e f h = λ i. outcome_error path c.fields (failed_message c.fields (reported_same b c.message_tree e f h i)) (outcome_same b c.tree e f h i)
 
--- ---- what is reported of a rule that is false
+-- ---- the message of a rule that is false
 
 pub message_found : (b : Book) (e : Bindings) (r : Fields) (o : Option Term) (t : Term) (s : List ℕ) (outcome : Outcome) → o ≡ Some t → outcome ≡ outcome_in b e t
     → Some s ≡ message_text outcome → s ≡ failed_message r (option_map (outcome_in b e) o)
@@ -50,7 +50,7 @@ pub no_message_found : (b : Book) (e : Bindings) (r : Fields) (o : Option Term) 
     → None ≡ message_text outcome → s ≡ own_message r → s ≡ failed_message r (option_map (outcome_in b e) o)
 no_message_found b e r o t s outcome k q p m = m ∙ ap (λ o. unwrap_or o (own_message r)) (p ∙ ap message_text q) ∙ sym (ap (λ o. failed_message r (option_map (outcome_in b e) o)) k)
 
--- ---- a rule whose names are bound
+-- ---- a rule under given bindings
 
 pub erred_found : (b : Book) (e : Bindings) (path : List ℕ) (c : Compiled) (f : Fault) (x : ErrorData) → Err f ≡ outcome_in b e c.tree
     → x ≡ fault_error path c.fields f (undeclared_name f) → Some x ≡ bound_verdict b e path c
@@ -62,7 +62,7 @@ pub valued_found : (b : Book) (e : Bindings) (path : List ℕ) (c : Compiled) (v
 unfolding bound_verdict
 valued_found b e path c v o q p = p ∙ ap (outcome_error path c.fields (failed_message c.fields (option_map (outcome_in b e) c.message_tree))) q
 
--- ---- whether a rule is judged, and how
+-- ---- whether a rule applies, and how
 
 abbrev judged : Book → Bindings → List ℕ → Compiled → Bool → Bool → Option ErrorData
 judged b e path c applicable null_old = if applicable then bound_verdict b (if null_old then (codes "oldSelf", null) ∷ e else e) path c else None

@@ -1,6 +1,6 @@
 -- Trusted by the headline.
--- What is found at all places that a schema and a value share (Kubernetes documentation, "Validation rules":
--- a rule is scoped to the part of the object where its `x-kubernetes-validations` stands).
+-- The errors at all places that a schema and a value share (Kubernetes documentation, "Validation
+-- rules": a rule is scoped to the part of the object where its `x-kubernetes-validations` stands).
 use Rattle.cel_patterns.specs.Book.{Book}
 use Rattle.cel_semantics.specs.Bindings.{Bindings}
 use Rattle.cel_value.specs.Data.{Data}
@@ -17,38 +17,38 @@ use Rattle.std.specs.List.{flat_map}
 use Rattle.std.specs.Prelude.{ℕ, ◌==◌, List, [], ◌∷◌, if◌then◌else◌, Option, option_map, codes}
 
 module _ {S : Type 0} (form : WalkAccessors S) where
-  -- a value at a place as its node has it bound
+  -- a JSON value at a place, converted to CEL by the place's node
   abbrev pub bound_at : Visit S → Json → Data
   bound_at s value = to_cel form.conversion (levels s.depth) s.node value
 
-  -- what all rules at a place have: `self` is the value there
+  -- the bindings that all rules at a place share: `self` is the value there
   unfoldable pub place_bindings : Visit S → Bindings
   place_bindings s =
       with_root s.root (with_old (option_map (bound_at s) s.old) ((codes "self", bound_at s s.value) ∷ []))
 
-  -- the verdicts of the node's rules, in order, where names are bound so
+  -- the verdicts of the node's rules, in order, under these bindings
   unfoldable pub rule_verdicts : Book → Bindings → Visit S → List ErrorData
   rule_verdicts b e s = flat_map (λ r. list_of_option (verdict b e s.old s.path r)) (form.rules s.node)
 
-  -- the errors at a place; past depth 64 one error in the place of all verdicts
+  -- the errors at a place; beyond depth 64 a single error instead of verdicts
   unfoldable pub verdicts : Book → Visit S → List ErrorData
   verdicts b s = if s.depth == 65 then too_deep s.path ∷ [] else rule_verdicts b (place_bindings s) s
 
-  -- what is found from a visit on, within n steps
+  -- the errors from a visit on, within n steps
   unfoldable pub answer : Book → ℕ → Visit S → List ErrorData
   answer b n s = answers (goes form.steps) (candidates form.steps) (verdicts b) n s
 
   unfoldable pub answer_if_reached : Book → ℕ → Option (Visit S) → List ErrorData
   answer_if_reached b n o = if_some (answer b n) o
 
-  -- what is found through these steps, with n more at most behind each
+  -- the errors found through these steps, with at most n more steps behind each
   unfoldable pub found_through : Book → ℕ → Visit S → List Step → List ErrorData
   found_through b n s steps = flat_map (λ p. answer_if_reached b n (goes form.steps p s)) steps
 
-  -- through the steps of one kind
+  -- the errors found through the steps of one kind
   abbrev pub found_by : (Visit S → List Step) → Book → ℕ → Visit S → List ErrorData
   found_by steps b n s = found_through b n s (steps s)
 
-  -- all places of at most 65 steps, in order, each replaced by the errors at it, all joined
+  -- the errors at all places of at most 65 steps, concatenated in the order of the places
   unfoldable pub IsAnswer : Book → Visit S → List ErrorData → Type 0
   IsAnswer b root found = AreFoundAtPlaces (goes form.steps) (verdicts b) 65 root found

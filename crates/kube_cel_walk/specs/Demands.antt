@@ -1,5 +1,5 @@
 -- Scaffolding: only proofs and private clauses cite it.
--- What a node's rules read, wherever it is kept.
+-- The demands of a node's rules, whether stored with the node or made.
 use Rattle.kube_cel_walk.specs.declared.demands.NodeDemands.{NodeDemands}
 use Rattle.kube_cel_walk.specs.declared.demands.NodeDemands.TheVariants as node
 use Rattle.kube_schema_rules.specs.declared.demands.Demands.{Demands}

@@ -1,5 +1,5 @@
 -- Trusted by the headline.
--- What an error of a validation says, as plain data.
+-- A validation error as plain data.
 use Rattle.cel_value.specs.Faults.{Fault, fault_view}
 use Rattle.kube_cel_walk.specs.declared.error.ErrorKind.{ErrorKind}
 use Rattle.kube_cel_walk.specs.declared.error.ValidationError.{ValidationError}
@@ -11,7 +11,7 @@ pub record ErrorData : Type 0 where
   pub field_path : List ℕ
   pub reason : Option (List ℕ)
   pub kind : ErrorKind
-  -- why the rule has no value
+  -- the error of the evaluation, if that failed
   pub cause : Option Fault
 
 abbrev pub error_view : ValidationError → ErrorData
@@ -24,7 +24,7 @@ error_view e = record {
   cause = option_map fault_view e.cause;
 }
 
--- what `==` compares: all but the cause
+-- what `==` compares: all fields but the cause
 pub record SameFields (a b : ErrorData) : Type 0 where
   pub rule : a.rule ≡ b.rule
   pub message : a.message ≡ b.message

@@ -1,5 +1,5 @@
 -- Trusted by the headline.
--- What a root context says of a whole object.
+-- A root context as plain data.
 use Rattle.kube_cel_walk.specs.declared.root.RootContext.{RootContext}
 use Rattle.kube_schema_rules.specs.Visit.{Root}
 use Rattle.std.specs.Prelude.{string_bytes}

@@ -1,6 +1,6 @@
 -- Trusted by the headline.
--- The errors that a rule may give, and what stands past the greatest depth (Kubernetes
--- documentation, "Validation rules").
+-- The errors of rules, and the error beyond the maximum
+-- depth (Kubernetes documentation, "Validation rules").
 use Rattle.cel_value.specs.Faults.{Fault, undeclared}
 use Rattle.cel_value.specs.Texts.{fault_text}
 use Rattle.kube_cel_walk.specs.declared.error.ErrorKind.TheVariants.{CompilationFailure, InvalidRule, ValidationFailure, InvalidResult, EvaluationError, UnsupportedReference, SchemaTooDeep}
@@ -10,7 +10,7 @@ use Rattle.kube_schema_rules.specs.Compilation.{Malformed, unread, unread_messag
 use Rattle.kube_schema_rules.specs.Rules as schema
 use Rattle.std.specs.Prelude.{ℕ, ◌==◌, List, [], ◌++◌, if◌then◌else◌, Option, Some, None, codes, slice_index}
 
--- what is beyond the greatest depth
+-- the error beyond the maximum depth
 unfoldable pub too_deep : List ℕ → ErrorData
 too_deep path = record {
   rule = [];
@@ -21,7 +21,7 @@ too_deep path = record {
   cause = None;
 }
 
--- what is no rule has no text
+-- an invalid rule definition: it has no text
 abbrev pub invalid_rule : List ℕ → schema.Fault → ErrorData
 invalid_rule path fault = record {
   rule = [];
@@ -32,7 +32,7 @@ invalid_rule path fault = record {
   cause = None;
 }
 
--- a rule with a text that is no CEL expression
+-- a rule whose text or messageExpression doesn't parse as CEL
 abbrev pub not_compiled : List ℕ → List ℕ → List ℕ → ErrorData
 not_compiled path rule message = record {
   rule = rule;
@@ -52,12 +52,11 @@ unread_message_rule path rule m =
     not_compiled path rule (codes "failed to compile messageExpression \""
     ++ (m ++ (codes "\" for rule \"" ++ (rule ++ codes "\": invalid CEL expression"))))
 
--- a path and the own path of a rule behind it: one that begins with a dot (46) stands as
--- it is, another as a member
+-- a path followed by a rule's own path: as it stands if it begins with a dot (46), else as a member
 abbrev pub joined_path : List ℕ → List ℕ → List ℕ
 joined_path path own = if slice_index own 0 == 46 then path ++ own else member_path path own
 
--- the path that the error of a rule has
+-- the path of a rule's error
 abbrev pub rule_path : List ℕ → Option (List ℕ) → List ℕ
 rule_path path None = path
 rule_path path (Some own) = joined_path path own
@@ -104,7 +103,7 @@ evaluation_error path r fault = record {
   cause = Some fault;
 }
 
--- the name that nothing declares
+-- the undeclared name, if that is the fault
 abbrev pub undeclared_name : Fault → Option (List ℕ)
 undeclared_name (undeclared n) = Some n
 undeclared_name _ = None
@@ -113,7 +112,7 @@ abbrev pub fault_error : List ℕ → schema.Fields → Fault → Option (List �
 fault_error path r fault (Some name) = unsupported_reference path r name fault
 fault_error path r fault None = evaluation_error path r fault
 
--- why a rule is malformed
+-- the error of a malformed rule
 abbrev pub malformed_error : List ℕ → Malformed → ErrorData
 malformed_error path (unread rule) = unread_rule path rule
 malformed_error path (unread_message rule m) = unread_message_rule path rule m

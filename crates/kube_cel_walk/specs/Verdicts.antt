@@ -16,22 +16,22 @@ use Rattle.kube_schema_rules.specs.Rules as schema
 use Rattle.serde_json.specs.Data.{Data as Json}
 use Rattle.std.specs.Prelude.{ℕ, List, [], ◌∷◌, ◌++◌, Bool, true, false, not, ◌&&◌, ◌||◌, if◌then◌else◌, Option, Some, None, is_some, option_map, option_and_then, unwrap_or, Result, Ok, Err, codes}
 
--- at most one
+-- a list of at most one element
 abbrev pub list_of_option : {A : Type 0} → Option A → List A
 list_of_option None = []
 list_of_option (Some a) = a ∷ []
 
--- the string that a messageExpression came to; another value and an error give none
+-- the string that a messageExpression evaluated to; none for another value or an error
 abbrev pub message_text : Outcome → Option (List ℕ)
 message_text (Ok v) = text_in v
 message_text (Err e) = None
 
--- the rule's own message, else its text
+-- the rule's own message, or one made of its text
 abbrev pub own_message : schema.Fields → List ℕ
 own_message r = unwrap_or r.message (codes "failed rule: " ++ r.rule)
 
--- what is reported of a rule that is false: the string that its messageExpression came to,
--- if it did, else what it says itself
+-- the message of a rule that is false: the string that its
+-- messageExpression evaluated to, if it did, else its own message
 abbrev pub failed_message : schema.Fields → Option Outcome → List ℕ
 failed_message r reported = unwrap_or (option_and_then message_text reported) (own_message r)
 
@@ -40,49 +40,48 @@ value_error path r message (Some true) = None
 value_error path r message (Some false) = Some (failed_rule path r message)
 value_error path r message None = Some (no_bool path r)
 
--- the error of a rule, unless it is true: false, which has a message, no bool,
--- a name that nothing declares, another fault
+-- the error of a rule by its outcome: none if it is true; one with its message if it is
+-- false; one for a value that isn't a bool, for an undeclared name, and for any other fault
 abbrev pub outcome_error : List ℕ → schema.Fields → List ℕ → Outcome → Option ErrorData
 outcome_error path r message (Ok v) = value_error path r message (bool_in v)
 outcome_error path r message (Err e) = Some (fault_error path r e (undeclared_name e))
 
--- `oldSelf` is the old counterpart, where there is one
+-- binds `oldSelf` to the old counterpart, if there is one
 abbrev pub with_old : Option Data → Bindings → Bindings
 with_old None e = e
 with_old (Some old) e = (codes "oldSelf", old) ∷ e
 
--- what is known of the whole object
+-- binds the names of the root context, if there is one
 abbrev pub with_root : Option Root → Bindings → Bindings
 with_root None e = e
 with_root (Some r) e =
     (codes "kind", text r.kind) ∷ (codes "apiGroup", text r.api_group)
     ∷ (codes "apiVersion", text r.api_version) ∷ e
 
--- `optionalOldSelf` is true
+-- the rule sets `optionalOldSelf`
 abbrev pub is_old_optional : schema.Fields → Bool
 is_old_optional r = unwrap_or r.optional_old_self false
 
--- there is no old counterpart, and the rule is judged all the same: then `oldSelf` is null in it
+-- there is no old counterpart, and the rule sets `optionalOldSelf`: `oldSelf` is null in it
 abbrev pub is_old_null : Option Json → schema.Fields → Bool
 is_old_null old r = not (is_some old) && is_old_optional r
 
--- a rule that speaks of `oldSelf` is judged only where there is an old counterpart,
--- or where `optionalOldSelf` is true
+-- a transition rule applies if there is an old counterpart, or if it sets `optionalOldSelf`
 abbrev pub is_applicable : Option Json → Compiled → Bool
 is_applicable old c = not c.is_transition || (is_some old || is_old_optional c.fields)
 
--- what an expression means under all functions
+-- the meaning of an expression with all functions
 unfoldable pub outcome_in : Book → Bindings → Term → Outcome
 outcome_in b e t = meaning all_library b t e
 
--- the error of a rule whose names are bound so, unless it is true
+-- the error of a rule under these bindings; none if the rule is true
 unfoldable pub bound_verdict : Book → Bindings → List ℕ → Compiled → Option ErrorData
 bound_verdict b e path c =
     outcome_error path c.fields
     (failed_message c.fields (option_map (outcome_in b e) c.message_tree)) (outcome_in b e c.tree)
 
--- the verdict of a compiled rule among such names: none where it isn't applicable or is true. Where there is
--- no old counterpart and it is judged all the same, `oldSelf` is null
+-- the verdict of a compiled rule: none if it isn't applicable or is
+-- true. If it applies without an old counterpart, `oldSelf` is null
 abbrev pub rule_bindings : Bindings → Option Json → schema.Fields → Bindings
 rule_bindings e old r = if is_old_null old r then (codes "oldSelf", null) ∷ e else e
 
@@ -90,7 +89,7 @@ abbrev pub compiled_verdict : Book → Bindings → Option Json → List ℕ →
 compiled_verdict b e old path c =
     if is_applicable old c then bound_verdict b (rule_bindings e old c.fields) path c else None
 
--- the verdict of one rule: at most one error. A malformed rule is an error wherever it stands
+-- the verdict of one rule: at most one error. A malformed rule is an error at every place
 unfoldable pub verdict : Book → Bindings → Option Json → List ℕ → Result Compiled Malformed → Option ErrorData
 verdict b e old path (Err m) = Some (malformed_error path m)
 verdict b e old path (Ok c) = compiled_verdict b e old path c

@@ -1,12 +1,13 @@
 -- Scaffolding: only proofs and private clauses cite it.
--- The visit that a walk is at.
+-- The visit at which a walk stands.
 use Rattle.kube_schema_rules.specs.Visit.{Visit, visit}
 use Rattle.kube_cel_walk.specs.Roots.{root_view}
 use Rattle.kube_cel_walk.specs.declared.state.WalkState.{WalkState}
 use Rattle.serde_json.specs.View.{view}
 use Rattle.std.specs.Prelude.{ℕ, List, option_map}
 
--- the visit that a walk's state stands for, which is reached by this path, where its node is seen so
+-- the visit of a walk's state, with the path that leads to
+-- it; `seen` turns code's node into that of definitions
 abbrev pub visit_at : {N S : Type 0} → (N → S) → WalkState N → List ℕ → Visit S
 visit_at seen p path =
     visit (seen p.node) (view p.value.now) (option_map (λ v. view v.now) p.old)

@@ -10,11 +10,11 @@ use kube_types::Refused;
 use std::alloc::AllocError;
 
 impl ValidationError {
-    /// An equal one, with an equal cause.
+    /// Returns a copy with equal fields and an equal cause.
     ///
     /// # Errors
     ///
-    /// [`Refused`] where memory is refused.
+    /// [`Refused`] if memory is refused.
     pub fn try_clone(&self) -> Result<ValidationError, Refused>
         ensures same { IfOk result (λ e. error_view e ≡ error_view self.now) }
         ensures memory { IfErr result (λ e. e ≡ Refused.Memory) }
@@ -31,11 +31,11 @@ impl ValidationError {
 }
 
 impl ValidationErrors {
-    /// Equal ones, in the same order.
+    /// Returns a copy with equal errors in the same order.
     ///
     /// # Errors
     ///
-    /// [`Refused`] where memory is refused.
+    /// [`Refused`] if memory is refused.
     pub fn try_clone(&self) -> Result<ValidationErrors, Refused>
         ensures same { IfOk result (λ e. map error_view (errors_in e) ≡ map error_view (errors_in self.now)) }
         ensures memory { IfErr result (λ e. e ≡ Refused.Memory) }
@@ -45,7 +45,7 @@ impl ValidationErrors {
     }
 }
 
-/// Equal errors, in the same order.
+/// Returns copies of the errors, in the same order.
 fn clone_errors(errors: &Vec<ValidationError>) -> Result<Vec<ValidationError>, Refused>
     ensures same { IfOk result (λ v. map error_view v.items ≡ map error_view errors.now.items) }
     ensures memory { IfErr result (λ e. e ≡ Refused.Memory) }
@@ -57,7 +57,7 @@ fn clone_errors(errors: &Vec<ValidationError>) -> Result<Vec<ValidationError>, R
     Ok(cloned)
 }
 
-/// An equal text, if there is one.
+/// Returns a copy of the text, if there is one.
 fn clone_text(text: &Option<String>) -> Result<Option<String>, AllocError>
     ensures { IfOk result (λ o. option_map string_bytes o ≡ option_map string_bytes text.now) }
 {
@@ -67,7 +67,7 @@ fn clone_text(text: &Option<String>) -> Result<Option<String>, AllocError>
     }
 }
 
-/// An equal cause, if there is one.
+/// Returns a copy of the cause, if there is one.
 fn clone_cause(cause: &Option<ExecutionError>) -> Result<Option<ExecutionError>, Refused>
     ensures same { IfOk result (λ o. option_map fault_view o ≡ option_map fault_view cause.now) }
     ensures memory { IfErr result (λ e. e ≡ Refused.Memory) }

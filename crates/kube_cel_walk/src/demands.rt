@@ -1,20 +1,20 @@
-//! How much of the values at a place a node's rules read.
+//! How much of the values at a place the rules of a node read.
 ghost use Rattle.kube_cel_walk.specs.Demands.{demands_in};
 ghost use Rattle.std.specs.Prelude.{◌≡◌};
 
 use kube_schema_rules::Demands;
 
-/// What a node's rules read: known before, or made for this place.
+/// The demands of a node's rules: stored with the node, or made for this place.
 #[derive(Drop)]
 pub enum NodeDemands<'a> {
-    /// Known with the node.
+    /// Stored with the node.
     Known(&'a Demands),
-    /// Made.
+    /// Made for this place.
     Made(Demands),
 }
 
 impl NodeDemands<'_> {
-    /// What they read.
+    /// Returns the demands.
     pub fn get(&self) -> &Demands
         ensures { result.now ≡ demands_in self.now }
     {

@@ -3,39 +3,40 @@ use cel_value::ExecutionError;
 use serde::{Deserialize, Serialize};
 use std::{fmt, slice, vec};
 
-/// What kind of error a rule gave.
+/// The kind of a validation error.
 #[derive(Clone, Copy, Debug, PartialEq, Eq, Serialize, Deserialize)]
 pub enum ErrorKind {
-    /// The text of the rule is no CEL expression.
+    /// The text of the rule doesn't parse as CEL, or that of its messageExpression doesn't.
     CompilationFailure,
-    /// The rule is no object with the fields of a rule.
+    /// The rule isn't an object with the fields of a rule.
     InvalidRule,
-    /// The rule is false.
+    /// The rule evaluated to false.
     ValidationFailure,
-    /// The value of the rule is no bool.
+    /// The rule evaluated to a value that isn't a bool.
     InvalidResult,
-    /// The rule has no value.
+    /// Evaluation of the rule failed with an error.
     EvaluationError,
-    /// The rule needs a name that nothing declares.
+    /// The rule refers to a name that isn't declared.
     UnsupportedReference,
-    /// The schema goes on past the greatest depth.
+    /// The schema goes on past the maximum depth.
     SchemaTooDeep,
 }
 
-/// One error of one rule at one place of the object. Two are equal where their five public fields
-/// are; the cause isn't compared.
+/// The error of one rule at one place of the object. Two errors are equal
+/// if their five public fields are equal; the cause isn't compared.
 #[derive(Drop, Serialize, Deserialize)]
 #[derive_where(Debug, PartialEq, Eq)]
 pub struct ValidationError {
-    /// The text of the rule, empty where there is no such text.
+    /// The text of the rule; empty if there is none.
     pub rule: String,
-    /// What is wrong.
+    /// The message for people.
     pub message: String,
-    /// The place in the object, as `spec.replicas`, empty at the root.
+    /// The path of the place in the object, such as `spec.replicas`;
+    /// empty at the root. A rule's own `fieldPath` is appended to it.
     pub field_path: String,
-    /// A word for programs, where the rule gives one.
+    /// The rule's machine-readable reason, if it has one and is false.
     pub reason: Option<String>,
-    /// What kind of error this is.
+    /// The kind of error.
     pub kind: ErrorKind,
     #[derive_where(skip)]
     #[serde(skip)]
@@ -47,7 +48,7 @@ impl ValidationError {
     ghost use Rattle.cel_value.specs.Faults.{fault_view};
     ghost use Rattle.kube_cel_walk.specs.Errors.{error_view};
 
-    /// Why the rule has no value, where that is so.
+    /// The error of the evaluation, if that is what failed.
     pub fn cause(&self) -> Option<&ExecutionError>
         ensures { option_map (λ e. fault_view e.now) result ≡ (error_view self.now).cause }
     {
@@ -71,7 +72,7 @@ impl fmt::Display for ValidationError {
     }
 }
 
-/// All errors of one validation, in order.
+/// The errors of one validation, in order.
 #[derive(Debug, Drop, PartialEq, Eq, Serialize, Deserialize)]
 #[serde(transparent)]
 pub struct ValidationErrors {
@@ -92,14 +93,14 @@ impl ValidationErrors {
     ghost use Rattle.std.specs.Prelude.{◌≡◌, ◌↔◌, [], length, IsTrue};
     ghost use Rattle.kube_cel_walk.specs.ErrorLists.{errors_in};
 
-    /// How many errors there are.
+    /// The number of errors.
     pub fn len(&self) -> usize
         ensures { result ≡ length (errors_in self.now) }
     {
         self.errors.len()
     }
 
-    /// Whether there is no error.
+    /// Reports whether there are no errors.
     pub fn is_empty(&self) -> bool
         ensures { IsTrue result ↔ (errors_in self.now ≡ []) }
     {
@@ -113,7 +114,7 @@ impl ValidationErrors {
         self.errors.as_slice()
     }
 
-    /// The errors, in order.
+    /// Returns the errors, in order.
     pub fn into_vec(self) -> Vec<ValidationError>
         ensures { result.items ≡ errors_in self }
     {

@@ -25,10 +25,10 @@ use kube_types::Refused;
 use serde_json::Value;
 use std::alloc::Global;
 
-/// The number of steps at which a schema is too deep: its rules count up to depth 64.
+/// The number of steps from the root at which a schema is too deep: rules apply up to depth 64.
 pub(crate) const TOO_DEEP: usize = 65;
 
-/// Binds a name to as much of a value at a node as is demanded, if anything is.
+/// Binds a name to the demanded part of a value at a node. Binds nothing if there is no demand.
 fn bind_name<N: Node>(
     alloc: Global,
     context: &mut Context<'_>,
@@ -52,7 +52,7 @@ fn bind_name<N: Node>(
     Ok(())
 }
 
-/// Binds `oldSelf` as far as is demanded, where there is an old counterpart.
+/// Binds `oldSelf` to the demanded part of the old counterpart, if there is one.
 fn bind_old<N: Node>(
     alloc: Global,
     context: &mut Context<'_>,
@@ -74,8 +74,9 @@ fn bind_old<N: Node>(
     Ok(())
 }
 
-/// The names that all rules at a place have, each bound as far as a rule reads it: `self`, `oldSelf` where
-/// there is an old counterpart, and those of the whole object where it is known.
+/// Returns the bindings that all rules at a place share, each as far as
+/// the rules read it: `self`, `oldSelf` if there is an old counterpart,
+/// and `apiVersion`, `apiGroup` and `kind` if there is a root context.
 fn context_at<'c, N: Node>(alloc: Global, state: &WalkState<'_, N>) -> Result<Context<'c>, Refused>
     ensures bound { IfOk result (λ c. (path : List ℕ)
         → NamesAlike (λ x. rules_read x (N.form.rules (N.seen state.now.node)))
@@ -100,7 +101,8 @@ fn context_at<'c, N: Node>(alloc: Global, state: &WalkState<'_, N>) -> Result<Co
     Ok(context)
 }
 
-/// Adds the errors at one place. Its names are bound once, and not at all where there is no rule.
+/// Adds the errors at one place. Names are bound once
+/// for all of its rules, and not at all if it has none.
 pub(crate) fn validate_at<N: Node>(
     state: &WalkState<'_, N>,
     path: &str,

@@ -1,4 +1,4 @@
-//! Laws of errors and of verdicts, each the contract of a call.
+//! Laws of errors and of verdicts, each stated as the contract of a function.
 ghost use Rattle.cel_demand.specs.Alike.{NamesAlike};
 ghost use Rattle.cel_patterns.specs.Book.{Book};
 ghost use Rattle.cel_semantics.specs.Bindings.{Bindings};
@@ -12,15 +12,15 @@ ghost use Rattle.std.specs.Prelude.{◌↔◌, IsTrue, ◌≡◌, ℕ, List, Opt
 
 use crate::error::{ErrorKind, ValidationError, ValidationErrors};
 
-/// Two errors are equal exactly where their five public fields are: the cause isn't compared.
+/// Two errors are equal exactly if their five public fields are equal; the cause isn't compared.
 pub fn equal_by_five_fields(a: &ValidationError, b: &ValidationError) -> bool
     ensures { IsTrue result ↔ SameFields (error_view a.now) (error_view b.now) }
 {
     a == b
 }
 
-/// The verdict of a rule depends only on what the rule and its messageExpression
-/// read of the values at a place.
+/// The verdict of a rule depends only on what the rule and
+/// its messageExpression read of the values at a place.
 pub fn verdict_depends_on_what_is_read()
     ensures { (b : Book) (e f : Bindings) (old : Option Json)
         (path : List ℕ) (rule : Result Compiled Malformed)
@@ -28,7 +28,8 @@ pub fn verdict_depends_on_what_is_read()
         → verdict b e old path rule ≡ verdict b f old path rule }
 {}
 
-/// The errors of two validations are equal exactly where they are as many, and those at each place are equal.
+/// The errors of two validations are equal exactly if there
+/// are equally many, and those at each index are equal.
 pub fn equal_lists(a: &ValidationErrors, b: &ValidationErrors) -> bool
     ensures { IsTrue result ↔ SameErrors (map error_view (errors_in a.now))
         (map error_view (errors_in b.now)) }
@@ -36,7 +37,7 @@ pub fn equal_lists(a: &ValidationErrors, b: &ValidationErrors) -> bool
     a == b
 }
 
-/// Two kinds of errors are equal exactly where they are the same one.
+/// Two kinds of errors are equal exactly if they are the same variant.
 pub fn equal_kinds(a: ErrorKind, b: ErrorKind) -> bool
     ensures { IsTrue result ↔ (a ≡ b) }
 {

@@ -1,5 +1,5 @@
-//! What is found at the places that a schema and a value share: the walk over them, in whatever form the
-//! schema is held, the verdict of a rule whose names are bound, and the errors of a validation.
+//! The walk over the places that a schema and a value share, for every form of a
+//! schema; the verdict of a rule whose names are bound; and the errors of a validation.
 #![tactic(auto)]
 
 pub mod copy;

@@ -1,4 +1,4 @@
-//! A node of a schema, as a walk asks of it.
+//! What the walk needs of a schema's node.
 ghost use Rattle.cel_demand.specs.Alike.{Alike};
 ghost use Rattle.cel_demand.specs.Demand.{part_of};
 ghost use Rattle.cel_patterns.specs.Book.{Extends, Book};
@@ -26,8 +26,8 @@ use kube_types::Refused;
 use serde_json::Value;
 use std::alloc::Global;
 
-/// A node of a schema, in whatever form the schema is held. Definitions see it as a `Seen`,
-/// and ask of it what the form says.
+/// A node of a schema, in either form of a schema. `Seen` is its type in
+/// definitions, and `form` the accessors by which definitions read it.
 pub trait Node: Copy {
     ghost Seen: { Type 0 };
 
@@ -35,33 +35,35 @@ pub trait Node: Copy {
 
     ghost form: { WalkAccessors Seen };
 
-    /// The node of a declared name.
+    /// The node that `properties` declares for a name, if any.
     fn property(&self, name: &str) -> Option<Self>
         ensures { option_map seen result ≡ form.steps.property name.now (seen self.now) };
 
-    /// The node of all items.
+    /// The node that `items` declares for all items, if any.
     fn items(&self) -> Option<Self>
         ensures { option_map seen result ≡ form.steps.items (seen self.now) };
 
-    /// The node of all members whose names aren't declared.
+    /// The node that `additionalProperties` declares for all
+    /// members that `properties` doesn't declare, if any.
     fn additional_property(&self) -> Option<Self>
         ensures { option_map seen result ≡ form.steps.additional_property (seen self.now) };
 
-    /// The number of branches of a keyword.
+    /// The number of branches under a keyword.
     fn branch_count(&self, kind: BranchKind) -> usize
         ensures { result ≡ form.steps.branch_count kind (seen self.now) };
 
-    /// A branch of a keyword.
+    /// The branch at an index under a keyword, if any.
     fn branch(&self, kind: BranchKind, index: usize) -> Option<Self>
         ensures { option_map seen result ≡ form.steps.branch kind index (seen self.now) };
 
-    /// How much of the values at a place the node's rules read.
+    /// Returns how much of the values at a place the rules of the node read.
     fn demands(&self, alloc: Global) -> Result<NodeDemands<'_>, Refused>
         ensures demands { IfOk result
             (λ d. AreDemands (demands_in d) (λ x. rules_read x (form.rules (seen self.now)))) }
         ensures memory { IfErr result (λ e. e ≡ Refused.Memory) };
 
-    /// As much as is demanded of the CEL value of a value at a node that stands `depth` steps from the root.
+    /// Converts the demanded part of a JSON value to CEL,
+    /// at this node and `depth` steps from the root.
     fn bind_part(
         &self,
         alloc: Global,
@@ -73,11 +75,11 @@ pub trait Node: Copy {
             (to_cel form.conversion (levels depth) (seen self.now) (view value.now))) }
         ensures memory { IfErr result (λ e. e ≡ Refused.Memory) };
 
-    /// Whether the node has no rules.
+    /// Reports whether the node has no rules.
     fn is_without_rules(&self) -> bool
         ensures { result ≡ is_none_of (form.rules (seen self.now)) };
 
-    /// Adds the verdicts of the node's rules, in order, where these names are bound.
+    /// Adds the verdicts of the node's rules, in order. The names are bound in `context`.
     fn add_verdicts(
         &self,
         context: &Context<'_>,

@@ -1,4 +1,4 @@
-//! The text of a path, which a walk lengthens and cuts back, and the paths that errors have.
+//! The text of a path, which the walk extends and truncates, and the paths of errors.
 ghost use Rattle.kube_cel_walk.specs.RuleErrors.{joined_path, rule_path};
 ghost use Rattle.kube_schema_rules.specs.Visit.{item_path, member_path};
 ghost use Rattle.kube_schema_rules.specs.Rules.{rule_view};
@@ -8,7 +8,7 @@ use itoa::Buffer;
 use kube_schema_rules::Rule;
 use std::alloc::{AllocError, Global};
 
-/// Adds a key: `k` to the empty path, else `.k`.
+/// Appends a key: `k` to the empty path, else `.k`.
 #[tactic(auto, unfolding(kube_schema_rules::specs::Visit::member_path))]
 pub fn push_member(path: &mut String, key: &str) -> Result<(), AllocError>
     ensures { OnOk result (string_bytes path.new ≡ member_path (string_bytes path.old) key.now) }
@@ -20,7 +20,7 @@ pub fn push_member(path: &mut String, key: &str) -> Result<(), AllocError>
     Ok(())
 }
 
-/// Adds an index: `[i]`.
+/// Appends an index: `[i]`.
 #[tactic(auto, unfolding(kube_schema_rules::specs::Visit::item_path))]
 pub fn push_item(path: &mut String, index: usize) -> Result<(), AllocError>
     ensures { OnOk result (string_bytes path.new ≡ item_path (string_bytes path.old) index) }
@@ -32,8 +32,8 @@ pub fn push_item(path: &mut String, index: usize) -> Result<(), AllocError>
     Ok(())
 }
 
-/// The path that the error of a rule has: that of the value,
-/// and behind it the rule's own path, if it has one.
+/// Returns the path of a rule's error: the path of the value,
+/// followed by the rule's own `fieldPath`, if it has one.
 pub fn error_path(alloc: Global, path: &str, rule: &Rule) -> Result<String, AllocError>
     ensures { IfOk result (λ s. string_bytes s ≡ rule_path path.now (rule_view rule.now).field_path) }
 {
@@ -45,7 +45,7 @@ pub fn error_path(alloc: Global, path: &str, rule: &Rule) -> Result<String, Allo
     Ok(joined)
 }
 
-/// Adds the own path of a rule: one that begins with a dot as it stands, another as a key.
+/// Appends a rule's own `fieldPath`: as it stands if it begins with a dot, else as a key.
 fn push_own(path: &mut String, own: &str) -> Result<(), AllocError>
     ensures { OnOk result (string_bytes path.new ≡ joined_path (string_bytes path.old) own.now) }
 {

@@ -1,15 +1,15 @@
-//! What is known of a whole object.
+//! The root context of an object.
 use kube_types::Refused;
 use std::alloc::Global;
 
-/// What rules at the root of an object may ask of it: `apiVersion`, `apiGroup` and `kind`.
+/// What the rules at the root of an object may read of it: `apiVersion`, `apiGroup` and `kind`.
 #[derive(Debug, Drop)]
 pub struct RootContext {
-    /// The version of the object's interface, as `apps/v1`.
+    /// The object's `apiVersion`, such as `apps/v1`.
     pub api_version: String,
-    /// The group of the object's interface, as `apps`.
+    /// The object's API group, such as `apps`.
     pub api_group: String,
-    /// The object's kind, as `Deployment`.
+    /// The object's kind, such as `Deployment`.
     pub kind: String,
 }
 
@@ -17,7 +17,7 @@ impl RootContext {
     ghost use Rattle.kube_cel_walk.specs.Roots.{root_view};
     ghost use Rattle.std.specs.Prelude.{◌≡◌, [], IfErr, IfOk};
 
-    /// Three empty texts. It takes no memory.
+    /// Returns a root context of three empty strings. Allocates nothing.
     pub fn default(alloc: Global) -> RootContext
         ensures { root_view result ≡ record { api_version = []; api_group = []; kind = [] } }
     {
@@ -28,11 +28,11 @@ impl RootContext {
         }
     }
 
-    /// An equal one.
+    /// Returns an equal root context.
     ///
     /// # Errors
     ///
-    /// [`Refused`] where memory is refused.
+    /// [`Refused`] if memory is refused.
     pub fn try_clone(&self) -> Result<RootContext, Refused>
         ensures same { IfOk result (λ r. root_view r ≡ root_view self.now) }
         ensures memory { IfErr result (λ e. e ≡ Refused.Memory) }

@@ -1,4 +1,4 @@
-//! The errors that a rule may give.
+//! Constructors for the errors of rules.
 ghost use Rattle.cel_value.specs.Faults.{fault_view};
 ghost use Rattle.kube_cel_walk.specs.Errors.{error_view};
 ghost use Rattle.kube_cel_walk.specs.RuleErrors.{failed_rule, fault_error, malformed_error, no_bool, not_compiled, too_deep, undeclared_name};
@@ -12,7 +12,7 @@ use cel_value::ExecutionError;
 use kube_schema_rules::{CompilationError, Rule};
 use std::alloc::{AllocError, Global};
 
-/// The error at a place past the greatest depth.
+/// Returns the error of a place beyond the maximum depth.
 #[tactic(auto, unfolding(crate::specs::RuleErrors::too_deep))]
 pub fn deep_error(alloc: Global, path: &str) -> Result<ValidationError, AllocError>
     ensures { IfOk result (λ e. error_view e ≡ too_deep path.now) }
@@ -27,7 +27,7 @@ pub fn deep_error(alloc: Global, path: &str) -> Result<ValidationError, AllocErr
     })
 }
 
-/// An error of a rule without a reason of its own.
+/// Returns an error with these fields and without a reason.
 fn rule_error(
     alloc: Global,
     kind: ErrorKind,
@@ -55,7 +55,7 @@ fn rule_error(
     })
 }
 
-/// The error of a malformed rule.
+/// Returns the error of a malformed rule.
 pub fn malformed_error(
     alloc: Global,
     error: &CompilationError,
@@ -89,7 +89,7 @@ pub fn malformed_error(
     }
 }
 
-/// The error of a rule with a text that is no CEL expression.
+/// Returns the error of a rule whose text or messageExpression doesn't parse.
 fn unread_error(
     alloc: Global,
     rule: &str,
@@ -103,7 +103,7 @@ fn unread_error(
     rule_error(alloc, kind, rule, message, field_path, None)
 }
 
-/// The error of a rule that is false, with what is reported of it.
+/// Returns the error of a rule that is false, with this message.
 pub fn failed_rule_error(
     alloc: Global,
     rule: &Rule,
@@ -123,7 +123,7 @@ pub fn failed_rule_error(
     })
 }
 
-/// The word that a rule gives for programs.
+/// Returns a copy of the rule's reason, if it has one.
 fn reason_of(alloc: Global, rule: &Rule) -> Result<Option<String>, AllocError>
     ensures { IfOk result (λ o. option_map string_bytes o ≡ (rule_view rule.now).reason) }
 {
@@ -134,7 +134,7 @@ fn reason_of(alloc: Global, rule: &Rule) -> Result<Option<String>, AllocError>
     Ok(Some(reason))
 }
 
-/// The error of a rule whose value is no bool.
+/// Returns the error of a rule whose value isn't a bool.
 pub fn no_bool_error(alloc: Global, rule: &Rule, path: &str) -> Result<ValidationError, AllocError>
     ensures { IfOk result (λ e. error_view e ≡ no_bool path.now (rule_view rule.now)) }
 {
@@ -151,7 +151,7 @@ pub fn no_bool_error(alloc: Global, rule: &Rule, path: &str) -> Result<Validatio
     )
 }
 
-/// The name that nothing declares, where that is the fault.
+/// The undeclared name, if that is the fault.
 fn undeclared_name(fault: &ExecutionError) -> Option<&str>
     ensures { option_map (λ s. s.now) result ≡ undeclared_name (fault_view fault.now) }
 {
@@ -173,7 +173,7 @@ fn undeclared_name(fault: &ExecutionError) -> Option<&str>
     }
 }
 
-/// The error of a rule that has no value. It keeps why.
+/// Returns the error of a rule whose evaluation failed. Its cause is the fault.
 pub fn fault_error(
     alloc: Global,
     rule: &Rule,

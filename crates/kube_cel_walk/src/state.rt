@@ -1,4 +1,4 @@
-//! A place, as a walk holds it.
+//! The state of a walk at a place.
 ghost use Rattle.serde_json.specs.Find.{at, get};
 ghost use Rattle.serde_json.specs.View.{view};
 ghost use Rattle.std.specs.Prelude.{◌≡◌, option_and_then, option_map};
@@ -6,22 +6,22 @@ ghost use Rattle.std.specs.Prelude.{◌≡◌, option_and_then, option_map};
 use crate::root::RootContext;
 use serde_json::Value;
 
-/// What lies at a place. Nothing of it is copied.
+/// What a walk holds at a place: references into schema and objects, and no copies.
 #[derive(Clone, Copy)]
 pub struct WalkState<'a, N> {
-    /// The schema's node.
+    /// The node of the schema.
     pub node: N,
-    /// The object's part.
+    /// The value at the place.
     pub value: &'a Value,
-    /// The same part of the old object.
+    /// The old counterpart of the value, if any.
     pub old: Option<&'a Value>,
-    /// What is known of the whole object, at the root and where only branches lead from there.
+    /// The root context: at the root, and at places that only branches lead to from there.
     pub root: Option<&'a RootContext>,
     /// The number of steps from the root.
     pub depth: usize,
 }
 
-/// The member of a part of the old object.
+/// The member of the old value at a key, if any.
 pub(crate) fn old_member<'a>(old: Option<&'a Value>, key: &str) -> Option<&'a Value>
     ensures { option_map (λ v. view v.now) result
         ≡ option_and_then (get key.now) (option_map (λ v. view v.now) old.entry) }
@@ -29,7 +29,7 @@ pub(crate) fn old_member<'a>(old: Option<&'a Value>, key: &str) -> Option<&'a Va
     old?.get(key)
 }
 
-/// The item of a part of the old object.
+/// The item of the old value at an index, if any.
 pub(crate) fn old_item(old: Option<&Value>, index: usize) -> Option<&Value>
     ensures { option_map (λ v. view v.now) result
         ≡ option_and_then (at index) (option_map (λ v. view v.now) old.entry) }

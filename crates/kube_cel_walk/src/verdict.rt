@@ -28,14 +28,14 @@ use kube_types::Refused;
 use serde_json::Value;
 use std::alloc::{AllocError, Global};
 
-/// What the rules of a schema are evaluated in.
+/// The context that the rules of a schema are evaluated in.
 pub type Context<'a> = cel::Context<'a, AllFunctions>;
 
-/// Binds `apiVersion`, `apiGroup` and `kind`, where something is known of the whole object.
+/// Binds `apiVersion`, `apiGroup` and `kind`, if there is a root context.
 ///
 /// # Errors
 ///
-/// [`Refused`] where memory is refused.
+/// [`Refused`] if memory is refused.
 pub fn bind_root(
     alloc: Global,
     context: &mut Context<'_>,
@@ -54,36 +54,37 @@ pub fn bind_root(
     Ok(())
 }
 
-/// Whether a rule counts at a place: one that speaks of `oldSelf` needs an old
-/// counterpart, unless it says otherwise.
+/// Reports whether a rule applies at a place: a transition rule
+/// needs an old value there, unless it sets `optionalOldSelf`.
 fn is_applicable(rule: &CompilationResult, old: Option<&Value>) -> bool
     ensures { result ≡ is_applicable (option_map (λ v. view v.now) old.entry) (result_view rule.now) }
 {
     !rule.is_transition_rule || old.is_some() || is_old_optional(&rule.rule)
 }
 
-/// Whether `oldSelf` is null in a rule: there is no old counterpart, and the rule counts all the same.
+/// Reports whether `oldSelf` is null for a rule: there
+/// is no old value, and the rule sets `optionalOldSelf`.
 fn is_old_null(rule: &Rule, old: Option<&Value>) -> bool
     ensures { result ≡ is_old_null (option_map (λ v. view v.now) old.entry) (rule_view rule.now) }
 {
     old.is_none() && is_old_optional(rule)
 }
 
-/// What `oldSelf` is where there is no old counterpart.
+/// The value of `oldSelf` if there is no old value.
 fn null_old_self() -> CelValue
     ensures { cel_view result ≡ null }
 {
     CelValue::Null
 }
 
-/// Whether a rule counts also where there is no old counterpart.
+/// Reports whether a rule sets `optionalOldSelf`.
 fn is_old_optional(rule: &Rule) -> bool
     ensures { result ≡ is_old_optional (rule_view rule.now) }
 {
     rule.optional_old_self == Some(true)
 }
 
-/// The string that a messageExpression came to.
+/// The string that a messageExpression evaluated to, if it did.
 fn message_text(outcome: &Answer) -> Option<&str>
     ensures { option_map (λ s. s.now) result ≡ message_text (outcome_view outcome.now) }
 {
@@ -93,7 +94,7 @@ fn message_text(outcome: &Answer) -> Option<&str>
     }
 }
 
-/// What a rule that is false says itself: its message, else its text.
+/// Returns a rule's `message` or, if it has none, a message made of its text.
 fn own_message(alloc: Global, rule: &Rule) -> Result<String, AllocError>
     ensures { IfOk result (λ s. string_bytes s ≡ own_message (rule_view rule.now)) }
 {
@@ -104,8 +105,8 @@ fn own_message(alloc: Global, rule: &Rule) -> Result<String, AllocError>
     format!(in alloc; "failed rule: {text}")
 }
 
-/// What is reported of a rule that is false: the string that its messageExpression comes to,
-/// if it does, else what it says itself.
+/// Returns the message of a rule that is false: the string that its
+/// messageExpression evaluates to, if it does, else its own message.
 fn failed_message(
     alloc: Global,
     rule: &CompilationResult,
@@ -129,7 +130,7 @@ fn failed_message(
     Ok(String::from_str(alloc, text)?)
 }
 
-/// The error of a rule with this value, unless it is true.
+/// Returns the error of a rule that evaluated to this value; None if the value is true.
 fn verdict_of_value(
     alloc: Global,
     rule: &CompilationResult,
@@ -157,7 +158,7 @@ fn verdict_of_value(
     }
 }
 
-/// The error of a rule whose names are bound, unless it is true.
+/// Evaluates a rule in a context that binds its names. Returns its error; None if the rule is true.
 fn verdict_where_bound(
     alloc: Global,
     rule: &CompilationResult,
@@ -179,7 +180,8 @@ fn verdict_where_bound(
     }
 }
 
-/// The verdict of a compiled rule where these names are bound, if it has one.
+/// Returns the verdict of a compiled rule in this context. Binds `oldSelf`
+/// to null if the rule sets `optionalOldSelf` and there is no old value.
 fn verdict_of_compiled(
     alloc: Global,
     rule: &CompilationResult,
@@ -207,7 +209,7 @@ fn verdict_of_compiled(
     Ok(with_null)
 }
 
-/// The verdict of a rule where these names are bound, if it has one. There may be an old counterpart.
+/// Returns the verdict of a rule in this context. `old` is the old value at the place, if any.
 fn verdict_of_rule(
     alloc: Global,
     rule: &Result<CompilationResult, CompilationError>,
@@ -231,7 +233,7 @@ fn verdict_of_rule(
     }
 }
 
-/// Adds an error, if there is one.
+/// Appends an error, if there is one.
 fn push_listed(
     error: Option<ValidationError>,
     errors: &mut Vec<ValidationError>,
@@ -246,11 +248,12 @@ fn push_listed(
     Ok(())
 }
 
-/// Adds the verdict of a rule where these names are bound, if it has one. There may be an old counterpart.
+/// Appends the verdict of a rule in this context, if it is
+/// an error. `old` is the old value at the place, if any.
 ///
 /// # Errors
 ///
-/// [`Refused`] where memory is refused.
+/// [`Refused`] if memory is refused.
 pub fn add_verdict(
     rule: &Result<CompilationResult, CompilationError>,
     context: &Context<'_>,

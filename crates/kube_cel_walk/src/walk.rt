@@ -20,7 +20,7 @@ use kube_schema_rules::BranchKind;
 use kube_types::Refused;
 use serde_json::Value;
 
-/// Adds the errors at a place and beyond it. The path is afterwards as it was.
+/// Adds the errors at a place and at all places beyond it. Leaves the path as it was.
 #[cycle(walk)]
 pub fn walk_node<N: Node>(
     state: &WalkState<'_, N>,
@@ -48,7 +48,7 @@ pub fn walk_node<N: Node>(
     Ok(())
 }
 
-/// Adds what is found through the members whose names are declared, in the order of their names.
+/// Adds the errors found through the declared members, in the order of their names.
 #[cycle(walk)]
 fn walk_properties<N: Node>(
     state: &WalkState<'_, N>,
@@ -75,7 +75,7 @@ fn walk_properties<N: Node>(
     Ok(())
 }
 
-/// Adds what is found through the members whose names aren't declared, in the order of their names.
+/// Adds the errors found through the members that aren't declared, in the order of their names.
 #[cycle(walk)]
 fn walk_extras<N: Node>(
     state: &WalkState<'_, N>,
@@ -105,7 +105,7 @@ fn walk_extras<N: Node>(
     Ok(())
 }
 
-/// Adds what is found through one member, if it has a node and the value has it.
+/// Adds the errors found through one member, if there is a node for it and the value has it.
 #[cycle(walk)]
 fn walk_member<N: Node>(
     state: &WalkState<'_, N>,
@@ -145,7 +145,7 @@ fn walk_member<N: Node>(
     Ok(())
 }
 
-/// Adds what is found through the items of a list, in their order.
+/// Adds the errors found through the items of a list, in order.
 #[cycle(walk)]
 fn walk_items<N: Node>(
     state: &WalkState<'_, N>,
@@ -173,7 +173,7 @@ fn walk_items<N: Node>(
     Ok(())
 }
 
-/// Adds what is found through one item.
+/// Adds the errors found through one item.
 #[cycle(walk)]
 fn walk_item<'a, N: Node>(
     state: &WalkState<'a, N>,
@@ -208,8 +208,8 @@ fn walk_item<'a, N: Node>(
     Ok(())
 }
 
-/// Adds what is found through the branches of one keyword, in their order.
-/// The value stays, and so does what is known at the root.
+/// Adds the errors found through the branches of one keyword, in order. A
+/// branch is visited with the same value, old counterpart and root context.
 #[cycle(walk)]
 fn walk_branches<N: Node>(
     kind: BranchKind,
@@ -232,7 +232,7 @@ fn walk_branches<N: Node>(
     Ok(())
 }
 
-/// Adds what is found through one branch, if it is there.
+/// Adds the errors found through one branch, if it exists.
 #[cycle(walk)]
 fn walk_branch<N: Node>(
     kind: BranchKind,
@@ -264,7 +264,7 @@ fn walk_branch<N: Node>(
     Ok(())
 }
 
-/// The node of other names, where this name isn't declared.
+/// Returns `other`, the node of additional members, unless the node declares this key.
 fn unless_declared<N: Node>(node: &N, key: &str, other: N) -> Option<N>
     ensures { option_map N.seen result
         ≡ unless_there (N.form.steps.property key.now (N.seen node.now)) (Some (N.seen other)) }

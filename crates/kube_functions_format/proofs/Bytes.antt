@@ -1,4 +1,4 @@
--- The two digits that `{:02x}` and `{:02X}` write of a byte.
+-- The two digits that `{:02x}` and `{:02X}` write for a byte.
 use Rattle.std.proofs.Common.{◌≡◌, ℕ, ◌-◌, ◌^◌, ◌<◌, Bool, false, [], Some, ap, ◌∙◌, option_map}
 use Rattle.std.specs.Fmt.{digits, digits_output, styled_digits_output, padded_integral, format_spec}
 use Rattle.std.proofs.lemmas.Fmt.{hex_byte}

@@ -1,4 +1,4 @@
--- A text without a percent sign, and `%s` alone.
+-- A format string without a percent sign, and `%s` alone.
 use Rattle.std.proofs.Common.{◌≡◌, ℕ, zero, suc, arith, lit<, List, [], ◌∷◌, cond, Ok, Err, refl, ap, ◌∙◌}
 use Rattle.std.specs.Prelude.{Contains, codes, encode_utf8}
 use Rattle.std.specs.Str.{chars, encode_utf8_all, IsAscii}
@@ -24,7 +24,7 @@ plain items (c ∷ cs) h =
 pub plain_text_stands : PlainTextStands
 plain_text_stands s ds utf8 none = ap as_string (plain (items_list ds) (chars s) none) ∙ ap (λ t. as_string (Ok t)) (encodes-chars s utf8)
 
--- text before nothing
+-- a text before an empty one
 alone : (r : Shown) → and_then r (λ t. before t (Ok [])) ≡ r
 alone (Ok t) = ap Ok (append-nil t)
 alone (Err e) = refl

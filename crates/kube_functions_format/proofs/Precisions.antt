@@ -1,4 +1,5 @@
--- Digits behind a percent sign and a dot. A number that 64 bits do not hold is no precision, whatever digits follow.
+-- Digits after a percent sign and a dot. A number that exceeds
+-- 64 bits is an invalid precision, whatever digits follow.
 use Rattle.std.proofs.Common.{◌≡◌, ℕ, ◌+◌, ◌*◌, ◌^◌, ◌<◌, ◌≤◌, arith, List, [], ◌∷◌, ◌++◌, length, Bool, true, false, cond, Option, Some, None, refl, ap, ◌∙◌}
 use Rattle.std.specs.Char.{digit_value, is_digit}
 use Rattle.std.specs.Str.Parse.{AllDigits, digits_value, digits_value_after}
@@ -23,7 +24,7 @@ too_large n (c ∷ cs) h =
 pub digit_more : (n : Option ℕ) (c : ℕ) (cs : List ℕ) → digit_value c < 10 → behind_digits n (c ∷ cs) ≡ behind_digits (Some (with_digit n (digit_value c))) cs
 digit_more n c cs h = ap (λ b. cond b (behind_digits (Some (with_digit n (digit_value c))) cs) (cond (is_precision n) (verb c ∷ pieces cs) (no_precision ∷ []))) (lt-ltb (digit_value c) 10 h)
 
--- a character that is no digit
+-- a character that isn't a digit
 pub digits_end : (n : Option ℕ) (b : Bool) (c : ℕ) (cs : List ℕ) → 10 ≤ digit_value c → is_precision n ≡ b → behind_digits n (c ∷ cs) ≡ cond b (verb c ∷ pieces cs) (no_precision ∷ [])
 digits_end n b c cs h e =
     ap (λ t. cond t (behind_digits (Some (with_digit n (digit_value c))) cs) (cond (is_precision n) (verb c ∷ pieces cs) (no_precision ∷ []))) (le-ltb (digit_value c) 10 h)
@@ -33,7 +34,7 @@ digits_read : (ds : List ℕ) (n : ℕ) (cs : List ℕ) → AllDigits 10 ds → 
 digits_read [] n cs h = refl
 digits_read (d ∷ ds) n cs h = digit_more (Some n) d (ds ++ cs) h.0 ∙ digits_read ds (n * 10 + digit_value d) cs h.1
 
--- digits of a number that 64 bits hold, and a character that is no digit
+-- the digits of a number that fits in 64 bits, and a character that isn't a digit
 pub precise : (ds : List ℕ) (c : ℕ) (cs : List ℕ) → 0 < length ds → AllDigits 10 ds → digits_value 10 ds < 2 ^ 64 → 10 ≤ digit_value c → behind_digits None (ds ++ c ∷ cs) ≡ verb c ∷ pieces cs
 precise [] c cs some h small other = absurd (omega (arith, some))
 precise (d ∷ ds) c cs some h small other =

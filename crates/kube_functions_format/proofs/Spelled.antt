@@ -1,4 +1,4 @@
--- A piece is read from each of its spellings.
+-- Each spelling of a piece is read as that piece.
 use Rattle.std.proofs.Common.{[], ◌∷◌, cond, None, refl, ap, ◌∙◌, append_assoc}
 use Rattle.std.specs.Prelude.{◌==◌}
 use Rattle.std.proofs.lemmas.Bool.{ne_eqb}

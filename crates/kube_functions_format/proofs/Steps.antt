@@ -1,4 +1,4 @@
--- A format text read character by character.
+-- Reading a format string character by character.
 use Rattle.std.proofs.Common.{◌≡◌, ℕ, ◌+◌, ◌<◌, arith, List, [], ◌∷◌, ◌++◌, length, drop, get_or, map, String, Global, Option, Some, None, Ok, Err, refl, ap, sym, ◌∙◌, option_map}
 use Rattle.std.specs.Prelude.{Result, IfOk}
 use Rattle.std.proofs.lemmas.List.{drop_more, drop_all, length_push}
@@ -29,12 +29,12 @@ before_nothing (Err e) = refl
 pub begun : (items : List Data) (cs none : List ℕ) → none ≡ [] → text_of_pieces items 0 (pieces cs) ≡ written_on items none 0 Outside cs
 begun items cs none e = before_nothing (text_of_pieces items 0 (pieces cs)) ∙ ap (λ t. written_on items t 0 Outside cs) (sym e)
 
--- one more character of those that are left
+-- one of the remaining characters is read
 pub next : (cs yielded : List ℕ) (c : ℕ) → length yielded < length cs → c ≡ get_or cs (length yielded) c → drop (length yielded) cs ≡ c ∷ drop (length (yielded ++ c ∷ [])) cs
 next cs yielded c lt is =
     drop_more cs (length yielded) c lt ∙ ap (λ d. d ∷ drop (length yielded + 1) cs) (sym is) ∙ ap (λ n. c ∷ drop n cs) (sym (length_push yielded c))
 
--- no more characters are left
+-- no characters remain
 pub no_more : (items : List Data) (done : List ℕ) (k : ℕ) (m : Mark) (cs yielded : List ℕ) → length yielded ≡ length cs → written_on items done k m (drop (length yielded) cs) ≡ written_on items done k m []
 no_more items done k m cs yielded e = ap (written_on items done k m) (drop_all (length yielded) cs (omega arith))
 
@@ -44,7 +44,7 @@ goes_on o r e = ap (λ p. unless_fault (option_map fault_view p) r) e
 pub stops : (o : Option ExecutionError) (fault : ExecutionError) (r : Shown) → o ≡ Some fault → unless_fault (option_map fault_view o) r ≡ Err (fault_view fault)
 stops o fault r e = ap (λ p. unless_fault (option_map fault_view p) r) e
 
--- what is finished is the whole
+-- the finished text is the whole text
 pub ends : (r : Result (Result (String Global) ExecutionError) Refused) (out : List ℕ) (k : ℕ) (m : Mark) (items : List Data) (whole : Shown) → IfOk r (λ s. (ds : List Data) → shown_view s ≡ written_on ds out k m []) → whole ≡ written_on items out k m [] → IfOk r (λ s. shown_view s ≡ whole)
 ends (Ok s) out k m items whole h e = h items ∙ sym e
 ends (Err x) out k m items whole h e = tt

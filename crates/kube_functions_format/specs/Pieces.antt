@@ -1,8 +1,8 @@
 -- Trusted by the headline.
--- A format text as pieces (documentation of CEL-Go, "Strings": `format`; Kubernetes documentation, "CEL in
--- Kubernetes", extended string library). A percent sign begins a verb, whose letter follows at once, or
--- behind a dot and digits, a precision that changes nothing. Two percent signs are one.
--- All else stands for itself.
+-- A format string as pieces (documentation of CEL-Go, "Strings": `format`; Kubernetes
+-- documentation, "CEL in Kubernetes", extended string library). A percent sign begins a verb, whose
+-- letter follows either at once or after a dot and digits, a precision that has no effect. Two
+-- percent signs print one. Every other character stands for itself.
 use Rattle.std.specs.Prelude.{ℕ, ◌+◌, ◌*◌, ◌^◌, ◌==◌, nat_lt, Bool, false, List, [], ◌∷◌, codes, Option, Some, None, if◌then◌else◌}
 use Rattle.std.specs.Char.{digit_value, is_digit}
 use Rattle.std.specs.Option.{unwrap_or, option_map_or}
@@ -12,14 +12,14 @@ pub data Piece : Type 0 where
   literal : ℕ → Piece
   -- a verb, by its letter
   verb : ℕ → Piece
-  -- what is wrong with the text here
+  -- an error in the format string, as its message
   broken : List ℕ → Piece
 
--- the number of some digits, if there are any, and one more
+-- the number read so far, or 0 if there is none, with one more digit
 abbrev pub with_digit : Option ℕ → ℕ → ℕ
 with_digit n d = unwrap_or n 0 * 10 + d
 
--- there is a digit, and 64 bits hold the number
+-- there is a digit, and the number fits in 64 bits
 abbrev pub is_precision : Option ℕ → Bool
 is_precision n = option_map_or (λ m. nat_lt m (2 ^ 64)) n false
 
@@ -44,7 +44,7 @@ abbrev mutual
       else if c == 46 then behind_digits None cs
       else verb c ∷ pieces cs
 
-  -- behind a percent sign, a dot, and digits of this number, if there are any
+  -- after a percent sign, a dot, and the digits of this number, if any
   pub behind_digits : Option ℕ → List ℕ → List Piece
   behind_digits n [] = (if is_precision n then ends_in_precision else no_precision) ∷ []
   behind_digits n (c ∷ cs) =

@@ -1,9 +1,9 @@
 -- Trusted by the headline.
--- What a verb shows of its item (documentation of CEL-Go, "Strings": `format`; Kubernetes documentation, "CEL
--- in Kubernetes", extended string library). `%s` shows the text of a value, `%d` a decimal number, `%o`,
--- `%b`, `%x` and `%X` the digits of 64 bits in base 8, 2 and 16, in which an int stands in two's complement;
--- `%b` shows a bool too, `%x` and `%X` also the bytes of bytes and of a string in UTF-8. The verbs of
--- doubles, `%f` and `%e`, are not declared.
+-- The text of an item under a verb (documentation of CEL-Go, "Strings": `format`; Kubernetes
+-- documentation, "CEL in Kubernetes", extended string library). `%s` prints the text of a value,
+-- `%d` a decimal number, `%o`, `%b`, `%x` and `%X` the digits of 64 bits in base 8, 2 and 16, with
+-- ints in two's complement; `%b` also prints a bool, and `%x` and `%X` also the bytes of bytes and
+-- of a string in UTF-8. The verbs of doubles, `%f` and `%e`, are not declared.
 use Rattle.std.specs.Prelude.{ℕ, ◌/◌, ◌%◌, ◌==◌, Bool, true, false, List, [], ◌∷◌, ◌++◌, codes, decimal, encode_utf8, Option, Result, Ok, Err}
 use Rattle.std.specs.Fmt.{digits, digit_glyph, signed_decimal}
 use Rattle.std.specs.Int.{w64, cast_unsigned}
@@ -20,7 +20,7 @@ use Rattle.cel_semantics.specs.Outcome.{no_doubles}
 use Rattle.kube_functions_format.specs.declared.verbs.Verb.{Verb}
 use Rattle.kube_functions_format.specs.declared.verbs.Verb.TheVariants.{Text, Decimal, Octal, Binary, LowerHex, UpperHex, Double}
 
--- the verb of a letter
+-- the verb with a letter
 abbrev pub verb_of : ℕ → Option Verb
 verb_of c = lookup (λ d. c == d) (
     (115, Text)
@@ -33,11 +33,11 @@ verb_of c = lookup (λ d. c == d) (
     ∷ (101, Double)
     ∷ [])
 
--- a fault of `format`, by its message
+-- the error of `format` with a message
 abbrev pub format_fault : List ℕ → Fault
 format_fault message = function_error (codes "format") message
 
--- ---- the text of an item, or its kind where the verb does not take it
+-- ---- the text of an item, or its kind if the verb doesn't take it
 
 abbrev pub decimal_form : Data → Result (List ℕ) Kind
 decimal_form (int n) = Ok (signed_decimal n)
@@ -59,7 +59,7 @@ binary_form (int n) = Ok (digits 2 false (cast_unsigned w64 n))
 binary_form (uint n) = Ok (digits 2 false n)
 binary_form d = Err (kind_of d)
 
--- two digits a byte
+-- two digits for each byte
 abbrev pub byte_digits : Bool → ℕ → List ℕ
 byte_digits upper b = digit_glyph upper (b / 16) ∷ digit_glyph upper (b % 16) ∷ []
 
@@ -75,11 +75,11 @@ hex_form upper d = Err (kind_of d)
 
 -- ---- verbs
 
--- a text, or why there is none
+-- the printed text, or an error
 abbrev pub Shown : Type 0
 Shown = Result (List ℕ) Fault
 
--- the fault of a kind that is not taken: the words before the kind, and its name
+-- the text, or an error whose message is `refusal` and the name of the kind
 abbrev pub or_refused : List ℕ → Result (List ℕ) Kind → Shown
 or_refused refusal (Ok t) = Ok t
 or_refused refusal (Err k) = Err (format_fault (refusal ++ kind_name k))
@@ -96,6 +96,6 @@ shown_by Double d = Err no_doubles
 abbrev pub unknown_verb : ℕ → Fault
 unknown_verb c = format_fault (codes "unknown format verb '%" ++ (encode_utf8 c ++ codes "'"))
 
--- what the verb of a letter shows
+-- the text of an item under the verb with letter c
 abbrev pub shown_by_letter : ℕ → Data → Shown
 shown_by_letter c d = option_map_or (λ v. shown_by v d) (verb_of c) (Err (unknown_verb c))

@@ -1,4 +1,4 @@
-//! The text of a format text over items.
+//! Fills the verbs of a format string with items.
 ghost use Rattle.std.specs.Prelude.{◌≡◌, ◌≤◌, ◌<◌, [], ◌∷◌, List, ℕ, length, map, option_map, IfOk, IfErr, string_bytes};
 ghost use Rattle.cel_value.specs.Data.{Data};
 ghost use Rattle.cel_value.specs.Faults.{fault_view};
@@ -13,14 +13,14 @@ use crate::verbs::{format_fault, shown_by_letter};
 use cel_value::{ExecutionError, Refused, Value};
 use std::alloc::Global;
 
-/// What has been written so far.
+/// The state of writing a formatted string.
 #[derive(Drop)]
 struct Writing {
-    /// The text.
+    /// The text written so far.
     out: String,
-    /// How many items verbs have taken.
+    /// The number of items used by verbs so far.
     taken: usize,
-    /// What of a verb stands before the next character.
+    /// The part of a verb read just before the next character.
     mark: Mark,
 }
 
@@ -41,7 +41,7 @@ fn text_fault(alloc: Global, message: &str) -> Result<ExecutionError, Refused>
     format_fault(alloc, String::from_str(alloc, message)?)
 }
 
-// What the verb of a letter shows of the next item.
+// The text of the next item under the verb with this letter, or an error.
 fn verb_at(
     alloc: Global,
     items: &[Value],
@@ -59,7 +59,7 @@ fn verb_at(
     }
 }
 
-// Writes what the verb of a letter shows, unless it is at fault.
+// Appends the text of the next item under the verb with this letter, or returns an error.
 fn write_verb(
     alloc: Global,
     writing: &mut Writing,
@@ -85,7 +85,7 @@ fn write_verb(
     }
 }
 
-// Goes on by one character, unless there is a fault.
+// Reads one more character. Returns an error if there is one.
 fn advance(
     alloc: Global,
     writing: &mut Writing,
@@ -115,7 +115,7 @@ fn advance(
     }
 }
 
-// The text, where nothing more is to be read.
+// The finished text at the end of the format string, or an error if that ends inside a verb.
 fn finished(alloc: Global, writing: Writing) -> Result<Result<String, ExecutionError>, Refused>
     ensures value { IfOk result (λ r. (items : List Data)
         → shown_view r ≡ written_on items (string_bytes writing.out) writing.taken writing.mark []) }
@@ -132,7 +132,7 @@ fn finished(alloc: Global, writing: Writing) -> Result<Result<String, ExecutionE
     }
 }
 
-/// The text of a format text over items, or the first fault.
+/// Formats the items by the format string. Returns the first error from the left.
 pub(crate) fn filled_text(
     alloc: Global,
     text: &str,

@@ -1,4 +1,4 @@
-//! `format`, and the text that its `%s` gives to one value.
+//! `format`, and the text of a value under `%s`.
 ghost use Rattle.std.specs.Prelude.{◌≡◌, IfOk, IfErr, map, option_map};
 ghost use Rattle.cel_value.specs.Texts as texts;
 ghost use Rattle.cel_value.specs.View.{view};
@@ -32,15 +32,15 @@ fn string_answer(alloc: Global, text: Result<String, ExecutionError>) -> Result<
     }
 }
 
-/// A string in which each verb stands for what it shows of the next item of a list,
-/// or the first fault from the left.
+/// Replaces each verb of a format string by the text of the next
+/// item of a list, or returns the first error from the left.
 ///
-/// `%s` shows the text of a value, `%d` a decimal number, `%o`, `%b`, `%x` and `%X` digits in base 8, 2 and
-/// 16; `%%` is a percent sign. A dot and digits behind the percent sign change nothing
-/// (documentation of CEL-Go, "Strings").
+/// `%s` prints the text of a value, `%d` a decimal number, and `%o`, `%b`, `%x` and `%X` digits in
+/// base 8, 2 and 16; `%%` is a percent sign. A precision, which is a dot and digits after the
+/// percent sign, has no effect (documentation of CEL-Go, "Strings").
 ///
 /// # Errors
-/// `Memory` alone.
+/// [`Refused::Memory`] if memory is refused.
 pub fn format(alloc: Global, text: &Value, list: &Value) -> Result<Answer, Refused>
     ensures value { IfOk result (λ r. outcome_view r ≡ spec.format_of (view text.now) (view list.now)) }
     ensures memory { IfErr result (λ e. e ≡ Refused.Memory) }
@@ -54,10 +54,10 @@ pub fn format(alloc: Global, text: &Value, list: &Value) -> Result<Answer, Refus
     }
 }
 
-/// The text that `%s` shows of a value, or the kind of the first part of it that has none.
+/// Returns the text of a value under `%s`, or the kind of the first part of it that has no text.
 ///
 /// # Errors
-/// `Memory` alone.
+/// [`Refused::Memory`] if memory is refused.
 pub fn printed(alloc: Global, value: &Value) -> Result<Result<String, Kind>, Refused>
     ensures value { IfOk result (λ r. texts.printed_view r ≡ texts.printed_text (view value.now)) }
     ensures memory { IfErr result (λ e. e ≡ Refused.Memory) }

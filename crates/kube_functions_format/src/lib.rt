@@ -1,4 +1,4 @@
-//! `format`: strings whose verbs show the items of a list.
+//! `format`: format strings whose verbs print the items of a list.
 #![tactic(auto)]
 
 mod filling;

@@ -1,33 +1,33 @@
-//! The pieces of a format text, character by character.
+//! Reads a format string character by character.
 ghost use Rattle.std.specs.Prelude.{◌≡◌, ◌∷◌, ◌^◌, ◌≤◌, List, ℕ, Some, MatchOption, option_map, []};
 ghost use Rattle.kube_functions_format.specs.Pieces.{with_digit, behind_digits};
 ghost use Rattle.kube_functions_format.specs.Progress as spec;
 
-/// What of a verb stands before the next character.
+/// The part of a verb read just before the next character.
 #[derive(Clone, Copy)]
 pub(crate) enum Mark {
     /// Nothing.
     Outside,
     /// A percent sign.
     Percent,
-    /// A percent sign, a dot, and digits of this number, if there are any.
+    /// A percent sign, a dot, and the digits of this number, if any.
     Precision(Option<u64>),
 }
 
-/// What a character comes to.
+/// What the next character turns out to be.
 #[derive(Clone, Copy)]
 pub(crate) enum Step {
     /// A character that stands for itself.
     Literal(char),
     /// The letter of a verb.
     Verb(char),
-    /// A part of a verb that goes on.
+    /// A part of a verb that isn't complete yet.
     More(Mark),
-    /// A character by which what stands before it is no precision.
+    /// A character that makes the precision before it invalid.
     Invalid,
 }
 
-// The number of some digits and one more, if 64 bits hold it.
+// The number with one more digit appended, or None if it exceeds 64 bits.
 fn with_digit(number: Option<u64>, digit: u32) -> Option<u64>
     ensures { MatchOption result (2 ^ 64 ≤ with_digit number digit) (λ n. n ≡ with_digit number digit) }
 {
@@ -52,7 +52,7 @@ fn read_precision(number: Option<u64>, character: char) -> Step
     }
 }
 
-/// What a character comes to behind a mark.
+/// Reads the next character, given the part of a verb before it.
 pub(crate) fn read(mark: Mark, character: char) -> Step
     ensures { (cs : List ℕ) → spec.pieces_behind mark (character ∷ cs) ≡ spec.read_on result cs }
 {
@@ -70,7 +70,8 @@ pub(crate) fn read(mark: Mark, character: char) -> Step
     }
 }
 
-/// What is wrong with a text that ends behind a mark, if anything is.
+/// The error message if the format string ends after
+/// this part of a verb, or None if it may end there.
 pub(crate) fn unfinished(mark: Mark) -> Option<&'static str>
     ensures { spec.pieces_behind mark [] ≡ spec.pieces_at_end (option_map (λ s. s.now) result) }
 {

@@ -1,4 +1,4 @@
-//! What the verbs of a format text show of their items.
+//! The verbs of format strings.
 ghost use Rattle.std.specs.Prelude.{◌≡◌, ◌++◌, IfOk, IfErr, OnOk, string_bytes};
 ghost use Rattle.std.specs.Fmt.{digits};
 ghost use Rattle.cel_value.specs.Faults.{fault_view};
@@ -11,7 +11,7 @@ ghost use Rattle.kube_functions_format.specs.Verbs as spec;
 use cel_value::{ExecutionError, Kind, Refused, Value};
 use std::alloc::{AllocError, Global};
 
-/// A verb, by what it shows.
+/// A verb, by what it prints.
 #[derive(Clone, Copy)]
 pub(crate) enum Verb {
     /// The text of a value: `%s`.
@@ -26,7 +26,7 @@ pub(crate) enum Verb {
     LowerHex,
     /// Hexadecimal digits in upper case: `%X`.
     UpperHex,
-    /// A double, which nothing shows: `%f`, `%e`.
+    /// A double, which isn't supported: `%f`, `%e`.
     Double,
 }
 
@@ -48,7 +48,7 @@ impl Verb {
     }
 }
 
-/// The fault of `format` with a message.
+/// The error of `format` with a message.
 pub(crate) fn format_fault(alloc: Global, message: String) -> Result<ExecutionError, Refused>
     ensures value { IfOk result (λ e. fault_view e ≡ spec.format_fault (string_bytes message)) }
     ensures memory { IfErr result (λ e. e ≡ Refused.Memory) }
@@ -153,7 +153,7 @@ fn hex_form(alloc: Global, upper: bool, item: &Value) -> Result<Result<String, K
     }
 }
 
-// The text, or the fault of a kind that has none, with the words before the kind.
+// The text, or an error whose message is `refusal` and the name of the kind.
 fn or_refused(
     alloc: Global,
     refusal: &str,
@@ -210,7 +210,7 @@ fn shown_by(
     }
 }
 
-/// What the verb of a letter shows of an item, or why it shows nothing.
+/// The text of an item under the verb with this letter, or an error.
 pub(crate) fn shown_by_letter(
     alloc: Global,
     letter: char,

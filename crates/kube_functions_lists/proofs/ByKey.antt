@@ -1,4 +1,4 @@
--- Values found by their keys.
+-- Looking values up by their keys.
 use Rattle.std.proofs.Common.{◌≡◌, ℕ, List, [], ◌∷◌, ◌++◌, Bool, true, false, cond, ◌&&◌, ◌||◌, Some, None, is_some, map, refl, ap, sym, ◌∙◌, ◌+◌, ◌<◌, ◌≤◌, drop, length, get_or}
 use Rattle.std.specs.Prelude.{◌==◌, nat_lt}
 use Rattle.std.specs.BTreeSet.{BTreeSet, Updates}
@@ -21,7 +21,7 @@ use Rattle.kube_functions_lists.specs.Lists.{with_new}
 use Rattle.kube_functions_lists.specs.Sets.{is_in}
 use Rattle.kube_functions_lists.proofs.Distinct.{among_same, among_more, rest_is, drop_past}
 
--- ---- keys that are equal
+-- ---- equality of keys
 
 tested : (o : Ordering) → ((is_eq o && true) && true) ≡ is_eq (ordering_then o Equal)
 tested Less = refl
@@ -49,7 +49,7 @@ same_keys (text_key s) (int_key n) = refl
 same_keys (text_key s) (uint_key n) = refl
 same_keys (text_key s) (text_key t) = texts_ties s t
 
--- ---- values that are keys
+-- ---- values that can be keys
 
 -- the classes of bools, numbers and strings
 abbrev is_keyed : ℕ → Bool
@@ -114,7 +114,7 @@ apart k l h g = at (k == l) refl
 by_class : (x y : Shape) → (class_of x == class_of y) ≡ false → same_shape x y ≡ false
 by_class (shape_of k ns s p) (shape_of l ms t q) h = rw h refl
 
--- a key equals no value that is none
+-- a key equals no value that can't be a key
 pub no_key : (k : KeyData) (d : Data) → None ≡ key_of d → same (key_data k) d ≡ false
 no_key k d h = by_class (shape (key_data k)) (shape d) (apart (class (key_data k)) (class d) (key_keyed k) (keyed d ∙ ap is_some (sym h)))
 
@@ -172,7 +172,7 @@ or_assoc : (a b c : Bool) → ((a || b) || c) ≡ (a || (b || c))
 or_assoc true b c = refl
 or_assoc false b c = refl
 
--- what the keys and the items that are left have is in the list
+-- the keys found so far, together with the remaining items, make up the list
 abbrev pub HasRest : BTreeSet Key → List Data → List Data → Type 0
 HasRest s all rest = (k : Key) → (has_key s k || is_in rest (key_data (key_view k))) ≡ is_in all (key_data (key_view k))
 

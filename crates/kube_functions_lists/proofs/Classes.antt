@@ -1,4 +1,4 @@
--- Values compare within classes.
+-- Values compare exactly within their classes.
 use Rattle.std.proofs.Common.{◌≡◌, ℕ, ℤ, List, [], ◌∷◌, map, Bool, true, false, cond, ◌&&◌, Option, Some, None, is_some, unwrap_or, refl, ap, sym, ◌∙◌, subst}
 use Rattle.std.specs.Prelude.{◌==◌, nat_lt}
 use Rattle.std.specs.Cmp.{IsTotalOrder, IsStrictWeakOrder}
@@ -61,7 +61,7 @@ itself d x h =
     let a = both (class d == class x) (is_ordered (class d)) (sym (some_compared d x) ∙ h) in
     some_compared d d ∙ and_true _ _ (nat_eq_equiv.refl (class d)) a.1
 
--- ---- one value that compares with all
+-- ---- a value that compares with all others
 
 two_ways : (s t : Bool) → (s ≡ true → t ≡ true) → (t ≡ true → s ≡ true) → s ≡ t
 two_ways true t f g = sym (f refl)
@@ -153,7 +153,7 @@ some_case : (o : Option Ordering) (q : Ordering) → is_some o ≡ true → is_l
 some_case None q h = absurd (cc)
 some_case (Some o) q h = refl
 
--- where all compare with the first, their order is that of all values
+-- if all compare with the first, their order is the order of all values
 ascending_alike : (ds : List Data) → have_order ds ≡ true → sorted_by (λ d e. is_lt (order_of_all d e)) ds ≡ ascending ds
 ascending_alike [] h = refl
 ascending_alike (d ∷ []) h = refl
@@ -162,7 +162,7 @@ ascending_alike (d ∷ e ∷ ds) h =
     (λ x y a b. some_case (comparison x y) (nat_cmp (class_number x) (class_number y)) (third d x y a b))
     (d ∷ e ∷ ds) (both (list_all (λ w. is_some (comparison d w)) (d ∷ e ∷ ds)) _ h).0
 
--- what a stable sort leaves of copies
+-- the values of the copies after a stable sort
 pub sorted_values : (vs copied ws : List Value) → have_order (map view vs) ≡ true → map view copied ≡ map view vs → IsSortedBy earlier ws → IsStableBy earlier copied ws → map view ws ≡ ascending (map view vs)
 sorted_values vs copied ws h same up stable =
     ap (map view) (stable_order earlier earlier_weak copied ws up stable) ∙ map_sorted view (λ d e. is_lt (order_of_all d e)) copied

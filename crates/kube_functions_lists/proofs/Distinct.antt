@@ -1,4 +1,4 @@
--- How the distinct items of a list are gathered.
+-- How the distinct items of a list are collected.
 use Rattle.std.proofs.Common.{◌≡◌, ℕ, zero, suc, ◌+◌, ◌<◌, ◌≤◌, drop-cons, subst, List, [], ◌∷◌, ◌++◌, Bool, true, false, cond, not, ◌&&◌, ◌||◌, map, drop, length, get_or, refl, ap, sym, ◌∙◌, append_assoc, arith}
 use Rattle.std.specs.List.{filter}
 use Rattle.std.proofs.lemmas.List.{append-nil}
@@ -44,7 +44,7 @@ not_or false false = refl
 pub among_more : (ks : List Data) (x e : Data) → is_in (ks ++ x ∷ []) e ≡ (is_in ks e || same e x)
 among_more ks x e = list_any-append (same e) ks (x ∷ []) ∙ ap (λ b. is_in ks e || b) (or_false (same e x))
 
--- not in the list, and not the same as x, which is in it
+-- not in the list, and not equal to x, which is in it
 absorbed : (ks : List Data) (x e : Data) → is_in ks x ≡ true → (not (same x e) && not (is_in ks e)) ≡ not (is_in ks e)
 absorbed ks x e h = at (same x e) refl
   where
@@ -57,7 +57,7 @@ widened ks x e = not_or (is_in ks e) (same x e) ∙ ap (λ b. not (is_in ks e ||
 
 -- ---- the items that are kept
 
--- those of a list that are in no other one
+-- the items of a list that aren't in another one
 abbrev pub new_to : List Data → List Data → List Data
 new_to ks ds = filter (λ d. not (is_in ks d)) ds
 
@@ -76,7 +76,7 @@ past_new ks x ds h =
     ∙ ap (λ es. ks ++ x ∷ es) (filter_twice (λ d. not (is_in ks d)) (λ e. not (same x e)) (λ d. not (is_in (ks ++ x ∷ []) d)) (widened ks x) (distinct_items ds))
     ∙ sym (append_assoc ks (x ∷ []) (new_to (ks ++ x ∷ []) (distinct_items ds)))
 
--- the items that are kept so far, and those that are still to come
+-- the items kept so far, followed by those still to be kept
 abbrev pub gathered : List Data → List Data → List Data
 gathered ks ds = ks ++ new_to ks (distinct_items ds)
 

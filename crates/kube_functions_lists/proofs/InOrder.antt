@@ -1,4 +1,4 @@
--- A sorted list is in order as `isSorted` says, and equal values stay as they stood.
+-- A sorted list is in order as `isSorted` defines it, and equal values keep their order.
 use Rattle.std.proofs.Common.{◌≡◌, List, [], ◌∷◌, Bool, true, false, not, cond, ◌&&◌, Option, Some, None, is_some, unwrap_or, Ok, refl, ap, sym, ◌∙◌, if◌then◌else◌, filter, find}
 use Rattle.std.proofs.lemmas.Bool.{eqb-true}
 use Rattle.std.specs.List.{list_all}
@@ -23,7 +23,7 @@ turned x z h = third x z x h (itself x z h)
 reversed : (x z : Data) → order_of_all z x ≡ ordering_reverse (order_of_all x z)
 reversed x z = same_order z x ∙ total.antisymm z x ∙ ap ordering_reverse (sym (same_order x z))
 
--- of two that compare, where the second does not come first the first does, or they are equal
+-- of two values that compare, if the second doesn't come first, the first does or they are equal
 not_less : (x z : Data) → is_some (comparison x z) ≡ true → comes_first z x ≡ false → ascend x z ≡ true
 not_less x z h never = by (comparison x z) (comparison z x) (nat_cmp (class_number x) (class_number z)) (nat_cmp (class_number z) (class_number x)) h (turned x z h) (reversed x z) never
   where
@@ -75,7 +75,7 @@ all_sorted : (p : Data → Bool) (xs : List Data) → list_all p xs ≡ true →
 all_sorted p [] h = refl
 all_sorted p (x ∷ xs) h = all_put p x (sorted_by comes_first xs) (both (p x) (list_all p xs) h).0 (all_sorted p xs (both (p x) (list_all p xs) h).1)
 
--- where all compare with one value
+-- all items compare with one value
 sorted_rises : (d : Data) (xs : List Data) → list_all (λ w. is_some (comparison d w)) xs ≡ true → Rises (sorted_by comes_first xs)
 sorted_rises d [] h = tt
 sorted_rises d (x ∷ xs) h =
@@ -97,7 +97,7 @@ ascending_rises (d ∷ e ∷ ds) h = sorted_rises d (d ∷ e ∷ ds) (both (list
 pub in_order : (ds : List Data) → have_order ds ≡ true → order_of (ascending ds) ≡ Ok (bool true)
 in_order ds h = ap (λ o. option_map_or (λ p. not_ascending p.0 p.1) o (Ok (bool true))) (none_found (ascending ds) (ascending_rises ds h))
 
--- ---- equal values stay
+-- ---- equal values keep their order
 
 same_class : (x y : Shape) → same_shape x y ≡ true → class_of x ≡ class_of y
 same_class (shape_of k ns s p) (shape_of l ms t q) h = eqb-true k l (both (k == l) _ h).0

@@ -1,4 +1,4 @@
--- What slices lend and lists hold, as data.
+-- The views of slices and lists.
 use Rattle.std.proofs.Common.{◌≡◌, ℕ, zero, suc, ◌+◌, ◌-◌, ◌≤◌, pos, List, [], ◌∷◌, ◌++◌, Option, None, Some, Bor, map, take, drop, reverse, length, get_or, take_at, option_map, refl, ap, sym, ◌∙◌, arith}
 use Rattle.std.specs.Slice.{IsGetResult}
 use Rattle.std.proofs.lemmas.List.{take-map, drop-map, map_push, reverse-append}
@@ -17,7 +17,7 @@ reverse_seen (x ∷ xs) =
     ap (map view) (reverse-append (x ∷ []) xs) ∙ map_push view (reverse xs) x ∙ ap (λ ds. ds ++ view x ∷ []) (reverse_seen xs)
     ∙ sym (reverse-append (view x ∷ []) (map view xs))
 
--- what a slice that is reversed leaves in its list
+-- the list after a slice of it was reversed in place
 pub reversed_seen : (vs us xs ws : List Value) (n : ℕ) → ws ≡ reverse us → us ≡ vs → length ws ≡ n → map view vs ≡ map view xs
     → map view (take n (ws ++ drop (length ws) vs)) ≡ reverse (map view xs)
 reversed_seen vs us xs ws n after is long h =

@@ -1,4 +1,4 @@
--- Which occurrences `distinct` keeps, and which values two equivalent lists have.
+-- The occurrences that `distinct` keeps, and the values that two equivalent lists share.
 use Rattle.std.proofs.Common.{◌≡◌, ◌↔◌, List, [], ◌∷◌, ◌++◌, Bool, true, false, cond, not, ◌||◌, Some, refl, ap, sym, ◌∙◌}
 use Rattle.std.proofs.lemmas.List.{append-nil}
 use Rattle.std.proofs.lemmas.List.Elements.{filter-append}
@@ -21,7 +21,7 @@ find_cond p false d ds es h r = at (p d) refl
     at true k = let no : false ≡ true = h k in absurd (cc)
     at false k = r ∙ ap (λ b. cond b (Some d) (find p es)) (sym k)
 
--- a filter that passes what is looked for
+-- a filter passes whatever is searched for
 find_filter : (p q : Data → Bool) → ((e : Data) → p e ≡ true → q e ≡ true) → (ds : List Data) → find p (filter q ds) ≡ find p ds
 find_filter p q h [] = refl
 find_filter p q h (d ∷ ds) = find_cond p (q d) d (filter q ds) ds (h d) (find_filter p q h ds)
@@ -40,7 +40,7 @@ first_kept v (d ∷ ds) =
     first_cond v d (same v d) (filter (λ e. not (same d e)) (distinct_items ds)) ds refl
     (λ h. find_filter (same v) (λ e. not (same d e)) (λ e k. apart v d e h k) (distinct_items ds) ∙ r)
 
--- one more value behind the others, among those that differ from an earlier one
+-- one more value at the end, among those that differ from an earlier one
 next_at : (x d : Data) (es : List Data) (s m : Bool) → same x d ≡ s
     → filter (λ e. not (same x e)) (cond m es (es ++ d ∷ [])) ≡ cond (s || m) (filter (λ e. not (same x e)) es) (filter (λ e. not (same x e)) es ++ d ∷ [])
 next_at x d es true true h = refl
@@ -54,7 +54,7 @@ before_both : (b : Bool) (x : Data) (ds es : List Data) → x ∷ cond b ds es �
 before_both true x ds es = refl
 before_both false x ds es = refl
 
--- a value behind the others is kept exactly where it is none of them
+-- a value at the end is kept exactly if it equals none of the others
 pub next_kept : (ds : List Data) (d : Data) → distinct_items (ds ++ d ∷ []) ≡ cond (is_in ds d) (distinct_items ds) (distinct_items ds ++ d ∷ [])
 next_kept [] d = refl
 next_kept (x ∷ ds) d =
@@ -62,7 +62,7 @@ next_kept (x ∷ ds) d =
     ∙ ap (λ es. x ∷ es) (next_at x d (distinct_items ds) (same d x) (is_in ds d) (same-equiv.symm x d))
     ∙ before_both (same d x || is_in ds d) x _ _
 
--- ---- each once
+-- ---- no two kept items are equal
 
 kept_cond : (P : Data → Type 0) (b : Bool) (d : Data) (ds : List Data) → (b ≡ true → P d) → AllByRecursion P ds → AllByRecursion P (cond b (d ∷ ds) ds)
 kept_cond P true d ds h r = (h refl, r)

@@ -1,4 +1,4 @@
--- A list has one stable ascending order by a test.
+-- A list has exactly one stable ascending order by a test.
 use Rattle.std.proofs.Common.{◌≡◌, ℕ, zero, suc, ◌+◌, List, [], ◌∷◌, map, ◌&&◌, not, Bool, true, false, cond, get_or, subst, refl, ap, sym, ◌∙◌, arith}
 use Rattle.std.specs.Bool.{⊤}
 use Rattle.std.specs.Cmp.{IsStrictWeakOrder}
@@ -61,7 +61,7 @@ module _ {X : Type 0} (lt : X → X → Bool) (o : IsStrictWeakOrder lt) where
   ties_itself : (x : X) → ties lt x x ≡ true
   ties_itself x = and_true _ _ (not_true _ (irrefl x)) (not_true _ (irrefl x))
 
-  -- each value is before none that stands left of it
+  -- no value comes before one to its left
   abbrev Rises : List X → Type 0
   Rises [] = ⊤
   Rises (x ∷ xs) = (list_all (λ y. not (lt y x)) xs ≡ true) × Rises xs
@@ -107,7 +107,7 @@ module _ {X : Type 0} (lt : X → X → Bool) (o : IsStrictWeakOrder lt) where
   stable_sorted w [] = refl
   stable_sorted w (x ∷ xs) = stable_put w x (sorted_by lt xs) ∙ ap (λ f. cond (ties lt w x) (x ∷ f) f) (stable_sorted w xs)
 
-  -- what is before all of a list ties with none of it
+  -- a value that comes before all of a list ties with none of it
   none_tied : (y z : X) (zs : List X) → lt y z ≡ true → Rises (z ∷ zs) → filter (ties lt y) (z ∷ zs) ≡ []
   none_tied y z zs e r = filter_none (ties lt y) (z ∷ zs) (pass (λ u. not (lt u z)) (λ u. not (ties lt y u)) untied (z ∷ zs) (and_true _ _ (not_true _ (irrefl z)) r.0))
     where
@@ -181,7 +181,7 @@ module _ {X : Type 0} (lt : X → X → Bool) (o : IsStrictWeakOrder lt) where
   pub stable_order : (xs ys : List X) → IsSortedBy lt ys → IsStableBy lt xs ys → ys ≡ sorted_by lt xs
   stable_order xs ys up same = one_order ys (sorted_by lt xs) (rises_from ys up) (rises_sorted xs) (λ w. same w ∙ sym (stable_sorted w xs))
 
--- ---- through a function
+-- ---- sorting by a function of the values
 
 cond_map : {X Y : Type 0} (f : X → Y) (b : Bool) (xs ys : List X) → map f (cond b xs ys) ≡ cond b (map f xs) (map f ys)
 cond_map f true xs ys = refl

@@ -1,7 +1,8 @@
 -- Trusted by the headline.
--- Functions on the bits of ints (documentation of CEL-Go, "Math": `math.bitAnd`, `math.bitOr`, `math.bitXor`,
--- `math.bitNot`, `math.bitShiftLeft`, `math.bitShiftRight`). An int is its 64 bits in two's complement. Bits
--- that are shifted out are lost, and a shift to the right fills with the sign.
+-- Functions on the bits of ints (documentation of CEL-Go, "Math": `math.bitAnd`,
+-- `math.bitOr`, `math.bitXor`, `math.bitNot`, `math.bitShiftLeft`,
+-- `math.bitShiftRight`). An int is its 64 bits in two's complement. Bits that
+-- are shifted out are lost, and a shift to the right fills with the sign bit.
 use Rattle.std.specs.Prelude.{ℕ, ℤ, pos, negsuc, List, codes, nat_lt, Option, Some, None, Ok, Err, if◌then◌else◌}
 use Rattle.std.specs.Int.{w64, int_bit_and, int_bit_or, int_bit_xor, int_bit_not, int_shl, int_shr}
 use Rattle.std.specs.Option.{option_map_or}
@@ -11,7 +12,7 @@ use Rattle.cel_semantics.specs.Arithmetic.{int_in}
 use Rattle.cel_semantics.specs.Outcome.{Outcome}
 use Rattle.kube_functions_lists.specs.Lists.{ints_in}
 
--- what a function of this name answers to two ints; it takes nothing else
+-- the result of a function with this name on two ints; other operands are an error
 abbrev pub of_ints : List ℕ → (ℤ → ℤ → Outcome) → Data → Data → Outcome
 of_ints name f v w = option_map_or (λ p. f p.0 p.1) (ints_in v w) (Err (no_overload name))
 
@@ -31,12 +32,12 @@ bit_not v =
 abbrev pub shift_fault : List ℕ → Fault
 shift_fault name = function_error name (codes "shift amount must be between 0 and 63")
 
--- how many places a shift may go
+-- the number of places of a shift, or none unless it is from 0 to 63
 abbrev pub places_in : ℤ → Option ℕ
 places_in (pos n) = if nat_lt n 64 then Some n else None
 places_in (negsuc n) = None
 
--- a shift as the function of this name does it
+-- the result of a shift; `name` is the function's name in errors
 abbrev pub shift_outcome : List ℕ → (ℕ → ℤ) → ℤ → Outcome
 shift_outcome name f n = option_map_or (λ k. Ok (int (f k))) (places_in n) (Err (shift_fault name))
 

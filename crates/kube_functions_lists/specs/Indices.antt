@@ -1,7 +1,7 @@
 -- Trusted by the headline.
--- Where a value stands in a list (documentation of CEL-Go, "Lists"; Kubernetes documentation, "CEL in
--- Kubernetes", list library, `indexOf`, `lastIndexOf`). Indices count from 0, and -1 says that it is not
--- there. An index that no int is would be an overflow.
+-- The index of a value in a list (documentation of CEL-Go, "Lists"; Kubernetes documentation, "CEL
+-- in Kubernetes", list library, `indexOf`, `lastIndexOf`). Indices count from 0, and -1 means that
+-- the value isn't in the list. An index too large for an int would be an overflow.
 use Rattle.std.specs.Prelude.{ℕ, ◌+◌, pos, negsuc, List, [], ◌∷◌, codes, Bool, Option, None, Some, Ok, if◌then◌else◌}
 use Rattle.std.specs.List.{position_from}
 use Rattle.std.specs.Option.{option_map_or, option_or}
@@ -11,7 +11,7 @@ use Rattle.cel_semantics.specs.Arithmetic.{int_or_overflow}
 use Rattle.cel_semantics.specs.Outcome.{Outcome}
 use Rattle.kube_functions_lists.specs.Lists.{of_list}
 
--- the last index at which the test passes, where that of the first item is i
+-- the last index at which the test passes, with the items numbered from i
 abbrev pub last_position_from : (Data → Bool) → ℕ → List Data → Option ℕ
 last_position_from t i [] = None
 last_position_from t i (d ∷ ds) = option_or (last_position_from t (i + 1) ds) (if t d then Some i else None)

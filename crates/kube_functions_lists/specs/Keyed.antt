@@ -1,6 +1,6 @@
 -- Scaffolding: only proofs and private clauses cite it.
--- Sets of keys beside lists of values. A bool, a number and a string are keys of maps, and two of them are
--- equal where their keys are.
+-- Sets of keys beside lists of values. Bools, numbers and strings
+-- can be keys of maps, and two of them are equal if their keys are.
 use Rattle.std.specs.Prelude.{◌≡◌, ◌||◌, List, Bool}
 use Rattle.std.specs.BTreeSet.{BTreeSet, contains}
 use Rattle.std.specs.declared.cmp.Ordering.{Ordering}
@@ -10,7 +10,7 @@ use Rattle.cel_value.specs.Same.{same}
 use Rattle.cel_value.specs.declared.key.Key.{Key}
 use Rattle.kube_functions_lists.specs.Sets.{is_in}
 
--- the value that is this key
+-- the value of a key
 abbrev pub key_data : KeyData → Data
 key_data (bool_key b) = bool b
 key_data (int_key n) = int n
@@ -23,10 +23,10 @@ key_cmp a b = key_order (key_view a) (key_view b)
 abbrev pub has_key : BTreeSet Key → Key → Bool
 has_key s k = contains key_cmp s k
 
--- a key is in the set exactly where its value is in the list
+-- a key is in the set exactly if its value is in the list
 abbrev pub HasKeysOf : BTreeSet Key → List Data → Type 0
 HasKeysOf s ds = (k : Key) → has_key s k ≡ is_in ds (key_data (key_view k))
 
--- the second set has the keys of the first, and that of the value, if it is one
+-- the second set holds the keys of the first, and the key of the value if it can be one
 abbrev pub AddsKeyOf : BTreeSet Key → BTreeSet Key → Data → Type 0
 AddsKeyOf s n d = (k : Key) → has_key n k ≡ (has_key s k || same (key_data (key_view k)) d)

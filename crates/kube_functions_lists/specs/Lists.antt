@@ -1,7 +1,7 @@
 -- Trusted by the headline.
--- Lists made of a list's items (Kubernetes documentation, "CEL in Kubernetes", list library; documentation of
--- CEL-Go, "Lists": `slice`, `flatten`, `reverse`, `distinct`, `first`, `last`, `lists.range`).
--- Items are equal as `==` has it.
+-- Lists made of a list's items (Kubernetes documentation, "CEL in Kubernetes", list library;
+-- documentation of CEL-Go, "Lists": `slice`, `flatten`, `reverse`, `distinct`, `first`, `last`,
+-- `lists.range`). Items are compared as `==` compares them.
 use Rattle.std.specs.Prelude.{ℕ, suc, ◌++◌, ℤ, pos, negsuc, List, [], ◌∷◌, map, reverse as backwards, length, codes, decimal, not, ◌&&◌, nat_le, Option, None, Some, option_map, Ok, Err, take, drop, if◌then◌else◌}
 use Rattle.std.specs.Fmt.{signed_decimal}
 use Rattle.std.specs.List.{filter, list_any, range_with_len}
@@ -15,7 +15,7 @@ use Rattle.cel_semantics.specs.Arithmetic.{int_in}
 use Rattle.cel_semantics.specs.Outcome.{Outcome}
 use Rattle.cel_semantics.specs.Ranges.{items_list}
 
--- the items of a list
+-- the items of a list, or none if the value isn't a list
 abbrev pub items_if_list : Data → Option (List Data)
 items_if_list v = option_map items_list (items_in v)
 
@@ -23,7 +23,7 @@ items_if_list v = option_map items_list (items_in v)
 abbrev pub as_list : List Data → Data
 as_list ds = list (items_of ds)
 
--- what a function of this name answers to a list, by its items; it takes nothing else
+-- the result of a function with this name on the items of a list; other operands are an error
 abbrev pub of_list : List ℕ → (List Data → Outcome) → Data → Outcome
 of_list name f v = option_map_or f (items_if_list v) (Err (no_overload name))
 
@@ -37,7 +37,7 @@ slice_message a b n =
 abbrev pub slice_fault : ℤ → ℤ → ℕ → Fault
 slice_fault a b n = function_error (codes "slice") (slice_message a b n)
 
--- the items from the index a on and before the index b; the length of the list counts as an index too
+-- the items from index a up to, but without, index b; the length of the list is allowed as an index
 abbrev pub part_between : List Data → ℤ → ℤ → Option (List Data)
 part_between ds (pos a) (pos b) =
     if nat_le a b && nat_le b (length ds) then Some (drop a (take b ds)) else None
@@ -47,7 +47,7 @@ abbrev pub slice_outcome : List Data → ℤ → ℤ → Outcome
 slice_outcome ds a b =
     option_map_or (λ es. Ok (as_list es)) (part_between ds a b) (Err (slice_fault a b (length ds)))
 
--- two ints
+-- the ints of two values, or none if either isn't an int
 abbrev pub ints_in : Data → Data → Option (ℤ × ℤ)
 ints_in a b = option_map_or (λ m. option_map (λ n. (m, n)) (int_in b)) (int_in a) None
 
@@ -55,7 +55,7 @@ abbrev pub slice : Data → Data → Data → Outcome
 slice v a b = of_list (codes "slice")
     (λ ds. option_map_or (λ p. slice_outcome ds p.0 p.1) (ints_in a b) (Err (no_overload (codes "slice")))) v
 
--- an optional of the item, if there is one
+-- an optional that holds the item, or an empty one if there is none
 abbrev pub as_optional : Option Data → Data
 as_optional None = optional no_items
 as_optional (Some d) = optional (item d no_items)
@@ -75,17 +75,17 @@ first v = of_list (codes "first") (λ ds. Ok (as_optional (first_of ds))) v
 abbrev pub last : Data → Outcome
 last v = of_list (codes "last") (λ ds. Ok (as_optional (last_of ds))) v
 
--- ---- other orders and choices
+-- ---- order and selection
 
 abbrev pub reverse : Data → Outcome
 reverse v = of_list (codes "reverse") (λ ds. Ok (as_list (backwards ds))) v
 
--- each item but those that equal an earlier one
+-- the items without those that equal an earlier one
 abbrev pub distinct_items : List Data → List Data
 distinct_items [] = []
 distinct_items (d ∷ ds) = d ∷ filter (λ e. not (same d e)) (distinct_items ds)
 
--- the items and one more, unless it is among them
+-- the items, with one more at the end unless it is among them
 abbrev pub with_new : List Data → Data → List Data
 with_new ds d = if list_any (same d) ds then ds else ds ++ d ∷ []
 
@@ -94,7 +94,7 @@ distinct v = of_list (codes "distinct") (λ ds. Ok (as_list (distinct_items ds))
 
 -- ---- levels
 
--- lists inside are replaced by their items, to this depth
+-- a value's items, with the lists inside replaced by their items down to n levels
 abbrev mutual
   pub flat_item : Data → ℕ → List Data
   flat_item (list ds) (suc n) = flat_items ds n
@@ -111,7 +111,7 @@ abbrev pub flatten_outcome : Items → ℤ → Outcome
 flatten_outcome ds (pos n) = Ok (as_list (flat_items ds n))
 flatten_outcome ds (negsuc n) = Err depth_fault
 
--- one level where no number is given
+-- the depth, which is 1 if none is given
 abbrev pub depth_in : Option Data → Option ℤ
 depth_in None = Some (pos 1)
 depth_in (Some d) = int_in d
@@ -127,7 +127,7 @@ flatten v d =
 abbrev pub range_fault : Fault
 range_fault = function_error (codes "lists.range") (codes "range argument must be non-negative")
 
--- the ints from 0 to below a count
+-- the ints from 0 up to a count, without the count itself
 abbrev pub first_ints : ℕ → List Data
 first_ints n = map (λ k. int (pos k)) (range_with_len 0 n)
 

@@ -1,6 +1,6 @@
 -- Trusted by the headline.
 -- Functions on numbers (documentation of CEL-Go, "Math": `math.abs`, `math.sign`, `math.greatest`,
--- `math.least`). Ints and uints are compared as numbers, and of equal ones the first counts.
+-- `math.least`). Ints and uints are compared as numbers; the first of equal ones is the result.
 use Rattle.std.specs.Prelude.{ℕ, zero, suc, ℤ, pos, negsuc, List, [], ◌∷◌, codes, is_some, Ok, Err, if◌then◌else◌}
 use Rattle.std.specs.List.{list_all}
 use Rattle.cel_value.specs.Data.{Data, int, uint}
@@ -13,7 +13,7 @@ use Rattle.cel_stdlib.specs.declared.extremes.Extreme.{Extreme}
 use Rattle.cel_stdlib.specs.declared.extremes.Extreme.TheVariants.{Least, Greatest}
 use Rattle.std.specs.Int.RustNames.{unsigned_abs}
 
--- the size of a number is an int, but that of the least int is none
+-- the absolute value of an int, or an overflow for the least int
 abbrev pub size_of : ℤ → Outcome
 size_of n =
     if is_int (pos (unsigned_abs n)) then Ok (int (pos (unsigned_abs n)))
@@ -50,7 +50,7 @@ none_given end = function_error (call_name end) (codes "at least one argument re
 abbrev pub not_numeric : Fault
 not_numeric = function_error (codes "math.greatest/least") (codes "expected numeric argument")
 
--- a single value is not looked at
+-- a single value is returned unchecked
 abbrev pub extreme_number : Extreme → List Data → Outcome
 extreme_number end [] = Err (none_given end)
 extreme_number end (d ∷ []) = Ok d
@@ -58,7 +58,7 @@ extreme_number end (d ∷ e ∷ ds) =
     if list_all (λ v. is_some (number_in v)) (d ∷ e ∷ ds) then extreme_of end (d ∷ e ∷ ds)
     else Err not_numeric
 
--- a single list stands for its items
+-- the greatest and the least of the arguments, or of the items of a single list
 abbrev pub greatest : List Data → Outcome
 greatest args = extreme_number Greatest (values_among args)
 

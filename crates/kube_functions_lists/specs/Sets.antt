@@ -1,6 +1,6 @@
 -- Trusted by the headline.
--- Lists as sets of their items (documentation of CEL-Go, "Sets": `sets.contains`, `sets.equivalent`,
--- `sets.intersects`). A value is in the set where it equals an item.
+-- Lists as sets of their items (documentation of CEL-Go, "Sets": `sets.contains`,
+-- `sets.equivalent`, `sets.intersects`). A value is in the set if it equals an item.
 use Rattle.std.specs.Prelude.{ℕ, List, codes, Bool, ◌&&◌, Ok, Err}
 use Rattle.std.specs.List.{list_any, list_all}
 use Rattle.std.specs.Option.{option_map_or}
@@ -25,7 +25,7 @@ have_same ds es = has_all ds es && has_all es ds
 abbrev pub have_common : List Data → List Data → Bool
 have_common ds es = list_any (is_in ds) es
 
--- what a function of this name answers to two lists, by their items; it takes nothing else
+-- the result of a function with this name on the items of two lists; other operands are an error
 abbrev pub of_lists : List ℕ → (List Data → List Data → Bool) → Data → Data → Outcome
 of_lists name f v w =
     option_map_or (λ ds. option_map_or (λ es. Ok (bool (f ds es))) (items_if_list w) (Err (no_overload name)))

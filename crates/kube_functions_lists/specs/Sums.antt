@@ -1,6 +1,7 @@
 -- Trusted by the headline.
--- Sums of lists (Kubernetes documentation, "CEL in Kubernetes", list library, `sum`). The items are added
--- from the left: ints to ints, uints to uints. A single item is its own sum, whatever it is.
+-- Sums of lists (Kubernetes documentation, "CEL in Kubernetes", list
+-- library, `sum`). The items are added from the left: ints to ints, uints
+-- to uints. The sum of a single item is the item itself, of whatever kind.
 use Rattle.std.specs.Prelude.{◌+◌, pos, ◌+ℤ◌, List, [], ◌∷◌, codes, Ok, Err}
 use Rattle.cel_value.specs.Data.{Data, int, uint}
 use Rattle.cel_value.specs.Faults.{Fault, function_error}
@@ -16,7 +17,7 @@ sum_of_two (int m) (int n) = int_or_overflow (m +ℤ n)
 sum_of_two (uint m) (uint n) = uint_or_overflow (m + n)
 sum_of_two _ _ = Err no_sum
 
--- the value and these, or the first fault from the left
+-- the values added to s one by one, or the first error from the left
 abbrev pub sum_from : Data → List Data → Outcome
 sum_from s [] = Ok s
 sum_from s (d ∷ ds) = and_then (sum_of_two s d) (λ t. sum_from t ds)

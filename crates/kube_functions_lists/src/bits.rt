@@ -1,4 +1,4 @@
-//! `math.bitAnd` and its like: the bits of ints in two's complement.
+//! `math.bitAnd` and the other functions on the bits of ints, in two's complement.
 ghost use Rattle.std.specs.Prelude.{◌≡◌, IfOk, IfErr};
 ghost use Rattle.cel_value.specs.Faults as fault;
 ghost use Rattle.cel_value.specs.View.{view};
@@ -11,10 +11,10 @@ use cel_stdlib::faults::function_error;
 use cel_value::{ExecutionError, Refused, Value};
 use std::alloc::Global;
 
-/// The bits that two ints both have.
+/// Returns the bitwise AND of two ints.
 ///
 /// # Errors
-/// `Memory` alone.
+/// [`Refused::Memory`] if memory is refused.
 pub fn bit_and(alloc: Global, value: &Value, other: &Value) -> Result<Answer, Refused>
     ensures value { IfOk result (λ r. outcome_view r ≡ spec.bit_and (view value.now) (view other.now)) }
     ensures memory { IfErr result (λ e. e ≡ Refused.Memory) }
@@ -25,10 +25,10 @@ pub fn bit_and(alloc: Global, value: &Value, other: &Value) -> Result<Answer, Re
     }
 }
 
-/// The bits that either of two ints has.
+/// Returns the bitwise OR of two ints.
 ///
 /// # Errors
-/// `Memory` alone.
+/// [`Refused::Memory`] if memory is refused.
 pub fn bit_or(alloc: Global, value: &Value, other: &Value) -> Result<Answer, Refused>
     ensures value { IfOk result (λ r. outcome_view r ≡ spec.bit_or (view value.now) (view other.now)) }
     ensures memory { IfErr result (λ e. e ≡ Refused.Memory) }
@@ -39,10 +39,10 @@ pub fn bit_or(alloc: Global, value: &Value, other: &Value) -> Result<Answer, Ref
     }
 }
 
-/// The bits that one of two ints has and the other has not.
+/// Returns the bitwise exclusive OR of two ints.
 ///
 /// # Errors
-/// `Memory` alone.
+/// [`Refused::Memory`] if memory is refused.
 pub fn bit_xor(alloc: Global, value: &Value, other: &Value) -> Result<Answer, Refused>
     ensures value { IfOk result (λ r. outcome_view r ≡ spec.bit_xor (view value.now) (view other.now)) }
     ensures memory { IfErr result (λ e. e ≡ Refused.Memory) }
@@ -53,10 +53,10 @@ pub fn bit_xor(alloc: Global, value: &Value, other: &Value) -> Result<Answer, Re
     }
 }
 
-/// The bits that an int does not have.
+/// Returns the bitwise complement of an int.
 ///
 /// # Errors
-/// `Memory` alone.
+/// [`Refused::Memory`] if memory is refused.
 pub fn bit_not(alloc: Global, value: &Value) -> Result<Answer, Refused>
     ensures value { IfOk result (λ r. outcome_view r ≡ spec.bit_not (view value.now)) }
     ensures memory { IfErr result (λ e. e ≡ Refused.Memory) }
@@ -74,7 +74,7 @@ fn shift_fault(alloc: Global, name: &str) -> Result<ExecutionError, Refused>
     function_error(alloc, name, "shift amount must be between 0 and 63")
 }
 
-// `None` unless it is from 0 to 63.
+// The number of places of a shift, or None unless it is from 0 to 63.
 fn places(amount: i64) -> Option<u32>
     ensures { result ≡ spec.places_in amount }
 {
@@ -85,10 +85,11 @@ fn places(amount: i64) -> Option<u32>
     }
 }
 
-/// The bits of an int, moved to higher places.
+/// Shifts the bits of an int to the left. Bits that are shifted out are
+/// lost. A shift by less than 0 or more than 63 places is an error.
 ///
 /// # Errors
-/// `Memory` alone.
+/// [`Refused::Memory`] if memory is refused.
 pub fn bit_shift_left(alloc: Global, value: &Value, amount: &Value) -> Result<Answer, Refused>
     ensures value { IfOk result
         (λ r. outcome_view r ≡ spec.bit_shift_left (view value.now) (view amount.now)) }
@@ -103,10 +104,11 @@ pub fn bit_shift_left(alloc: Global, value: &Value, amount: &Value) -> Result<An
     }
 }
 
-/// The bits of an int, moved to lower places.
+/// Shifts the bits of an int to the right, filling with the sign
+/// bit. A shift by less than 0 or more than 63 places is an error.
 ///
 /// # Errors
-/// `Memory` alone.
+/// [`Refused::Memory`] if memory is refused.
 pub fn bit_shift_right(alloc: Global, value: &Value, amount: &Value) -> Result<Answer, Refused>
     ensures value { IfOk result
         (λ r. outcome_view r ≡ spec.bit_shift_right (view value.now) (view amount.now)) }

@@ -1,4 +1,4 @@
-//! `indexOf` and `lastIndexOf`: where a value stands in a list.
+//! `indexOf` and `lastIndexOf`: the index of a value in a list.
 ghost use Rattle.std.specs.Prelude.{◌≡◌, IfOk, IfErr, map};
 ghost use Rattle.std.specs.List.{position_from};
 ghost use Rattle.cel_value.specs.Same.{same};
@@ -50,10 +50,10 @@ fn index_or_none(index: Option<usize>) -> Answer
     }
 }
 
-/// The first index of an item that is equal to a value, or -1.
+/// Returns the index of the first item that equals a value, or -1 if there is none.
 ///
 /// # Errors
-/// `Memory` alone.
+/// [`Refused::Memory`] if memory is refused.
 pub fn index_of(alloc: Global, value: &Value, item: &Value) -> Result<Answer, Refused>
     ensures value { IfOk result (λ r. outcome_view r ≡ spec.index_of (view value.now) (view item.now)) }
     ensures memory { IfErr result (λ e. e ≡ Refused.Memory) }
@@ -64,10 +64,10 @@ pub fn index_of(alloc: Global, value: &Value, item: &Value) -> Result<Answer, Re
     }
 }
 
-/// The last index of an item that is equal to a value, or -1.
+/// Returns the index of the last item that equals a value, or -1 if there is none.
 ///
 /// # Errors
-/// `Memory` alone.
+/// [`Refused::Memory`] if memory is refused.
 pub fn last_index_of(alloc: Global, value: &Value, item: &Value) -> Result<Answer, Refused>
     ensures value { IfOk result (λ r. outcome_view r ≡ spec.last_index_of (view value.now) (view item.now)) }
     ensures memory { IfErr result (λ e. e ≡ Refused.Memory) }

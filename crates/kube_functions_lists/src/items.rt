@@ -1,4 +1,4 @@
-//! The items of lists, and lists of items.
+//! Items of lists, and lists made of items.
 ghost use Rattle.std.specs.Prelude.{◌≡◌, ◌∷◌, ◌++◌, [], IfOk, IfErr, OnOk, Ok, map, option_map};
 ghost use Rattle.cel_value.specs.View.{view};
 ghost use Rattle.cel_semantics.specs.Arithmetic.{int_in};
@@ -9,7 +9,7 @@ use cel_semantics::operators::Answer;
 use cel_value::{Refused, Value};
 use std::alloc::{AllocError, Global};
 
-/// The items of a list.
+/// The items of a list, or None if the value isn't a list.
 pub(crate) fn items_of(value: &Value) -> Option<&[Value]>
     ensures { option_map (λ s. map view s.now) result ≡ items_if_list (view value.now) }
 {
@@ -19,8 +19,8 @@ pub(crate) fn items_of(value: &Value) -> Option<&[Value]>
     }
 }
 
-/// One more item at the end.
-// Where there is room, this is no more than some stores, so it is inlined.
+/// Appends an item to a list.
+// Appending within the capacity takes only a few stores, so it is inlined.
 #[inline(always)]
 pub(crate) fn push_item(items: &mut Vec<Value>, item: Value) -> Result<(), AllocError>
     ensures { OnOk result (items.new.items ≡ items.old.items ++ item ∷ []) }
@@ -32,7 +32,7 @@ pub(crate) fn push_item(items: &mut Vec<Value>, item: Value) -> Result<(), Alloc
     Ok(())
 }
 
-/// The same items. What is large is shared.
+/// Returns a copy of the items. Large values are shared, not copied.
 pub(crate) fn copies(alloc: Global, items: &[Value]) -> Result<Vec<Value>, Refused>
     ensures value { IfOk result (λ v. map view v.items ≡ map view items.now) }
     ensures memory { IfErr result (λ e. e ≡ Refused.Memory) }
@@ -44,7 +44,7 @@ pub(crate) fn copies(alloc: Global, items: &[Value]) -> Result<Vec<Value>, Refus
     Ok(copied)
 }
 
-/// The list of these items.
+/// The list of these items, as an answer.
 pub(crate) fn list_of(alloc: Global, items: Vec<Value>) -> Result<Answer, Refused>
     ensures value { IfOk result (λ r. outcome_view r ≡ Ok (as_list (map view items.items))) }
     ensures memory { IfErr result (λ e. e ≡ Refused.Memory) }
@@ -52,7 +52,7 @@ pub(crate) fn list_of(alloc: Global, items: Vec<Value>) -> Result<Answer, Refuse
     Ok(Ok(Value::from_items(alloc, items)?))
 }
 
-/// The int that a value is.
+/// The value's int, or None if it is of another kind.
 pub(crate) fn as_int(value: &Value) -> Option<i64>
     ensures { result ≡ int_in (view value.now) }
 {
@@ -62,7 +62,7 @@ pub(crate) fn as_int(value: &Value) -> Option<i64>
     }
 }
 
-/// The ints that two values are.
+/// The ints of two values, or None if either isn't an int.
 pub(crate) fn as_ints(value: &Value, other: &Value) -> Option<(i64, i64)>
     ensures { result ≡ ints_in (view value.now) (view other.now) }
 {

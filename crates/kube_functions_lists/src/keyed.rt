@@ -1,4 +1,5 @@
-//! The keys among items: bools, numbers and strings are found by them, without reading all items.
+//! Sets of the keys among items, with which bools, numbers
+//! and strings are found without reading all items.
 ghost use Rattle.std.specs.Prelude.{◌≡◌, IfOk, IfErr, OnOk, map, not, option_map};
 ghost use Rattle.cel_value.specs.Keys.{key_view};
 ghost use Rattle.cel_value.specs.View.{view};
@@ -12,7 +13,7 @@ use cel_value::{Key, Refused, Value};
 use std::alloc::Global;
 use std::collections::BTreeSet;
 
-/// The key that a value is.
+/// The value as a map key, or None if it is of a kind that can't be one.
 fn key_from(value: &Value) -> Result<Option<Key>, Refused>
     ensures value { IfOk result (λ k. option_map key_view k ≡ key_of (view value.now)) }
     ensures memory { IfErr result (λ e. e ≡ Refused.Memory) }
@@ -26,10 +27,11 @@ fn key_from(value: &Value) -> Result<Option<Key>, Refused>
     }
 }
 
-/// Whether a value equals none of the items. Where it equals none and is a key, the keys of the items get it.
+/// Reports whether the value equals none of the items. If
+/// so, and if it can be a key, its key is added to `keys`.
 ///
 /// # Errors
-/// `Memory` alone.
+/// [`Refused::Memory`] if memory is refused.
 pub(crate) fn add_new(
     keys: &mut BTreeSet<Key>,
     items: &[Value],
@@ -59,10 +61,10 @@ fn add_key(keys: &mut BTreeSet<Key>, value: &Value) -> Result<(), Refused>
     Ok(())
 }
 
-/// The keys of those items that are keys.
+/// Returns the keys of those items that can be keys.
 ///
 /// # Errors
-/// `Memory` alone.
+/// [`Refused::Memory`] if memory is refused.
 pub(crate) fn keys_of(alloc: Global, items: &[Value]) -> Result<BTreeSet<Key>, Refused>
     ensures keys { IfOk result (λ s. HasKeysOf s (map view items.now)) }
     ensures memory { IfErr result (λ e. e ≡ Refused.Memory) }
@@ -74,10 +76,10 @@ pub(crate) fn keys_of(alloc: Global, items: &[Value]) -> Result<BTreeSet<Key>, R
     Ok(keys)
 }
 
-/// Whether a value is among the items whose keys are given.
+/// Reports whether the value is among the items, given the set of their keys.
 ///
 /// # Errors
-/// `Memory` alone.
+/// [`Refused::Memory`] if memory is refused.
 pub(crate) fn is_among(
     keys: &BTreeSet<Key>,
     items: &[Value],

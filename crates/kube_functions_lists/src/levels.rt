@@ -1,4 +1,4 @@
-//! `flatten`: lists inside a list, replaced by their items.
+//! `flatten`: replaces lists inside a list by their items.
 ghost use Rattle.std.specs.Prelude.{◌≡◌, ◌++◌, ◌∷◌, [], IfOk, IfErr, OnOk, Ok, map, option_map};
 ghost use Rattle.cel_value.specs.View.{view};
 ghost use Rattle.cel_semantics.specs.Outcome.{outcome_view};
@@ -69,7 +69,7 @@ fn flatten_outcome(alloc: Global, items: &List, depth: i64) -> Result<Answer, Re
     }
 }
 
-// One level where no number is given.
+// The depth that an argument gives, or 1 if it is absent. None if it isn't an int.
 fn depth_of(depth: Option<&Value>) -> Option<i64>
     ensures { result ≡ spec.depth_in (option_map (λ v. view v.now) depth.entry) }
 {
@@ -79,10 +79,11 @@ fn depth_of(depth: Option<&Value>) -> Option<i64>
     }
 }
 
-/// The items of a list, with the lists among them replaced by their items, to this depth.
+/// Flattens a list: replaces the lists inside it by their items, down to `depth` levels, or one if
+/// no depth is given. A negative depth is an error.
 ///
 /// # Errors
-/// `Memory` alone.
+/// [`Refused::Memory`] if memory is refused.
 pub fn flatten(alloc: Global, value: &Value, depth: Option<&Value>) -> Result<Answer, Refused>
     ensures value { IfOk result (λ r. outcome_view r
         ≡ spec.flatten (view value.now) (option_map (λ v. view v.now) depth.entry)) }

@@ -1,4 +1,7 @@
-//! The functions of Kubernetes on lists, sets and numbers.
+//! Kubernetes' functions on lists, sets and numbers.
+//!
+//! Each function returns an `Answer`: a value, or the error that the call evaluates to, such as
+//! `no such overload` for operands of other kinds. `Refused` is returned if memory is refused.
 #![tactic(auto)]
 
 pub mod bits;

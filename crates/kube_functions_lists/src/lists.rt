@@ -1,4 +1,4 @@
-//! Parts of lists, their items in other orders and in levels, and lists of numbers.
+//! `slice`, `first`, `last`, `reverse` and `distinct`.
 ghost use Rattle.std.specs.Prelude.{◌≡◌, pos, length, IfOk, IfErr, OnOk, Ok, Err, Some, None, map, reverse, option_map, string_bytes};
 ghost use Rattle.cel_value.specs.Faults.{fault_view};
 ghost use Rattle.cel_value.specs.View.{view};
@@ -45,7 +45,8 @@ fn part_within(items: &[Value], start: usize, end: usize) -> Option<&[Value]>
     Some(part)
 }
 
-// `None` where the bounds are not two indices of the list in ascending order; its length counts as one.
+// The items from `start` up to `end`, or None if these aren't two indices of the list in ascending
+// order. The length of the list is allowed as an index.
 fn part(items: &[Value], start: i64, end: i64) -> Option<&[Value]>
     ensures { option_map (λ s. map view s.now) result ≡ spec.part_between (map view items.now) start end }
 {
@@ -66,10 +67,11 @@ fn slice_outcome(alloc: Global, items: &[Value], start: i64, end: i64) -> Result
     }
 }
 
-/// The items of a list from one index on and before another one.
+/// Returns the items of a list from index `start` up to, but without, index `end`. Indices outside
+/// the list or in the wrong order are an error.
 ///
 /// # Errors
-/// `Memory` alone.
+/// [`Refused::Memory`] if memory is refused.
 pub fn slice(alloc: Global, value: &Value, start: &Value, end: &Value) -> Result<Answer, Refused>
     ensures value { IfOk result
         (λ r. outcome_view r ≡ spec.slice (view value.now) (view start.now) (view end.now)) }
@@ -110,10 +112,10 @@ fn last_of(items: &[Value]) -> Option<&Value>
     items.last()
 }
 
-/// The first item of a list, as an optional.
+/// Returns the first item of a list as an optional, which is empty if the list is.
 ///
 /// # Errors
-/// `Memory` alone.
+/// [`Refused::Memory`] if memory is refused.
 pub fn first(alloc: Global, value: &Value) -> Result<Answer, Refused>
     ensures value { IfOk result (λ r. outcome_view r ≡ spec.first (view value.now)) }
     ensures memory { IfErr result (λ e. e ≡ Refused.Memory) }
@@ -124,10 +126,10 @@ pub fn first(alloc: Global, value: &Value) -> Result<Answer, Refused>
     }
 }
 
-/// The last item of a list, as an optional.
+/// Returns the last item of a list as an optional, which is empty if the list is.
 ///
 /// # Errors
-/// `Memory` alone.
+/// [`Refused::Memory`] if memory is refused.
 pub fn last(alloc: Global, value: &Value) -> Result<Answer, Refused>
     ensures value { IfOk result (λ r. outcome_view r ≡ spec.last (view value.now)) }
     ensures memory { IfErr result (λ e. e ≡ Refused.Memory) }
@@ -147,10 +149,10 @@ fn reversed(alloc: Global, items: &[Value]) -> Result<Vec<Value>, Refused>
     Ok(values)
 }
 
-/// The items of a list in the opposite order.
+/// Returns the items of a list in reverse order.
 ///
 /// # Errors
-/// `Memory` alone.
+/// [`Refused::Memory`] if memory is refused.
 pub fn reverse(alloc: Global, value: &Value) -> Result<Answer, Refused>
     ensures value { IfOk result (λ r. outcome_view r ≡ spec.reverse (view value.now)) }
     ensures memory { IfErr result (λ e. e ≡ Refused.Memory) }
@@ -186,10 +188,10 @@ fn distinct_items(alloc: Global, items: &[Value]) -> Result<Vec<Value>, Refused>
     Ok(kept)
 }
 
-/// The items of a list that equal none before them.
+/// Returns the items of a list without those that equal an earlier one.
 ///
 /// # Errors
-/// `Memory` alone.
+/// [`Refused::Memory`] if memory is refused.
 pub fn distinct(alloc: Global, value: &Value) -> Result<Answer, Refused>
     ensures value { IfOk result (λ r. outcome_view r ≡ spec.distinct (view value.now)) }
     ensures memory { IfErr result (λ e. e ≡ Refused.Memory) }

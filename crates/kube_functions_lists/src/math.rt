@@ -25,10 +25,10 @@ fn size_of_int(alloc: Global, n: i64) -> Result<Answer, Refused>
     }
 }
 
-/// A number without its sign.
+/// Returns the absolute value of a number. That of the least int is an overflow error.
 ///
 /// # Errors
-/// `Memory` alone.
+/// [`Refused::Memory`] if memory is refused.
 pub fn abs(alloc: Global, value: &Value) -> Result<Answer, Refused>
     ensures value { IfOk result (λ r. outcome_view r ≡ spec.abs (view value.now)) }
     ensures memory { IfErr result (λ e. e ≡ Refused.Memory) }
@@ -52,10 +52,10 @@ fn uint_sign(n: u64) -> u64
     if n == 0 { 0 } else { 1 }
 }
 
-/// The sign of a number: -1, 0 or 1 of its kind.
+/// Returns the sign of a number as -1, 0 or 1, of the number's own type.
 ///
 /// # Errors
-/// `Memory` alone.
+/// [`Refused::Memory`] if memory is refused.
 pub fn sign(alloc: Global, value: &Value) -> Result<Answer, Refused>
     ensures value { IfOk result (λ r. outcome_view r ≡ spec.sign (view value.now)) }
     ensures memory { IfErr result (λ e. e ≡ Refused.Memory) }
@@ -114,7 +114,7 @@ fn extreme_number(alloc: Global, end: Extreme, values: &[Value]) -> Result<Answe
     }
 }
 
-// A single list stands for its items.
+// The numbers to compare: the items of a single list, or else the arguments.
 fn values_among(args: &[Value]) -> &[Value]
     ensures { map view result.now ≡ values_among (map view args.now) }
 {
@@ -127,10 +127,11 @@ fn values_among(args: &[Value]) -> &[Value]
     }
 }
 
-/// The first of the greatest of numbers, or of a single list's items.
+/// Returns the first of the greatest among the arguments, or among the items of a single list. It
+/// is an error if there are none, or if one of several isn't a number.
 ///
 /// # Errors
-/// `Memory` alone.
+/// [`Refused::Memory`] if memory is refused.
 pub fn greatest(alloc: Global, args: &[Value]) -> Result<Answer, Refused>
     ensures value { IfOk result (λ r. outcome_view r ≡ spec.greatest (map view args.now)) }
     ensures memory { IfErr result (λ e. e ≡ Refused.Memory) }
@@ -138,10 +139,11 @@ pub fn greatest(alloc: Global, args: &[Value]) -> Result<Answer, Refused>
     extreme_number(alloc, Extreme::Greatest, values_among(args))
 }
 
-/// The first of the least of numbers, or of a single list's items.
+/// Returns the first of the least among the arguments, or among the items of a single list. It is
+/// an error if there are none, or if one of several isn't a number.
 ///
 /// # Errors
-/// `Memory` alone.
+/// [`Refused::Memory`] if memory is refused.
 pub fn least(alloc: Global, args: &[Value]) -> Result<Answer, Refused>
     ensures value { IfOk result (λ r. outcome_view r ≡ spec.least (map view args.now)) }
     ensures memory { IfErr result (λ e. e ≡ Refused.Memory) }

@@ -1,4 +1,4 @@
-//! Items among which many values are looked for.
+//! A list of items, prepared for many look-ups.
 ghost use Rattle.std.specs.Prelude.{◌≡◌, IfOk, IfErr, map};
 ghost use Rattle.std.specs.Option.{ForSome};
 ghost use Rattle.cel_value.specs.View.{view};
@@ -11,10 +11,10 @@ use cel_value::{Key, Refused, Value};
 use std::alloc::Global;
 use std::collections::BTreeSet;
 
-// For fewer look-ups a set of keys costs more than it saves.
+// With fewer look-ups, building a set of keys costs more than it saves.
 const MANY_LOOKUPS: usize = 16;
 
-/// Items, with the keys of those that are keys where many values are looked for.
+/// Items, with a set of their keys if many values are to be looked up.
 #[derive(Drop)]
 pub(crate) struct Members<'a> {
     items: &'a [Value],
@@ -23,10 +23,10 @@ pub(crate) struct Members<'a> {
 }
 
 impl<'a> Members<'a> {
-    /// The items, prepared for this number of look-ups.
+    /// Prepares the items for the given number of look-ups.
     ///
     /// # Errors
-    /// `Memory` alone.
+    /// [`Refused::Memory`] if memory is refused.
     pub(crate) fn of(
         alloc: Global,
         items: &'a [Value],
@@ -45,10 +45,10 @@ impl<'a> Members<'a> {
         })
     }
 
-    /// Whether a value is among the items.
+    /// Reports whether the value is among the items.
     ///
     /// # Errors
-    /// `Memory` alone.
+    /// [`Refused::Memory`] if memory is refused.
     pub(crate) fn has(&self, value: &Value) -> Result<bool, Refused>
         ensures value { IfOk result (λ found. found
             ≡ spec.is_in (map view self.now.items.now) (view value.now)) }

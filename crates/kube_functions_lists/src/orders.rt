@@ -1,4 +1,4 @@
-//! `min`, `max`, `isSorted` and `sort`: lists in ascending order.
+//! `min`, `max`, `isSorted` and `sort`.
 ghost use Rattle.std.specs.Prelude.{◌≡◌, ◌∷◌, true, is_some, IfOk, IfErr, map};
 ghost use Rattle.std.specs.List.{list_all};
 ghost use Rattle.cel_value.specs.Same.{comparison};
@@ -16,10 +16,11 @@ use cel_value::{ExecutionError, Refused, Value};
 use std::alloc::Global;
 use std::cmp::Ordering;
 
-/// The first of a list's least items.
+/// Returns the first of a list's least items. An empty list
+/// is an error, and so are items that can't be compared.
 ///
 /// # Errors
-/// `Memory` alone.
+/// [`Refused::Memory`] if memory is refused.
 pub fn min(alloc: Global, value: &Value) -> Result<Answer, Refused>
     ensures value { IfOk result (λ r. outcome_view r ≡ spec.min (view value.now)) }
     ensures memory { IfErr result (λ e. e ≡ Refused.Memory) }
@@ -30,10 +31,11 @@ pub fn min(alloc: Global, value: &Value) -> Result<Answer, Refused>
     }
 }
 
-/// The first of a list's greatest items.
+/// Returns the first of a list's greatest items. An empty
+/// list is an error, and so are items that can't be compared.
 ///
 /// # Errors
-/// `Memory` alone.
+/// [`Refused::Memory`] if memory is refused.
 pub fn max(alloc: Global, value: &Value) -> Result<Answer, Refused>
     ensures value { IfOk result (λ r. outcome_view r ≡ spec.max (view value.now)) }
     ensures memory { IfErr result (λ e. e ≡ Refused.Memory) }
@@ -80,10 +82,11 @@ fn order_of(alloc: Global, items: &[Value]) -> Result<Answer, Refused>
     }
 }
 
-/// Whether the items of a list ascend. The first neighbours that do not ascend decide.
+/// Reports whether the items of a list are in ascending order. The first two neighbours that aren't
+/// decide: the result is false if they are out of order, and an error if they can't be compared.
 ///
 /// # Errors
-/// `Memory` alone.
+/// [`Refused::Memory`] if memory is refused.
 pub fn is_sorted(alloc: Global, value: &Value) -> Result<Answer, Refused>
     ensures value { IfOk result (λ r. outcome_view r ≡ spec.is_sorted (view value.now)) }
     ensures memory { IfErr result (λ e. e ≡ Refused.Memory) }
@@ -94,7 +97,8 @@ pub fn is_sorted(alloc: Global, value: &Value) -> Result<Answer, Refused>
     }
 }
 
-// Numbers the classes of values that compare with one another, and 0 those that compare with none.
+// The class of values that compare with one another, as
+// a number from 1, or 0 if the value compares with none.
 fn class_number(value: &Value) -> u8
     ensures { result ≡ spec.class_number (view value.now) }
 {
@@ -120,7 +124,7 @@ fn class_number(value: &Value) -> u8
     }
 }
 
-// A sort asks for an order of all values, though it is given one class alone.
+// Orders all values: sorting asks for a total order, although only values of one class are sorted.
 fn order_of_all(value: &Value, other: &Value) -> Ordering
     ensures { result ≡ spec.order_of_all (view value.now) (view other.now) }
 {
@@ -141,7 +145,7 @@ fn compares_with_all(value: &Value, others: &[Value]) -> bool
     true
 }
 
-// Values that compare with one value compare with each other.
+// Comparing with the first is enough: values that compare with one value compare with each other.
 fn have_order_from(first: &Value, rest: &[Value]) -> bool
     ensures { result ≡ spec.have_order (view first.now ∷ map view rest.now) }
 {
@@ -178,10 +182,11 @@ fn sort_items(alloc: Global, items: &[Value]) -> Result<Answer, Refused>
     }
 }
 
-/// The items of a list in ascending order. Equal ones stay in the order that they had.
+/// Returns the items of a list in ascending order. Equal items
+/// keep their order. Items that can't be compared are an error.
 ///
 /// # Errors
-/// `Memory` alone.
+/// [`Refused::Memory`] if memory is refused.
 pub fn sort(alloc: Global, value: &Value) -> Result<Answer, Refused>
     ensures value { IfOk result (λ r. outcome_view r ≡ spec.sort (view value.now)) }
     ensures memory { IfErr result (λ e. e ≡ Refused.Memory) }

@@ -1,4 +1,4 @@
-//! `lists.range`: the ints from 0 on.
+//! `lists.range`: the ints from 0 up to a count.
 ghost use Rattle.std.specs.Prelude.{◌≡◌, ◌^◌, ◌<◌, pos, IfOk, IfErr, map};
 ghost use Rattle.cel_value.specs.Data.{int};
 ghost use Rattle.cel_value.specs.View.{view};
@@ -18,7 +18,7 @@ fn int_value(number: u64) -> Value
     Value::Int(number as i64)
 }
 
-// Room for all is asked for first, so that a number past all memory is refused at once.
+// Reserves the room for all ints first, so that a count beyond all memory is refused at once.
 fn first_ints(alloc: Global, count: u64) -> Result<Vec<Value>, Refused>
     requires { count < 2 ^ 63 }
     ensures value { IfOk result (λ v. map view v.items ≡ spec.first_ints count) }
@@ -42,10 +42,11 @@ fn range_below(alloc: Global, count: i64) -> Result<Answer, Refused>
     }
 }
 
-/// The list of the ints from 0 to below a count.
+/// Returns the list of the ints from 0 up to a count,
+/// without the count itself. A negative count is an error.
 ///
 /// # Errors
-/// `Memory` alone.
+/// [`Refused::Memory`] if memory is refused.
 pub fn range(alloc: Global, value: &Value) -> Result<Answer, Refused>
     ensures value { IfOk result (λ r. outcome_view r ≡ spec.range (view value.now)) }
     ensures memory { IfErr result (λ e. e ≡ Refused.Memory) }

@@ -1,4 +1,4 @@
-//! Lists as sets of their items.
+//! `sets.contains`, `sets.equivalent` and `sets.intersects`: lists as sets of their items.
 ghost use Rattle.std.specs.Prelude.{◌≡◌, IfOk, IfErr, map};
 ghost use Rattle.cel_value.specs.View.{view};
 ghost use Rattle.cel_semantics.specs.Outcome.{outcome_view};
@@ -10,7 +10,7 @@ use cel_semantics::operators::{Answer, no_such_overload};
 use cel_value::{Refused, Value};
 use std::alloc::Global;
 
-/// Whether a value is in a list.
+/// Reports whether the value equals an item.
 pub(crate) fn is_in(items: &[Value], value: &Value) -> bool
     ensures { result ≡ spec.is_in (map view items.now) (view value.now) }
 {
@@ -55,10 +55,10 @@ fn have_common(alloc: Global, items: &[Value], others: &[Value]) -> Result<bool,
     Ok(false)
 }
 
-/// Whether every item of the second list is in the first one.
+/// Reports whether every item of the second list is in the first.
 ///
 /// # Errors
-/// `Memory` alone.
+/// [`Refused::Memory`] if memory is refused.
 pub fn contains(alloc: Global, value: &Value, other: &Value) -> Result<Answer, Refused>
     ensures value { IfOk result (λ r. outcome_view r ≡ spec.contains (view value.now) (view other.now)) }
     ensures memory { IfErr result (λ e. e ≡ Refused.Memory) }
@@ -72,10 +72,10 @@ pub fn contains(alloc: Global, value: &Value, other: &Value) -> Result<Answer, R
     }
 }
 
-/// Whether each of two lists has all items of the other.
+/// Reports whether each of two lists contains all items of the other.
 ///
 /// # Errors
-/// `Memory` alone.
+/// [`Refused::Memory`] if memory is refused.
 pub fn equivalent(alloc: Global, value: &Value, other: &Value) -> Result<Answer, Refused>
     ensures value { IfOk result (λ r. outcome_view r ≡ spec.equivalent (view value.now) (view other.now)) }
     ensures memory { IfErr result (λ e. e ≡ Refused.Memory) }
@@ -89,10 +89,10 @@ pub fn equivalent(alloc: Global, value: &Value, other: &Value) -> Result<Answer,
     }
 }
 
-/// Whether two lists have an item in common.
+/// Reports whether two lists have an item in common.
 ///
 /// # Errors
-/// `Memory` alone.
+/// [`Refused::Memory`] if memory is refused.
 pub fn intersects(alloc: Global, value: &Value, other: &Value) -> Result<Answer, Refused>
     ensures value { IfOk result (λ r. outcome_view r ≡ spec.intersects (view value.now) (view other.now)) }
     ensures memory { IfErr result (λ e. e ≡ Refused.Memory) }

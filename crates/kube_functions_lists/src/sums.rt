@@ -1,4 +1,4 @@
-//! Sums of lists.
+//! `sum`: the sum of a list.
 ghost use Rattle.std.specs.Prelude.{◌≡◌, ◌+◌, ◌+ℤ◌, IfOk, IfErr, map};
 ghost use Rattle.cel_value.specs.Faults.{fault_view};
 ghost use Rattle.cel_value.specs.View.{view};
@@ -87,10 +87,11 @@ fn sum_of(alloc: Global, items: &[Value]) -> Result<Answer, Refused>
     }
 }
 
-/// The sum of a list's ints or of its uints. A single item is its own sum.
+/// Returns the sum of a list of ints or of uints. The sum of an empty list is the int 0, and that
+/// of a single item is the item itself. Other kinds, mixed kinds and an overflow are errors.
 ///
 /// # Errors
-/// `Memory` alone.
+/// [`Refused::Memory`] if memory is refused.
 pub fn sum(alloc: Global, value: &Value) -> Result<Answer, Refused>
     ensures value { IfOk result (λ r. outcome_view r ≡ spec.sum (view value.now)) }
     ensures memory { IfErr result (λ e. e ≡ Refused.Memory) }

@@ -1,4 +1,4 @@
--- A text after its first characters.
+-- A text without its first characters.
 use Rattle.std.proofs.Common.{◌≡◌, ℕ, zero, suc, ◌+◌, ◌-◌, ◌<◌, ◌≤◌, arith, add-one, List, [], ◌∷◌, ◌++◌, length, take, drop, subst, sym, ap, ◌∙◌, append_assoc, append-nil, drop-drop, length-drop, length-append, take-append-drop, take_at, drop_at, Some, None, cond, le-leb}
 use Rattle.std.specs.Char.{encode_utf8}
 use Rattle.std.specs.Str.{chars, encode_utf8_all, IsUtf8, IsAscii, IsCharBoundary}
@@ -36,7 +36,7 @@ past_end text rest k n p e lt =
     let none : drop k (chars text) ≡ [] = sym p.later ∙ ap chars (nil_from_length rest e) ∙ chars-nil in
     omega (arith, ap length none, length-drop k (chars text))
 
--- where each character takes one byte
+-- each character takes one byte
 pub past_ascii : (text rest : List ℕ) (k : ℕ) → IsAscii text → k ≤ length text → rest ≡ drop k text → IsPast text k rest
 past_ascii text rest k a le e =
     let read : chars text ≡ text = chars-IsAscii text a in

@@ -1,4 +1,4 @@
--- What stands around an offset in a text, and the first and last offset of a part of it.
+-- The text around an offset, and the first and last offset of a part in a text.
 use Rattle.std.proofs.Common.{◌≡◌, ℕ, zero, suc, ◌+◌, ◌<◌, ◌≤◌, min, arith, List, [], ◌∷◌, length, take, drop, Bool, true, false, cond, Option, Some, None, ℤ, pos, refl, sym, ap, ◌∙◌, subst, leb-true, leb-false, eqb-true}
 use Rattle.std.specs.Prelude.{nat_le, ◌==◌}
 use Rattle.std.specs.Option.{unwrap_or}
@@ -26,7 +26,7 @@ none_around cs k h = at (nat_le k (length cs)) refl
     at true e = let some : ◌≡◌ {A = Option (List ℕ × List ℕ)} None (Some (take k cs, drop k cs)) = h ∙ ap (λ b. cond b (Some (take k cs, drop k cs)) None) e in absurd (cc)
     at false e = leb-false k (length cs) e
 
--- ---- how long a text is
+-- ---- the length of a text
 
 pub few_characters : (s : List ℕ) → IsUtf8 s → length (chars s) ≤ length s
 few_characters s u = omega (arith, length-le-encodes (chars s), ap length (encodes-chars s u))
@@ -68,7 +68,7 @@ last_offset_found cs part ts before behind most n count front e some h same =
 pub last_offset_missing : (cs part ts : List ℕ) (most n : ℕ) → ts ≡ take (most + n) cs → n ≡ length part → StandsNowhere 0 ts part → None ≡ greatest_below (stands_at cs part) (suc (min most (length cs)))
 last_offset_missing cs part ts most n front e h = last_nowhere cs part most (subst (λ l. StandsNowhere 0 l part) (front ∙ ap (λ j. take (most + j) cs) e) h)
 
--- ---- an empty part, and one that is not
+-- ---- an empty part, and one that isn't empty
 
 pub first_of_none : (cs part : List ℕ) (i x : ℤ) → part ≡ [] → x ≡ pos (at_least_zero i) → x ≡ first_index cs part i
 first_of_none cs part i x none e = e ∙ sym (ap (λ l. first_index cs l i) none)

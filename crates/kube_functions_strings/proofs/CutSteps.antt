@@ -1,4 +1,4 @@
--- A text cut at one separator after the other: each cut leaves the pieces of what stands behind it.
+-- A text cut at one separator after another: each cut leaves the pieces of the text after it.
 use Rattle.std.proofs.Common.{◌≡◌, ℕ, zero, suc, ◌+◌, ◌-◌, ◌<◌, ◌≤◌, min, arith, add-one, Bor, MatchOption, IfSome, option_map, subst, append_assoc, take-append-drop, length-take-le, List, [], ◌∷◌, ◌++◌, length, map, take, drop, Bool, true, false, cond, Option, Some, None, refl, ap, sym, ◌∙◌, true≢false, take_at, drop_at, drop-drop, length-append, le-leb}
 use Rattle.std.specs.Prelude.{slice_range, nat_le, ◌&&◌}
 use Rattle.std.specs.List.{range_with_len}
@@ -14,7 +14,7 @@ use Rattle.kube_functions_strings.specs.Offsets.{stands_at}
 use Rattle.kube_functions_strings.proofs.Occurring.{stands_between}
 use Rattle.kube_functions_strings.proofs.Standing.{stands_behind}
 
--- ---- spans and pieces behind an offset
+-- ---- spans and pieces after an offset
 
 abbrev shifted : ℕ → List (ℕ × ℕ) → List (ℕ × ℕ)
 shifted n ps = map (λ p. (n + p.0, n + p.1)) ps
@@ -42,7 +42,7 @@ next_shifted cs part n a b i k e f =
     let rest : i - n ≡ k = omega arith in
     ap (λ t. t && stands_at cs part i) order ∙ ap (λ t. nat_le a k && t) (stands_behind cs part n i (omega arith) ∙ ap (stands_at (drop n cs) part) rest)
 
--- one more offset, where the spans from the next one on are shifted
+-- one more offset, if the spans from the next one on are shifted
 spans_step : (cs part : List ℕ) (j n a b i k : ℕ) → b ≡ n + a → i ≡ n + k
     → spans_among cs part (i + length part) (range_with_len (i + 1) j) ≡ shifted n (spans_among (drop n cs) part (k + length part) (range_with_len (k + 1) j))
     → spans_among cs part b (range_with_len (i + 1) j) ≡ shifted n (spans_among (drop n cs) part a (range_with_len (k + 1) j))
@@ -73,7 +73,7 @@ left_shifted : (limit : Option ℕ) (m n : ℕ) (ps : List (ℕ × ℕ)) → lef
 left_shifted None m n ps = refl
 left_shifted (Some l) m n ps = take-map (λ p. (n + p.0, n + p.1)) (l - m) ps
 
--- offsets at which no separator is next
+-- offsets at which no separator begins are passed over
 spans_skip : (cs part : List ℕ) (j r end k m : ℕ) → m ≡ k + j → ((i : ℕ) → k ≤ i → i < m → is_next cs part end i ≡ false) → spans_among cs part end (range_with_len k (j + r)) ≡ spans_among cs part end (range_with_len m r)
 spans_skip cs part zero r end k m e none =
     let same : k ≡ m = omega arith in
@@ -85,7 +85,7 @@ spans_skip cs part (suc j) r end k m e none =
     ∙ ap (λ t. cond t ((k, k + length part) ∷ spans_among cs part (k + length part) (range_with_len (k + 1) (j + r))) (spans_among cs part end (range_with_len (k + 1) (j + r)))) (none k (omega arith) (omega arith))
     ∙ spans_skip cs part j r end (k + 1) m (omega arith) (λ i from lt. none i (omega arith) lt)
 
--- ---- how many separators count
+-- ---- the limit on separators
 
 left_more : (limit : Option ℕ) (m : ℕ) (p : ℕ × ℕ) (ps : List (ℕ × ℕ)) → has_room limit m ≡ true → left_of limit m (p ∷ ps) ≡ p ∷ left_of limit (m + 1) ps
 left_more None m p ps h = refl
@@ -109,12 +109,12 @@ left_start : (limit : Option ℕ) (ps : List (ℕ × ℕ)) → left_of limit 0 p
 left_start None ps = refl
 left_start (Some n) ps = let e : n - 0 ≡ n = omega arith in ap (λ j. take j ps) e
 
--- ---- one separator after the other
+-- ---- one separator after another
 
 abbrev texts_around : List ℕ → List (ℕ × ℕ) → List (List ℕ)
 texts_around cs ps = map encode_utf8_all (around cs 0 ps)
 
--- no separator counts any more
+-- the limit is reached
 pub cut_full : (cs part : List ℕ) (limit : Option ℕ) (m : ℕ) → has_room limit m ≡ false → pieces_behind cs part limit m ≡ encode_utf8_all cs ∷ []
 cut_full cs part limit m h = ap (texts_around cs) (left_full limit m (spans_among cs part 0 (range_with_len (characters_passed part m) (suc (length cs) - characters_passed part m))) h)
 
@@ -122,14 +122,14 @@ passed_start : (part : List ℕ) → characters_passed part 0 ≡ 0
 passed_start [] = refl
 passed_start (c ∷ part) = refl
 
--- all pieces are to come
+-- at the start all pieces are still to come
 pub cut_begun : (cs part : List ℕ) (limit : Option ℕ) → pieces_behind cs part limit 0 ≡ pieces cs part limit
 cut_begun cs part limit =
     ap (λ n. texts_around cs (left_of limit 0 (spans_among cs part 0 (range_with_len n (suc (length cs) - n))))) (passed_start part)
     ∙ ap (λ n. texts_around cs (left_of limit 0 (spans_among cs part 0 (range_with_len 0 n)))) (let e : suc (length cs) - 0 ≡ suc (length cs) = omega arith in e)
     ∙ ap (texts_around cs) (left_start limit (spans_among cs part 0 (range_with_len 0 (suc (length cs)))))
 
--- no separator stands any more
+-- no separator is left
 pub cut_ended : (cs part : List ℕ) (limit : Option ℕ) (m : ℕ) → StandsNowhere (characters_passed part m) cs part → pieces_behind cs part limit m ≡ encode_utf8_all cs ∷ []
 cut_ended cs part limit m none =
     let n = characters_passed part m in
@@ -144,7 +144,7 @@ passed_next : (part : List ℕ) (m : ℕ) → characters_passed part (m + 1) ≡
 passed_next [] m = ap (characters_passed []) (add-one m)
 passed_next (c ∷ part) m = omega arith
 
--- what stands behind the first separator
+-- the spans after the first separator
 spans_first : (cs part before behind : List ℕ) (n m : ℕ) → StandsFirst n cs part before behind
     → spans_among cs part 0 (range_with_len n (suc (length cs) - n))
     ≡ (length before, length before + length part) ∷ shifted (length before + length part) (spans_among behind part 0 (range_with_len (characters_passed part (m + 1)) (suc (length behind) - characters_passed part (m + 1))))
@@ -168,7 +168,7 @@ spans_first cs part before behind n m h =
     ∙ spans_shifted cs part (suc (length behind) - more) e 0 e (e + more) more (omega arith) refl
     ∙ ap (λ l. shifted e (spans_among l part 0 (range_with_len more (suc (length behind) - more)))) rest)
 
--- the next separator counts
+-- one more cut, if the limit allows it
 pub cut_made : (cs part before behind : List ℕ) (limit : Option ℕ) (m : ℕ) → has_room limit m ≡ true → StandsFirst (characters_passed part m) cs part before behind
     → pieces_behind cs part limit m ≡ encode_utf8_all before ∷ pieces_behind behind part limit (m + 1)
 cut_made cs part before behind limit m room h =
@@ -208,7 +208,7 @@ piece_shorter cs ps m (Some p) h =
     let first : characters_passed ps m ≤ length (chars p.0.now) = h.1 in
     omega (arith, passed_covers ps m, ap length h.0, length-append (chars p.0.now) (ps ++ chars p.1.now), length-append ps (chars p.1.now))
 
--- an empty separator stands one character further on
+-- an empty separator occurs one character further on
 pub next_of_none : (cs ps : List ℕ) (m : ℕ) (r : Option (Bor (List ℕ) × Bor (List ℕ))) → ps ≡ [] → 0 < m → option_map (λ p. (chars p.0.now, chars p.1.now)) r ≡ around_offset cs 1
     → MatchOption r (StandsNowhere (characters_passed ps m) cs ps) (λ p. StandsFirst (characters_passed ps m) cs ps (chars p.0.now) (chars p.1.now))
 next_of_none cs ps m r none some h = subst (λ n. MatchOption r (StandsNowhere n cs ps) (λ p. StandsFirst n cs ps (chars p.0.now) (chars p.1.now))) (sym (once ps m none some)) (at r h)
@@ -238,7 +238,7 @@ passed_some (c ∷ ps) m some = refl
 pub passed_first : (ps : List ℕ) (m : ℕ) → m ≡ 0 → characters_passed ps m ≡ 0
 passed_first ps m e = ap (characters_passed ps) e ∙ passed_start ps
 
--- ---- the pieces so far, and those to come
+-- ---- the pieces found so far, and the remaining ones
 
 pub pieces_begun : (cs ps : List ℕ) (limit : Option ℕ) (made : List (Bor (List ℕ))) → made ≡ [] → map (λ s. s.now) made ++ pieces_behind cs ps limit (length made) ≡ pieces cs ps limit
 pieces_begun cs ps limit made e = ap (λ ss. map (λ s. s.now) ss ++ pieces_behind cs ps limit (length ss)) e ∙ cut_begun cs ps limit

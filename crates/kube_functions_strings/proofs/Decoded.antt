@@ -1,4 +1,4 @@
--- What decodes is an encoding.
+-- Whatever decodes is an encoding.
 use Rattle.std.proofs.Common.{◌≡◌, List, ℕ, Option, Some, None, Ok, Err, refl, ap}
 use Rattle.std.specs.Prelude.{Result}
 use Rattle.std.specs.Result.{result_ok}

@@ -1,4 +1,4 @@
--- The separators of a text are those from the left.
+-- `separators` gives exactly the separators found from the left.
 use Rattle.kube_functions_strings.specs.Offsets.{stands_at}
 use Rattle.kube_functions_strings.specs.Pieces.{is_next, separators, spans_among}
 use Rattle.kube_functions_strings.specs.Separators.{AreFromLeft}
@@ -11,7 +11,7 @@ second_false : (a b : Bool) → a ≡ true → (a && b) ≡ false → b ≡ fals
 second_false true b h e = e
 second_false false b h e = cc
 
--- a part with characters begins at no offset behind the last character
+-- a part that isn't empty occurs at no offset past the last character
 stands_past : (cs : List ℕ) (c : ℕ) (part : List ℕ) (k : ℕ) → length cs ≤ k → stands_at cs (c ∷ part) k ≡ false
 stands_past [] c part zero l = refl
 stands_past [] c part (suc k) l = refl
@@ -49,7 +49,7 @@ module _ (cs : List ℕ) (c : ℕ) (part : List ℕ) where
   pub are_from_left : AreFromLeft cs (c ∷ part) 0 (separators cs (c ∷ part))
   are_from_left = spans_from (suc (length cs)) 0 0 (omega arith) (λ k from to. absurd (omega (arith, to)))
 
--- ---- there is one such list
+-- ---- the list is unique
 
 not_before : (cs part : List ℕ) (from a b : ℕ) → from ≤ a → stands_at cs part a ≡ true → ((k : ℕ) → from ≤ k → k < b → stands_at cs part k ≡ false) → nat_lt a b ≡ false
 not_before cs part from a b reached here none = by (nat_lt a b) refl
@@ -71,7 +71,7 @@ one_from_left cs part from (p ∷ ps) (q ∷ qs) h g =
     let rest = one_from_left cs part p.1 ps qs h.4 (subst (λ n. AreFromLeft cs part n qs) (sym ends) g.4) in
     (λ i. (starts i, ends i) ∷ rest i)
 
--- ---- an empty part stands once at each boundary
+-- ---- an empty part occurs once at each boundary
 
 empties : (cs : List ℕ) (n m end : ℕ) → end ≤ m → spans_among cs [] end (range_with_len m n) ≡ map (λ k. (k, k)) (range_with_len m n)
 empties cs zero m end reached = refl

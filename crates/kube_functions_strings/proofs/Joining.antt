@@ -1,4 +1,4 @@
--- The texts of a list's items, one item after the other.
+-- The texts of a list's items, one item at a time.
 use Rattle.std.proofs.Common.{◌≡◌, ℕ, ◌+◌, ◌<◌, ◌≤◌, List, [], ◌∷◌, ◌++◌, length, map, take, drop, get_or, option_map, Some, None, Ok, Err, refl, ap, sym, ◌∙◌, append_assoc}
 use Rattle.std.specs.Prelude.{Result}
 use Rattle.std.specs.List.{flat_map, join_by}
@@ -15,7 +15,7 @@ use Rattle.kube_functions_strings.specs.Joins.{one_before, texts_of, listed_in}
 use Rattle.kube_functions_strings.specs.Pieces.{text_with_separators}
 use denote.Ref.{Bor}
 
--- texts before others, if there are any
+-- texts put before the others, unless those are an error
 abbrev pub all_before : List (List ℕ) → Result (List (List ℕ)) Kind → Result (List (List ℕ)) Kind
 all_before ts (Ok us) = Ok (ts ++ us)
 all_before ts (Err k) = Err k
@@ -37,12 +37,12 @@ text_more xs i x ts t lt is h =
     ap (all_before ts) (from_item xs i x lt is ∙ ap (λ o. option_map_or (λ u. one_before u (texts_of (map view (drop (i + 1) xs)))) o (Err (kind_of (view x)))) (sym h))
     ∙ pushed_before ts t (texts_of (map view (drop (i + 1) xs)))
 
--- the next item is none
+-- the next item isn't a string
 pub text_missing : (xs : List Value) (i : ℕ) (x : Value) (ts : List (List ℕ)) → i < length xs → x ≡ get_or xs i x → None ≡ text_in (view x) → all_before ts (texts_of (map view (drop i xs))) ≡ Err (kind_of (view x))
 text_missing xs i x ts lt is h =
     ap (all_before ts) (from_item xs i x lt is ∙ ap (λ o. option_map_or (λ u. one_before u (texts_of (map view (drop (i + 1) xs)))) o (Err (kind_of (view x)))) (sym h))
 
--- there are no more items
+-- no item is left
 pub text_last : (xs : List Value) (i : ℕ) (ts : List (List ℕ)) → length xs ≤ i → all_before ts (texts_of (map view (drop i xs))) ≡ Ok ts
 text_last xs i ts h = ap (λ ys. all_before ts (texts_of (map view ys))) (drop_all i xs h) ∙ ap Ok (append-nil ts)
 
@@ -57,7 +57,7 @@ pub join-lent : (sep : List ℕ) (xs : List (Bor (List ℕ))) → join_by (λ y.
 join-lent sep [] = refl
 join-lent sep (x ∷ xs) = ap (λ r. x.now ++ r) (between_lent sep xs)
 
--- one more text made into a value
+-- one more text has become a value
 pub values_more : (vs new : List Value) (v : Value) (ts : List (Bor (List ℕ))) (i : ℕ) (d : Bor (List ℕ)) (t : List ℕ) → i < length ts → new ≡ vs ++ v ∷ [] → view v ≡ text t → t ≡ (get_or ts i d).now
     → map view vs ≡ map text (map (λ s. s.now) (take i ts)) → map view new ≡ map text (map (λ s. s.now) (take (i + 1) ts))
 values_more vs new v ts i d t lt pushed seen same before =

@@ -1,4 +1,4 @@
--- The escapes of a JSON Pointer's key distinguish characters, and texts.
+-- The escapes of a JSON Pointer's key distinguish characters, and so texts.
 use Rattle.std.proofs.Common.{◌≡◌, ℕ, ◌<◌, arith, List, [], ◌∷◌, ◌++◌, length, get_or, Bool, true, false, cond, Some, None, refl, ap, sym, ◌∙◌, true≢false, length-append}
 use Rattle.std.specs.Prelude.{◌==◌, codes, encode_utf8}
 use Rattle.std.specs.List.{flat_map}
@@ -23,7 +23,7 @@ by_tests c false false = refl
 tests : (c : ℕ) → escaped_character Pointer c ≡ key_text c (c == 126) (c == 47)
 tests c = by_tests c (c == 126) (c == 47)
 
--- a character that is no tilde does not begin as one
+-- a character other than a tilde doesn't begin with one in UTF-8
 no_tilde : (c : ℕ) (r t : List ℕ) → (c == 126) ≡ false → encode_utf8 c ++ r ≡ 126 ∷ t → ⊥
 no_tilde c r t other h =
     let tilde : encode_utf8 126 ≡ 126 ∷ [] = encode_ascii 126 (omega arith) in

@@ -1,4 +1,4 @@
--- Where the bytes of a text stand in another text, its characters do.
+-- A part occurs in a text at a character exactly if its bytes occur at the matching byte offset.
 use Rattle.std.proofs.Common.{◌≡◌, ℕ, ◌<◌, ◌≤◌, arith, List, ◌++◌, length, take, drop, true, false, Option, None, Some, Bor, MatchOption, IfSome, refl, sym, ap, ◌∙◌, subst, take-append-drop, drop_at, take_at, take-take, length-drop, length-append, length-take-le}
 use Rattle.std.specs.Str.{chars, encode_utf8_all, IsUtf8, IsCharBoundary}
 use Rattle.std.specs.Str.Pattern.{LacksTextAt, HasTextAt, FindsText, RFindsText, SplitsAroundMatch}
@@ -9,7 +9,7 @@ use Rattle.std.proofs.lemmas.Str.{encodes-append, encodes-chars, chars-append, l
 use Rattle.kube_functions_strings.specs.Cuts.{StandsNowhere, StandsFirst, StandsLast}
 use Rattle.kube_functions_strings.specs.Offsets.{stands_at}
 
--- how many bytes the first k characters take
+-- the number of bytes in the first k characters
 abbrev pub offset : List ℕ → ℕ → ℕ
 offset s k = length (encode_utf8_all (take k (chars s)))
 
@@ -23,7 +23,7 @@ stands_between cs part before behind e =
 pub seam : (s : List ℕ) (k : ℕ) → IsUtf8 s → encode_utf8_all (take k (chars s)) ++ encode_utf8_all (drop k (chars s)) ≡ s
 seam s k u = sym (encodes-append (take k (chars s)) (drop k (chars s))) ∙ ap encode_utf8_all (take-append-drop k (chars s)) ∙ encodes-chars s u
 
--- the bridge: where the characters of p stand, its bytes do
+-- if the characters of p occur at an offset, so do its bytes
 pub occurs : (s p : List ℕ) (k : ℕ) → IsUtf8 s → IsUtf8 p → stands_at (chars s) (chars p) k ≡ true → LacksTextAt p s (offset s k) → ⊥
 occurs s p k u v h lacks =
     let rest = drop (length (chars p)) (drop k (chars s)) in
@@ -48,7 +48,7 @@ offset_more s j k lt le =
     let some : 0 < length more = omega (arith, length-drop j (take k cs), length-take-le k cs le) in
     omega (arith, ap length parts, length-append (encode_utf8_all (take j cs)) (encode_utf8_all more), length-le-encodes more)
 
--- a text before and behind another one, all of them whole characters
+-- the text is x, then p, then y, and x is whole characters
 record Around (s p x y : List ℕ) : Type 0 where
   first : IsUtf8 x
   whole : chars s ≡ chars x ++ (chars p ++ chars y)
@@ -81,7 +81,7 @@ stands_last s p x y u v h =
     let a = around_text s p x y h.0 h.1 u v h.2.1 h.3 h.4 (omega (arith, h.5, h.7)) h.6 in
     (a.whole, λ k lt le. stands_not s p k u v (h.2.0 (offset s k) (omega (arith, offset_more s (length (chars x)) k lt le, a.front, h.6)) (offset-le s k u)))
 
--- what the library's searches find, from the left and from the right
+-- the results of the library's searches, from the left and from the right
 pub around_first_found : (s p : List ℕ) (r : Option (Bor (List ℕ) × Bor (List ℕ))) → IsUtf8 s → IsUtf8 p → MatchOption r (FindsText p s None) (λ x. SplitsAroundMatch (FindsText p) s x.0.now x.1.now)
     → MatchOption r (StandsNowhere 0 (chars s) (chars p)) (λ x. StandsFirst 0 (chars s) (chars p) (chars x.0.now) (chars x.1.now))
 around_first_found s p None u v h = stands_nowhere s p u v h

@@ -1,4 +1,4 @@
--- The offsets at which one text stands in another: the first of them and the last.
+-- The offsets at which one text occurs in another: the first of them and the last.
 use Rattle.std.proofs.Common.{◌≡◌, ℕ, zero, suc, ◌+◌, ◌-◌, ◌<◌, ◌≤◌, min, ◌⊎◌, ⊎_elim, eq-or-lt_of_le, arith, List, ◌∷◌, ◌++◌, length, take, drop, Bool, true, false, cond, Some, None, refl, sym, ap, ◌∙◌, drop-drop, length-append, length-drop, length-take, take-take}
 use Rattle.std.specs.List.{find, range_with_len, starts_with}
 use Rattle.std.specs.Prelude.{nat_eq}
@@ -22,7 +22,7 @@ stands_later cs part k h e = offset_next cs part k h ∙ ap (λ b. cond b (Some 
 
 -- ---- the first offset
 
--- j offsets are passed over, and the part stands at the next
+-- if the part occurs nowhere at the first j offsets and at the next one, that is the first offset
 first_is : (cs part : List ℕ) (j k m : ℕ) → m ≡ k + j → m ≤ length cs → ((i : ℕ) → k ≤ i → i < m → stands_at cs part i ≡ false) → stands_at cs part m ≡ true → offset_from cs part k ≡ Some m
 first_is cs part zero k m e le none here =
     let same : m ≡ k = omega arith in
@@ -36,7 +36,7 @@ first_none cs part zero k e none = ap (λ n. find (stands_at cs part) (range_wit
 first_none cs part (suc j) k e none =
     stands_later cs part k (omega arith) (none k (omega arith) (omega arith)) ∙ first_none cs part j (k + 1) (omega arith) (λ i from le. none i (omega arith) le)
 
--- an offset in what follows k is an offset in the text
+-- an offset in the text after k is an offset in the whole text
 pub stands_behind : (cs part : List ℕ) (k i : ℕ) → k ≤ i → stands_at cs part i ≡ stands_at (drop k cs) part (i - k)
 stands_behind cs part k i le =
     let e : i ≡ k + (i - k) = omega arith in
@@ -73,7 +73,7 @@ greatest_none : (test : ℕ → Bool) (n : ℕ) → ((k : ℕ) → k < n → tes
 greatest_none test zero none = refl
 greatest_none test (suc n) none = ap (λ b. cond b (Some n) (greatest_below test n)) (none n (omega arith)) ∙ greatest_none test n (λ k lt. none k (omega arith))
 
--- a part that ends within the first n characters stands there where it stands in the text
+-- a part that ends within the first n characters occurs there exactly if it occurs in the text
 stands_within : (cs part : List ℕ) (n k : ℕ) → k + length part ≤ n → stands_at cs part k ≡ stands_at (take n cs) part k
 stands_within cs part n k le =
     let e : n ≡ k + (n - k) = omega arith in

@@ -1,6 +1,6 @@
 -- Trusted by the headline.
--- Bytes as texts in Base64 (RFC 4648, section 4; documentation of CEL-Go, "Encoders"). In a text whose
--- padding is missing, it is added before the text is decoded.
+-- Bytes as Base64 text (RFC 4648, section 4; documentation of CEL-Go,
+-- "Encoders"). Missing padding is added before a text is decoded.
 use Rattle.std.specs.Prelude.{◌≡◌, ◌↔◌, ℕ, ◌%◌, ◌==◌, List, [], ◌++◌, length, codes, Option, Some, Ok, Err, if◌then◌else◌}
 use Rattle.std.specs.Option.{option_map_or}
 use Rattle.std.specs.Result.{result_ok}
@@ -18,7 +18,7 @@ encoded_text s = encode_of standard s
 abbrev pub base64_encode : Data → Outcome
 base64_encode v = answer_with (codes "base64.encode") (λ s. Ok (text (encoded_text s))) (bytes_in v)
 
--- the padding that is missing to a multiple of four bytes, where it is one or two bytes
+-- the missing padding, if the text lacks one or two bytes to a multiple of four
 abbrev pub missing_padding : List ℕ → List ℕ
 missing_padding s = if length s % 4 == 2 then codes "==" else (if length s % 4 == 3 then codes "=" else [])
 
@@ -28,7 +28,7 @@ with_padding s = s ++ missing_padding s
 abbrev pub invalid : Fault
 invalid = function_error (codes "base64.decode") (codes "invalid base64")
 
--- the bytes of which a text is the encoding, if it is one
+-- the bytes that the text encodes, or none if it isn't valid Base64
 unfoldable pub decoded_bytes : List ℕ → Option (List ℕ)
 decoded_bytes s = result_ok (decode_of standard s)
 
@@ -39,6 +39,6 @@ abbrev pub base64_decode : Data → Outcome
 base64_decode v =
     answer_with (codes "base64.decode") (λ s. bytes_or_fault (decoded_bytes (with_padding s))) (text_in v)
 
--- a text is read as the bytes of which it is the encoding, and as no others
+-- a text decodes to exactly the bytes that it encodes
 abbrev pub DecodesEncodings : Type 0
 DecodesEncodings = (s b : List ℕ) → IsBytes s → IsBytes b → (decoded_bytes s ≡ Some b) ↔ (s ≡ encoded_text b)

@@ -1,5 +1,5 @@
 -- Trusted by the headline.
--- Strings in which some characters are escaped: `jsonpatch.escapeKey` (RFC 6901, section 3) and
+-- Strings with certain characters escaped: `jsonpatch.escapeKey` (RFC 6901, section 3) and
 -- `strings.quote` (documentation of CEL-Go, "Strings").
 use Rattle.std.specs.Prelude.{◌≡◌, ℕ, List, [], ◌∷◌, ◌++◌, ◌==◌, codes, Option, encode_utf8}
 use Rattle.std.specs.List.{flat_map}
@@ -12,7 +12,7 @@ use Rattle.kube_functions_strings.specs.Letters.{text_outcome}
 use Rattle.kube_functions_strings.specs.declared.quoting.Escaping.{Escaping}
 use Rattle.kube_functions_strings.specs.declared.quoting.Escaping.TheVariants.{Pointer, Quoted}
 
--- what stands for a character that does not stand for itself
+-- the escape of a character, or none if it isn't escaped
 abbrev pub escape_of : Escaping → ℕ → Option (List ℕ)
 escape_of Pointer c = lookup (λ d. c == d) (
     (126, codes "~0")
@@ -30,7 +30,7 @@ escape_of Quoted c = lookup (λ d. c == d) (
     ∷ (11, codes "\\v")
     ∷ [])
 
--- in UTF-8
+-- the character's escape, or else the character itself in UTF-8
 abbrev pub escaped_character : Escaping → ℕ → List ℕ
 escaped_character form c = unwrap_or (escape_of form c) (encode_utf8 c)
 
@@ -41,11 +41,11 @@ escaped_text form s = flat_map (escaped_character form) (chars s)
 abbrev pub escaped_key : Data → Outcome
 escaped_key = text_outcome (codes "jsonpatch.escapeKey") (escaped_text Pointer)
 
--- no two texts have one escaped key
+-- texts with the same escaped key are the same
 abbrev pub KeysDiffer : Type 0
 KeysDiffer = (s t : List ℕ) → IsUtf8 s → IsUtf8 t → escaped_text Pointer s ≡ escaped_text Pointer t → s ≡ t
 
--- between quotation marks
+-- the escaped text in quotation marks
 abbrev pub quoted_text : List ℕ → List ℕ
 quoted_text s = 34 ∷ (escaped_text Quoted s ++ 34 ∷ [])
 

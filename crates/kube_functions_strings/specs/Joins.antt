@@ -1,6 +1,6 @@
 -- Trusted by the headline.
--- The strings of a list as one string (documentation of CEL-Go, "Strings": `join`).
--- A list with an item that is no string has none.
+-- The strings of a list joined into one (documentation of CEL-Go, "Strings": `join`). A list with
+-- an item that isn't a string is an error.
 use Rattle.std.specs.Prelude.{ℕ, List, [], ◌∷◌, ◌++◌, codes, map, option_map, Option, Some, None, Result, Ok, Err, Vec}
 use Rattle.std.specs.Option.{option_map_or, option_zip}
 use Rattle.std.specs.declared.alloc.Global.{Global}
@@ -16,12 +16,12 @@ use Rattle.kube_functions_strings.specs.Operands.{answer_with}
 use Rattle.kube_functions_strings.specs.Pieces.{text_with_separators}
 use denote.Ref.{Bor}
 
--- a text before others, if there are any
+-- a text put before the others, unless they are an error
 abbrev pub one_before : List ℕ → Result (List (List ℕ)) Kind → Result (List (List ℕ)) Kind
 one_before t (Ok ts) = Ok (t ∷ ts)
 one_before t (Err k) = Err k
 
--- the texts of values, or the kind of the first that is no string
+-- the texts of the values, or the kind of the first value that isn't a string
 abbrev pub texts_of : List Data → Result (List (List ℕ)) Kind
 texts_of [] = Ok []
 texts_of (d ∷ ds) = option_map_or (λ t. one_before t (texts_of ds)) (text_in d) (Err (kind_of d))
@@ -33,7 +33,7 @@ abbrev pub joined_or_fault : List ℕ → Result (List (List ℕ)) Kind → Outc
 joined_or_fault sep (Ok ts) = Ok (text (text_with_separators sep ts))
 joined_or_fault sep (Err k) = Err (cannot_join k)
 
--- nothing stands between the texts where no separator is given
+-- the separator, which is empty if the argument is absent
 abbrev pub separator_in : Option Data → Option (List ℕ)
 separator_in None = Some []
 separator_in (Some v) = text_in v
@@ -46,7 +46,7 @@ abbrev pub join : Data → Option Data → Outcome
 join v s = answer_with (codes "join") (λ p. joined_or_fault p.1 (texts_of p.0))
     (option_zip (listed_in v) (separator_in s))
 
--- the texts that a `Vec` lends
+-- the texts that the items of a `Vec` borrow
 abbrev pub texts_view : Result (Vec (Bor (List ℕ)) Global) Kind → Result (List (List ℕ)) Kind
 texts_view (Ok v) = Ok (map (λ s. s.now) v.items)
 texts_view (Err k) = Err k

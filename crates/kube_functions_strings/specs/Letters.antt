@@ -1,7 +1,8 @@
 -- Trusted by the headline.
--- Strings with other letters, in another order, or without white space at their ends (Kubernetes
--- documentation, "CEL in Kubernetes", extended string library; documentation of CEL-Go, "Strings":
--- `lowerAscii`, `upperAscii`, `reverse`, `trim`). White space is what `char::is_whitespace` of Rust says.
+-- Strings in another letter case, reversed, or without surrounding white space
+-- (Kubernetes documentation, "CEL in Kubernetes", extended string library;
+-- documentation of CEL-Go, "Strings": `lowerAscii`, `upperAscii`, `reverse`,
+-- `trim`). White space is what `char::is_whitespace` of Rust accepts.
 use Rattle.std.specs.Prelude.{ℕ, List, codes, reverse, Ok}
 use Rattle.std.specs.Str.{chars, encode_utf8_all, trim, str_to_ascii_lowercase, str_to_ascii_uppercase}
 use Rattle.cel_value.specs.Data.{Data, text}
@@ -9,7 +10,7 @@ use Rattle.cel_value.specs.Parts.{text_in}
 use Rattle.cel_semantics.specs.Outcome.{Outcome}
 use Rattle.kube_functions_strings.specs.Operands.{answer_with}
 
--- the text that is made of a string's text, under the name of its function
+-- the string that a function makes from a string's text; `name` is the function's name in errors
 abbrev pub text_outcome : List ℕ → (List ℕ → List ℕ) → Data → Outcome
 text_outcome name change v = answer_with name (λ s. Ok (text (change s))) (text_in v)
 

@@ -1,7 +1,7 @@
 -- Trusted by the headline.
 -- Characters of a string by their offsets, and the offsets of one string in another (Kubernetes
--- documentation, "CEL in Kubernetes", extended string library; documentation of CEL-Go, "Strings": `charAt`,
--- `indexOf`, `lastIndexOf`, `substring`). Offsets count code points from 0 on.
+-- documentation, "CEL in Kubernetes", extended string library; documentation of CEL-Go, "Strings":
+-- `charAt`, `indexOf`, `lastIndexOf`, `substring`). Offsets count code points from 0 on.
 use Rattle.std.specs.Prelude.{ℕ, zero, suc, ◌-◌, min, ℤ, pos, negsuc, nat_le, nat_eq, ◌&&◌, List, [], ◌∷◌, ◌++◌, length, drop, codes, Bool, Option, Some, None, Ok, Err, encode_utf8, slice_get, slice_range, decimal, if◌then◌else◌}
 use Rattle.std.specs.Fmt.{signed_decimal}
 use Rattle.std.specs.List.{starts_with, find, range_with_len}
@@ -12,26 +12,26 @@ use Rattle.cel_value.specs.Faults.{Fault, function_error}
 use Rattle.cel_semantics.specs.Outcome.{Outcome}
 use Rattle.kube_functions_strings.specs.Operands.{texts_in, text_and_int_in, optional_int_in, answer_with}
 
--- the offset from low to high that an int is
+-- the int as an offset from low to high, or none if it is outside
 abbrev pub offset_within : ℕ → ℕ → ℤ → Option ℕ
 offset_within low high (pos k) = if nat_le low k && nat_le k high then Some k else None
 offset_within low high (negsuc k) = None
 
--- which index is out of range for a string of which length
+-- the message that an index is out of range for a string of a given length
 abbrev pub past_length : List ℕ → ℤ → ℕ → List ℕ
 past_length what i n =
     what ++ (codes " " ++ (signed_decimal i ++ (codes " out of range for string of length " ++ decimal n)))
 
 -- ---- charAt
 
--- the character as a text, which is empty where there is none
+-- the character as a text, which is empty if there is none
 abbrev pub character_text : Option ℕ → List ℕ
 character_text o = option_map_or encode_utf8 o []
 
 abbrev pub no_character : ℤ → ℕ → Fault
 no_character i n = function_error (codes "charAt") (past_length (codes "index") i n)
 
--- the character at an offset, or none at the end
+-- the character at an offset, which is empty at the end
 abbrev pub character_at : List ℕ → ℤ → Outcome
 character_at cs i =
     option_map_or (λ k. Ok (text (character_text (slice_get cs k)))) (offset_within 0 (length cs) i)
@@ -49,13 +49,13 @@ abbrev pub no_end : ℤ → Fault
 no_end i =
     function_error (codes "substring") (codes "end index " ++ signed_decimal i ++ codes " out of range")
 
--- the characters from an offset up to another one
+-- the characters from one offset up to another
 abbrev pub characters_up_to : List ℕ → ℕ → ℤ → Outcome
 characters_up_to cs k b =
     option_map_or (λ m. Ok (text (encode_utf8_all (slice_range cs k m)))) (offset_within k (length cs) b)
     (Err (no_end b))
 
--- the end is the text's where none is given
+-- the characters from one offset up to another, or to the end of the text if that is absent
 abbrev pub characters_between : List ℕ → ℤ → Option ℤ → Outcome
 characters_between cs a b =
     option_map_or (λ k. characters_up_to cs k (unwrap_or b (pos (length cs)))) (offset_within 0 (length cs) a)
@@ -68,39 +68,39 @@ substring v a b =
 
 -- ---- indexOf, lastIndexOf
 
--- an int, raised to 0
+-- the int, or 0 if it is negative
 abbrev pub at_least_zero : ℤ → ℕ
 at_least_zero (pos n) = n
 at_least_zero (negsuc n) = 0
 
--- whether a part stands at an offset
+-- the part occurs at an offset
 abbrev pub stands_at : List ℕ → List ℕ → ℕ → Bool
 stands_at cs part k = starts_with nat_eq (drop k cs) part
 
--- the least offset from k on at which the part stands
+-- the lowest offset from k on at which the part occurs
 abbrev pub offset_from : List ℕ → List ℕ → ℕ → Option ℕ
 offset_from cs part k = find (stands_at cs part) (range_with_len k (suc (length cs) - k))
 
--- the greatest number below n that passes a test
+-- the highest number below n that passes a test
 abbrev pub greatest_below : (ℕ → Bool) → ℕ → Option ℕ
 greatest_below test zero = None
 greatest_below test (suc n) = if test n then Some n else greatest_below test n
 
--- how many offsets there are up to an int
+-- the number of offsets up to an int in a text of n characters
 abbrev pub offsets_up_to : ℕ → ℤ → ℕ
 offsets_up_to n (pos k) = suc (min k n)
 offsets_up_to n (negsuc k) = 0
 
--- -1 stands for no offset
+-- the offset, or -1 if there is none
 abbrev pub or_no_offset : Option ℕ → ℤ
 or_no_offset o = option_map_or pos o (negsuc 0)
 
--- the least offset from i on, where i is raised to 0. An empty part stands at i itself.
+-- the lowest offset from i on, with a negative i counted as 0; an empty part occurs at i itself
 abbrev pub first_index : List ℕ → List ℕ → ℤ → ℤ
 first_index cs [] i = pos (at_least_zero i)
 first_index cs (c ∷ part) i = or_no_offset (offset_from cs (c ∷ part) (at_least_zero i))
 
--- the greatest offset up to i. An empty part stands at i itself, or at the end of the text nearest to it.
+-- the highest offset up to i; an empty part occurs at i itself, limited to the offsets of the text
 abbrev pub last_index : List ℕ → List ℕ → ℤ → ℤ
 last_index cs [] i = pos (min (at_least_zero i) (length cs))
 last_index cs (c ∷ part) i =

@@ -1,8 +1,9 @@
 -- Trusted by the headline.
--- Strings cut at a separator, with another text in its place, and joined (Kubernetes documentation, "CEL in
--- Kubernetes", extended string library; documentation of CEL-Go, "Strings": `split`, `replace`, `join`). A
--- separator that is not empty stands at its matches from the left, each the first that begins at or after the
--- end of the one before it; an empty one stands once at each character boundary.
+-- Splitting strings at a separator, replacing a part, and joining (Kubernetes
+-- documentation, "CEL in Kubernetes", extended string library; documentation of
+-- CEL-Go, "Strings": `split`, `replace`, `join`). A separator that isn't empty is
+-- found from the left, each time as the first match that begins at or after the
+-- end of the one before it; an empty one is found once at each character boundary.
 use Rattle.std.specs.Prelude.{ℕ, suc, ◌+◌, ◌-◌, ◌==◌, nat_le, ◌&&◌, ℤ, pos, negsuc, Bool, List, [], ◌∷◌, length, map, drop, codes, Option, Some, None, Ok, slice_range, if◌then◌else◌}
 use Rattle.std.specs.List.{range_with_len, join_by}
 use Rattle.std.specs.Option.{option_zip}
@@ -15,11 +16,12 @@ use Rattle.cel_semantics.specs.Outcome.{Outcome}
 use Rattle.kube_functions_strings.specs.Operands.{texts_in, optional_int_in, answer_with}
 use Rattle.kube_functions_strings.specs.Offsets.{stands_at, at_least_zero}
 
--- the next separator is at this offset, where none begins before `end`
+-- a separator occurs at offset k, which is at or after `end`
 abbrev pub is_next : List ℕ → List ℕ → ℕ → ℕ → Bool
 is_next cs part end k = nat_le end k && stands_at cs part k
 
--- the spans of the separators that begin at one of some ascending offsets, and not before `end`
+-- the spans of the separators that begin at one of the
+-- ascending offsets, the first of them at or after `end`
 abbrev pub spans_among : List ℕ → List ℕ → ℕ → List ℕ → List (ℕ × ℕ)
 spans_among cs part end [] = []
 spans_among cs part end (k ∷ ks) =
@@ -30,12 +32,12 @@ spans_among cs part end (k ∷ ks) =
 abbrev pub separators : List ℕ → List ℕ → List (ℕ × ℕ)
 separators cs part = spans_among cs part 0 (range_with_len 0 (suc (length cs)))
 
--- what stands from an offset on, around spans
+-- the texts around the spans, from an offset on
 abbrev pub around : List ℕ → ℕ → List (ℕ × ℕ) → List (List ℕ)
 around cs start [] = drop start cs ∷ []
 around cs start (p ∷ ps) = slice_range cs start p.0 ∷ around cs p.1 ps
 
--- the texts around the first separators, up to the limit, or around all
+-- the texts around the first `limit` separators, or around all of them if there is no limit
 abbrev pub pieces : List ℕ → List ℕ → Option ℕ → List (List ℕ)
 pieces cs part limit = map encode_utf8_all (around cs 0 (first_of limit (separators cs part)))
 
@@ -48,7 +50,8 @@ text_with_separators = join_by (λ t. t)
 
 -- ---- split
 
--- at most `count` pieces, the last one with the rest; all where the count is absent or negative
+-- at most `count` pieces, the last of which holds the
+-- rest; all pieces if the count is absent or negative
 abbrev pub split_pieces : List ℕ → List ℕ → Option ℤ → List (List ℕ)
 split_pieces cs part None = pieces cs part None
 split_pieces cs part (Some (pos n)) = if n == 0 then [] else pieces cs part (Some (n - 1))
@@ -61,7 +64,7 @@ split_outcome v w n =
 
 -- ---- replace
 
--- as many separators as the count, none where it is negative; all where it is absent
+-- the number of separators to replace: `count`, or none if it is negative; all if it is absent
 abbrev pub most : Option ℤ → Option ℕ
 most None = None
 most (Some n) = Some (at_least_zero n)

@@ -1,6 +1,6 @@
 -- Trusted by the headline.
--- What a pattern finds in a string (Kubernetes documentation, "CEL in Kubernetes", regex library, `find`,
--- `findAll`). Which patterns are refused, and what the others find, a book says.
+-- The matches of a pattern in a string (Kubernetes documentation, "CEL in Kubernetes", regex
+-- library, `find`, `findAll`). A book says which patterns are refused, and what the others match.
 use Rattle.std.specs.Prelude.{ℕ, ℤ, pos, negsuc, List, [], ◌∷◌, codes, map, Option, Some, None, Ok, Err, slice_range}
 use Rattle.std.specs.Option.{option_map_or, option_zip}
 use Rattle.cel_patterns.specs.Book.{Book, found_by}
@@ -10,11 +10,11 @@ use Rattle.cel_value.specs.View.{items_of}
 use Rattle.cel_semantics.specs.Outcome.{Outcome}
 use Rattle.kube_functions_strings.specs.Operands.{texts_in, optional_int_in, answer_with}
 
--- the text of a match, by its span
+-- the text of a match, from its span
 abbrev pub match_text : List ℕ → ℕ × ℕ → List ℕ
 match_text s p = slice_range s p.0 p.1
 
--- the first match's text, or an empty one
+-- the text of the first match, which is empty if there is none
 abbrev pub first_match : List ℕ → List (ℕ × ℕ) → Data
 first_match s [] = text []
 first_match s (p ∷ ps) = text (match_text s p)
@@ -22,11 +22,11 @@ first_match s (p ∷ ps) = text (match_text s p)
 abbrev pub match_texts : List ℕ → List (ℕ × ℕ) → Data
 match_texts s ps = list (items_of (map (λ p. text (match_text s p)) ps))
 
--- what is made of the spans of the matches; a refused pattern is a fault of the function
+-- the value made from the spans of the matches; a refused pattern is an error of the function
 abbrev pub unless_refused : List ℕ → (List (ℕ × ℕ) → Data) → Option (List (ℕ × ℕ)) → Outcome
 unless_refused name f o = option_map_or (λ ps. Ok (f ps)) o (Err (invalid_pattern name))
 
--- the limit that an argument sets: none where it is absent or negative
+-- the limit that an argument sets, or none if it is absent or negative
 abbrev pub limit_of : Option ℤ → Option ℕ
 limit_of None = None
 limit_of (Some (pos n)) = Some n

@@ -1,4 +1,4 @@
-//! Answers that several functions give.
+//! Answers that several functions return.
 ghost use Rattle.std.specs.Prelude.{◌≡◌, IfOk, IfErr, Ok, Err, string_bytes};
 ghost use Rattle.std.specs.Str.{chars};
 ghost use Rattle.cel_value.specs.Data as plain;
@@ -9,7 +9,7 @@ use cel_semantics::operators::Answer;
 use cel_value::{ExecutionError, Refused, Value};
 use std::alloc::{AllocError, Global};
 
-/// The characters of a text.
+/// The characters of the text.
 pub(crate) fn characters(alloc: Global, text: &str) -> Result<Vec<char>, AllocError>
     ensures { IfOk result (λ v. v.items ≡ chars text.now) }
 {
@@ -24,7 +24,7 @@ pub(crate) fn text_answer(alloc: Global, text: String) -> Result<Answer, Refused
     Ok(Ok(Value::from_text(alloc, text)?))
 }
 
-/// The fault of a function that refuses its arguments, with its message.
+/// The error of a function that rejects its arguments, with its message.
 pub(crate) fn function_fault(
     alloc: Global,
     function: &str,

@@ -1,11 +1,11 @@
-//! Texts cut at an offset or around a part, with no copy. An offset counts characters.
+//! Texts cut at an offset or around a part, without copying. Offsets count characters.
 ghost use Rattle.std.specs.Prelude.{◌≡◌, ◌≤◌, ◌<◌, length, option_map, IfOk, IfSome, MatchOption, string_bytes};
 ghost use Rattle.std.specs.Str.{chars, encode_utf8_all, IsUtf8};
 ghost use Rattle.kube_functions_strings.specs.Cuts as spec;
 
 use std::alloc::{AllocError, Global};
 
-/// How many characters a text has.
+/// The number of characters in the text.
 pub(crate) fn character_count(text: &str) -> usize
     ensures value { result ≡ length (chars text.now) }
     ensures small { result ≤ length text.now }
@@ -17,7 +17,8 @@ pub(crate) fn character_count(text: &str) -> usize
     }
 }
 
-// What follows the first `count` characters, where there are as many: one character after the other.
+// The text after its first `count` characters, or None
+// if it has fewer. Steps over one character at a time.
 fn past_characters(text: &str, count: usize) -> Option<&str>
     ensures { MatchOption result (length (chars text.now) < count)
         (λ rest. spec.IsPast text.now count rest.now) }
@@ -31,8 +32,8 @@ fn past_characters(text: &str, count: usize) -> Option<&str>
     Some(characters.as_str())
 }
 
-// What follows the first `count` characters, where there are as many. Counts bytes where each character takes
-// one, but for a single character, which costs less than that test of the whole text.
+// The text after its first `count` characters, or None if it has fewer. Counts bytes if the text is
+// ASCII, except for a single character: stepping over one costs less than testing the whole text.
 fn past(text: &str, count: usize) -> Option<&str>
     ensures { MatchOption result (length (chars text.now) < count)
         (λ rest. spec.IsPast text.now count rest.now) }
@@ -48,7 +49,8 @@ fn past(text: &str, count: usize) -> Option<&str>
     }
 }
 
-/// The characters of a text before an offset, and those from it on. `None` where the text ends before it.
+/// The characters of the text before an offset, and
+/// those from it on. None if the text ends before it.
 pub(crate) fn around_offset(text: &str, offset: usize) -> Option<(&str, &str)>
     ensures value { option_map (λ p. (chars p.0.now, chars p.1.now)) result
         ≡ spec.around_offset (chars text.now) offset }
@@ -60,7 +62,7 @@ pub(crate) fn around_offset(text: &str, offset: usize) -> Option<(&str, &str)>
     }
 }
 
-/// What stands before the first match of a part in a text, and behind it.
+/// The text before the first match of a part and the text after it, or None if there is no match.
 pub(crate) fn around_first<'a>(text: &'a str, part: &str) -> Option<(&'a str, &'a str)>
     ensures value { MatchOption result
         (spec.StandsNowhere 0 (chars text.now) (chars part.now))
@@ -70,7 +72,7 @@ pub(crate) fn around_first<'a>(text: &'a str, part: &str) -> Option<(&'a str, &'
     text.split_once(part)
 }
 
-/// What stands before the last match of a part in a text, and behind it.
+/// The text before the last match of a part and the text after it, or None if there is no match.
 pub(crate) fn around_last<'a>(text: &'a str, part: &str) -> Option<(&'a str, &'a str)>
     ensures { MatchOption result
         (spec.StandsNowhere 0 (chars text.now) (chars part.now))
@@ -79,7 +81,7 @@ pub(crate) fn around_last<'a>(text: &'a str, part: &str) -> Option<(&'a str, &'a
     text.rsplit_once(part)
 }
 
-/// A text of its own.
+/// A copy of the text.
 pub(crate) fn copied(alloc: Global, text: &str) -> Result<String, AllocError>
     ensures { IfOk result (λ t. string_bytes t ≡ encode_utf8_all (chars text.now)) }
 {

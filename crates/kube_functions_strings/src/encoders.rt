@@ -1,4 +1,4 @@
-//! `base64.encode` and `base64.decode`: bytes as texts.
+//! `base64.encode` and `base64.decode`: bytes as Base64 text.
 ghost use Rattle.std.specs.Prelude.{◌≡◌, IfOk, IfErr, Ok, option_map, string_bytes};
 ghost use Rattle.cel_value.specs.Data as plain;
 ghost use Rattle.cel_value.specs.View.{view};
@@ -19,7 +19,7 @@ fn encoded_text(alloc: Global, bytes: &[u8]) -> Result<String, AllocError>
     STANDARD.encode(alloc, bytes)
 }
 
-// The bytes of which a text is the encoding, if it is one.
+// The bytes that the text encodes, or None if it isn't valid Base64.
 fn decoded_bytes(alloc: Global, text: &str) -> Result<Option<Vec<u8>>, AllocError>
     ensures { IfOk result (λ o. option_map (λ v. v.items) o ≡ spec.decoded_bytes text.now) }
 {
@@ -30,7 +30,7 @@ fn decoded_bytes(alloc: Global, text: &str) -> Result<Option<Vec<u8>>, AllocErro
     }
 }
 
-// The padding that a text lacks, where one or two characters are missing.
+// The padding that the text lacks, if its length is two or three more than a multiple of four.
 fn missing_padding(text: &str) -> &'static str
     ensures { result.now ≡ spec.missing_padding text.now }
 {
@@ -49,10 +49,10 @@ fn with_padding(alloc: Global, text: &str) -> Result<String, AllocError>
     Ok(with_padding)
 }
 
-/// Bytes as a string in Base64, with padding.
+/// Encodes bytes as Base64 with padding.
 ///
 /// # Errors
-/// `Memory` alone.
+/// [`Refused::Memory`] if memory is refused.
 pub fn base64_encode(alloc: Global, value: &Value) -> Result<Answer, Refused>
     ensures value { IfOk result (λ r. outcome_view r ≡ spec.base64_encode (view value.now)) }
     ensures memory { IfErr result (λ e. e ≡ Refused.Memory) }
@@ -77,10 +77,11 @@ fn bytes_answer(alloc: Global, bytes: Option<Vec<u8>>) -> Result<Answer, Refused
     }
 }
 
-/// The bytes of a string in Base64. Padding may be missing.
+/// Decodes a Base64 string to bytes. Padding may be
+/// missing; a string that isn't valid Base64 is an error.
 ///
 /// # Errors
-/// `Memory` alone.
+/// [`Refused::Memory`] if memory is refused.
 pub fn base64_decode(alloc: Global, value: &Value) -> Result<Answer, Refused>
     ensures value { IfOk result (λ r. outcome_view r ≡ spec.base64_decode (view value.now)) }
     ensures memory { IfErr result (λ e. e ≡ Refused.Memory) }

@@ -1,4 +1,4 @@
-//! `join`: the strings of a list as one string.
+//! `join`: the strings of a list joined into one.
 ghost use Rattle.std.specs.Prelude.{◌≡◌, IfOk, IfErr, map, option_map, string_bytes};
 ghost use Rattle.cel_value.specs.View.{view};
 ghost use Rattle.cel_semantics.specs.Outcome.{outcome_view};
@@ -10,7 +10,7 @@ use cel_semantics::operators::{Answer, no_such_overload};
 use cel_value::{Kind, Refused, Value};
 use std::alloc::{AllocError, Global};
 
-// The texts of values, or the kind of the first that is no string.
+// The texts of the values, or the kind of the first value that isn't a string.
 fn texts_of<'a>(alloc: Global, items: &'a [Value]) -> Result<Result<Vec<&'a str>, Kind>, AllocError>
     ensures { IfOk result (λ r. spec.texts_view r ≡ spec.texts_of (map view items.now)) }
 {
@@ -24,7 +24,7 @@ fn texts_of<'a>(alloc: Global, items: &'a [Value]) -> Result<Result<Vec<&'a str>
     Ok(Ok(texts))
 }
 
-/// Texts as one, with another text between them.
+/// Joins texts, with another text between them.
 pub(crate) fn joined(alloc: Global, texts: &[&str], between: &str) -> Result<String, AllocError>
     ensures { IfOk result (λ t. string_bytes t
         ≡ text_with_separators between.now (map (λ s. s.now) texts.now)) }
@@ -66,10 +66,11 @@ fn separator_of(separator: Option<&Value>) -> Option<&str>
     }
 }
 
-/// The strings of a list as one, with a separator between them, or with nothing.
+/// Joins the strings of a list, with a separator between them
+/// if one is given. An item that isn't a string is an error.
 ///
 /// # Errors
-/// `Memory` alone.
+/// [`Refused::Memory`] if memory is refused.
 pub fn join(alloc: Global, value: &Value, separator: Option<&Value>) -> Result<Answer, Refused>
     ensures value { IfOk result (λ r. outcome_view r
         ≡ spec.join (view value.now) (option_map (λ v. view v.now) separator.entry)) }

@@ -1,5 +1,5 @@
-//! `lowerAscii`, `upperAscii`, `reverse` and `trim`: strings with other letters, turned,
-//! or without white space at their ends.
+//! `lowerAscii`, `upperAscii`, `reverse` and `trim`: strings in
+//! another letter case, reversed, or without surrounding white space.
 ghost use Rattle.std.specs.Prelude.{◌≡◌, IfOk, IfErr, string_bytes};
 ghost use Rattle.cel_value.specs.View.{view};
 ghost use Rattle.cel_semantics.specs.Outcome.{outcome_view};
@@ -10,10 +10,10 @@ use cel_semantics::operators::{Answer, no_such_overload};
 use cel_value::{Refused, Value};
 use std::alloc::{AllocError, Global};
 
-/// A string with its ASCII letters in lower case.
+/// Returns the string with its ASCII letters in lower case.
 ///
 /// # Errors
-/// `Memory` alone.
+/// [`Refused::Memory`] if memory is refused.
 pub fn lower_ascii(alloc: Global, value: &Value) -> Result<Answer, Refused>
     ensures value { IfOk result (λ r. outcome_view r ≡ spec.lower_ascii (view value.now)) }
     ensures memory { IfErr result (λ e. e ≡ Refused.Memory) }
@@ -24,10 +24,10 @@ pub fn lower_ascii(alloc: Global, value: &Value) -> Result<Answer, Refused>
     }
 }
 
-/// A string with its ASCII letters in upper case.
+/// Returns the string with its ASCII letters in upper case.
 ///
 /// # Errors
-/// `Memory` alone.
+/// [`Refused::Memory`] if memory is refused.
 pub fn upper_ascii(alloc: Global, value: &Value) -> Result<Answer, Refused>
     ensures value { IfOk result (λ r. outcome_view r ≡ spec.upper_ascii (view value.now)) }
     ensures memory { IfErr result (λ e. e ≡ Refused.Memory) }
@@ -45,10 +45,10 @@ fn reversed_text(alloc: Global, text: &str) -> Result<String, AllocError>
     characters.iter().rev().copied().collect(alloc)
 }
 
-/// A string's characters from the last to the first.
+/// Returns the string with its characters in reverse order.
 ///
 /// # Errors
-/// `Memory` alone.
+/// [`Refused::Memory`] if memory is refused.
 pub fn reverse(alloc: Global, value: &Value) -> Result<Answer, Refused>
     ensures value { IfOk result (λ r. outcome_view r ≡ spec.reverse_outcome (view value.now)) }
     ensures memory { IfErr result (λ e. e ≡ Refused.Memory) }
@@ -59,10 +59,10 @@ pub fn reverse(alloc: Global, value: &Value) -> Result<Answer, Refused>
     }
 }
 
-/// A string without the white space at both ends.
+/// Returns the string without leading and trailing white space.
 ///
 /// # Errors
-/// `Memory` alone.
+/// [`Refused::Memory`] if memory is refused.
 pub fn trim(alloc: Global, value: &Value) -> Result<Answer, Refused>
     ensures value { IfOk result (λ r. outcome_view r ≡ spec.trim_outcome (view value.now)) }
     ensures memory { IfErr result (λ e. e ≡ Refused.Memory) }

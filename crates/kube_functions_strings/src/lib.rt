@@ -1,4 +1,8 @@
-//! The functions of Kubernetes on strings: offsets, letters, pieces, patterns, encodings and escapes.
+//! Kubernetes' string functions: offsets, letter case,
+//! splitting and joining, patterns, encodings and escapes.
+//!
+//! Each function returns an `Answer`: a value, or the error that the call evaluates to, such as
+//! `no such overload` for operands of other kinds. `Refused` is returned if memory is refused.
 #![tactic(auto)]
 
 mod answers;

@@ -1,4 +1,5 @@
-//! `charAt`, `substring`, `indexOf` and `lastIndexOf`: characters by their offsets, and offsets of parts.
+//! `charAt`, `substring`, `indexOf` and `lastIndexOf`: characters
+//! at offsets, and offsets of parts. All offsets count characters.
 ghost use Rattle.std.specs.Prelude.{◌≡◌, ◌≤◌, ◌<◌, ◌^◌, ℕ, suc, min, pos, List, length, take, drop, slice_get, slice_range, IfOk, IfErr, IfSome, option_map, string_bytes};
 ghost use Rattle.std.specs.Option.{unwrap_or};
 ghost use Rattle.std.specs.Str.{chars};
@@ -14,7 +15,7 @@ use cel_semantics::operators::{Answer, no_such_overload};
 use cel_value::{Refused, Value};
 use std::alloc::{AllocError, Global};
 
-// The offset that an int is.
+// The int as an offset, or None if it is negative.
 fn as_offset(index: i64) -> Option<usize>
     ensures value { result ≡ cuts.offset_of index }
     ensures small { IfSome result (λ k. k < 2 ^ 63) }
@@ -25,7 +26,8 @@ fn as_offset(index: i64) -> Option<usize>
     }
 }
 
-// The offset in a text that an int is, with what stands from there on.
+// The int as an offset into the text, with the text from
+// there on. None if it is negative or past the end.
 fn from_index(text: &str, index: i64) -> Option<(usize, &str)>
     ensures { option_map (λ p. (p.0, chars p.1.now)) result ≡ cuts.from_index (chars text.now) index }
 {
@@ -38,7 +40,7 @@ fn from_index(text: &str, index: i64) -> Option<(usize, &str)>
     }
 }
 
-// The first character of a text, or an empty one.
+// The first character of the text as a string, which is empty if the text is.
 fn first_character(alloc: Global, text: &str) -> Result<String, AllocError>
     ensures { IfOk result (λ t. string_bytes t ≡ spec.character_text (slice_get (chars text.now) 0)) }
 {
@@ -71,10 +73,11 @@ fn character_at(alloc: Global, text: &str, index: i64) -> Result<Answer, Refused
     }
 }
 
-/// The character of a string at an offset, as a string; an empty one at the end.
+/// Returns the character at an offset as a string, which is empty
+/// at the end of the text. An offset outside the text is an error.
 ///
 /// # Errors
-/// `Memory` alone.
+/// [`Refused::Memory`] if memory is refused.
 pub fn char_at(alloc: Global, value: &Value, index: &Value) -> Result<Answer, Refused>
     ensures value { IfOk result (λ r. outcome_view r ≡ spec.char_at (view value.now) (view index.now)) }
     ensures memory { IfErr result (λ e. e ≡ Refused.Memory) }
@@ -85,7 +88,8 @@ pub fn char_at(alloc: Global, value: &Value, index: &Value) -> Result<Answer, Re
     }
 }
 
-// What stands at the front of the rest of a text, which begins at an offset, up to the offset that an int is.
+// The start of `rest` up to the offset `end`, where `rest` is a text from `offset` on. None if
+// `end` is before `offset` or past the end of the text.
 fn up_to(rest: &str, offset: usize, end: i64) -> Option<&str>
     ensures { (cs : List ℕ) → offset ≤ length cs → chars rest.now ≡ drop offset cs
         → option_map (λ t. chars t.now) result
@@ -135,10 +139,11 @@ fn characters_between(
     }
 }
 
-/// The characters of a string from an offset up to another one, or up to the end.
+/// Returns the characters of a string from one offset up to another, or to the end if that is
+/// absent. Offsets outside the text or in the wrong order are an error.
 ///
 /// # Errors
-/// `Memory` alone.
+/// [`Refused::Memory`] if memory is refused.
 pub fn substring(
     alloc: Global,
     value: &Value,
@@ -158,7 +163,7 @@ pub fn substring(
     }
 }
 
-// The least offset from `start` on at which the part stands.
+// The lowest offset at or after `start` at which the part occurs.
 fn offset_from(text: &str, part: &str, start: usize) -> Option<usize>
     ensures value { result ≡ spec.offset_from (chars text.now) (chars part.now) start }
     ensures within { IfSome result (λ k. k ≤ length text.now) }
@@ -172,7 +177,7 @@ fn offset_from(text: &str, part: &str, start: usize) -> Option<usize>
     }
 }
 
-// The first `count` characters of a text, or all of them.
+// The first `count` characters of the text, or all of it if it is shorter.
 fn first_characters(text: &str, count: usize) -> &str
     ensures { chars result.now ≡ take count (chars text.now) }
 {
@@ -182,7 +187,7 @@ fn first_characters(text: &str, count: usize) -> &str
     }
 }
 
-// The greatest offset up to `most` at which the part stands, which is not empty.
+// The highest offset at or before `most` at which the part occurs. The part isn't empty.
 fn offset_up_to(text: &str, part: &str, most: usize) -> Option<usize>
     requires some { 0 < length part.now }
     requires small { most < 2 ^ 63 }
@@ -227,7 +232,7 @@ fn first_index(text: &str, part: &str, start: i64) -> i64
     }
 }
 
-// The greatest offset up to `start` at which the part stands, which is not empty.
+// The highest offset at or before `start` at which the part occurs. The part isn't empty.
 fn last_offset(text: &str, part: &str, start: i64) -> Option<usize>
     requires { 0 < length part.now }
     ensures value { result ≡ spec.greatest_below (spec.stands_at (chars text.now) (chars part.now))
@@ -250,11 +255,11 @@ fn last_index(text: &str, part: &str, start: i64) -> i64
     }
 }
 
-/// The least offset from an int on at which a string has another one, or -1.
-/// An int that is absent or negative counts as 0.
+/// Returns the lowest offset at or after `start` at which a string contains another, or -1 if there
+/// is none. An absent or negative `start` counts as 0. An empty string is found at `start` itself.
 ///
 /// # Errors
-/// `Memory` alone.
+/// [`Refused::Memory`] if memory is refused.
 pub fn index_of(
     alloc: Global,
     value: &Value,
@@ -277,7 +282,7 @@ pub fn index_of(
     }
 }
 
-// The int, or where the text ends.
+// The int, or the offset of the end of the text if it is absent.
 fn or_end(start: Option<i64>, text: &str) -> i64
     ensures { result ≡ unwrap_or start (pos (length (chars text.now))) }
 {
@@ -287,11 +292,12 @@ fn or_end(start: Option<i64>, text: &str) -> i64
     }
 }
 
-/// The greatest offset up to an int at which a string has another one, or -1.
-/// The length stands for an int that is absent.
+/// Returns the highest offset at or before `start` at which a string contains
+/// another, or -1 if there is none. An absent `start` counts as the string's
+/// length. An empty string is found at the offset of the text nearest to `start`.
 ///
 /// # Errors
-/// `Memory` alone.
+/// [`Refused::Memory`] if memory is refused.
 pub fn last_index_of(
     alloc: Global,
     value: &Value,

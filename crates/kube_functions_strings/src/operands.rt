@@ -1,4 +1,4 @@
-//! What a function takes of its operands.
+//! Reads the operands of a function by their kinds.
 ghost use Rattle.std.specs.Prelude.{◌≡◌, option_map};
 ghost use Rattle.cel_value.specs.View.{view};
 ghost use Rattle.cel_semantics.specs.Arithmetic.{int_in};
@@ -6,7 +6,7 @@ ghost use Rattle.kube_functions_strings.specs.Operands as spec;
 
 use cel_value::Value;
 
-/// The int that a value is.
+/// The value's int, or None if it is of another kind.
 pub(crate) fn as_int(value: &Value) -> Option<i64>
     ensures { result ≡ int_in (view value.now) }
 {
@@ -16,7 +16,7 @@ pub(crate) fn as_int(value: &Value) -> Option<i64>
     }
 }
 
-/// The texts of two strings.
+/// The texts of two strings, or None if either value isn't a string.
 pub(crate) fn both_texts<'a>(value: &'a Value, other: &'a Value) -> Option<(&'a str, &'a str)>
     ensures { option_map (λ p. (p.0.now, p.1.now)) result ≡ spec.texts_in (view value.now) (view other.now) }
 {
@@ -29,7 +29,7 @@ pub(crate) fn both_texts<'a>(value: &'a Value, other: &'a Value) -> Option<(&'a 
     }
 }
 
-/// The text of a string and an int.
+/// The text of a string and an int, or None if either value is of another kind.
 pub(crate) fn text_and_int<'a>(value: &'a Value, number: &Value) -> Option<(&'a str, i64)>
     ensures { option_map (λ p. (p.0.now, p.1)) result
         ≡ spec.text_and_int_in (view value.now) (view number.now) }
@@ -43,7 +43,8 @@ pub(crate) fn text_and_int<'a>(value: &'a Value, number: &Value) -> Option<(&'a 
     }
 }
 
-/// The int of an argument that may be absent. `None` where it is there and no int.
+/// The int of an optional argument: `Some(None)` if
+/// the argument is absent, None if it isn't an int.
 pub(crate) fn optional_int(value: Option<&Value>) -> Option<Option<i64>>
     ensures { result ≡ spec.optional_int_in (option_map (λ v. view v.now) value.entry) }
 {

@@ -1,4 +1,4 @@
-//! `jsonpatch.escapeKey` and `strings.quote`: strings in which some characters are escaped.
+//! `jsonpatch.escapeKey` and `strings.quote`: strings with certain characters escaped.
 ghost use Rattle.std.specs.Prelude.{◌≡◌, ◌++◌, IfOk, IfErr, OnOk, option_map, string_bytes};
 ghost use Rattle.cel_value.specs.View.{view};
 ghost use Rattle.cel_semantics.specs.Outcome.{outcome_view};
@@ -12,9 +12,9 @@ use std::alloc::{AllocError, Global};
 /// Which characters are escaped, and how.
 #[derive(Clone, Copy, Debug, PartialEq, Eq)]
 pub enum Escaping {
-    /// `~` and `/` in a key of a JSON Pointer.
+    /// `~` and `/`, in a key of a JSON Pointer.
     Pointer,
-    /// Quotation marks, backslashes and seven control characters, in a text between quotation marks.
+    /// Quotation marks, backslashes and seven control characters, in a quoted text.
     Quoted,
 }
 
@@ -54,7 +54,7 @@ fn push_escaped(out: &mut String, form: Escaping, character: char) -> Result<(),
     }
 }
 
-// The characters, each escaped, at the end of a text.
+// Appends the text to `out`, each character escaped.
 fn push_all_escaped(out: &mut String, form: Escaping, text: &str) -> Result<(), AllocError>
     ensures { OnOk result (string_bytes out.new ≡ string_bytes out.old ++ spec.escaped_text form text.now) }
 {
@@ -81,10 +81,10 @@ fn quoted_text(alloc: Global, text: &str) -> Result<String, AllocError>
     Ok(out)
 }
 
-/// A string as a key of a JSON Pointer: `~0` for each `~`, and `~1` for each `/`.
+/// Returns the string as a key of a JSON Pointer: `~0` for each `~` and `~1` for each `/`.
 ///
 /// # Errors
-/// `Memory` alone.
+/// [`Refused::Memory`] if memory is refused.
 pub fn escape_key(alloc: Global, value: &Value) -> Result<Answer, Refused>
     ensures value { IfOk result (λ r. outcome_view r ≡ spec.escaped_key (view value.now)) }
     ensures memory { IfErr result (λ e. e ≡ Refused.Memory) }
@@ -95,10 +95,11 @@ pub fn escape_key(alloc: Global, value: &Value) -> Result<Answer, Refused>
     }
 }
 
-/// A string in quotation marks, with a backslash before each character that is not written as it is.
+/// Returns the string in quotation marks, with a
+/// backslash escape for each character that needs one.
 ///
 /// # Errors
-/// `Memory` alone.
+/// [`Refused::Memory`] if memory is refused.
 pub fn quote(alloc: Global, value: &Value) -> Result<Answer, Refused>
     ensures value { IfOk result (λ r. outcome_view r ≡ spec.quote (view value.now)) }
     ensures memory { IfErr result (λ e. e ≡ Refused.Memory) }

@@ -1,4 +1,4 @@
-//! `find` and `findAll`: what a pattern finds in a string.
+//! `find` and `findAll`: the matches of a pattern in a string.
 ghost use Rattle.std.specs.Prelude.{◌≡◌, All, IfOk, IfErr, Some, option_map};
 ghost use Rattle.cel_patterns.specs.Book.{Extends, IsSpanIn};
 ghost use Rattle.cel_patterns.specs.Entries.{entries_of};
@@ -53,7 +53,7 @@ fn match_texts(alloc: Global, text: &str, spans: &[(usize, usize)]) -> Result<Va
     Value::from_items(alloc, texts)
 }
 
-// The limit that an argument sets: `None` where it is absent or negative.
+// The limit that an argument sets, or None if it is absent or negative.
 fn limit_of(count: Option<i64>) -> Option<usize>
     ensures { result ≡ spec.limit_of count }
 {
@@ -98,10 +98,11 @@ fn find_each(
     }
 }
 
-/// The text of a pattern's first match in a string, or an empty one. The book keeps its entries in any case.
+/// Returns the text of a pattern's first match in a string, or an empty string if there is no
+/// match. A pattern that the book refuses is an error. The book keeps its entries in any case.
 ///
 /// # Errors
-/// `Memory` alone.
+/// [`Refused::Memory`] if memory is refused.
 pub fn find(
     alloc: Global,
     value: &Value,
@@ -119,11 +120,12 @@ pub fn find(
     }
 }
 
-/// The texts of a pattern's matches in a string, at most as many as a count that is not negative. The book
-/// keeps its entries in any case.
+/// Returns the texts of a pattern's matches in a string, at most `count`
+/// of them if a count is given and isn't negative. A pattern that the
+/// book refuses is an error. The book keeps its entries in any case.
 ///
 /// # Errors
-/// `Memory` alone.
+/// [`Refused::Memory`] if memory is refused.
 pub fn find_all(
     alloc: Global,
     value: &Value,

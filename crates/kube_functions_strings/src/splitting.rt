@@ -18,7 +18,7 @@ use cel_semantics::operators::{Answer, no_such_overload};
 use cel_value::{Refused, Value};
 use std::alloc::{AllocError, Global};
 
-// Whether one more separator counts, after the number before it.
+// Reports whether the limit allows one more separator after the `count` already found.
 fn has_room(limit: Option<usize>, count: usize) -> bool
     ensures { result ≡ cuts.has_room limit count }
 {
@@ -28,7 +28,9 @@ fn has_room(limit: Option<usize>, count: usize) -> bool
     }
 }
 
-// What stands before the next separator, and behind it. An empty one stands once at each offset.
+// The text before the next separator and the text after it, or None
+// if there is no further separator. An empty separator matches once
+// at each offset, so after the first it is one character further on.
 fn around_next<'a>(text: &'a str, separator: &str, count: usize) -> Option<(&'a str, &'a str)>
     ensures value { MatchOption result
         (cuts.StandsNowhere (cuts.characters_passed (chars separator.now) count) (chars text.now)
@@ -44,7 +46,8 @@ fn around_next<'a>(text: &'a str, separator: &str, count: usize) -> Option<(&'a 
     }
 }
 
-// The piece before the next separator, and what stands behind it, if one more counts.
+// The piece before the next separator and the text after it, or
+// None if there is no further separator or the limit is reached.
 fn next_piece<'a>(
     text: &'a str,
     separator: &str,
@@ -65,7 +68,7 @@ fn next_piece<'a>(
     }
 }
 
-// The pieces, with what stands behind the last separator.
+// The pieces, with the text after the last separator added.
 fn finished<'a>(mut pieces: Vec<&'a str>, rest: &'a str) -> Result<Vec<&'a str>, AllocError>
     ensures { IfOk result
         (λ v. map (λ s. s.now) v.items ≡ map (λ s. s.now) pieces.entry.items ++ rest.now ∷ []) }
@@ -74,7 +77,8 @@ fn finished<'a>(mut pieces: Vec<&'a str>, rest: &'a str) -> Result<Vec<&'a str>,
     Ok(pieces)
 }
 
-// The texts around the first separators, up to the limit, or around all.
+// The pieces of the text around its first `limit`
+// separators, or around all of them if there is no limit.
 fn pieces<'a>(
     alloc: Global,
     text: &'a str,
@@ -151,10 +155,11 @@ fn split_text(
     text_list(alloc, texts.as_slice())
 }
 
-/// The pieces of a string around a separator, at most `count`, or all where the count is absent or negative.
+/// Splits a string at a separator into at most `count` pieces, the last of which holds the rest.
+/// Splits at every separator if the count is absent or negative.
 ///
 /// # Errors
-/// `Memory` alone.
+/// [`Refused::Memory`] if memory is refused.
 pub fn split(
     alloc: Global,
     value: &Value,
@@ -200,7 +205,8 @@ fn replaced_text(
     joined(alloc, texts.as_slice(), new)
 }
 
-// The new text and the count of separators that it replaces, of the operands after the first two.
+// The replacement text and the maximum number of replacements,
+// or None if either argument is of the wrong kind.
 fn new_and_count<'a>(new: &'a Value, count: Option<&Value>) -> Option<(&'a str, Option<i64>)>
     ensures { option_map (λ p. (p.0.now, p.1)) result
         ≡ option_zip (text_in (view new.now)) (optional_int_in (option_map (λ v. view v.now) count.entry)) }
@@ -214,11 +220,11 @@ fn new_and_count<'a>(new: &'a Value, count: Option<&Value>) -> Option<(&'a str, 
     }
 }
 
-/// A string in which another one replaces a part: at the part's first `count` matches,
-/// or at all where the count is absent.
+/// Replaces the first `count` matches of a part in a string, or all
+/// of them if the count is absent. A negative count replaces none.
 ///
 /// # Errors
-/// `Memory` alone.
+/// [`Refused::Memory`] if memory is refused.
 pub fn replace(
     alloc: Global,
     value: &Value,

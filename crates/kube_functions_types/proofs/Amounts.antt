@@ -7,7 +7,7 @@ chosen : (t : Bool) (q r : Decimal) → Some q ≡ cond t (Some r) None → q �
 chosen true q r e = cc
 chosen false q r e = cc
 
--- a number that is held is held in normal form
+-- a quantity holds a number in its normal form
 pub held_is : (q x : Decimal) → Some q ≡ quantity_holding x → q ≡ normal_form x
 unfolding quantity_holding
 held_is q x e = chosen (fits 31 (normal_form x).scale) q (normal_form x) e

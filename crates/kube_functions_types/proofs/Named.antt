@@ -1,4 +1,4 @@
--- The kind of a name.
+-- Finding a format by its name.
 use Rattle.std.proofs.Common.{◌≡◌, ℕ, List, [], ◌∷◌, Bool, true, false, cond, Option, Some, None, option_map, refl, sym, ap, ◌∙◌}
 use Rattle.std.specs.Prelude.{◌≢◌, find, MatchOption}
 use Rattle.std.specs.Str.{bytes_eq}
@@ -43,7 +43,7 @@ own_name Byte = refl
 own_name Date = refl
 own_name DateTime = refl
 
--- a format that is found by its name, or none where no kind has it
+-- a format found by its name is of the kind of that name, and none is found if no kind has it
 pub kind_found : (r : Option KubeFormat) (name : List ℕ) → MatchOption r ((kind : FormatKind) → name_of kind ≢ name) (λ format. name_of (kind_of format) ≡ name)
     → option_map kind_of r ≡ kind_named name
 kind_found None name h = sym (none_in name all_kinds h)

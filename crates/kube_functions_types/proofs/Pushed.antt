@@ -1,4 +1,4 @@
--- Strings as values, one after another, and names with their values as entries of a map.
+-- Strings become values one by one, and names with their values entries of a map.
 use Rattle.std.proofs.Common.{◌≡◌, List, [], ◌∷◌, ◌++◌, map, sym, ap, ◌∙◌, String, Global, string_bytes}
 use Rattle.std.specs.BTreeMap.{insert_entry}
 use Rattle.std.proofs.lemmas.List.{map_push}

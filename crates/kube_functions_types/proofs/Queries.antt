@@ -1,4 +1,4 @@
--- The map of a query: its entries in the order of their names.
+-- The map of a query has its entries in the order of their names.
 use Rattle.std.proofs.Common.{◌≡◌, ℕ, List, [], ◌∷◌, ◌++◌, Bool, true, false, cond, Option, Some, None, option_map, map, filter, Ordering, Less, Equal, Greater, refl, sym, ap, ◌∙◌, subst, String, Global, Vec, BTreeMap}
 use Rattle.std.specs.BTreeMap.{insert_entry, is_at, get_by_text}
 use Rattle.std.specs.Cmp.Lexicographic.{slice_cmp}
@@ -22,7 +22,7 @@ use Rattle.kube_functions_types.specs.Lists.{text_list}
 use Rattle.kube_functions_types.specs.Url.{entries_among}
 use Rattle.kube_functions_types.proofs.Sorted.{inserted_sorted, inserted_found, same_found, nil_sorted, cons_sorted}
 
--- a name with its values, and the same as a program holds them
+-- a name with its values, as data and as the program holds them
 abbrev pub Named : Type 0
 Named = List ℕ × List (List ℕ)
 
@@ -38,7 +38,7 @@ named e = (string_bytes e.0, texts e.1)
 abbrev pub named_all : List Held → List Named
 named_all es = map named es
 
--- as entries of a map
+-- converted to entries of a map
 abbrev pub entries_of : List Named → Entries
 entries_of [] = no_entries
 entries_of (e ∷ es) = entry (text_key e.0) (text_list e.1) (entries_of es)
@@ -52,7 +52,7 @@ entries_of-insert_entry : (es : List Named) (k : List ℕ) (v : List (List ℕ))
 entries_of-insert_entry [] k v = refl
 entries_of-insert_entry (e ∷ es) k v = entries_of-match_ordering (names_cmp k e.0) _ _ _ ∙ rw (entries_of-insert_entry es k v)
 
--- of some pairs, each name with all its values, in the order of the names
+-- each name among some pairs with all its values, in the order of the names
 abbrev among : List (List ℕ × List ℕ) → List (List ℕ × List ℕ) → List Named
 among pairs [] = []
 among pairs (p ∷ ps) = insert_entry names_cmp (among pairs ps) p.0 (values_or_none (values_of pairs p.0))
@@ -104,7 +104,7 @@ held_sorted [] s = nil_sorted names_cmp
 held_sorted (e ∷ es) s =
     cons_sorted names_cmp (string_bytes e.0) (keys_of (named_all es)) (all_named e.0 es (sorted_head string_cmp e.0 (keys_of es) s)) (held_sorted es (sorted_tail string_cmp e.0 (keys_of es) s))
 
--- a map that has each name's values has the entries of the query
+-- a map with the values of each name has the entries of the query
 pub whole_query : (query : BTreeMap (String Global) (Vec (String Global) Global)) (pairs : List (List ℕ × List ℕ)) → IsStrictlySortedBy string_cmp (keys_of query.entries)
     → ((name : List ℕ) → option_map texts (get_by_text query name) ≡ values_of pairs name) → entries_of (named_all query.entries) ≡ entries_among pairs pairs
 whole_query query pairs sorted h =
@@ -119,7 +119,7 @@ below_all k (f ∷ done) e rest h = below_all k done e rest h.1
 above : (k l : List ℕ) → names_cmp k l ≡ Less → names_cmp l k ≡ Greater
 above k l h = nat_list_cmp_total.antisymm l k ∙ ap ordering_reverse h
 
--- an entry whose name is above those that are there goes to the end
+-- an entry whose name is above all others goes to the end
 put_last : (done : List Held) (e : Held) (rest : List Held) → IsStrictlySortedBy names_cmp (keys_of (named_all (done ++ e ∷ rest)))
     → put (text_key (string_bytes e.0)) (text_list (texts e.1)) (entries_of (named_all done)) ≡ entries_of (named_all (done ++ e ∷ []))
 put_last [] e rest sorted = refl
@@ -127,7 +127,7 @@ put_last (f ∷ done) e rest sorted =
     rw (above (string_bytes f.0) (string_bytes e.0) (below_all (string_bytes f.0) done e rest (sorted_head names_cmp (string_bytes f.0) (keys_of (named_all (done ++ e ∷ rest))) sorted)))
     (ap (entry (text_key (string_bytes f.0)) (text_list (texts f.1))) (put_last done e rest (sorted_tail names_cmp (string_bytes f.0) (keys_of (named_all (done ++ e ∷ rest))) sorted)))
 
--- one more entry of a query whose first entries are in the map
+-- one more entry is added to the map
 pub one_more : (whole done : List Held) (e : Held) (rest : List Held) (old new : Entries) → IsStrictlySortedBy string_cmp (keys_of whole) → whole ≡ done ++ e ∷ rest
     → old ≡ entries_of (named_all done) → new ≡ put (text_key (string_bytes e.0)) (text_list (texts e.1)) old → new ≡ entries_of (named_all (done ++ e ∷ []))
 one_more whole done e rest old new sorted is before written =

@@ -1,4 +1,4 @@
--- Lists of entries in the order of their keys: an entry that is put in, and lists that answer alike.
+-- Lists of entries in the order of their keys: inserting an entry, and lists with equal look-ups.
 use Rattle.std.proofs.Common.{◌≡◌, List, [], ◌∷◌, Bool, true, false, cond, Option, Some, None, Ordering, Less, Equal, Greater, refl, sym, ap, ◌∙◌, subst}
 use Rattle.std.specs.BTreeMap.{insert_entry, is_at}
 use Rattle.std.specs.Cmp.{IsTotalOrder}
@@ -64,7 +64,7 @@ module _ {K X : Type 0} {R : K → K → Ordering} (total : IsTotalOrder R) wher
   placed_sorted e es k v Greater h s r =
       cons_sorted R e.0 (keys_of (insert_entry R es k v)) (all_below e.0 k v es (total.antisymm e.0 k ∙ ap ordering_reverse h) (sorted_head R e.0 (keys_of es) s)) r
 
-  -- an entry that is put in keeps the order
+  -- inserting an entry keeps the order
   pub inserted_sorted : (es : List (K × X)) (k : K) (v : X) → IsStrictlySortedBy R (keys_of es) → IsStrictlySortedBy R (keys_of (insert_entry R es k v))
   inserted_sorted [] k v s = cons_sorted R k [] tt (nil_sorted R)
   inserted_sorted (e ∷ es) k v s = placed_sorted e es k v (R k e.0) refl s (inserted_sorted es k v (sorted_tail R e.0 (keys_of es) s))
@@ -81,7 +81,7 @@ module _ {K X : Type 0} {R : K → K → Ordering} (total : IsTotalOrder R) wher
       ap (cond (is_eq (R q e.0)) (Some e.1)) r
       ∙ no_other (is_eq (R q e.0)) (is_eq (R q k)) e.1 v (lookup (is_at (R q)) es) (apart total q k e.0 h)
 
-  -- what is found after an entry is put in
+  -- look-ups after an entry is inserted
   pub inserted_found : CmpEqualImpliesEq R → (q : K) (es : List (K × X)) (k : K) (v : X) → lookup (is_at (R q)) (insert_entry R es k v) ≡ cond (is_eq (R q k)) (Some v) (lookup (is_at (R q)) es)
   inserted_found exact q [] k v = refl
   inserted_found exact q (e ∷ es) k v = placed_found exact q e es k v (R k e.0) refl (inserted_found exact q es k v)
@@ -146,7 +146,7 @@ module _ {K X : Type 0} {R : K → K → Ordering} (total : IsTotalOrder R) wher
         (λ q. tails_alike q x.0 x.1 xs ys s back (so q) (is_eq (R q x.0)) refl) in
         λ i. same i ∷ rest i
 
-    -- lists in order that answer alike are one list
+    -- sorted lists with equal look-ups are equal
     pub same_found : (es fs : List (K × X)) → IsStrictlySortedBy R (keys_of es) → IsStrictlySortedBy R (keys_of fs)
         → ((q : K) → lookup (is_at (R q)) es ≡ lookup (is_at (R q)) fs) → es ≡ fs
     unfolding found

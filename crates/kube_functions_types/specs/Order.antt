@@ -1,6 +1,6 @@
 -- Trusted by the headline.
--- The order of quantities and that of versions (Kubernetes documentation, "CEL in Kubernetes", quantity
--- library, semver library; `Quantity` and `Semver` in `k8s.io/apiserver/pkg/cel/library`).
+-- The order of quantities and the order of versions (Kubernetes documentation, "CEL in Kubernetes",
+-- quantity library, semver library; `Quantity` and `Semver` in `k8s.io/apiserver/pkg/cel/library`).
 use Rattle.std.specs.Prelude.{ℕ, ℤ, pos, negsuc, List, codes, Option, None, Some}
 use Rattle.std.specs.Ordering.{is_lt, is_gt}
 use Rattle.std.specs.declared.cmp.Ordering.{Ordering}
@@ -11,13 +11,13 @@ use Rattle.cel_value.specs.Data.{Data, bool, int, quantity, semver}
 use Rattle.cel_semantics.specs.Outcome.{Outcome}
 use Rattle.kube_functions_types.specs.Answers.{wrong_kind, value_or}
 
--- how two quantities, or two versions, compare
+-- two quantities or two versions compared; none if the values are of other kinds
 abbrev pub order_of : Data → Data → Option Ordering
 order_of (quantity q) (quantity r) = Some (decimal_cmp q r)
 order_of (semver v) (semver w) = Some (parts_cmp v w)
 order_of _ _ = None
 
--- what is reported of an order, under the name of its function
+-- a value made of the order; `name` is the function's name in errors
 abbrev pub order_outcome : List ℕ → (Ordering → Data) → Data → Data → Outcome
 order_outcome name f v w = value_or (wrong_kind name) f (order_of v w)
 

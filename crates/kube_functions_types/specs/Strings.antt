@@ -1,6 +1,6 @@
 -- Trusted by the headline.
--- The strings of IP addresses and CIDRs (Kubernetes documentation, "CEL in Kubernetes",
--- IP address library, CIDR library, `string`).
+-- `string` of IP addresses and CIDRs (Kubernetes documentation,
+-- "CEL in Kubernetes", IP address library, CIDR library, `string`).
 use Rattle.std.specs.Prelude.{codes, Ok}
 use Rattle.kube_types_address.specs.CidrTexts.{cidr_text}
 use Rattle.kube_types_address.specs.Texts.{address_text}
@@ -8,7 +8,7 @@ use Rattle.cel_value.specs.Data.{Data, text, ip, cidr}
 use Rattle.cel_semantics.specs.Outcome.{Outcome}
 use Rattle.kube_functions_types.specs.Answers.{wrong_kind}
 
--- `string`: the text that an address or a CIDR prints
+-- `string`: an address or a CIDR as text
 abbrev pub string_of : Data → Outcome
 string_of (ip a) = Ok (text (address_text a))
 string_of (cidr c) = Ok (text (cidr_text c))

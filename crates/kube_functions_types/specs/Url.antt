@@ -1,6 +1,6 @@
 -- Trusted by the headline.
--- Calls on URLs (Kubernetes documentation, "CEL in Kubernetes", URL library; `URLs` in
--- `k8s.io/apiserver/pkg/cel/library`).
+-- Functions on URLs (Kubernetes documentation, "CEL in Kubernetes",
+-- URL library; `URLs` in `k8s.io/apiserver/pkg/cel/library`).
 use Rattle.std.specs.Prelude.{ℕ, List, [], ◌∷◌, codes, unwrap_or, Ok, is_some}
 use Rattle.kube_types_url.specs.Query.{pairs_of, values_of, values_or_none}
 use Rattle.kube_types_url.specs.Reading as reading
@@ -12,22 +12,22 @@ use Rattle.cel_semantics.specs.Outcome.{Outcome}
 use Rattle.kube_functions_types.specs.Answers.{refusal, wrong_kind, bool_answer, value_or}
 use Rattle.kube_functions_types.specs.Lists.{text_list}
 
--- `url`: the URL, or the absolute path, that a string is
+-- `url`: parses a string as a URL or an absolute path
 abbrev pub url_from : Data → Outcome
 url_from (text s) = value_or (refusal (codes "url") (codes "invalid URL")) url (reading.url_of s)
 url_from _ = wrong_kind (codes "url")
 
--- `isURL`: whether a string is one
+-- `isURL`: does a string parse as one?
 abbrev pub is_url : Data → Outcome
 is_url (text s) = bool_answer (is_some (reading.url_of s))
 is_url _ = wrong_kind (codes "isURL")
 
--- `getScheme`: the scheme, empty for a path
+-- `getScheme`: the scheme, which is empty for a path
 abbrev pub get_scheme : Data → Outcome
 get_scheme (url u) = Ok (text (scheme_of u))
 get_scheme _ = wrong_kind (codes "getScheme")
 
--- `getHost`: the host, with its port where the URL keeps one
+-- `getHost`: the host, with the port if the URL has one
 abbrev pub get_host : Data → Outcome
 get_host (url u) = Ok (text (shown.host_of u))
 get_host _ = wrong_kind (codes "getHost")
@@ -37,7 +37,7 @@ abbrev pub get_hostname : Data → Outcome
 get_hostname (url u) = Ok (text (hostname_of u))
 get_hostname _ = wrong_kind (codes "getHostname")
 
--- `getPort`: the port in decimal, empty where the URL keeps none
+-- `getPort`: the port in decimal, or nothing if the URL has none
 abbrev pub get_port : Data → Outcome
 get_port (url u) = Ok (text (port_text (u.0).port))
 get_port _ = wrong_kind (codes "getPort")
@@ -47,17 +47,17 @@ abbrev pub get_escaped_path : Data → Outcome
 get_escaped_path (url u) = Ok (text (u.0).path)
 get_escaped_path _ = wrong_kind (codes "getEscapedPath")
 
--- the names and the values of the query, in the order in which they stand
+-- the names and values of the query, in order
 abbrev pub query_pairs : Shown → List (List ℕ × List ℕ)
 query_pairs u = pairs_of (unwrap_or (u.0).query [])
 
--- of some of these pairs, each name with all the values that stand with it
+-- for each of the names among the second pairs, its values among the first
 abbrev pub entries_among : List (List ℕ × List ℕ) → List (List ℕ × List ℕ) → Entries
 entries_among pairs [] = no_entries
 entries_among pairs (p ∷ ps) =
     put (text_key p.0) (text_list (values_or_none (values_of pairs p.0))) (entries_among pairs ps)
 
--- `getQuery`: the map from each name of the query to the list of its values, in order
+-- `getQuery`: a map from each name in the query to the list of its values, in order
 abbrev pub get_query : Data → Outcome
 get_query (url u) = Ok (map_of (entries_among (query_pairs u) (query_pairs u)))
 get_query _ = wrong_kind (codes "getQuery")

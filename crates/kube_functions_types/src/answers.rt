@@ -1,4 +1,4 @@
-//! What the functions answer, in the forms that many of them share.
+//! Answers that several functions return.
 ghost use Rattle.std.specs.Prelude.{◌≡◌, IfOk, IfErr, Ok, map, string_bytes};
 ghost use Rattle.cel_value.specs.Data as plain;
 ghost use Rattle.cel_value.specs.Faults as fault;
@@ -22,7 +22,7 @@ fn function_error(alloc: Global, function: &str, message: &str) -> Result<Execut
     })
 }
 
-/// The fault of a function that refuses its arguments, with its message.
+/// The error of a function that rejects its arguments, with its message.
 pub(crate) fn refusal(alloc: Global, function: &str, message: &str) -> Result<Answer, Refused>
     ensures value { IfOk result (λ r. outcome_view r ≡ spec.refusal function.now message.now) }
     ensures memory { IfErr result (λ e. e ≡ Refused.Memory) }
@@ -30,7 +30,7 @@ pub(crate) fn refusal(alloc: Global, function: &str, message: &str) -> Result<An
     Ok(Err(function_error(alloc, function, message)?))
 }
 
-/// The fault of a function that takes no values of these kinds.
+/// The error of a function that doesn't take values of these kinds.
 pub(crate) fn wrong_kind(alloc: Global, function: &str) -> Result<Answer, Refused>
     ensures value { IfOk result (λ r. outcome_view r ≡ spec.wrong_kind function.now) }
     ensures memory { IfErr result (λ e. e ≡ Refused.Memory) }
@@ -46,7 +46,7 @@ pub(crate) fn text_answer(alloc: Global, text: String) -> Result<Answer, Refused
     Ok(Ok(Value::from_text(alloc, text)?))
 }
 
-/// Strings as values.
+/// Converts strings to values.
 pub(crate) fn text_values(alloc: Global, texts: Vec<String>) -> Result<Vec<Value>, Refused>
     ensures value { IfOk result (λ v. items_view v.items ≡ text_items (map string_bytes texts.items)) }
     ensures memory { IfErr result (λ e. e ≡ Refused.Memory) }

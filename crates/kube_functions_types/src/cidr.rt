@@ -1,4 +1,4 @@
-//! Calls on CIDRs.
+//! Functions on CIDRs.
 ghost use Rattle.std.specs.Prelude.{◌≡◌, IfOk, IfErr};
 ghost use Rattle.cel_value.specs.Data as plain;
 ghost use Rattle.cel_value.specs.View.{view};
@@ -14,10 +14,10 @@ use kube_types::{KubeCIDR, KubeIP};
 use std::alloc::Global;
 use std::rc::Rc;
 
-/// `cidr`: the CIDR that a string writes.
+/// `cidr`: parses a string as a CIDR. A string that doesn't parse is an error.
 ///
 /// # Errors
-/// `Memory` alone.
+/// [`Refused::Memory`] if memory is refused.
 pub fn cidr(alloc: Global, value: &Value) -> Result<Answer, Refused>
     ensures value { IfOk result (λ r. outcome_view r ≡ spec.cidr_of (view value.now)) }
     ensures memory { IfErr result (λ e. e ≡ Refused.Memory) }
@@ -31,10 +31,10 @@ pub fn cidr(alloc: Global, value: &Value) -> Result<Answer, Refused>
     }
 }
 
-/// `isCIDR`: whether a string writes a CIDR.
+/// `isCIDR`: reports whether a string parses as a CIDR.
 ///
 /// # Errors
-/// `Memory` alone.
+/// [`Refused::Memory`] if memory is refused.
 pub fn is_cidr(alloc: Global, value: &Value) -> Result<Answer, Refused>
     ensures value { IfOk result (λ r. outcome_view r ≡ spec.is_cidr (view value.now)) }
     ensures memory { IfErr result (λ e. e ≡ Refused.Memory) }
@@ -45,7 +45,7 @@ pub fn is_cidr(alloc: Global, value: &Value) -> Result<Answer, Refused>
     }
 }
 
-// Whether a text writes a CIDR of this family.
+// Reports whether the text parses as a CIDR of the family, 4 or 6.
 fn is_of_family(text: &str, family: u8) -> bool
     ensures { result ≡ spec.is_of_family family (cidr_of text.now) }
 {
@@ -55,10 +55,10 @@ fn is_of_family(text: &str, family: u8) -> bool
     }
 }
 
-/// `isCIDRv4`: whether a string writes a CIDR of IPv4 addresses.
+/// `isCIDRv4`: reports whether a string parses as a CIDR of IPv4 addresses.
 ///
 /// # Errors
-/// `Memory` alone.
+/// [`Refused::Memory`] if memory is refused.
 pub fn is_cidr_v4(alloc: Global, value: &Value) -> Result<Answer, Refused>
     ensures value { IfOk result (λ r. outcome_view r ≡ spec.is_cidr_v4 (view value.now)) }
     ensures memory { IfErr result (λ e. e ≡ Refused.Memory) }
@@ -69,10 +69,10 @@ pub fn is_cidr_v4(alloc: Global, value: &Value) -> Result<Answer, Refused>
     }
 }
 
-/// `isCIDRv6`: whether a string writes a CIDR of IPv6 addresses.
+/// `isCIDRv6`: reports whether a string parses as a CIDR of IPv6 addresses.
 ///
 /// # Errors
-/// `Memory` alone.
+/// [`Refused::Memory`] if memory is refused.
 pub fn is_cidr_v6(alloc: Global, value: &Value) -> Result<Answer, Refused>
     ensures value { IfOk result (λ r. outcome_view r ≡ spec.is_cidr_v6 (view value.now)) }
     ensures memory { IfErr result (λ e. e ≡ Refused.Memory) }
@@ -98,10 +98,11 @@ fn contains_address(alloc: Global, cidr: &KubeCIDR, other: &Value) -> Result<Ans
     }
 }
 
-/// `containsIP`: whether an address is in the set. A string stands for the address that it writes.
+/// `containsIP`: reports whether an address is in the CIDR's range. A string is parsed as an
+/// address, and is an error if it doesn't parse.
 ///
 /// # Errors
-/// `Memory` alone.
+/// [`Refused::Memory`] if memory is refused.
 pub fn contains_ip(alloc: Global, value: &Value, other: &Value) -> Result<Answer, Refused>
     ensures value { IfOk result (λ r. outcome_view r ≡ spec.contains_ip (view value.now) (view other.now)) }
     ensures memory { IfErr result (λ e. e ≡ Refused.Memory) }
@@ -127,11 +128,11 @@ fn contains_set(alloc: Global, cidr: &KubeCIDR, other: &Value) -> Result<Answer,
     }
 }
 
-/// `containsCIDR`: whether every address of another CIDR is in the set.
-/// A string stands for the CIDR that it writes.
+/// `containsCIDR`: reports whether every address of another CIDR is in the CIDR's range. A string
+/// is parsed as a CIDR, and is an error if it doesn't parse.
 ///
 /// # Errors
-/// `Memory` alone.
+/// [`Refused::Memory`] if memory is refused.
 pub fn contains_cidr(alloc: Global, value: &Value, other: &Value) -> Result<Answer, Refused>
     ensures value { IfOk result (λ r. outcome_view r ≡ spec.contains_cidr (view value.now) (view other.now)) }
     ensures memory { IfErr result (λ e. e ≡ Refused.Memory) }
@@ -142,10 +143,10 @@ pub fn contains_cidr(alloc: Global, value: &Value, other: &Value) -> Result<Answ
     }
 }
 
-/// `prefixLength`: how many bits the prefix of a CIDR has.
+/// `prefixLength`: returns the length of the CIDR's prefix in bits.
 ///
 /// # Errors
-/// `Memory` alone.
+/// [`Refused::Memory`] if memory is refused.
 pub fn prefix_length(alloc: Global, value: &Value) -> Result<Answer, Refused>
     ensures value { IfOk result (λ r. outcome_view r ≡ spec.prefix_length (view value.now)) }
     ensures memory { IfErr result (λ e. e ≡ Refused.Memory) }
@@ -156,10 +157,10 @@ pub fn prefix_length(alloc: Global, value: &Value) -> Result<Answer, Refused>
     }
 }
 
-/// `masked`: the same set, written by its first address.
+/// `masked`: returns the same range, written with its first address.
 ///
 /// # Errors
-/// `Memory` alone.
+/// [`Refused::Memory`] if memory is refused.
 pub fn masked(alloc: Global, value: &Value) -> Result<Answer, Refused>
     ensures value { IfOk result (λ r. outcome_view r ≡ spec.masked_cidr (view value.now)) }
     ensures memory { IfErr result (λ e. e ≡ Refused.Memory) }
@@ -173,10 +174,10 @@ pub fn masked(alloc: Global, value: &Value) -> Result<Answer, Refused>
     }
 }
 
-/// `ip` of a CIDR: its address as it was written, with its host bits.
+/// `ip` of a CIDR: returns its address as written, including the host bits.
 ///
 /// # Errors
-/// `Memory` alone.
+/// [`Refused::Memory`] if memory is refused.
 pub fn written_ip(alloc: Global, value: &Value) -> Result<Answer, Refused>
     ensures value { IfOk result (λ r. outcome_view r ≡ spec.written_ip (view value.now)) }
     ensures memory { IfErr result (λ e. e ≡ Refused.Memory) }

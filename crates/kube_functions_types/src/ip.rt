@@ -1,4 +1,4 @@
-//! Calls on IP addresses.
+//! Functions on IP addresses.
 ghost use Rattle.std.specs.Prelude.{◌≡◌, IfOk, IfErr};
 ghost use Rattle.cel_value.specs.View.{view};
 ghost use Rattle.cel_semantics.specs.Outcome.{outcome_view};
@@ -12,10 +12,10 @@ use kube_types::KubeIP;
 use std::alloc::Global;
 use std::rc::Rc;
 
-/// `ip`: the address that a string writes.
+/// `ip`: parses a string as an address. A string that doesn't parse is an error.
 ///
 /// # Errors
-/// `Memory` alone.
+/// [`Refused::Memory`] if memory is refused.
 pub fn ip(alloc: Global, value: &Value) -> Result<Answer, Refused>
     ensures value { IfOk result (λ r. outcome_view r ≡ spec.ip_of (view value.now)) }
     ensures memory { IfErr result (λ e. e ≡ Refused.Memory) }
@@ -29,10 +29,10 @@ pub fn ip(alloc: Global, value: &Value) -> Result<Answer, Refused>
     }
 }
 
-/// `isIP`: whether a string writes an address.
+/// `isIP`: reports whether a string parses as an address.
 ///
 /// # Errors
-/// `Memory` alone.
+/// [`Refused::Memory`] if memory is refused.
 pub fn is_ip(alloc: Global, value: &Value) -> Result<Answer, Refused>
     ensures value { IfOk result (λ r. outcome_view r ≡ spec.is_ip (view value.now)) }
     ensures memory { IfErr result (λ e. e ≡ Refused.Memory) }
@@ -43,7 +43,7 @@ pub fn is_ip(alloc: Global, value: &Value) -> Result<Answer, Refused>
     }
 }
 
-// Whether a text writes an address of this family.
+// Reports whether the text parses as an address of the family, 4 or 6.
 fn is_of_family(text: &str, family: u8) -> bool
     ensures { result ≡ spec.is_of_family family (ip_of text.now) }
 {
@@ -53,10 +53,10 @@ fn is_of_family(text: &str, family: u8) -> bool
     }
 }
 
-/// `isIPv4`: whether a string writes an IPv4 address.
+/// `isIPv4`: reports whether a string parses as an IPv4 address.
 ///
 /// # Errors
-/// `Memory` alone.
+/// [`Refused::Memory`] if memory is refused.
 pub fn is_ipv4(alloc: Global, value: &Value) -> Result<Answer, Refused>
     ensures value { IfOk result (λ r. outcome_view r ≡ spec.is_ipv4 (view value.now)) }
     ensures memory { IfErr result (λ e. e ≡ Refused.Memory) }
@@ -67,10 +67,10 @@ pub fn is_ipv4(alloc: Global, value: &Value) -> Result<Answer, Refused>
     }
 }
 
-/// `isIPv6`: whether a string writes an IPv6 address.
+/// `isIPv6`: reports whether a string parses as an IPv6 address.
 ///
 /// # Errors
-/// `Memory` alone.
+/// [`Refused::Memory`] if memory is refused.
 pub fn is_ipv6(alloc: Global, value: &Value) -> Result<Answer, Refused>
     ensures value { IfOk result (λ r. outcome_view r ≡ spec.is_ipv6 (view value.now)) }
     ensures memory { IfErr result (λ e. e ≡ Refused.Memory) }
@@ -81,10 +81,11 @@ pub fn is_ipv6(alloc: Global, value: &Value) -> Result<Answer, Refused>
     }
 }
 
-/// `ip.isCanonical`: whether a string is the printed text of its address. A fault where it writes none.
+/// `ip.isCanonical`: reports whether a string is the canonical text of the address that it parses
+/// to. A string that doesn't parse is an error.
 ///
 /// # Errors
-/// `Memory` alone.
+/// [`Refused::Memory`] if memory is refused.
 pub fn is_canonical(alloc: Global, value: &Value) -> Result<Answer, Refused>
     ensures value { IfOk result (λ r. outcome_view r ≡ spec.is_canonical (view value.now)) }
     ensures memory { IfErr result (λ e. e ≡ Refused.Memory) }
@@ -98,10 +99,10 @@ pub fn is_canonical(alloc: Global, value: &Value) -> Result<Answer, Refused>
     }
 }
 
-/// `family`: 4 or 6.
+/// `family`: returns 4 for an IPv4 address and 6 for an IPv6 address.
 ///
 /// # Errors
-/// `Memory` alone.
+/// [`Refused::Memory`] if memory is refused.
 pub fn family(alloc: Global, value: &Value) -> Result<Answer, Refused>
     ensures value { IfOk result (λ r. outcome_view r ≡ spec.family_of (view value.now)) }
     ensures memory { IfErr result (λ e. e ≡ Refused.Memory) }
@@ -112,10 +113,10 @@ pub fn family(alloc: Global, value: &Value) -> Result<Answer, Refused>
     }
 }
 
-/// `isLoopback`: whether an address is in `127.0.0.0/8`, or is `::1`.
+/// `isLoopback`: reports whether an address is in `127.0.0.0/8` or is `::1`.
 ///
 /// # Errors
-/// `Memory` alone.
+/// [`Refused::Memory`] if memory is refused.
 pub fn is_loopback(alloc: Global, value: &Value) -> Result<Answer, Refused>
     ensures value { IfOk result (λ r. outcome_view r ≡ spec.is_loopback (view value.now)) }
     ensures memory { IfErr result (λ e. e ≡ Refused.Memory) }
@@ -126,10 +127,10 @@ pub fn is_loopback(alloc: Global, value: &Value) -> Result<Answer, Refused>
     }
 }
 
-/// `isUnspecified`: whether an address is `0.0.0.0` or `::`.
+/// `isUnspecified`: reports whether an address is `0.0.0.0` or `::`.
 ///
 /// # Errors
-/// `Memory` alone.
+/// [`Refused::Memory`] if memory is refused.
 pub fn is_unspecified(alloc: Global, value: &Value) -> Result<Answer, Refused>
     ensures value { IfOk result (λ r. outcome_view r ≡ spec.is_unspecified (view value.now)) }
     ensures memory { IfErr result (λ e. e ≡ Refused.Memory) }
@@ -140,11 +141,11 @@ pub fn is_unspecified(alloc: Global, value: &Value) -> Result<Answer, Refused>
     }
 }
 
-/// `isLinkLocalMulticast`: whether an address is in `224.0.0.0/24`,
-/// or is an IPv6 multicast address of the scope of one link.
+/// `isLinkLocalMulticast`: reports whether an address is in
+/// `224.0.0.0/24`, or is an IPv6 multicast address of link-local scope.
 ///
 /// # Errors
-/// `Memory` alone.
+/// [`Refused::Memory`] if memory is refused.
 pub fn is_link_local_multicast(alloc: Global, value: &Value) -> Result<Answer, Refused>
     ensures value { IfOk result (λ r. outcome_view r ≡ spec.is_link_local_multicast (view value.now)) }
     ensures memory { IfErr result (λ e. e ≡ Refused.Memory) }
@@ -155,10 +156,10 @@ pub fn is_link_local_multicast(alloc: Global, value: &Value) -> Result<Answer, R
     }
 }
 
-/// `isLinkLocalUnicast`: whether an address is in `169.254.0.0/16` or `fe80::/10`.
+/// `isLinkLocalUnicast`: reports whether an address is in `169.254.0.0/16` or `fe80::/10`.
 ///
 /// # Errors
-/// `Memory` alone.
+/// [`Refused::Memory`] if memory is refused.
 pub fn is_link_local_unicast(alloc: Global, value: &Value) -> Result<Answer, Refused>
     ensures value { IfOk result (λ r. outcome_view r ≡ spec.is_link_local_unicast (view value.now)) }
     ensures memory { IfErr result (λ e. e ≡ Refused.Memory) }
@@ -169,11 +170,11 @@ pub fn is_link_local_unicast(alloc: Global, value: &Value) -> Result<Answer, Ref
     }
 }
 
-/// `isGlobalUnicast`: whether an address is none of loopback, unspecified, multicast,
+/// `isGlobalUnicast`: reports whether an address is none of loopback, unspecified, multicast,
 /// link-local unicast and `255.255.255.255`.
 ///
 /// # Errors
-/// `Memory` alone.
+/// [`Refused::Memory`] if memory is refused.
 pub fn is_global_unicast(alloc: Global, value: &Value) -> Result<Answer, Refused>
     ensures value { IfOk result (λ r. outcome_view r ≡ spec.is_global_unicast (view value.now)) }
     ensures memory { IfErr result (λ e. e ≡ Refused.Memory) }

@@ -1,5 +1,8 @@
-//! The functions of Kubernetes on its own types: quantities, IP addresses and CIDRs,
-//! versions, URLs and named formats.
+//! Kubernetes' functions on its own types: quantities, IP
+//! addresses and CIDRs, versions, URLs and named formats.
+//!
+//! Each function returns an `Answer`: a value, or the error that the call evaluates to, such as
+//! `no such overload` for operands of other kinds. `Refused` is returned if memory is refused.
 //!
 //! Source: the CEL libraries in `k8s.io/apiserver/pkg/cel/library`.
 #![tactic(auto)]

@@ -1,4 +1,4 @@
-//! Calls on named formats.
+//! Functions on named formats.
 ghost use Rattle.std.specs.Prelude.{◌≡◌, Ok, map, option_map, string_bytes, IfOk, IfErr};
 ghost use Rattle.cel_value.specs.Data as plain;
 ghost use Rattle.cel_value.specs.View.{view};
@@ -12,7 +12,7 @@ use cel_value::{OptionalValue, Refused, Value};
 use kube_types::{FormatKind, KubeFormat};
 use std::alloc::Global;
 
-/// `format.dns1123Label` and the other twelve: the format of this kind.
+/// `format.dns1123Label` and the other twelve: returns the format of the kind.
 pub fn format(kind: FormatKind) -> Answer
     ensures { outcome_view result ≡ Ok (plain.format kind) }
 {
@@ -25,10 +25,10 @@ fn format_named(name: &str) -> Option<KubeFormat>
     KubeFormat::named(name)
 }
 
-/// `format.named`: the format of this name, and null where there is none.
+/// `format.named`: returns the format with a name, or null if there is none.
 ///
 /// # Errors
-/// `Memory` alone.
+/// [`Refused::Memory`] if memory is refused.
 pub fn named(alloc: Global, value: &Value) -> Result<Answer, Refused>
     ensures value { IfOk result (λ r. outcome_view r ≡ spec.named_format (view value.now)) }
     ensures memory { IfErr result (λ e. e ≡ Refused.Memory) }
@@ -67,11 +67,11 @@ fn validated(alloc: Global, format: KubeFormat, value: &Value) -> Result<Answer,
     }
 }
 
-/// `validate`: an optional with the list of the faults that a string has in a format,
-/// and with none where it has no fault.
+/// `validate`: returns an optional that holds the list of the faults
+/// of a string in a format. It is empty if there are no faults.
 ///
 /// # Errors
-/// `Memory` alone.
+/// [`Refused::Memory`] if memory is refused.
 pub fn validate(alloc: Global, value: &Value, text: &Value) -> Result<Answer, Refused>
     ensures value { IfOk result (λ r. outcome_view r ≡ spec.validate (view value.now) (view text.now)) }
     ensures memory { IfErr result (λ e. e ≡ Refused.Memory) }

@@ -1,4 +1,4 @@
-//! The order of quantities and that of versions.
+//! The order of quantities and the order of versions.
 ghost use Rattle.std.specs.Prelude.{◌≡◌, IfOk, IfErr};
 ghost use Rattle.cel_value.specs.Data as plain;
 ghost use Rattle.cel_value.specs.View.{view};
@@ -14,7 +14,7 @@ use kube_types::{KubeQuantity, KubeSemver};
 use std::alloc::Global;
 use std::cmp::Ordering;
 
-// How a quantity and a value compare.
+// Compares a quantity with a value. None if the value isn't a quantity.
 fn quantity_order(quantity: &KubeQuantity, other: &Value) -> Option<Ordering>
     ensures { result ≡ spec.order_of (plain.quantity (number quantity.now)) (view other.now) }
 {
@@ -24,7 +24,7 @@ fn quantity_order(quantity: &KubeQuantity, other: &Value) -> Option<Ordering>
     }
 }
 
-// How a version and a value compare.
+// Compares a version with a value. None if the value isn't a version.
 fn version_order(version: &KubeSemver, other: &Value) -> Option<Ordering>
     ensures { result ≡ spec.order_of (plain.semver (parts version.now)) (view other.now) }
 {
@@ -34,7 +34,7 @@ fn version_order(version: &KubeSemver, other: &Value) -> Option<Ordering>
     }
 }
 
-// How two quantities, or two versions, compare.
+// Compares two quantities or two versions. None if the values are of other kinds.
 fn order(value: &Value, other: &Value) -> Option<Ordering>
     ensures { result ≡ spec.order_of (view value.now) (view other.now) }
 {
@@ -45,10 +45,10 @@ fn order(value: &Value, other: &Value) -> Option<Ordering>
     }
 }
 
-/// `isGreaterThan`: whether a quantity or a version is greater than another one.
+/// `isGreaterThan`: reports whether a quantity or a version is greater than another one.
 ///
 /// # Errors
-/// `Memory` alone.
+/// [`Refused::Memory`] if memory is refused.
 pub fn is_greater_than(alloc: Global, value: &Value, other: &Value) -> Result<Answer, Refused>
     ensures value { IfOk result
         (λ r. outcome_view r ≡ spec.is_greater_than (view value.now) (view other.now)) }
@@ -60,10 +60,10 @@ pub fn is_greater_than(alloc: Global, value: &Value, other: &Value) -> Result<An
     }
 }
 
-/// `isLessThan`: whether a quantity or a version is less than another one.
+/// `isLessThan`: reports whether a quantity or a version is less than another one.
 ///
 /// # Errors
-/// `Memory` alone.
+/// [`Refused::Memory`] if memory is refused.
 pub fn is_less_than(alloc: Global, value: &Value, other: &Value) -> Result<Answer, Refused>
     ensures value { IfOk result (λ r. outcome_view r ≡ spec.is_less_than (view value.now) (view other.now)) }
     ensures memory { IfErr result (λ e. e ≡ Refused.Memory) }
@@ -84,10 +84,11 @@ fn order_number(order: Ordering) -> i64
     }
 }
 
-/// `compareTo`: -1, 0 or 1, as a quantity or a version is less than another one, equal to it, or greater.
+/// `compareTo`: returns -1, 0 or 1 if a quantity or a
+/// version is less than another one, equal to it or greater.
 ///
 /// # Errors
-/// `Memory` alone.
+/// [`Refused::Memory`] if memory is refused.
 pub fn compare_to(alloc: Global, value: &Value, other: &Value) -> Result<Answer, Refused>
     ensures value { IfOk result (λ r. outcome_view r ≡ spec.compare_to (view value.now) (view other.now)) }
     ensures memory { IfErr result (λ e. e ≡ Refused.Memory) }

@@ -1,4 +1,4 @@
-//! Calls on quantities.
+//! Functions on quantities.
 ghost use Rattle.std.specs.Prelude.{◌≡◌, pos, IfOk, IfErr, option_map};
 ghost use Rattle.cel_value.specs.Data as plain;
 ghost use Rattle.cel_value.specs.View.{view};
@@ -16,7 +16,7 @@ use kube_types::{IntegerError, KubeQuantity};
 use std::alloc::Global;
 use std::rc::Rc;
 
-// The quantity that is there, or the fault of the function of this name.
+// The quantity as an answer, or the named function's error if there is none.
 fn quantity_or(
     alloc: Global,
     quantity: Option<KubeQuantity>,
@@ -33,10 +33,10 @@ fn quantity_or(
     }
 }
 
-/// `quantity`: the quantity that a string means.
+/// `quantity`: parses a string as a quantity. A string that doesn't parse is an error.
 ///
 /// # Errors
-/// `Memory` alone.
+/// [`Refused::Memory`] if memory is refused.
 pub fn quantity(alloc: Global, value: &Value) -> Result<Answer, Refused>
     ensures value { IfOk result (λ r. outcome_view r ≡ spec.quantity_of (view value.now)) }
     ensures memory { IfErr result (λ e. e ≡ Refused.Memory) }
@@ -50,10 +50,10 @@ pub fn quantity(alloc: Global, value: &Value) -> Result<Answer, Refused>
     }
 }
 
-/// `isQuantity`: whether a string means a quantity.
+/// `isQuantity`: reports whether a string parses as a quantity.
 ///
 /// # Errors
-/// `Memory` alone.
+/// [`Refused::Memory`] if memory is refused.
 pub fn is_quantity(alloc: Global, value: &Value) -> Result<Answer, Refused>
     ensures value { IfOk result (λ r. outcome_view r ≡ spec.is_quantity (view value.now)) }
     ensures memory { IfErr result (λ e. e ≡ Refused.Memory) }
@@ -67,10 +67,10 @@ pub fn is_quantity(alloc: Global, value: &Value) -> Result<Answer, Refused>
     }
 }
 
-/// `isInteger`: whether `asInteger` gives an int.
+/// `isInteger`: reports whether `asInteger` returns an int.
 ///
 /// # Errors
-/// `Memory` alone.
+/// [`Refused::Memory`] if memory is refused.
 pub fn is_integer(alloc: Global, value: &Value) -> Result<Answer, Refused>
     ensures value { IfOk result (λ r. outcome_view r ≡ spec.is_integer (view value.now)) }
     ensures memory { IfErr result (λ e. e ≡ Refused.Memory) }
@@ -94,10 +94,11 @@ fn integer_or(alloc: Global, integer: Result<i64, IntegerError>) -> Result<Answe
     }
 }
 
-/// `asInteger`: the int that a quantity is.
+/// `asInteger`: returns a quantity as an int. A quantity that
+/// isn't an integer, or doesn't fit in an int, is an error.
 ///
 /// # Errors
-/// `Memory` alone.
+/// [`Refused::Memory`] if memory is refused.
 pub fn as_integer(alloc: Global, value: &Value) -> Result<Answer, Refused>
     ensures value { IfOk result (λ r. outcome_view r ≡ spec.as_integer (view value.now)) }
     ensures memory { IfErr result (λ e. e ≡ Refused.Memory) }
@@ -108,10 +109,10 @@ pub fn as_integer(alloc: Global, value: &Value) -> Result<Answer, Refused>
     }
 }
 
-/// `sign`: -1, 0 or 1.
+/// `sign`: returns -1, 0 or 1 if a quantity is negative, zero or positive.
 ///
 /// # Errors
-/// `Memory` alone.
+/// [`Refused::Memory`] if memory is refused.
 pub fn sign(alloc: Global, value: &Value) -> Result<Answer, Refused>
     ensures value { IfOk result (λ r. outcome_view r ≡ spec.sign_of (view value.now)) }
     ensures memory { IfErr result (λ e. e ≡ Refused.Memory) }
@@ -122,14 +123,14 @@ pub fn sign(alloc: Global, value: &Value) -> Result<Answer, Refused>
     }
 }
 
-// The quantity that is this integer.
+// The integer as a quantity.
 fn whole(integer: i128) -> KubeQuantity
     ensures { number result ≡ normal_form (decimal_at integer (pos 0)) }
 {
     KubeQuantity::from_integer(integer)
 }
 
-// The quantity of what is added or subtracted.
+// The operand of a sum or difference as a quantity. None unless it is a quantity, an int or a uint.
 fn amount(value: &Value) -> Option<KubeQuantity>
     ensures { option_map number result ≡ spec.amount_of (view value.now) }
 {
@@ -141,7 +142,7 @@ fn amount(value: &Value) -> Option<KubeQuantity>
     }
 }
 
-// Both numbers, where they are there.
+// Both operands of a sum or difference as quantities, or None if either is of the wrong kind.
 fn amounts<'a>(value: &'a Value, other: &Value) -> Option<(&'a KubeQuantity, KubeQuantity)>
     ensures { option_map (λ p. (number p.0.now, number p.1)) result
         ≡ spec.amounts_of (view value.now) (view other.now) }
@@ -155,10 +156,11 @@ fn amounts<'a>(value: &'a Value, other: &Value) -> Option<(&'a KubeQuantity, Kub
     }
 }
 
-/// `add`: the exact sum of a quantity and a quantity, an int or a uint.
+/// `add`: returns the exact sum of a quantity and a
+/// quantity, an int or a uint. A sum too large is an error.
 ///
 /// # Errors
-/// `Memory` alone.
+/// [`Refused::Memory`] if memory is refused.
 pub fn add(alloc: Global, value: &Value, other: &Value) -> Result<Answer, Refused>
     ensures value { IfOk result (λ r. outcome_view r ≡ spec.quantity_sum (view value.now) (view other.now)) }
     ensures memory { IfErr result (λ e. e ≡ Refused.Memory) }
@@ -171,10 +173,11 @@ pub fn add(alloc: Global, value: &Value, other: &Value) -> Result<Answer, Refuse
     }
 }
 
-/// `sub`: the exact difference of a quantity and a quantity, an int or a uint.
+/// `sub`: returns the exact difference of a quantity and a
+/// quantity, an int or a uint. A difference too large is an error.
 ///
 /// # Errors
-/// `Memory` alone.
+/// [`Refused::Memory`] if memory is refused.
 pub fn sub(alloc: Global, value: &Value, other: &Value) -> Result<Answer, Refused>
     ensures value { IfOk result (λ r. outcome_view r
         ≡ spec.quantity_difference (view value.now) (view other.now)) }

@@ -1,4 +1,4 @@
-//! Calls on versions.
+//! Functions on versions.
 ghost use Rattle.std.specs.Prelude.{◌≡◌, IfOk, IfErr, option_map, is_some, codes};
 ghost use Rattle.cel_value.specs.Data as plain;
 ghost use Rattle.cel_value.specs.View.{view};
@@ -14,7 +14,8 @@ use kube_types::KubeSemver;
 use std::alloc::Global;
 use std::rc::Rc;
 
-// Whether a string is to be read leniently, as the argument says. `None` where the argument is no bool.
+// Reports whether a string is to be read leniently, which it isn't
+// if the argument is absent. None if the argument isn't a bool.
 fn lenience(argument: Option<&Value>) -> Option<bool>
     ensures { result ≡ spec.lenience (option_map (λ v. view v.now) argument.entry) }
 {
@@ -39,10 +40,11 @@ fn read(alloc: Global, text: &str, lenient: bool) -> Result<Answer, Refused>
     }
 }
 
-/// `semver`: the version that a string is, read leniently where the argument says so.
+/// `semver`: parses a string as a version, leniently if the
+/// argument is true. A string that doesn't parse is an error.
 ///
 /// # Errors
-/// `Memory` alone.
+/// [`Refused::Memory`] if memory is refused.
 pub fn semver(alloc: Global, value: &Value, argument: Option<&Value>) -> Result<Answer, Refused>
     ensures value { IfOk result (λ r. outcome_view r
         ≡ spec.version_from (view value.now) (option_map (λ v. view v.now) argument.entry)) }
@@ -65,10 +67,10 @@ fn is_read(alloc: Global, text: &str, lenient: bool) -> Result<Answer, Refused>
     Ok(Ok(Value::Bool(version.is_some())))
 }
 
-/// `isSemver`: whether a string is a version, read leniently where the argument says so.
+/// `isSemver`: reports whether a string parses as a version, leniently if the argument is true.
 ///
 /// # Errors
-/// `Memory` alone.
+/// [`Refused::Memory`] if memory is refused.
 pub fn is_semver(alloc: Global, value: &Value, argument: Option<&Value>) -> Result<Answer, Refused>
     ensures value { IfOk result (λ r. outcome_view r
         ≡ spec.is_version (view value.now) (option_map (λ v. view v.now) argument.entry)) }
@@ -83,7 +85,8 @@ pub fn is_semver(alloc: Global, value: &Value, argument: Option<&Value>) -> Resu
     }
 }
 
-// A number of a version, or the fault of the function of this name.
+// A number of a version as an answer. It is an error
+// of the named function if the number is too large.
 fn part(alloc: Global, number: Option<i64>, function: &str) -> Result<Answer, Refused>
     ensures value { IfOk result (λ r. outcome_view r
         ≡ value_or (refusal function.now (codes "version part too large")) plain.int number) }
@@ -95,10 +98,11 @@ fn part(alloc: Global, number: Option<i64>, function: &str) -> Result<Answer, Re
     }
 }
 
-/// `major`: the major number of a version.
+/// `major`: returns the major number of a version. It
+/// is an error if the number doesn't fit in an int.
 ///
 /// # Errors
-/// `Memory` alone.
+/// [`Refused::Memory`] if memory is refused.
 pub fn major(alloc: Global, value: &Value) -> Result<Answer, Refused>
     ensures value { IfOk result (λ r. outcome_view r ≡ spec.major_of (view value.now)) }
     ensures memory { IfErr result (λ e. e ≡ Refused.Memory) }
@@ -109,10 +113,11 @@ pub fn major(alloc: Global, value: &Value) -> Result<Answer, Refused>
     }
 }
 
-/// `minor`: the minor number of a version.
+/// `minor`: returns the minor number of a version. It
+/// is an error if the number doesn't fit in an int.
 ///
 /// # Errors
-/// `Memory` alone.
+/// [`Refused::Memory`] if memory is refused.
 pub fn minor(alloc: Global, value: &Value) -> Result<Answer, Refused>
     ensures value { IfOk result (λ r. outcome_view r ≡ spec.minor_of (view value.now)) }
     ensures memory { IfErr result (λ e. e ≡ Refused.Memory) }
@@ -123,10 +128,11 @@ pub fn minor(alloc: Global, value: &Value) -> Result<Answer, Refused>
     }
 }
 
-/// `patch`: the patch number of a version.
+/// `patch`: returns the patch number of a version. It
+/// is an error if the number doesn't fit in an int.
 ///
 /// # Errors
-/// `Memory` alone.
+/// [`Refused::Memory`] if memory is refused.
 pub fn patch(alloc: Global, value: &Value) -> Result<Answer, Refused>
     ensures value { IfOk result (λ r. outcome_view r ≡ spec.patch_of (view value.now)) }
     ensures memory { IfErr result (λ e. e ≡ Refused.Memory) }

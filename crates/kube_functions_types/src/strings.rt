@@ -1,4 +1,4 @@
-//! The strings of IP addresses and CIDRs.
+//! `string` of IP addresses and CIDRs.
 ghost use Rattle.std.specs.Prelude.{◌≡◌, IfOk, IfErr};
 ghost use Rattle.cel_value.specs.View.{view};
 ghost use Rattle.cel_semantics.specs.Outcome.{outcome_view};
@@ -9,10 +9,10 @@ use cel_semantics::Answer;
 use cel_value::{Refused, Value};
 use std::alloc::Global;
 
-/// `string` of an address or a CIDR: the text that it prints.
+/// `string`: formats an address or a CIDR as text.
 ///
 /// # Errors
-/// `Memory` alone.
+/// [`Refused::Memory`] if memory is refused.
 pub fn string(alloc: Global, value: &Value) -> Result<Answer, Refused>
     ensures value { IfOk result (λ r. outcome_view r ≡ spec.string_of (view value.now)) }
     ensures memory { IfErr result (λ e. e ≡ Refused.Memory) }

@@ -1,4 +1,4 @@
-//! Calls on URLs.
+//! Functions on URLs.
 ghost use Rattle.std.specs.Prelude.{◌≡◌, ℕ, List, Ok, codes, is_some, option_map, string_bytes, OnOk, IfOk, IfErr};
 ghost use Rattle.std.specs.BTreeMap.{get_by_text};
 ghost use Rattle.cel_value.specs.Data as plain;
@@ -20,7 +20,8 @@ use std::alloc::Global;
 use std::collections::BTreeMap;
 use std::rc::Rc;
 
-// The URL that a text is. Where the text of a URL would be too large to be held, memory is refused.
+// The URL that the text parses to, or None if it isn't one.
+// A URL too large to be held is reported as memory refused.
 fn read(alloc: Global, text: &str) -> Result<Option<KubeUrl>, Refused>
     ensures value { IfOk result (λ url. option_map url_view url ≡ url_of text.now) }
     ensures memory { IfErr result (λ e. e ≡ Refused.Memory) }
@@ -42,10 +43,11 @@ fn url_or(alloc: Global, url: Option<KubeUrl>) -> Result<Answer, Refused>
     }
 }
 
-/// `url`: the URL, or the absolute path, that a string is.
+/// `url`: parses a string as a URL or an absolute path. A string that is neither is an error.
 ///
 /// # Errors
-/// `Memory` alone, also where the text of the URL would be too large to be held.
+/// [`Refused::Memory`] if memory is refused, or if
+/// the text of the URL would be too large to be held.
 pub fn url(alloc: Global, value: &Value) -> Result<Answer, Refused>
     ensures value { IfOk result (λ r. outcome_view r ≡ spec.url_from (view value.now)) }
     ensures memory { IfErr result (λ e. e ≡ Refused.Memory) }
@@ -59,10 +61,11 @@ pub fn url(alloc: Global, value: &Value) -> Result<Answer, Refused>
     }
 }
 
-/// `isURL`: whether a string is a URL or an absolute path.
+/// `isURL`: reports whether a string parses as a URL or an absolute path.
 ///
 /// # Errors
-/// `Memory` alone, also where the text of the URL would be too large to be held.
+/// [`Refused::Memory`] if memory is refused, or if
+/// the text of the URL would be too large to be held.
 pub fn is_url(alloc: Global, value: &Value) -> Result<Answer, Refused>
     ensures value { IfOk result (λ r. outcome_view r ≡ spec.is_url (view value.now)) }
     ensures memory { IfErr result (λ e. e ≡ Refused.Memory) }
@@ -76,7 +79,7 @@ pub fn is_url(alloc: Global, value: &Value) -> Result<Answer, Refused>
     }
 }
 
-// A part that stands in the URL's text, as an answer.
+// A part borrowed from the URL's text, copied into an answer.
 fn lent_answer(alloc: Global, part: &str) -> Result<Answer, Refused>
     ensures value { IfOk result (λ r. outcome_view r ≡ Ok (plain.text part.now)) }
     ensures memory { IfErr result (λ e. e ≡ Refused.Memory) }
@@ -84,10 +87,10 @@ fn lent_answer(alloc: Global, part: &str) -> Result<Answer, Refused>
     text_answer(alloc, String::from_str(alloc, part)?)
 }
 
-/// `getScheme`: the scheme of a URL, empty for a path.
+/// `getScheme`: returns the scheme of a URL, which is empty for a path.
 ///
 /// # Errors
-/// `Memory` alone.
+/// [`Refused::Memory`] if memory is refused.
 pub fn scheme(alloc: Global, value: &Value) -> Result<Answer, Refused>
     ensures value { IfOk result (λ r. outcome_view r ≡ spec.get_scheme (view value.now)) }
     ensures memory { IfErr result (λ e. e ≡ Refused.Memory) }
@@ -98,10 +101,11 @@ pub fn scheme(alloc: Global, value: &Value) -> Result<Answer, Refused>
     }
 }
 
-/// `getHost`: the host of a URL, with its port where it keeps one.
+/// `getHost`: returns the host of a URL, with its port
+/// unless that is absent or the default of the scheme.
 ///
 /// # Errors
-/// `Memory` alone.
+/// [`Refused::Memory`] if memory is refused.
 pub fn host(alloc: Global, value: &Value) -> Result<Answer, Refused>
     ensures value { IfOk result (λ r. outcome_view r ≡ spec.get_host (view value.now)) }
     ensures memory { IfErr result (λ e. e ≡ Refused.Memory) }
@@ -112,10 +116,10 @@ pub fn host(alloc: Global, value: &Value) -> Result<Answer, Refused>
     }
 }
 
-/// `getHostname`: the host of a URL, without port and brackets.
+/// `getHostname`: returns the host of a URL, without port and brackets.
 ///
 /// # Errors
-/// `Memory` alone.
+/// [`Refused::Memory`] if memory is refused.
 pub fn hostname(alloc: Global, value: &Value) -> Result<Answer, Refused>
     ensures value { IfOk result (λ r. outcome_view r ≡ spec.get_hostname (view value.now)) }
     ensures memory { IfErr result (λ e. e ≡ Refused.Memory) }
@@ -126,10 +130,11 @@ pub fn hostname(alloc: Global, value: &Value) -> Result<Answer, Refused>
     }
 }
 
-/// `getPort`: the port of a URL in decimal, empty where it keeps none.
+/// `getPort`: returns the port of a URL in decimal, or an
+/// empty string if it is absent or the default of the scheme.
 ///
 /// # Errors
-/// `Memory` alone.
+/// [`Refused::Memory`] if memory is refused.
 pub fn port(alloc: Global, value: &Value) -> Result<Answer, Refused>
     ensures value { IfOk result (λ r. outcome_view r ≡ spec.get_port (view value.now)) }
     ensures memory { IfErr result (λ e. e ≡ Refused.Memory) }
@@ -140,10 +145,10 @@ pub fn port(alloc: Global, value: &Value) -> Result<Answer, Refused>
     }
 }
 
-/// `getEscapedPath`: the path of a URL, percent-encoded.
+/// `getEscapedPath`: returns the path of a URL, percent-encoded.
 ///
 /// # Errors
-/// `Memory` alone.
+/// [`Refused::Memory`] if memory is refused.
 pub fn escaped_path(alloc: Global, value: &Value) -> Result<Answer, Refused>
     ensures value { IfOk result (λ r. outcome_view r ≡ spec.get_escaped_path (view value.now)) }
     ensures memory { IfErr result (λ e. e ≡ Refused.Memory) }
@@ -173,7 +178,7 @@ fn add_values(
     Ok(())
 }
 
-// The same map, of values.
+// Converts the map to one of values.
 fn map_of(alloc: Global, query: BTreeMap<String, Vec<String>>) -> Result<Entries, Refused>
     ensures value { IfOk result (λ m. (pairs : List (List ℕ × List ℕ))
         → ((name : List ℕ) → option_map texts (get_by_text query name) ≡ values_of pairs name)
@@ -197,10 +202,10 @@ fn query_map(alloc: Global, url: &KubeUrl) -> Result<Entries, Refused>
     Ok(entries)
 }
 
-/// `getQuery`: the map from each name of a URL's query to the list of its values, in order.
+/// `getQuery`: returns a map from each name in a URL's query to the list of its values, in order.
 ///
 /// # Errors
-/// `Memory` alone.
+/// [`Refused::Memory`] if memory is refused.
 pub fn query(alloc: Global, value: &Value) -> Result<Answer, Refused>
     ensures value { IfOk result (λ r. outcome_view r ≡ spec.get_query (view value.now)) }
     ensures memory { IfErr result (λ e. e ≡ Refused.Memory) }

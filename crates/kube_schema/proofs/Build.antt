@@ -1,4 +1,4 @@
--- A table that grows, node by node.
+-- How a table grows, node by node.
 use Rattle.std.proofs.Common.{◌≡◌, ℕ, suc, ◌+◌, ◌<◌, ◌≤◌, List, [], ◌∷◌, ◌++◌, length, map, take, get_or, false, Option, Some, None, Err, option_map, slice_get, string_bytes, refl, sym, ap, ◌∙◌, subst, arith, length-set}
 use Rattle.std.proofs.Math.ListN.{set}
 use Rattle.std.proofs.lemmas.List.{take_more}
@@ -28,7 +28,7 @@ use Rattle.kube_schema.specs.View.{view_of, named_view, nodes_view, branch_view,
 use Rattle.kube_schema.specs.Raw.{keywords_view, named_at, nodes_at, with_children, assemble, childless, tree, LinksWithin, NumbersWithin, IsWithin, Closed, Later, Appends, Adds, AddsProperties, AddsNamed, link_names, LinksOrdered, AddsMaybe, AddsNodes, AddsChildren}
 use Rattle.kube_schema.proofs.Trees.{named_same, maybe_same, nodes_same, node_same, children_same, links_wider, maybe_wider, numbers_wider, within_wider, later_self, later_trans, later_set, kept_by_set, set_here, tree_later, opens}
 
--- ---- a list of children, one longer
+-- ---- a list of children, extended by one
 
 abbrev named_and : Named → List ℕ → Node → Named
 named_and no_named k n = named k n no_named
@@ -130,9 +130,9 @@ joined t1 t2 t3 t4 t5 t6 t7 c shown {ps} {it} {ad} {xs} {ys} {zs} p a b d e f k2
       counted = λ o. let x2 = p.adds.counted in let x3 = a.counted in let x4 = b.counted in let x5 = d.counted in let x6 = e.counted in let x7 = f.counted in let x = ap count (same o) in omega arith;
     }
 
--- ---- one node, placed after its children
+-- ---- one node, stored after its children were added
 
--- the children's numbers, in the last table
+-- the children's numbers are within bounds in the last table
 pub node_within : (t0 t1 t7 : List TableNode) (n : NodeId) (k : Keywords) (c : Children) (shown : Own → Node) → Appends t0 t1 n k → AddsChildren t1 t7 c shown → IsWithin (suc n.0) (length t7) c
 node_within t0 t1 t7 n k c shown p a = let l = p.last in let w = p.within in within_wider (length t1) (suc n.0) (length t7) (length t7) c (omega arith) (omega arith) a.within
 
@@ -158,7 +158,7 @@ built t0 t1 t7 t8 n k r shown p a k7 k8 e =
       shows = opens t8 n.0 r k8 here ∙ sym (children_same (tree t7) (tree t8) (length t1) (length t7) r.children o a.within (λ i x y. tree_later t7 t8 low i k7 g78 (omega arith) y)) ∙ a.shows o;
     }
 
--- ---- what the tree is, by the schema
+-- ---- the tree, by the schema
 
 pub own_same : (k : Keywords) (s : Data) → map compiled_seen k.validations.rules.items ≡ compiled_rules (rule_items s) → k.format ≡ format_of s → k.is_map ≡ is_map s → k.preserve_unknown_fields ≡ preserves s → k.embedded_resource ≡ is_embedded s
     → k.max_length ≡ limit (codes "maxLength") s → k.max_items ≡ limit (codes "maxItems") s → k.max_properties ≡ limit (codes "maxProperties") s → option_map view k.default ≡ default_in s → keywords_view k ≡ own_view s

@@ -1,4 +1,4 @@
--- The names of a node's properties, one after the other.
+-- The names of a node's properties, one after another.
 use Rattle.std.proofs.Common.{◌≡◌, ◌≤◌, ℕ, zero, suc, List, [], ◌∷◌, length, drop, is_some, nat_cmp, ◌||◌, Option, Some, None, option_map, refl, sym, ap, ◌∙◌, arith, Ordering, Less, Equal, Greater, is_eq}
 use Rattle.std.specs.Cmp.Lexicographic.{slice_cmp}
 use Rattle.std.specs.Ordering.{match_ordering}
@@ -31,7 +31,7 @@ drop_past [] (suc i) h = refl
 drop_past (k ∷ ks) zero h = absurd (omega arith)
 drop_past (k ∷ ks) (suc i) h = drop_past ks i (omega arith)
 
--- in a loop over the properties of a node, whose defaults f fills
+-- in a loop over the properties of a node, whose defaults are filled by f
 pub default_at : (f : Node → Data → Data) (s : Node) (i j : ℕ) (k : List ℕ) (p : Node) (ms ms2 : Members) → ◌≡◌ {A = Option (List ℕ × Node)} (Some (k, p)) (nth_named i (named_of s)) → property_of k s ≡ Some p → j ≡ suc i
     → ms2 ≡ put_new k (option_map (f p) (default_of p)) ms → with_defaults (default_by tree_accessors f s) (drop j (names (named_of s))) ms2 ≡ with_defaults (default_by tree_accessors f s) (drop i (names (named_of s))) ms
 unfolding tree_accessors

@@ -1,4 +1,4 @@
--- Binding looks only at what the tree keeps of a schema.
+-- Binding reads only what the tree keeps of a schema.
 use Rattle.std.proofs.Common.{◌≡◌, ℕ, zero, suc, List, if◌then◌else◌, Option, Some, None, option_map, refl, ap, ◌∙◌, codes}
 use Rattle.std.specs.Option.{option_map_or}
 use Rattle.serde_json.specs.Data as json
@@ -15,7 +15,7 @@ use Rattle.kube_schema.specs.View.{children_view, own_view, view_of}
 use Rattle.kube_schema.proofs.SameDefaults.{find_same, maybe_same}
 use Rattle.kube_schema.specs.CompiledConversion.{tree_accessors}
 
--- ---- generic: two schemas that answer alike, one level down
+-- ---- generic: two forms of a schema that answer alike, one level down
 
 items_by_same : (f g : json.Data → Data) → ((d : json.Data) → f d ≡ g d) → (ds : json.Items) → items_by f ds ≡ items_by g ds
 items_by_same f g h json.no_items = refl
@@ -26,7 +26,7 @@ entries_by_same key other f g named same json.no_members = refl
 entries_by_same key other f g named same (json.member k d ms) = λ i. put (text_key (named k i)) (same k d i) (entries_by_same key other f g named same ms i)
 
 module _ {S T : Type 0} (ls : ConversionAccessors S) (lt : ConversionAccessors T) (view : S → T) where
-  -- t is what s looks like
+  -- t is the view of s
   pub record Alike (s : S) (t : T) : Type 0 where
     pub property : (k : List ℕ) → option_map view (ls.property k s) ≡ lt.property k t
     pub additional : option_map view (ls.additional s) ≡ lt.additional t
@@ -77,7 +77,7 @@ alike n s = record {
   format = refl;
 }
 
--- what the tree binds is what the schema binds
+-- the tree and the schema convert a value alike
 pub bound_same : (n : ℕ) (s d : json.Data) → to_cel raw n s d ≡ to_cel tree_accessors n (view_of n s) d
 unfolding to_cel
 bound_same zero s d = refl

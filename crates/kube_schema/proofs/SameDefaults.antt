@@ -1,4 +1,4 @@
--- Defaults ask only for what the tree keeps of a schema.
+-- Defaults read only what the tree keeps of a schema.
 use Rattle.std.proofs.Common.{◌≡◌, ℕ, zero, suc, List, [], ◌∷◌, Bool, true, false, if◌then◌else◌, Option, Some, None, option_map, option_and_then, unwrap_or, refl, ap, ◌∙◌, codes, nat_cmp, Ordering, Less, Equal, Greater}
 use Rattle.std.specs.Option.{option_or}
 use Rattle.std.specs.Cmp.Lexicographic.{slice_cmp}
@@ -12,7 +12,7 @@ use Rattle.kube_schema_values.specs.Defaults.{put_new, map_items, map_members, w
 use Rattle.kube_schema_values.proofs.Fills.{property_is}
 use Rattle.kube_schema.specs.CompiledDefaults.{tree_accessors}
 
--- ---- generic: two schemas that answer alike, one level down
+-- ---- generic: two forms of a schema that answer alike, one level down
 
 map_items_same : (f g : Data → Data) → ((d : Data) → f d ≡ g d) → (ds : Items) → map_items f ds ≡ map_items g ds
 map_items_same f g h no_items = refl
@@ -28,7 +28,7 @@ with_defaults_same f g h [] ms = refl
 with_defaults_same f g h (k ∷ ks) ms = ap (λ o. with_defaults f ks (put_new k o ms)) (h k) ∙ with_defaults_same f g h ks (put_new k (g k) ms)
 
 module _ {S T : Type 0} (ls : DefaultsAccessors S) (lt : DefaultsAccessors T) (view : S → T) where
-  -- t is what s looks like
+  -- t is the view of s
   pub record Alike (s : S) (t : T) : Type 0 where
     pub keys : ls.keys s ≡ lt.keys t
     pub property : (k : List ℕ) → option_map view (ls.property k s) ≡ lt.property k t
@@ -116,7 +116,7 @@ alike n s = record {
   default = default_same_at n;
 }
 
--- what the tree fills is what the schema fills
+-- the tree and the schema fill a value alike
 pub filled_same : (n : ℕ) (s d : Data) → defaulted_value raw n s d ≡ defaulted_value tree_accessors n (view_of n s) d
 unfolding defaulted_value
 filled_same zero s d = refl

@@ -1,4 +1,4 @@
--- A name that is looked up among links in name order.
+-- The search for a name among links in name order.
 use Rattle.std.proofs.Common.{◌≡◌, ℕ, zero, suc, ◌<◌, ◌≤◌, List, [], ◌∷◌, length, Bool, true, false, nat_lt, Some, None, slice_get, get_or, add-one, nat_cmp, Ordering, Less, Equal, Greater, is_eq, string_bytes, refl, sym, ap, ◌∙◌, subst, arith}
 use Rattle.std.proofs.lemmas.Bool.Decides.{nat_tests}
 use Rattle.std.proofs.lemmas.Cmp.{nat_list_cmp_total, tied_itself}
@@ -14,7 +14,7 @@ use Rattle.kube_schema.specs.Raw.{named_at, LinksOrdered}
 use Rattle.kube_schema.specs.Tree.{Node, find}
 use Rattle.kube_schema.proofs.Trees.{beyond, found_at}
 
--- how a link's name compares with a name
+-- the comparison of a link's name with a name
 abbrev pub by_name : List ℕ → PropertyLink → Ordering
 by_name k l = slice_cmp nat_cmp (string_bytes l.name) k
 
@@ -25,7 +25,7 @@ rises (l ∷ []) h i d within = absurd (omega arith)
 rises (l ∷ m ∷ ls) h zero d within = ap is_lt (nat_list_cmp_total.antisymm (string_bytes m.name) (string_bytes l.name) ∙ ap ordering_reverse h.0.0)
 rises (l ∷ m ∷ ls) h (suc i) d within = rises (m ∷ ls) h.1 i d (omega arith)
 
--- as a binary search asks
+-- the links ascend under the comparison of the binary search
 names_rise : (ls : List PropertyLink) (k : List ℕ) → LinksOrdered ls → IsNonDecreasingBy (λ l. ordering_index (by_name k l)) ls
 names_rise ls k h =
     let sorted : IsSortedBy (λ (a b : PropertyLink). is_lt (slice_cmp nat_cmp (string_bytes a.name) (string_bytes b.name))) ls = λ i d low within. rw add-one (rises ls h i d (omega arith)) in
@@ -34,7 +34,7 @@ names_rise ls k h =
 read_there : (ls : List PropertyLink) (i : ℕ) (l : PropertyLink) → slice_get ls i ≡ Some l → get_or ls i l ≡ l
 read_there ls i l e = let there = slice_get-get_or ls i l (slice_get_within ls i l e) in cc
 
--- a name that differs in order is another
+-- a name that compares as unequal differs
 differs : (k : List ℕ) (l : PropertyLink) (o : Ordering) → by_name k l ≡ o → is_eq o ≡ false → string_bytes l.name ≡ k → ⊥
 differs k l o is unequal same = let tied = tied_itself nat_list_cmp_total k in let here = ap (λ n. slice_cmp nat_cmp n k) same in let both = ap is_eq (sym is ∙ here ∙ tied) in cc
 
@@ -49,11 +49,11 @@ none_found : (f : ℕ → Node) (k : List ℕ) (ls : List PropertyLink) → ((i 
 none_found f k [] h = refl
 none_found f k (l ∷ ls) h = beyond f k l ls (λ e. h 0 l refl e) ∙ none_found f k ls (λ i m at e. h (suc i) m at e)
 
--- where no link has the name
+-- if no link has the name
 pub absent : (f : ℕ → Node) (k : List ℕ) (ls : List PropertyLink) (at : ℕ) → LinksOrdered ls → (IsNonDecreasingBy (λ l. ordering_index (by_name k l)) ls → IsPartitionPoint (λ l. by_name k l ≡ Less) (λ l. by_name k l ≡ Greater) ls at) → find k (named_at f ls) ≡ None
 absent f k ls at ordered parted = none_found f k ls (no_link ls k at (parted (names_rise ls k ordered)))
 
--- where one has
+-- if a link has the name
 pub present : (f : ℕ → Node) (k : List ℕ) (ls : List PropertyLink) (i : ℕ) (l : PropertyLink) → LinksOrdered ls → slice_get ls i ≡ Some l → by_name k l ≡ Equal → find k (named_at f ls) ≡ Some (f l.node.0)
 present f k ls i l ordered e equal =
     let same : string_bytes l.name ≡ k = (bytes_eq-Decides (string_bytes l.name) k).0 (sym (is_eq-slice_cmp (string_bytes l.name) k) ∙ ap is_eq equal) in

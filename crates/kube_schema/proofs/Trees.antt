@@ -1,4 +1,4 @@
--- Trees of a table: how they open, and what growth leaves as it was.
+-- Trees of a table: how to unfold one, and what stays the same when the table grows.
 use Rattle.std.proofs.Common.{◌≡◌, ◌⊎◌, inl, inr, ℕ, zero, suc, ◌+◌, ◌<◌, ◌≤◌, List, [], ◌∷◌, ◌++◌, length, Bool, true, false, if◌then◌else◌, Option, Some, None, option_map, slice_get, get_or, nat_cmp, Ordering, Less, Equal, Greater, is_eq, string_bytes, refl, sym, ap, ◌∙◌, subst, arith, length-set, length-append}
 use Rattle.std.proofs.Math.ListN.{set}
 use Rattle.std.proofs.lemmas.Cmp.{nat_list_cmp_total, tied_itself}
@@ -17,7 +17,7 @@ use Rattle.kube_schema.specs.declared.nodes.TableNode.{TableNode}
 use Rattle.kube_schema.specs.Tree.{Own, Node, node, Maybe, just, Named, named, Nodes, more, own, as_option, items_of, additional_of, default_of, nth_node, nodes_length, all_of, one_of, any_of, nth_named, named_of, names, find}
 use Rattle.kube_schema.specs.Raw.{keywords_view, named_at, maybe_at, nodes_at, with_children, assemble, assemble_some, childless, tree_in, tree, LinksWithin, MaybeWithin, NumbersWithin, IsWithin, Closed, Later, Appends, link_names, LinksOrdered, AllOrdered}
 
--- ---- one node under two meanings of the numbers
+-- ---- one node under two readings of the numbers
 
 pub named_same : (f g : ℕ → Node) (low high : ℕ) (ls : List PropertyLink) → LinksWithin low high ls → ((c : ℕ) → low ≤ c → c < high → f c ≡ g c) → named_at f ls ≡ named_at g ls
 named_same f g low high [] h same = refl
@@ -109,13 +109,13 @@ set_here (x ∷ t) (suc p) r h = set_here t p r (omega arith)
 pub later_set : (t : List TableNode) (p : ℕ) (r : TableNode) → Later (suc p) t (set t p r)
 later_set t p r = record { longer = let e = length-set t p r in omega arith; same = λ j a b. set_after t p j r a }
 
--- what lay before the place stays
+-- nodes before index p stay the same
 pub kept_by_set : (t u : List TableNode) (p : ℕ) (r : TableNode) → Later 0 t u → length t ≤ p → Later 0 t (set u p r)
 kept_by_set t u p r h k = record { longer = let e = length-set u p r in let a = h.longer in omega arith; same = λ j a b. set_before u p j r (omega arith) ∙ h.same j a b }
 
 -- ---- the tree at a number
 
--- one level, where the levels below are the same
+-- one level, if the levels below are equal
 agree_at : (f g : ℕ → Node) (t : List TableNode) (i : ℕ) → Closed t → ((c : ℕ) → suc i ≤ c → c < length t → f c ≡ g c) → assemble_some f (slice_get t i) ≡ assemble_some g (slice_get t i)
 agree_at f g t i closed same = by (slice_get t i) refl
   where
@@ -141,14 +141,14 @@ opens_in zero t i r closed e il hn = absurd (omega arith)
 opens_in (suc n) t i r closed e il hn =
     ap (assemble_some (tree_in n t)) e ∙ assemble_same (tree_in n t) (tree t) (suc i) (length t) r (closed i r e) (λ c h k. agree n (length t) t t 0 c closed (later_self 0 t) (omega arith) k (omega arith) (omega arith))
 
--- a tree is its node, with the trees of its numbers
+-- a tree is its node with the trees of the node's numbers
 pub opens : (t : List TableNode) (i : ℕ) (r : TableNode) → Closed t → slice_get t i ≡ Some r → tree t i ≡ assemble (tree t) r
 unfolding tree
 opens t i r closed e = opens_in (length t) t i r closed e (slice_get_within t i r e) (omega arith)
 
 -- ---- a new last node
 
--- a node of the longer list is an old one or the last
+-- a node of the longer list is an old one or the appended one
 pub last_or_old : (t : List TableNode) (x r : TableNode) (i : ℕ) → slice_get (t ++ x ∷ []) i ≡ Some r → (slice_get t i ≡ Some r) ⊎ ((i ≡ length t) × (x ≡ r))
 last_or_old [] x r zero e = inr (refl, cc)
 last_or_old [] x r (suc i) e = absurd cc
@@ -206,7 +206,7 @@ appends t u x n e at leaf closed = subst (λ u. Appends t u n x.keywords) (sym e
   shows = ap (tree (t ++ x ∷ [])) at ∙ opens (t ++ x ∷ []) (length t) x (closed_append t x closed (leaf_within x leaf)) (last_here t x) ∙ leaf_shows (tree (t ++ x ∷ [])) x leaf;
 })
 
--- ---- what an opened node shows
+-- ---- the parts of an unfolded node
 
 maybe_option : (f : ℕ → Node) (o : Option NodeId) → as_option (maybe_at f o) ≡ option_map (λ n. f n.0) o
 maybe_option f None = refl
@@ -254,7 +254,7 @@ pub property_at : (f : ℕ → Node) (r : TableNode) (i : ℕ) → nth_named i (
 unfolding assemble with_children
 property_at f r i = named_nth f r.children.properties.items i
 
--- an element that was read
+-- an element read at an index within bounds
 pub nth_there : {X : Type 0} (t : List X) (i : ℕ) (x : X) → i < length t → x ≡ get_or t i x → slice_get t i ≡ Some x
 nth_there t i x h e = slice_get-get_or t i x h ∙ ap Some (sym e)
 
@@ -268,7 +268,7 @@ link_below low high [] i l h e = absurd cc
 link_below low high (m ∷ ls) zero l h e = let same : m ≡ l = cc in subst (λ l. l.node.0 < high) same h.1
 link_below low high (m ∷ ls) (suc i) l h e = link_below low high ls i l h.2 e
 
--- ---- looking a name up, link by link
+-- ---- searching a name, link by link
 
 same_key : (k l : List ℕ) → slice_cmp nat_cmp k l ≡ Equal → k ≡ l
 same_key k l e = (bytes_eq-Decides k l).0 (sym (is_eq-slice_cmp k l) ∙ ap is_eq e)
@@ -288,14 +288,14 @@ beyond f k l ls other = by (slice_cmp nat_cmp k (string_bytes l.name)) refl
     by Equal e = absurd (other (sym (same_key k (string_bytes l.name) e)))
     by Greater e = refl
 
--- ---- names in order
+-- ---- sorted names
 
 all_here : (k : List ℕ) (ls : List PropertyLink) (i : ℕ) (l : PropertyLink) → AllByRecursion (λ y. slice_cmp nat_cmp k y ≡ Less) (link_names ls) → slice_get ls i ≡ Some l → slice_cmp nat_cmp k (string_bytes l.name) ≡ Less
 all_here k [] i l h e = absurd cc
 all_here k (m ∷ ls) zero l h e = let same : m ≡ l = cc in subst (λ l. slice_cmp nat_cmp k (string_bytes l.name) ≡ Less) same h.0
 all_here k (m ∷ ls) (suc i) l h e = all_here k ls i l h.1 e
 
--- the name of a link leads to that link
+-- searching the name of a link finds that link
 pub found_at : (f : ℕ → Node) (ls : List PropertyLink) (i : ℕ) (l : PropertyLink) → LinksOrdered ls → slice_get ls i ≡ Some l → find (string_bytes l.name) (named_at f ls) ≡ Some (f l.node.0)
 unfolding IsStrictlySortedBy
 found_at f [] i l h e = absurd cc
@@ -319,7 +319,7 @@ pub ordered_push : (t u : List TableNode) (b : Bool) (x : TableNode) → u ≡ (
 ordered_push t u true x e leaf all = subst AllOrdered (sym e) (ordered_append t x all (no_order x leaf))
 ordered_push t u false x e leaf all = subst AllOrdered (sym e) all
 
--- a node of the changed table is an old one or the new
+-- a node of the changed table is an old one or the new one
 set_or_old : (t : List TableNode) (p : ℕ) (x r : TableNode) (i : ℕ) → slice_get (set t p x) i ≡ Some r → (slice_get t i ≡ Some r) ⊎ ((i ≡ p) × (x ≡ r))
 set_or_old [] p x r i e = absurd cc
 set_or_old (y ∷ t) zero x r zero e = inr (refl, cc)

@@ -1,4 +1,4 @@
--- A table whose nodes have no default.
+-- A table in which no node has a default.
 use Rattle.std.proofs.Common.{◌≡◌, ℕ, zero, suc, List, [], ◌∷◌, length, Bool, true, false, ◌||◌, if◌then◌else◌, is_some, Option, Some, None, option_map, slice_get, string_bytes, nat_cmp, Ordering, Less, Equal, Greater, refl, sym, ap, ◌∙◌, subst}
 use Rattle.std.specs.Option.{option_or}
 use Rattle.std.specs.Cmp.Lexicographic.{slice_cmp}
@@ -15,7 +15,7 @@ use Rattle.kube_schema.specs.Raw.{keywords_view, named_at, maybe_at, with_childr
 use Rattle.kube_schema.specs.Tree.{Node, as_option, find, default_of}
 use Rattle.kube_schema.proofs.Trees.{default_at}
 
--- ---- what leads to a node is a number of the table
+-- ---- each child of a node is given by a number
 
 found_named : (f : ℕ → Node) (k : List ℕ) (ls : List PropertyLink) (p : Node) → find k (named_at f ls) ≡ Some p → (j : ℕ) × (p ≡ f j)
 found_named f k [] p e = absurd cc
@@ -35,7 +35,7 @@ found_member f p (Some q) b o h e = h e
 found_member f p None true o h e = absurd cc
 found_member f p None false o h e = found_maybe f o p e
 
--- ---- one level, where the numbers stand for nodes without a default
+-- ---- one level, if the numbers stand for nodes without a default
 
 node_without : (m : ℕ) (f : ℕ → Node) (r : TableNode) → ((j : ℕ) → default_of (f j) ≡ None) → ((j : ℕ) → HasNoDefaults tree_accessors m (f j)) → HasNoDefaults tree_accessors (suc m) (assemble f r)
 unfolding HasNoDefaults tree_accessors assemble with_children member_schema

@@ -1,5 +1,6 @@
 -- Trusted by the clauses of other library calls.
--- What the tree of a schema answers where binding asks: as the schema itself does.
+-- The accessors by which binding reads the tree of a
+-- schema. They answer as those of the schema itself.
 use Rattle.kube_schema_values.specs.Conversion.{ConversionAccessors}
 use Rattle.kube_schema.specs.Tree.{Node, own, items_of, additional_of, property_of}
 

@@ -1,5 +1,6 @@
 -- Trusted by the clauses of other library calls.
--- What the tree of a schema answers where defaults ask: as the schema itself does.
+-- The accessors by which defaults read the tree of a
+-- schema. They answer as those of the schema itself.
 use Rattle.std.specs.Prelude.{if◌then◌else◌, None}
 use Rattle.kube_schema_values.specs.DefaultsAccessors.{DefaultsAccessors}
 use Rattle.kube_schema.specs.Tree.{Node, own, named_of, names, items_of, additional_of, property_of, default_of}

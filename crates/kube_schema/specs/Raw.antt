@@ -1,5 +1,5 @@
 -- Trusted by the headline.
--- The tree that a number of a table stands for.
+-- The tree that a number stands for in a table.
 use Rattle.std.specs.Prelude.{◌≡◌, ◌<◌, ◌≤◌, ◌+◌, ℕ, zero, suc, List, [], ◌∷◌, length, map, Bool, false, is_some, Option, Some, None, option_map, slice_get, string_bytes, ⊤}
 use Rattle.std.specs.Cmp.Lexicographic.{slice_cmp}
 use Rattle.std.specs.Ordering.{nat_cmp}
@@ -16,7 +16,7 @@ use Rattle.kube_schema.specs.declared.nodes.Children.{Children}
 use Rattle.kube_schema.specs.declared.nodes.TableNode.{TableNode}
 use Rattle.kube_schema.specs.Tree.{Own, Node, node, Maybe, nothing, just, Named, no_named, named, Nodes, no_nodes, more, count, named_count, maybe_count, nodes_count}
 
--- ---- one node, where f says what each number stands for
+-- ---- one node, with the tree of each number given by f
 
 unfoldable pub keywords_view : Keywords → Own
 keywords_view k = record {
@@ -71,7 +71,7 @@ abbrev pub assemble_some : (ℕ → Node) → Option TableNode → Node
 assemble_some f None = blank
 assemble_some f (Some r) = assemble f r
 
--- followed at most n levels deep
+-- the tree, followed at most n levels deep
 unfoldable pub tree_in : ℕ → List TableNode → ℕ → Node
 tree_in zero t i = blank
 tree_in (suc n) t i = assemble_some (tree_in n t) (slice_get t i)
@@ -85,7 +85,7 @@ tree t i = tree_in (length t) t i
 abbrev pub has_default : TableNode → Bool
 has_default r = is_some r.keywords.default
 
--- whether a node of the table has a default
+-- a node of the table has a default
 abbrev pub any_default : List TableNode → Bool
 any_default t = list_any has_default t
 
@@ -103,14 +103,14 @@ abbrev pub NumbersWithin : ℕ → ℕ → List NodeId → Type 0
 NumbersWithin low high [] = ⊤
 NumbersWithin low high (n ∷ ns) = (low ≤ n.0) × (n.0 < high) × NumbersWithin low high ns
 
--- all numbers are from low on and below high
+-- all numbers are at least low and below high
 abbrev pub IsWithin : ℕ → ℕ → Children → Type 0
 IsWithin low high c =
     LinksWithin low high c.properties.items × MaybeWithin low high c.items × MaybeWithin low high c.additional
     × NumbersWithin low high c.all_of.items × NumbersWithin low high c.one_of.items
     × NumbersWithin low high c.any_of.items
 
--- each node's numbers stand in the table, behind it
+-- each node's numbers are indices of later nodes of the table
 abbrev pub Closed : List TableNode → Type 0
 Closed t = (i : ℕ) (r : TableNode) → slice_get t i ≡ Some r → IsWithin (suc i) (length t) r.children
 
@@ -143,19 +143,19 @@ AllOrdered t = (i : ℕ) (r : TableNode) → slice_get t i ≡ Some r → LinksO
 
 -- ---- how a table grows
 
--- the second table has the nodes of the first, from low on
+-- the second table has all nodes of the first from index low on
 pub record Later (low : ℕ) (t u : List TableNode) : Type 0 where
   pub longer : length t ≤ length u
   pub same : (j : ℕ) → low ≤ j → j < length t → slice_get u j ≡ slice_get t j
 
--- a new node at the end, without children
+-- one node is appended, without children
 pub record Appends (old new : List TableNode) (n : NodeId) (keywords : Keywords) : Type 0 where
   pub last : n.0 ≡ length old
   pub within : length new ≡ suc (length old)
   pub grows : Later 0 old new
   pub shows : tree new n.0 ≡ childless (keywords_view keywords)
 
--- new nodes at the end, of which the first stands for the tree
+-- nodes are appended; the first of them stands for the tree
 pub record Adds (old new : List TableNode) (n : NodeId) (shown : Node) : Type 0 where
   pub first : n.0 ≡ length old
   pub within : n.0 < length new
@@ -185,7 +185,8 @@ pub record AddsNodes (old new : List TableNode) (ns : List NodeId) (shown : Node
   pub shows : nodes_at (tree new) ns ≡ shown
   pub counted : length new ≡ length old + nodes_count shown
 
--- new nodes at the end, among them these children, which make a node of given keywords the tree
+-- nodes are appended, among them these children; a node
+-- with given keywords and these children is the tree
 pub record AddsChildren (old new : List TableNode) (c : Children) (shown : Own → Node) : Type 0 where
   pub within : IsWithin (length old) (length new) c
   pub ordered : LinksOrdered c.properties.items

@@ -1,5 +1,5 @@
 -- Trusted by the headline.
--- What a node of a compiled schema shows.
+-- The tree of a compiled schema.
 use Rattle.kube_schema.specs.declared.node.CompiledSchema.{CompiledSchema}
 use Rattle.kube_schema.specs.declared.node.SchemaNode.{SchemaNode}
 use Rattle.kube_schema.specs.Tree.{Node}

@@ -8,11 +8,11 @@ use Rattle.serde_json.specs.Data.{Data}
 use Rattle.kube_schema_values.specs.declared.format.SchemaFormat.{SchemaFormat}
 use Rattle.kube_schema_rules.specs.Compilation.{Compiled, Malformed}
 
--- what a node says of itself
+-- the keywords of a node
 pub record Own : Type 0 where
-  -- its rules in their order, each compiled, or why it is malformed
+  -- its rules in order, each either compiled or with the reason why it is malformed
   pub validations : List (Result Compiled Malformed)
-  -- what its texts become
+  -- the format by which its strings are converted
   pub format : SchemaFormat
   pub is_map : Bool
   pub preserves : Bool
@@ -23,8 +23,8 @@ pub record Own : Type 0 where
   pub default : Option Data
 
 mutual
-  -- a node with its properties, the node of list items, the node of other keys,
-  -- and the branches of allOf, oneOf and anyOf
+  -- a node: its keywords, its properties, the node of list items, the
+  -- node of undeclared keys, and the branches of allOf, oneOf and anyOf
   pub data Node : Type 0 where
     node : Own → Named → Maybe → Maybe → Nodes → Nodes → Nodes → Node
 
@@ -63,7 +63,7 @@ as_option (just n) = Some n
 abbrev pub items_of : Node → Option Node
 items_of (node o ps it ad xs ys zs) = as_option it
 
--- the node of the other keys
+-- the node of undeclared keys
 abbrev pub additional_of : Node → Option Node
 additional_of (node o ps it ad xs ys zs) = as_option ad
 
@@ -71,7 +71,7 @@ abbrev pub find : List ℕ → Named → Option Node
 find k no_named = None
 find k (named l n ns) = match_ordering (slice_cmp nat_cmp k l) (find k ns) (Some n) (find k ns)
 
--- the node that is declared for a key
+-- the node that `properties` declares for a key
 abbrev pub property_of : List ℕ → Node → Option Node
 property_of k n = find k (named_of n)
 
@@ -97,7 +97,7 @@ nodes_length (more n ns) = suc (nodes_length ns)
 abbrev pub default_of : Node → Option Data
 default_of n = (own n).default
 
--- why rules are malformed, of those that are
+-- the reasons why rules are malformed, for those that are
 abbrev pub malformed_in : List (Result Compiled Malformed) → List Malformed
 malformed_in [] = []
 malformed_in (Ok c ∷ rs) = malformed_in rs

@@ -1,6 +1,6 @@
 -- Trusted by the headline.
--- The tree that a schema stands for, keyword by keyword: Kubernetes documentation, "Extend the Kubernetes API
--- with CustomResourceDefinitions", "Specifying a structural schema".
+-- The tree of a schema, keyword by keyword: Kubernetes documentation, "Extend the
+-- Kubernetes API with CustomResourceDefinitions", "Specifying a structural schema".
 use Rattle.std.specs.Prelude.{ℕ, zero, suc, false, List, [], ◌∷◌, Option, Some, None, Err, codes, option_and_then}
 use Rattle.serde_json.specs.Data.{Data, Items, no_items, item, Members, no_members, member}
 use Rattle.serde_json.specs.Find.{get, as_array, as_number, as_u64}
@@ -11,9 +11,9 @@ use Rattle.kube_schema_rules.specs.Compilation.{past_depth, compiled_rules}
 use Rattle.kube_schema_rules.specs.Rules.{rule_items}
 use Rattle.kube_schema.specs.Tree.{Own, Node, node, Maybe, nothing, just, Named, no_named, named, Nodes, no_nodes, more}
 
--- ---- the keywords of one schema
+-- ---- the keywords of a single schema
 
--- a whole number that fits
+-- a whole number that fits `u64`
 unfoldable pub limit : List ℕ → Data → Option ℕ
 limit k schema = option_and_then (λ d. option_and_then as_u64 (as_number d)) (get k schema)
 
@@ -37,7 +37,8 @@ own_view s = record {
   default = default_in s;
 }
 
--- what is left of a schema past the greatest depth: its default alone, and one error in place of its rules
+-- the marker of a schema beyond the maximum depth:
+-- only its default, and one error instead of its rules
 unfoldable pub marker_view : Data → Own
 marker_view s = record {
   validations = Err (past_depth 65) ∷ [];
@@ -51,7 +52,7 @@ marker_view s = record {
   default = default_in s;
 }
 
--- ---- the schemas within it, where f says what each stands for
+-- ---- the schemas within it, with the tree of each given by f
 
 abbrev pub named_view : (Data → Node) → Members → Named
 named_view f no_members = no_named
@@ -68,14 +69,14 @@ maybe_view f (Some d) = just (f d)
 abbrev pub branch_view : (Data → Node) → List ℕ → Data → Nodes
 branch_view f k s = nodes_view f (items_or_none (branches k s))
 
--- a node of these keywords with the schema's children
+-- a node with these keywords and the schema's children
 unfoldable pub children_view : (Data → Node) → Data → Own → Node
 children_view f s o =
     node o (named_view f (members_or_none (declared_properties s)))
     (maybe_view f (get (codes "items") s)) (maybe_view f (additional s))
     (branch_view f (codes "allOf") s) (branch_view f (codes "oneOf") s) (branch_view f (codes "anyOf") s)
 
--- the tree of a schema, with a marker in place of what lies deeper than this many levels
+-- the tree of a schema, with markers instead of schemas deeper than this number of levels
 unfoldable pub view_of : ℕ → Data → Node
 view_of zero s = node (marker_view s) no_named nothing nothing no_nodes no_nodes no_nodes
 view_of (suc n) s = children_view (view_of n) s (own_view s)

@@ -1,5 +1,5 @@
-//! JSON values as CEL values, by a node of a compiled schema (Kubernetes documentation, "Use CEL validation
-//! rules", the CEL types of schema types and the escaping of property names).
+//! Conversion of JSON values to CEL by a node of a compiled schema (Kubernetes documentation,
+//! "Use CEL validation rules", the CEL types of schema types and the escaping of property names).
 ghost use Rattle.std.specs.Prelude.{◌≡◌, IfErr, IfOk, option_map};
 ghost use Rattle.serde_json.specs.View.{view as json_view};
 ghost use Rattle.cel_demand.specs.Alike.{Alike};
@@ -17,7 +17,7 @@ use kube_schema_values::{Node, SchemaFormat, bind_at};
 use serde_json::Value as Json;
 use std::alloc::Global;
 
-/// A node of a schema that was compiled.
+/// A node of a compiled schema.
 #[derive(Clone, Copy)]
 struct CompiledNode<'a> {
     node: SchemaNode<'a>,
@@ -61,14 +61,15 @@ impl Node for CompiledNode<'_> {
     }
 }
 
-/// The CEL value of a JSON value at a node of a compiled schema that stands `depth` steps below the root.
+/// Converts a JSON value to CEL by a node of a compiled schema, `depth` steps below the root.
 ///
-/// Texts become what the node's format says, members and items are converted by their own nodes, and keys are
-/// escaped unless the node is a map. At a depth of 65 and more no schema is looked at.
+/// Strings are converted by the node's format, members and items by
+/// their own nodes, and keys are escaped unless the node is a map node.
+/// From depth 65 on, values are converted plainly, without a schema.
 ///
 /// # Errors
 ///
-/// [`Refused`] where memory is refused.
+/// [`Refused`] if memory is refused.
 pub fn bind_node(
     alloc: Global,
     node: &SchemaNode<'_>,
@@ -82,12 +83,12 @@ pub fn bind_node(
     bind_at(alloc, CompiledNode { node: *node }, value, depth)
 }
 
-/// As much of the CEL value of a JSON value as is demanded of it, at a node of a compiled schema that stands
-/// `depth` steps below the root. What isn't demanded may be missing.
+/// Converts the demanded part of a JSON value to CEL by a node of a compiled
+/// schema, `depth` steps below the root. What isn't demanded may be missing.
 ///
 /// # Errors
 ///
-/// [`Refused`] where memory is refused.
+/// [`Refused`] if memory is refused.
 pub fn bind_node_part(
     alloc: Global,
     node: &SchemaNode<'_>,
@@ -103,7 +104,7 @@ pub fn bind_node_part(
     Ok(part)
 }
 
-// The node of a member: its property, else the node of members that aren't declared.
+// Returns the node of a member: that of its property, else that of members that aren't declared.
 #[tactic(auto, unfolding(crate::specs::CompiledConversion::tree_accessors))]
 fn node_of_member<'a>(node: &SchemaNode<'a>, name: &str) -> Option<SchemaNode<'a>>
     ensures { option_map node_tree result ≡ member_node tree_accessors (node_tree node.now) name.now }

@@ -1,4 +1,4 @@
-//! A schema made into a table of nodes.
+//! Compilation of a schema to a table of nodes.
 ghost use Rattle.std.specs.Prelude.{◌≡◌, IfErr, IfOk, option_map};
 ghost use Rattle.serde_json.specs.View.{view, items_view, members_view};
 ghost use Rattle.kube_schema_values.specs.DefaultsAccessors.{declared_properties, members_or_none};
@@ -14,15 +14,15 @@ use kube_types_refused::Refused;
 use serde_json::{Map, Value};
 use std::alloc::Global;
 
-/// How many levels of a schema are compiled: those of depth 0 to 64. What lies deeper is a marker,
-/// which keeps its default alone.
+/// The number of levels of a schema that are compiled: depths 0 to
+/// 64. Deeper schemas become markers, which keep only their default.
 const LEVELS: usize = 65;
 
-/// Compiles a schema: one node for it and for each schema within it, down to depth 65.
+/// Compiles a schema to one node for itself and one for each schema within it, down to depth 65.
 ///
 /// # Errors
 ///
-/// [`Refused`] where memory is refused.
+/// [`Refused`] if memory is refused.
 pub fn compile_schema(alloc: Global, schema: &Value) -> Result<CompiledSchema, Refused>
     ensures tree { IfOk result (λ c. whole c ≡ view_of 65 (view schema.now)) }
     ensures memory { IfErr result (λ e. e ≡ Refused.Memory) }
@@ -33,7 +33,8 @@ pub fn compile_schema(alloc: Global, schema: &Value) -> Result<CompiledSchema, R
     Ok(CompiledSchema { table, defaults })
 }
 
-// Adds the node of a schema of this number of levels, and those of the schemas within it behind it.
+// Appends the node of a schema with this number of
+// levels, followed by the nodes of the schemas within it.
 #[cycle(add)]
 fn add_node(
     table: &mut Table,
@@ -143,7 +144,7 @@ fn add_maybe(
     Ok(Some(node))
 }
 
-// The branches of a keyword.
+// Appends the branches under a keyword.
 #[cycle(add)]
 fn add_branches(
     table: &mut Table,

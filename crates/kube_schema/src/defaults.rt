@@ -11,14 +11,14 @@ use kube_types_refused::Refused;
 use serde_json::{Map, Value};
 use std::alloc::{AllocError, Global};
 
-/// How many levels of a schema have defaults: those of depth 0 to 64.
+/// The number of levels of a schema whose defaults apply: depths 0 to 64.
 pub(crate) const LEVELS: usize = 65;
 
-/// The value with the defaults of a node, which is the root of a schema.
+/// Returns the value filled with the defaults of a node, as the root of a schema.
 ///
 /// # Errors
 ///
-/// [`Refused`] where memory is refused.
+/// [`Refused`] if memory is refused.
 pub fn fill_node(alloc: Global, node: &SchemaNode<'_>, value: &Value) -> Result<Value, Refused>
     ensures filled { IfOk result (λ v. view v
         ≡ defaulted_value tree_accessors 65 (node_tree node.now) (view value.now)) }
@@ -30,7 +30,7 @@ pub fn fill_node(alloc: Global, node: &SchemaNode<'_>, value: &Value) -> Result<
     Ok(filled)
 }
 
-// The value with the defaults of this number of levels.
+// Returns the value filled with the defaults of this number of levels.
 #[cycle(fill)]
 pub(crate) fn fill(
     alloc: Global,
@@ -114,7 +114,7 @@ fn fill_member(
     Ok(filled)
 }
 
-// The missing keys that have a default.
+// Adds the missing keys that have a default.
 #[cycle(fill)]
 fn add_defaults(
     alloc: Global,
@@ -159,7 +159,7 @@ fn add_default(
     Ok(())
 }
 
-// The node of a member.
+// Returns the node of a member, if it has one.
 pub(crate) fn node_of_member<'a>(node: &SchemaNode<'a>, key: &str) -> Option<SchemaNode<'a>>
     ensures { option_map node_tree result ≡ member_schema tree_accessors (node_tree node.now) key.now }
 {

@@ -1,4 +1,4 @@
-//! The keywords of one schema.
+//! The keywords of a single schema.
 ghost use Rattle.std.specs.Prelude.{◌≡◌, IfErr, IfOk, option_map};
 ghost use Rattle.serde_json.specs.View.{view, items_view, members_view};
 ghost use Rattle.kube_schema_values.specs.DefaultsAccessors.{declared_properties, additional, preserves, default_in};
@@ -16,7 +16,7 @@ use std::alloc::{AllocError, Global};
 /// The depth of a marker.
 const TOO_DEEP: usize = 65;
 
-// What a schema says of its node.
+// Returns the keywords of a schema's node.
 pub(crate) fn keywords_of(alloc: Global, schema: &Value) -> Result<Keywords, Refused>
     ensures keywords { IfOk result (λ k. keywords_view k ≡ own_view (view schema.now)) }
     ensures memory { IfErr result (λ e. e ≡ Refused.Memory) }
@@ -37,7 +37,7 @@ pub(crate) fn keywords_of(alloc: Global, schema: &Value) -> Result<Keywords, Ref
     })
 }
 
-// What stands for a schema past the greatest depth.
+// Returns the keywords of a marker, which stands for a schema beyond the maximum depth.
 #[tactic(auto, unfolding(crate::specs::View::marker_view, crate::specs::Raw::keywords_view))]
 pub(crate) fn marker_of(alloc: Global, schema: &Value) -> Result<Keywords, Refused>
     ensures keywords { IfOk result (λ k. keywords_view k ≡ marker_view (view schema.now)) }

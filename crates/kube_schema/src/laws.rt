@@ -1,5 +1,5 @@
 //! Laws of binding and of defaults by schemas and by their trees,
-//! each the contract of a call that does nothing.
+//! each stated as the contract of a function with an empty body.
 ghost use Rattle.std.specs.Prelude.{◌≡◌, ℕ, suc};
 ghost use Rattle.serde_json.specs.Data.{Data};
 ghost use Rattle.kube_schema.specs.CompiledDefaults as tree_defaults;
@@ -10,15 +10,15 @@ ghost use Rattle.kube_schema_values.specs.Defaults.{FillsMembers, defaulted_valu
 ghost use Rattle.kube_schema_values.specs.DefaultsAccessors as schema_defaults;
 ghost use Rattle.kube_schema.specs.CompiledConversion.{tree_accessors};
 
-/// The tree of a schema binds each value as the schema does.
+/// The tree of a schema converts each value as the schema does.
 pub fn the_tree_binds_alike()
     ensures { (levels : ℕ) (schema value : Data)
         → to_cel raw levels schema value ≡ to_cel tree_accessors levels (view_of levels schema) value }
 {}
 
-/// An object is filled key by key, at every level: a key that it has holds its member, filled by the schema
-/// of that member; another key holds the default of its property, filled by that property; where there is
-/// neither, nothing stands. The tree of a schema fills so, too.
+/// Objects are filled key by key, at every level. A key that the object has holds its member,
+/// filled by the schema of that member. Another key holds the default of its property, filled by
+/// that property, or is absent if there is no default. The same holds for the tree of a schema.
 pub fn objects_are_filled_key_by_key()
     ensures schema { (levels : ℕ) (schema value : Data)
         → FillsMembers schema_defaults.raw levels schema value

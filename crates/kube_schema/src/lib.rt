@@ -1,12 +1,13 @@
-//! The schema side of Kubernetes' validation rules: the rules of a node, read and compiled; defaults; JSON
-//! values as CEL values, by their schemas; and schemas that are compiled once.
+//! The schema side of Kubernetes' validation rules: parsing and
+//! compiling the rules of a node, filling values with defaults,
+//! converting JSON values to CEL by their schemas, and compiled schemas.
 //!
 //! ```rust
 //! use kube_schema::{Refused, compile_schema};
 //! use serde_json::Value;
 //! use std::alloc::Global;
 //!
-//! /// How many nodes a schema has, and how many rules at its root are malformed.
+//! /// Returns the number of nodes of a schema, and the number of malformed rules at its root.
 //! fn counted(alloc: Global, schema: &Value) -> Result<(usize, usize), Refused> {
 //!     let compiled = compile_schema(alloc, schema)?;
 //!     let errors = compiled.compilation_errors(alloc)?.len();
@@ -14,12 +15,13 @@
 //! }
 //! ```
 //!
-//! Also [`apply_defaults`], [`bind`], [`rules_of`], [`escape_field_name`] and their like; each takes the
-//! allocator first, and answers [`Refused`] where there is no memory.
+//! Without compiling a schema, use [`apply_defaults`], [`bind`],
+//! [`rules_of`] and [`escape_field_name`]. Calls that allocate take
+//! the allocator first, and return [`Refused`] if memory is refused.
 //!
-//! Proved: rules, names, bound and filled values are what their definitions say, and a compiled schema shows
-//! the tree of its schema. Laws: filled twice is filled once; schema and tree fill and bind alike; the
-//! escaping of names loses nothing.
+//! Proved: rules, names, bound and filled values are what their definitions say, and the
+//! nodes of a compiled schema are the tree of its schema. Laws: filling twice is filling
+//! once; schema and tree fill and bind alike; different names have different escapes.
 #![tactic(auto)]
 
 pub mod binding;

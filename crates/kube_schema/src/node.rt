@@ -1,4 +1,4 @@
-//! A compiled schema and its nodes, as they are seen from outside.
+//! Compiled schemas and their nodes, as callers see them.
 ghost use Rattle.std.specs.Prelude.{◌≡◌, ◌<◌, ℕ, length, option_map, slice_get, IfSome, Some};
 ghost use Rattle.kube_schema.specs.Raw.{tree, any_default, named_at, LinksOrdered};
 ghost use Rattle.kube_schema.specs.Tree.{Node, count, find};
@@ -11,11 +11,11 @@ use kube_types_refused::Refused;
 use serde_json::Value;
 use std::alloc::Global;
 
-/// A schema that was compiled.
+/// A compiled schema.
 #[derive(Debug, Drop)]
 pub struct CompiledSchema {
     pub(crate) table: Table,
-    // Whether a node has a default.
+    // Whether any node has a default.
     pub(crate) defaults: bool,
     ghost known: { defaults ≡ any_default table.nodes.items },
     ghost rooted: { 0 < length table.nodes.items },
@@ -38,14 +38,14 @@ impl CompiledSchema {
     ghost use Rattle.kube_schema.specs.Shown.{node_tree, whole};
     ghost use Rattle.kube_schema.specs.Tree.{items_of, additional_of, property_of, default_of, nth_named, nth_node, named_of, names, all_of, one_of, any_of, own, malformed_in};
 
-    /// The number of nodes, markers included.
+    /// The number of nodes, including markers.
     pub fn node_count(&self) -> usize
         ensures { result ≡ count (whole self.now) }
     {
         self.table.nodes.len()
     }
 
-    /// The node of the schema itself.
+    /// The root node.
     pub fn root(&self) -> SchemaNode<'_>
         ensures { node_tree result ≡ whole self.now }
     {
@@ -55,35 +55,35 @@ impl CompiledSchema {
         }
     }
 
-    /// The node of list items, where `items` is there.
+    /// The node of list items, if the schema has `items`.
     pub fn items(&self) -> Option<SchemaNode<'_>>
         ensures { option_map node_tree result ≡ items_of (whole self.now) }
     {
         self.root().items()
     }
 
-    /// The node of the keys that are not declared, where `additionalProperties` is an object.
+    /// The node of undeclared keys, if `additionalProperties` is an object.
     pub fn additional_properties(&self) -> Option<SchemaNode<'_>>
         ensures { option_map node_tree result ≡ additional_of (whole self.now) }
     {
         self.root().additional_properties()
     }
 
-    /// A branch of `allOf`.
+    /// The branch of `allOf` at an index, if any.
     pub fn all_of(&self, i: usize) -> Option<SchemaNode<'_>>
         ensures { option_map node_tree result ≡ nth_node i (all_of (whole self.now)) }
     {
         self.root().all_of(i)
     }
 
-    /// A branch of `oneOf`.
+    /// The branch of `oneOf` at an index, if any.
     pub fn one_of(&self, i: usize) -> Option<SchemaNode<'_>>
         ensures { option_map node_tree result ≡ nth_node i (one_of (whole self.now)) }
     {
         self.root().one_of(i)
     }
 
-    /// A branch of `anyOf`.
+    /// The branch of `anyOf` at an index, if any.
     pub fn any_of(&self, i: usize) -> Option<SchemaNode<'_>>
         ensures { option_map node_tree result ≡ nth_node i (any_of (whole self.now)) }
     {
@@ -97,32 +97,32 @@ impl CompiledSchema {
         self.root().property_count()
     }
 
-    /// The node that is declared for a name.
+    /// The node that `properties` declares for a name, if any.
     pub fn property_named(&self, name: &str) -> Option<SchemaNode<'_>>
         ensures { option_map node_tree result ≡ property_of name.now (whole self.now) }
     {
         self.root().property_named(name)
     }
 
-    /// The rules of the schema itself in their order, each with its programs, or why it has none.
+    /// The rules at the root, in order, each either compiled or with the reason why it isn't.
     pub fn validations(&self) -> &[Result<CompilationResult, CompilationError>]
         ensures { map compiled_seen result.now ≡ (own (whole self.now)).validations }
     {
         self.root().validations()
     }
 
-    /// Whether a rule of the schema itself was not compiled.
+    /// Reports whether a rule at the root is malformed.
     pub fn has_errors(&self) -> bool
         ensures { result ≡ list_any is_err (own (whole self.now)).validations }
     {
         self.root().has_errors()
     }
 
-    /// Why rules of the schema itself were not compiled, in the order of the rules.
+    /// Returns the errors of the malformed rules at the root, in the order of the rules.
     ///
     /// # Errors
     ///
-    /// [`Refused`] where memory is refused.
+    /// [`Refused`] if memory is refused.
     pub fn compilation_errors(&self, alloc: Global) -> Result<Vec<&CompilationError>, Refused>
         ensures errors { IfOk result (λ v. map (λ e. error_view e.now) v.items
             ≡ malformed_in (own (whole self.now)).validations) }
@@ -131,49 +131,49 @@ impl CompiledSchema {
         self.root().compilation_errors(alloc)
     }
 
-    /// What the texts of the schema itself become.
+    /// The format by which strings at the root are converted.
     pub fn format(&self) -> &SchemaFormat
         ensures { result.now ≡ (own (whole self.now)).format }
     {
         self.root().format()
     }
 
-    /// Whether `additionalProperties` is neither absent nor `false`.
+    /// Reports whether `additionalProperties` is present and not `false`.
     pub fn is_map(&self) -> bool
         ensures { result ≡ (own (whole self.now)).is_map }
     {
         self.root().is_map()
     }
 
-    /// Whether `x-kubernetes-preserve-unknown-fields` is `true`.
+    /// Reports whether `x-kubernetes-preserve-unknown-fields` is `true`.
     pub fn preserve_unknown_fields(&self) -> bool
         ensures { result ≡ (own (whole self.now)).preserves }
     {
         self.root().preserve_unknown_fields()
     }
 
-    /// Whether `x-kubernetes-embedded-resource` is `true`.
+    /// Reports whether `x-kubernetes-embedded-resource` is `true`.
     pub fn embedded_resource(&self) -> bool
         ensures { result ≡ (own (whole self.now)).embedded }
     {
         self.root().embedded_resource()
     }
 
-    /// `maxLength`, where it is a whole number that fits.
+    /// `maxLength`, if it is a whole number that fits `u64`.
     pub fn max_length(&self) -> Option<u64>
         ensures { result ≡ (own (whole self.now)).max_length }
     {
         self.root().max_length()
     }
 
-    /// `maxItems`, where it is a whole number that fits.
+    /// `maxItems`, if it is a whole number that fits `u64`.
     pub fn max_items(&self) -> Option<u64>
         ensures { result ≡ (own (whole self.now)).max_items }
     {
         self.root().max_items()
     }
 
-    /// `maxProperties`, where it is a whole number that fits.
+    /// `maxProperties`, if it is a whole number that fits `u64`.
     pub fn max_properties(&self) -> Option<u64>
         ensures { result ≡ (own (whole self.now)).max_properties }
     {
@@ -187,7 +187,7 @@ impl CompiledSchema {
         self.root().default()
     }
 
-    /// A property with its name, in name order.
+    /// The property at an index, with its name, in name order.
     pub fn property(&self, i: usize) -> Option<(&str, SchemaNode<'_>)>
         ensures pair { option_map (λ p. (p.0.now, node_tree p.1)) result
             ≡ nth_named i (named_of (whole self.now)) }
@@ -212,7 +212,7 @@ impl<'a> SchemaNode<'a> {
     ghost use Rattle.kube_schema.specs.Raw.{tree, assemble, nodes_at, IsWithin, LinksOrdered, NumbersWithin};
     ghost use Rattle.kube_schema.specs.Tree.{items_of, additional_of, property_of, default_of, nth_named, nth_node, named_of, names, all_of, one_of, any_of, own, malformed_in, nodes_length};
 
-    // The node as it lies in the table.
+    // The node as stored in the table.
     fn raw(&self) -> &'a TableNode
         ensures is { node_tree self.now ≡ assemble (tree self.now.schema.now.table.nodes.items) result.now }
         ensures within { IsWithin (suc self.now.number.0)
@@ -232,7 +232,7 @@ impl<'a> SchemaNode<'a> {
         }
     }
 
-    // The node at a place of a list of numbers.
+    // The node at an index of a list of node numbers, if any.
     fn nth(&self, numbers: &'a Vec<NodeId>, i: usize) -> Option<SchemaNode<'a>>
         requires { NumbersWithin (suc self.now.number.0)
             (length self.now.schema.now.table.nodes.items) numbers.now.items }
@@ -245,7 +245,7 @@ impl<'a> SchemaNode<'a> {
         Some(self.at(numbers[i]))
     }
 
-    /// The node of list items, where `items` is there.
+    /// The node of list items, if the schema has `items`.
     pub fn items(&self) -> Option<SchemaNode<'a>>
         ensures { option_map node_tree result ≡ items_of (node_tree self.now) }
     {
@@ -255,7 +255,7 @@ impl<'a> SchemaNode<'a> {
         Some(self.at(number))
     }
 
-    /// The node of the keys that are not declared, where `additionalProperties` is an object.
+    /// The node of undeclared keys, if `additionalProperties` is an object.
     pub fn additional_properties(&self) -> Option<SchemaNode<'a>>
         ensures { option_map node_tree result ≡ additional_of (node_tree self.now) }
     {
@@ -265,7 +265,7 @@ impl<'a> SchemaNode<'a> {
         Some(self.at(number))
     }
 
-    /// A branch of `allOf`.
+    /// The branch of `allOf` at an index, if any.
     pub fn all_of(&self, i: usize) -> Option<SchemaNode<'a>>
         ensures { option_map node_tree result ≡ nth_node i (all_of (node_tree self.now)) }
     {
@@ -273,7 +273,7 @@ impl<'a> SchemaNode<'a> {
         self.nth(&raw.children.all_of, i)
     }
 
-    /// A branch of `oneOf`.
+    /// The branch of `oneOf` at an index, if any.
     pub fn one_of(&self, i: usize) -> Option<SchemaNode<'a>>
         ensures { option_map node_tree result ≡ nth_node i (one_of (node_tree self.now)) }
     {
@@ -281,7 +281,7 @@ impl<'a> SchemaNode<'a> {
         self.nth(&raw.children.one_of, i)
     }
 
-    /// A branch of `anyOf`.
+    /// The branch of `anyOf` at an index, if any.
     pub fn any_of(&self, i: usize) -> Option<SchemaNode<'a>>
         ensures { option_map node_tree result ≡ nth_node i (any_of (node_tree self.now)) }
     {
@@ -310,7 +310,7 @@ impl<'a> SchemaNode<'a> {
         self.raw().children.any_of.len()
     }
 
-    /// The number of properties. Their names are in order.
+    /// The number of properties. Their names are sorted.
     pub fn property_count(&self) -> usize
         ensures count { result ≡ length (names (named_of (node_tree self.now))) }
         ensures ordered { IsStrictlySortedBy (slice_cmp nat_cmp) (names (named_of (node_tree self.now))) }
@@ -318,7 +318,7 @@ impl<'a> SchemaNode<'a> {
         self.raw().children.properties.len()
     }
 
-    /// A property with its name, in name order.
+    /// The property at an index, with its name, in name order.
     pub fn property(&self, i: usize) -> Option<(&'a str, SchemaNode<'a>)>
         ensures pair { option_map (λ p. (p.0.now, node_tree p.1)) result
             ≡ nth_named i (named_of (node_tree self.now)) }
@@ -332,7 +332,7 @@ impl<'a> SchemaNode<'a> {
         Some((link.name.as_str(), self.at(link.node)))
     }
 
-    /// The node that is declared for a name.
+    /// The node that `properties` declares for a name, if any.
     pub fn property_named(&self, name: &str) -> Option<SchemaNode<'a>>
         ensures { option_map node_tree result ≡ property_of name.now (node_tree self.now) }
     {
@@ -343,8 +343,8 @@ impl<'a> SchemaNode<'a> {
         }
     }
 
-    /// The rules of the node in their order, each with its programs, or why it has none. A schema that goes
-    /// on past the greatest depth has one error in their place.
+    /// The rules of the node, in order, each either compiled or with the
+    /// reason why it isn't. A marker has a single error instead of rules.
     pub fn validations(&self) -> &'a [Result<CompilationResult, CompilationError>]
         ensures { map compiled_seen result.now ≡ (own (node_tree self.now)).validations }
     {
@@ -358,7 +358,7 @@ impl<'a> SchemaNode<'a> {
         &self.raw().keywords.validations.demands
     }
 
-    /// Whether a rule of the node was not compiled.
+    /// Reports whether a rule of the node is malformed.
     pub fn has_errors(&self) -> bool
         ensures { result ≡ list_any is_err (own (node_tree self.now)).validations }
     {
@@ -370,11 +370,11 @@ impl<'a> SchemaNode<'a> {
         false
     }
 
-    /// Why rules of the node were not compiled, in the order of the rules.
+    /// Returns the errors of the node's malformed rules, in the order of the rules.
     ///
     /// # Errors
     ///
-    /// [`Refused`] where memory is refused.
+    /// [`Refused`] if memory is refused.
     pub fn compilation_errors(&self, alloc: Global) -> Result<Vec<&'a CompilationError>, Refused>
         ensures errors { IfOk result (λ v. map (λ e. error_view e.now) v.items
             ≡ malformed_in (own (node_tree self.now)).validations) }
@@ -389,49 +389,49 @@ impl<'a> SchemaNode<'a> {
         Ok(errors)
     }
 
-    /// What the texts at the node become.
+    /// The format by which strings at the node are converted.
     pub fn format(&self) -> &'a SchemaFormat
         ensures { result.now ≡ (own (node_tree self.now)).format }
     {
         &self.raw().keywords.format
     }
 
-    /// Whether `additionalProperties` is neither absent nor `false`.
+    /// Reports whether `additionalProperties` is present and not `false`.
     pub fn is_map(&self) -> bool
         ensures { result ≡ (own (node_tree self.now)).is_map }
     {
         self.raw().keywords.is_map
     }
 
-    /// Whether `x-kubernetes-preserve-unknown-fields` is `true`.
+    /// Reports whether `x-kubernetes-preserve-unknown-fields` is `true`.
     pub fn preserve_unknown_fields(&self) -> bool
         ensures { result ≡ (own (node_tree self.now)).preserves }
     {
         self.raw().keywords.preserve_unknown_fields
     }
 
-    /// Whether `x-kubernetes-embedded-resource` is `true`.
+    /// Reports whether `x-kubernetes-embedded-resource` is `true`.
     pub fn embedded_resource(&self) -> bool
         ensures { result ≡ (own (node_tree self.now)).embedded }
     {
         self.raw().keywords.embedded_resource
     }
 
-    /// `maxLength`, where it is a whole number that fits.
+    /// `maxLength`, if it is a whole number that fits `u64`.
     pub fn max_length(&self) -> Option<u64>
         ensures { result ≡ (own (node_tree self.now)).max_length }
     {
         self.raw().keywords.max_length
     }
 
-    /// `maxItems`, where it is a whole number that fits.
+    /// `maxItems`, if it is a whole number that fits `u64`.
     pub fn max_items(&self) -> Option<u64>
         ensures { result ≡ (own (node_tree self.now)).max_items }
     {
         self.raw().keywords.max_items
     }
 
-    /// `maxProperties`, where it is a whole number that fits.
+    /// `maxProperties`, if it is a whole number that fits `u64`.
     pub fn max_properties(&self) -> Option<u64>
         ensures { result ≡ (own (node_tree self.now)).max_properties }
     {
@@ -445,7 +445,8 @@ impl<'a> SchemaNode<'a> {
         self.raw().keywords.default.as_ref()
     }
 
-    // Whether a default lies in the schema that the node is part of.
+    // Reports whether any node of the same schema has a default. The contract only
+    // covers false: then no schema within this node declares a default, at any depth.
     pub(crate) fn may_have_defaults(&self) -> bool
         ensures { result ≡ false → (levels : ℕ) → HasNoDefaults tree_accessors levels (node_tree self.now) }
     {
@@ -453,7 +454,7 @@ impl<'a> SchemaNode<'a> {
     }
 }
 
-// The link of a name, among links in name order.
+// Finds the link of a name by binary search, among links in name order.
 fn link_of<'a>(links: &'a [PropertyLink], name: &str) -> Option<&'a PropertyLink>
     requires { LinksOrdered links.now }
     ensures leads { (f : ℕ → Node)

@@ -1,20 +1,20 @@
-//! Nodes as they lie in the table of a compiled schema.
+//! Nodes as stored in the table of a compiled schema.
 use kube_schema_rules::NodeRules;
 use kube_schema_values::SchemaFormat;
 use serde_json::Value;
 
-// A node's place in its table.
+// The index of a node in its table.
 #[derive(Clone, Copy, Debug, PartialEq, Eq)]
 pub struct NodeId(pub usize);
 
-// The name of a property, and its node.
+// A property's name and its node.
 #[derive(Debug, Drop)]
 pub struct PropertyLink {
     pub name: String,
     pub node: NodeId,
 }
 
-// What a node says of itself.
+// The keywords of a node's own schema.
 #[derive(Debug, Drop)]
 pub struct Keywords {
     pub validations: NodeRules,
@@ -28,7 +28,7 @@ pub struct Keywords {
     pub default: Option<Value>,
 }
 
-// The nodes within a node. Properties are in name order.
+// The nodes within a node. Properties are sorted by name.
 #[derive(Debug, Drop)]
 pub struct Children {
     pub properties: Vec<PropertyLink>,

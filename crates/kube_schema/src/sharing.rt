@@ -1,4 +1,4 @@
-//! The defaults of a node of a compiled schema without a copy, where a value has them all.
+//! Filling by a node of a compiled schema, without a copy if nothing is missing.
 ghost use Rattle.std.specs.Bool.{IsTrue};
 ghost use Rattle.std.specs.Cow.{cow_value};
 ghost use Rattle.std.specs.Prelude.{◌≡◌, IfErr, IfOk, option_map};
@@ -16,12 +16,12 @@ use serde_json::{Map, Value};
 use std::alloc::Global;
 use std::borrow::Cow;
 
-/// The value that `fill_node` makes. Where no default is missing, the value itself is lent, and takes no
-/// memory. A schema without a default costs one comparison.
+/// Returns the value that `fill_node` returns. If no default is missing, it lends the value
+/// itself and allocates nothing. For a schema without defaults this costs one comparison.
 ///
 /// # Errors
 ///
-/// [`Refused`] where memory is refused.
+/// [`Refused`] if memory is refused.
 pub fn filled_by_node<'v>(
     alloc: Global,
     node: &SchemaNode<'_>,
@@ -38,7 +38,7 @@ pub fn filled_by_node<'v>(
     Ok(Cow::Owned(made))
 }
 
-// Whether a value has all defaults.
+// Reports whether a value has all defaults. The contract only covers true.
 fn is_filled(node: &SchemaNode<'_>, value: &Value) -> bool
     ensures { IsTrue result → defaulted_value tree_accessors 65 (node_tree node.now) (view value.now)
         ≡ view value.now }
@@ -49,7 +49,7 @@ fn is_filled(node: &SchemaNode<'_>, value: &Value) -> bool
     has_defaults(node, value, LEVELS)
 }
 
-// Whether a value has the defaults of this number of levels.
+// Reports whether a value has the defaults of this number of levels. The contract only covers true.
 #[cycle(has)]
 fn has_defaults(node: &SchemaNode<'_>, value: &Value, levels: usize) -> bool
     ensures { IsTrue result → defaulted_value tree_accessors levels (node_tree node.now) (view value.now)
@@ -110,7 +110,7 @@ fn member_has_defaults(node: &SchemaNode<'_>, key: &str, member: &Value, levels:
     }
 }
 
-// Whether each key that has a default is there.
+// Reports whether all keys that have a default are present. The contract only covers true.
 fn lacks_no_key(node: &SchemaNode<'_>, members: &Map<String, Value>) -> bool
     ensures { IsTrue result → (f : Node → Data → Data)
         → with_defaults (default_by tree_accessors f (node_tree node.now))
@@ -128,7 +128,7 @@ fn lacks_no_key(node: &SchemaNode<'_>, members: &Map<String, Value>) -> bool
     true
 }
 
-// Whether a key is there, or has no default.
+// Reports whether a key is present or has no default. The contract only covers true.
 fn lacks_no_default(key: &str, property: &SchemaNode<'_>, members: &Map<String, Value>) -> bool
     ensures { IsTrue result → (f : Data → Data)
         → members_view members.now.entries

@@ -1,4 +1,4 @@
-//! A table of nodes: each number in a node stands for a later node of the table.
+//! Tables of nodes. Each number in a node is the index of a later node of the table.
 ghost use Rattle.std.specs.Prelude.{◌≡◌, ◌<◌, [], suc, length, IfOk};
 ghost use Rattle.std.proofs.Math.ListN.{set};
 ghost use Rattle.std.proofs.Props.{props};
@@ -22,7 +22,7 @@ pub(crate) fn new_table(alloc: Global) -> Table
     }
 }
 
-// Puts a node without children at the end.
+// Appends a node without children.
 pub(crate) fn push_leaf(
     table: &mut Table,
     alloc: Global,
@@ -44,7 +44,7 @@ pub(crate) fn push_leaf(
     Ok(number)
 }
 
-// Puts a node in place of the one at a number.
+// Replaces the node at a number.
 pub(crate) fn replace_node(table: &mut Table, number: NodeId, node: TableNode)
     requires stands { number.0 < length table.old.nodes.items }
     requires within { IsWithin (suc number.0) (length table.old.nodes.items) node.children }
@@ -54,7 +54,7 @@ pub(crate) fn replace_node(table: &mut Table, number: NodeId, node: TableNode)
     table.nodes[number.0] = node;
 }
 
-// Whether a node has a default.
+// Reports whether any node has a default.
 pub(crate) fn has_defaults(table: &Table) -> bool
     ensures { result ≡ any_default table.now.nodes.items }
 {

@@ -1,4 +1,4 @@
-//! Laws of compiled schemas, each the contract of a call that does nothing.
+//! Laws of compiled schemas, each stated as the contract of a function with an empty body.
 ghost use Rattle.std.specs.Prelude.{◌≡◌, ℕ};
 ghost use Rattle.serde_json.specs.Data.{Data};
 ghost use Rattle.kube_schema_values.specs.DefaultsAccessors.{raw};

@@ -1,4 +1,4 @@
--- What is demanded of a bound object or list is alike in the parts that were bound.
+-- A bound object or list is alike to its converted parts, in what is demanded of it.
 use Rattle.std.proofs.Common.{◌≡◌, ℕ, suc, Box, ◌+◌, ◌<◌, List, [], ◌∷◌, ◌++◌, map, length, take, get_or, Bool, true, false, not, Bor, Option, Some, None, is_some, option_copied, option_map, refl, sym, ap, ◌∙◌, subst, true≢false}
 use Rattle.std.proofs.lemmas.Map.Text.{is_eq-slice_cmp}
 use Rattle.std.proofs.lemmas.Slice.Eq.{bytes_eq-Decides}
@@ -32,7 +32,7 @@ use Rattle.kube_schema_values.specs.Fields.{field_besides}
 use Rattle.kube_schema_values.specs.Plain.{plain}
 use Rattle.kube_schema_parts.specs.Parts.{AreParts, entries_at, is_embedded_at, items_node, key_at, node_of_member, value_at}
 
--- ---- what was found
+-- ---- look-ups
 
 pub none_seen : (o : Option Value) → is_some o ≡ false → option_map view o ≡ None
 none_seen None h = refl
@@ -42,7 +42,7 @@ pub copied : (r : Option (Bor Json)) → option_map (λ v. json_view v.now) r �
 copied None = refl
 copied (Some v) = refl
 
--- ---- what demands stand for
+-- ---- views of demands
 
 pub nothing_part : part_of demand.Nothing ≡ nothing
 nothing_part = ap part_of (sym demand.rolls-Nothing) ∙ fold-roll-Demand Part part_step Demand-F.Nothing
@@ -73,11 +73,11 @@ pub members_last : (es : List Entry) (e : Entry) (g h : List ℕ → Option Data
 members_last [] e g h a k = (k, tt)
 members_last (d ∷ ds) e g h a k = (a.0, members_last ds e g h a.1 k)
 
--- names that differ are other keys
+-- different names are different keys
 other_key : (x n : List ℕ) → bytes_eq x n ≡ false → eq_by_cmp key_order (text_key x) (text_key n) ≡ false
 other_key x n e = is_eq-slice_cmp x n ∙ e
 
--- one more entry, at a key that only the second has
+-- one more entry, at a key that so far only the second entries have
 module _ (n : List ℕ) (v w : Data) (es fs : Entries) (new : find (text_key n) es ≡ None) (there : find (text_key n) fs ≡ Some w) where
   at_name : (b : Bool) (x : List ℕ) (p : Part) → bytes_eq x n ≡ b → OptionsAlike (Alike p) (find (text_key x) es) (find (text_key x) fs) → OptionsAlike (Alike p) (find (text_key x) (put (text_key n) v es)) (find (text_key x) fs)
   at_name true x p e h =
@@ -103,11 +103,11 @@ module _ (n : List ℕ) (v w : Data) (es fs : Entries) (new : find (text_key n) 
   pub put_here : (p : Part) → Alike p v w → OptionsAlike (Alike p) (find (text_key n) (put (text_key n) v es)) (find (text_key n) fs)
   put_here p h = subst (λ o. OptionsAlike (Alike p) (find (text_key n) (put (text_key n) v es)) o) (sym there) (subst (λ o. OptionsAlike (Alike p) o (Some w)) (sym (find-put (text_key n) v es)) h)
 
--- neither has it
+-- neither has the entry
 pub neither : (p : Part) (o q : Option Data) → o ≡ None → q ≡ None → OptionsAlike (Alike p) o q
 neither p o q h k = subst (λ z. OptionsAlike (Alike p) z q) (sym h) (subst (λ z. OptionsAlike (Alike p) None z) (sym k) tt)
 
--- ---- what stands in a bound object
+-- ---- the entries of a bound object
 
 or_else_none : (o : Option Data) → o ≡ or_else o None
 or_else_none None = refl
@@ -134,7 +134,7 @@ module _ {S : Type 0} (accessors : ConversionAccessors S) (l : ℕ) (o : Option 
     member_absent e alone = ap (λ k. find (text_key k) (entries_at accessors l o ms)) (sym key) ∙ found_by o
         ∙ (λ i. or_else (option_map (value_at accessors l (node_of_member accessors o n)) (sym e i)) (field_besides (alone i) n))
 
--- ---- one member more
+-- ---- one more member
 
 pub part_put : (done : List Entry) (m : Entry) (v w : Data) (es fs more : Entries) → find (text_key (name_of m)) es ≡ None → find (text_key (name_of m)) fs ≡ Some w → Alike (part_of m.1) v w → more ≡ put (text_key (name_of m)) v es
     → AreParts (members_view done) es fs → AreParts (members_view (done ++ m ∷ [])) more fs
@@ -159,7 +159,7 @@ pub not_true : (b : Bool) → not b ≡ true → b ≡ false
 not_true false h = refl
 not_true true h = absurd (true≢false (sym h))
 
--- ---- one item more
+-- ---- one more item
 
 pub items_more : (R : Data → Data → Type 0) (parts : List Value) (part : Value) (f : Json → Data) (items : List Json) (i : ℕ) (x : Json) → i < length items → x ≡ get_or items i x
     → ListsAlike R (map view parts) (map f (take i items)) → R (view part) (f x) → ListsAlike R (map view (parts ++ part ∷ [])) (map f (take (i + 1) items))
@@ -168,7 +168,7 @@ items_more R parts part f items i x lt is h k =
     subst (λ ys. ListsAlike R (map view (parts ++ part ∷ [])) ys) (sym next)
     (subst (λ vs. ListsAlike R vs (map f (take i items) ++ f x ∷ [])) (sym (map-append view parts (part ∷ []))) (lists_last R (map view parts) (map f (take i items)) (view part) (f x) h k))
 
--- ---- what lists and objects are bound to
+-- ---- the conversion of lists and objects
 
 plain_list : (vs : List Json) → plain (json.array (json_items_view vs)) ≡ list (items_of (map (λ v. plain (json_view v)) vs))
 unfolding plain

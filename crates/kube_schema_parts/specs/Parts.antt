@@ -1,6 +1,6 @@
 -- Scaffolding: only proofs and private clauses cite it.
--- Values by a node of a schema where there is one, and plainly elsewhere; the parts of members that
--- were bound so far.
+-- Conversion by a node of a schema if there is one, and
+-- plainly if not; and the parts of members converted so far.
 use Rattle.std.specs.Prelude.{◌≡◌, ℕ, List, Bool, false, Option, None, option_and_then}
 use Rattle.std.specs.Option.{option_map_or}
 use Rattle.serde_json.specs.Data as json
@@ -12,7 +12,7 @@ use Rattle.kube_schema_values.specs.Conversion.{ConversionAccessors, key_in, mem
 use Rattle.kube_schema_values.specs.Plain.{plain, plain_entries}
 
 module _ {S : Type 0} (accessors : ConversionAccessors S) where
-  -- the node of the items of a list
+  -- the node of list items
   abbrev pub items_node : Option S → Option S
   items_node node = option_and_then accessors.items node
 
@@ -30,16 +30,16 @@ module _ {S : Type 0} (accessors : ConversionAccessors S) where
   abbrev pub key_at : Option S → List ℕ → List ℕ
   key_at node k = key_in (is_map_at node) k
 
-  -- the value, by the nodes of this number of levels
+  -- the value converted by this number of levels of nodes
   abbrev pub value_at : ℕ → Option S → json.Data → Data
   value_at n node d = option_map_or (λ s. to_cel accessors n s d) node (plain d)
 
-  -- the entries of an object, its members by the nodes of this number of levels
+  -- the entries of an object, whose members are converted by this number of levels of nodes
   abbrev pub entries_at : ℕ → Option S → json.Members → Entries
   entries_at n node ms =
       option_map_or (λ s. object_by accessors (to_cel accessors n) s ms) node (plain_entries ms)
 
--- the first entries are alike to the second in these members, and have no other
+-- the first entries are alike to the second in these members, and have no others
 abbrev pub AreParts : Members → Entries → Entries → Type 0
 AreParts ms es fs = MembersAlike ms (λ x. find (text_key x) es) (λ x. find (text_key x) fs)
     × ((x : List ℕ) → find (text_key x) fs ≡ None → find (text_key x) es ≡ None)

@@ -1,4 +1,4 @@
-//! As much of the CEL value of a JSON value as is demanded of it, by a schema.
+//! Conversion of the demanded part of a JSON value to CEL, by a schema.
 #![tactic(auto)]
 
 pub mod parts;

@@ -1,4 +1,4 @@
-//! The part of a JSON value's CEL value that is read.
+//! Conversion of the part of a JSON value that is read.
 ghost use Rattle.std.specs.Prelude.{◌≡◌, ◌≤◌, ◌-◌, ◌++◌, ◌∷◌, [], List, true, None, Some, IfErr, IfOk, IfSome, OnOk, map, option_map, string_bytes};
 ghost use Rattle.serde_json.specs.Data.{array, object};
 ghost use Rattle.serde_json.specs.Find.{get_member};
@@ -22,15 +22,15 @@ use serde_json::{Map as Members, Value as Json};
 use std::alloc::Global;
 use std::rc::Rc;
 
-/// The greatest depth at which a part is bound alone.
+/// The greatest depth at which parts are converted; deeper values are converted whole.
 const MAX_DEPTH: usize = 64;
 
-/// As much of the CEL value of a JSON value as is demanded of it, at a node of a schema that stands `depth`
-/// steps below the root. What isn't demanded may be missing.
+/// Converts the demanded part of a JSON value to CEL, by a node of a schema,
+/// `depth` steps below the root. What isn't demanded may be missing.
 ///
 /// # Errors
 ///
-/// [`Refused`] where memory is refused.
+/// [`Refused`] if memory is refused.
 pub fn bind_part_at<N: Node>(
     alloc: Global,
     node: N,
@@ -47,7 +47,7 @@ pub fn bind_part_at<N: Node>(
     Ok(part)
 }
 
-// The same where there may be no node, sharing the keys that were made before.
+// Converts a part like `bind_part_at`, by a node if there is one, reusing the keys in `keys`.
 #[cycle(part)]
 fn part_with<N: Node>(
     alloc: Global,
@@ -78,8 +78,8 @@ fn part_with<N: Node>(
     }
 }
 
-// A part of each item, where the value is a list whose items aren't demanded whole.
-// Anything else is bound whole.
+// Converts a part of each item, if the value is a list whose
+// items aren't demanded whole. Converts any other value whole.
 #[cycle(part)]
 fn list_part<N: Node>(
     alloc: Global,
@@ -102,7 +102,7 @@ fn list_part<N: Node>(
     Ok(whole)
 }
 
-// The parts of items, all at one node or at none.
+// Converts the parts of items, all by one node or all by none.
 #[cycle(part)]
 fn item_parts<N: Node>(
     alloc: Global,
@@ -128,8 +128,8 @@ fn item_parts<N: Node>(
     Ok(parts)
 }
 
-// Some members of a map, where the value is an object and its members can be found by these names.
-// Anything else is bound whole.
+// Converts some members of a map, if the value is an object whose
+// members can be found by these names. Converts any other value whole.
 #[cycle(part)]
 fn map_part<N: Node>(
     alloc: Global,
@@ -154,7 +154,7 @@ fn map_part<N: Node>(
     Ok(whole)
 }
 
-// The parts of members; none where one of them can't be had alone.
+// Converts the parts of members. Returns None if one of them can't be converted on its own.
 #[cycle(part)]
 fn member_parts<N: Node>(
     alloc: Global,
@@ -179,8 +179,9 @@ fn member_parts<N: Node>(
     Ok(Some(parts))
 }
 
-// Adds the part of one more member, if the object has it. Answers false where it can't be found by its name,
-// where it is a field that an object of its kind has though it isn't there, or where it was there before.
+// Adds the part of one more member, if the object has it. Returns false if
+// the member's key isn't its name, if an embedded resource lacks the member
+// (it may have the field all the same), or if the member was added before.
 #[cycle(part)]
 fn add_part<N: Node>(
     alloc: Global,
@@ -213,7 +214,7 @@ fn add_part<N: Node>(
     Ok(is_new)
 }
 
-// The whole value, by the node where there is one, else plainly.
+// Converts the whole value, by the node if there is one, else plainly.
 fn bind_whole<N: Node>(
     alloc: Global,
     node: Option<N>,
@@ -231,21 +232,21 @@ fn bind_whole<N: Node>(
     }
 }
 
-// The node of the items of a list.
+// The node of list items, if any.
 fn node_of_items<N: Node>(node: Option<N>) -> Option<N>
     ensures { option_map N.seen result ≡ items_node N.accessors (option_map N.seen node) }
 {
     node?.items()
 }
 
-// The node of a member.
+// The node of a member, if any.
 fn node_of_member<N: Node>(node: Option<N>, name: &str) -> Option<N>
     ensures { option_map N.seen result ≡ node_of_member N.accessors (option_map N.seen node) name.now }
 {
     node?.member(name)
 }
 
-// Whether the objects are maps with keys of their own.
+// Reports whether there is a node and it is a map node.
 fn is_map<N: Node>(node: Option<N>) -> bool
     ensures { result ≡ is_map_at N.accessors (option_map N.seen node) }
 {
@@ -255,7 +256,7 @@ fn is_map<N: Node>(node: Option<N>) -> bool
     }
 }
 
-// Whether the objects are whole Kubernetes objects.
+// Reports whether there is a node and its objects are embedded resources.
 fn is_embedded<N: Node>(node: Option<N>) -> bool
     ensures { result ≡ is_embedded_at N.accessors (option_map N.seen node) }
 {
@@ -265,7 +266,7 @@ fn is_embedded<N: Node>(node: Option<N>) -> bool
     }
 }
 
-// The items of a list, at a depth that counts and where less than the whole of each is demanded.
+// The items of a list, if the depth is at most 64 and less than the whole of each item is demanded.
 fn list_of<'a>(value: &'a Json, depth: usize, item: &Demand) -> Option<&'a Vec<Json>>
     ensures within { IfSome result (λ _. depth ≤ 64) }
     ensures items { IfSome result (λ items. json_view value.now ≡ array (items_view items.now.items)) }
@@ -282,7 +283,7 @@ fn list_of<'a>(value: &'a Json, depth: usize, item: &Demand) -> Option<&'a Vec<J
     }
 }
 
-// The members of an object, at a depth that counts.
+// The members of an object, if the depth is at most 64.
 fn object_of(value: &Json, depth: usize) -> Option<&Members<String, Json>>
     ensures within { IfSome result (λ _. depth ≤ 64) }
     ensures members { IfSome result (λ m. json_view value.now ≡ object (members_view m.now.entries)) }
@@ -296,7 +297,7 @@ fn object_of(value: &Json, depth: usize) -> Option<&Members<String, Json>>
     }
 }
 
-// Whether a name is the key of the member of that name.
+// Reports whether a name is also the key of the member of that name. The contract only covers true.
 fn is_found_by<N: Node>(node: Option<N>, name: &str, keys: &mut MemberKeys) -> Result<bool, Refused>
     ensures found { IfOk result (λ is_found. is_found ≡ true
         → key_at N.accessors (option_map N.seen node) name.now ≡ name.now) }
@@ -309,7 +310,7 @@ fn is_found_by<N: Node>(node: Option<N>, name: &str, keys: &mut MemberKeys) -> R
     Ok(key.as_str() == name)
 }
 
-// The member of a name.
+// The member of a name, if any.
 fn member_of<'a>(object: &'a Members<String, Json>, name: &str) -> Option<&'a Json>
     ensures { option_map (λ v. json_view v.now) result
         ≡ get_member name.now (members_view object.now.entries) }
@@ -317,7 +318,7 @@ fn member_of<'a>(object: &'a Members<String, Json>, name: &str) -> Option<&'a Js
     object.get(name)
 }
 
-// Puts a value into a map at a text that is shared. Answers whether nothing was there.
+// Inserts a value into a map at a shared string. Returns whether the key is new.
 fn put_new(entries: &mut Entries, key: Rc<String>, value: Value) -> Result<bool, Refused>
     ensures entered { OnOk result (entries_view entries.new.entries
         ≡ put (text_key (string_bytes key.value)) (view value) (entries_view entries.old.entries)) }

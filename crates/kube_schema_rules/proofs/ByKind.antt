@@ -1,4 +1,4 @@
--- Steps of one kind after another are in order.
+-- Steps of one kind, followed by those of the next, are in order.
 use Rattle.kube_schema_rules.proofs.Ordered.{all_append, sorted_append}
 use Rattle.kube_schema_rules.proofs.Sorted.{less_than, key_cmp, keys_sorted, sorted_map, up_sorted}
 use Rattle.kube_schema_rules.specs.declared.branches.BranchKind.{BranchKind}
@@ -19,12 +19,12 @@ pub all_of_map : {X Y : Type 0} (Q : Y → Type 0) (f : X → Y) → ((x : X) �
 all_of_map Q f every [] = tt
 all_of_map Q f every (x ∷ xs) = (every x, all_of_map Q f every xs)
 
--- in order, and of this rank
+-- sorted, and all of this rank
 pub record AreOfRank (r : ℕ) (ps : List Step) : Type 0 where
   pub sorted : IsStrictlySortedBy step_cmp ps
   pub of_rank : AllByRecursion (λ p. step_rank p ≡ r) ps
 
--- in order, and of this rank or a later one
+-- sorted, and all of this rank or a later one
 pub record AreFromRank (r : ℕ) (ps : List Step) : Type 0 where
   pub sorted : IsStrictlySortedBy step_cmp ps
   pub from_rank : AllByRecursion (λ p. r ≤ step_rank p) ps
@@ -45,7 +45,7 @@ kind_before r ps qs h g = record {
       (all_where (λ p. suc r ≤ step_rank p) (λ p. r ≤ step_rank p) (λ p l. omega (arith, l)) qs g.from_rank);
 }
 
--- keys that ascend, or indices
+-- for ascending keys, or for indices
 pub properties_in_order : (ks : List (List ℕ)) → AreOfRank 0 (map property (in_order ks))
 properties_in_order ks = record { sorted = sorted_map key_cmp step_cmp property (λ k l e. e) (in_order ks) (keys_sorted ks); of_rank = all_of_map (λ p. step_rank p ≡ 0) property (λ k. refl) (in_order ks) }
 

@@ -1,4 +1,4 @@
--- The steps that may be allowed: in order, and all of them.
+-- The candidates are sorted, and contain all allowed steps.
 use Rattle.kube_schema_rules.proofs.ByKind.{last_kind, kind_before, properties_in_order, items_in_order, extras_in_order, branches_in_order}
 use Rattle.kube_schema_rules.proofs.Ordered.{IsIn, in_left, in_right, in_map, are_places}
 use Rattle.kube_schema_rules.proofs.Sorted.{same_key, key_cmp, in_ordered, in_up}
@@ -16,7 +16,7 @@ use Rattle.std.proofs.Common.{◌≡◌, ◌<◌, ℕ, zero, suc, List, ◌++◌
 use Rattle.std.specs.List.Sorted.{IsStrictlySortedBy}
 use Rattle.std.specs.Ordering.{match_ordering}
 
--- ---- what is inside a value is counted and named
+-- ---- the keys and the number of items of a value
 
 within : (i : ℕ) (ds : Items) → IsSome (get_item i ds) → i < items_len ds
 within i no_items h = cc
@@ -52,7 +52,7 @@ named k (Some (string s)) h = cc
 named k (Some (array ds)) h = cc
 named k (Some (object ms)) h = in_keys k ms h
 
--- ---- in order
+-- ---- they are sorted
 
 node_there : {S : Type 0} (r : Option Root) (d : ℕ) (t : List ℕ) (a : Option S) (b c : Option Data) → IsSome (further r d t a b c) → IsSome a
 node_there r d t None b c h = h
@@ -63,7 +63,7 @@ value_there r d t None b c h = cc
 value_there r d t (Some n) None c h = h
 value_there r d t (Some n) (Some v) c h = refl
 
--- accessors whose counts leave no branch out
+-- accessors whose count covers all branches
 pub record CountsAll {S : Type 0} (steps : StepAccessors S) : Type 0 where
   pub branches : (kind : BranchKind) (j : ℕ) (node : S) → IsSome (steps.branch kind j node) → j < steps.branch_count kind node
 
@@ -78,7 +78,7 @@ module _ {S : Type 0} (steps : StepAccessors S) where
       (kind_before 4 (branch_steps steps OneOf s) _ (branches_in_order OneOf (steps.branch_count OneOf s.node))
       (last_kind 5 (branch_steps steps AnyOf s) (branches_in_order AnyOf (steps.branch_count AnyOf s.node)))))))).sorted
 
-  -- ---- all of them
+  -- ---- they are complete
 
   in_branches : (kind : BranchKind) (j : ℕ) (s : Visit S) → j < steps.branch_count kind s.node → IsIn (branch kind j) (branch_steps steps kind s)
   unfolding branch_steps
@@ -111,7 +111,7 @@ module _ {S : Type 0} (steps : StepAccessors S) where
   pub visit_places : CountsAll steps → (n : ℕ) (s : Visit S) → ArePlaces (goes steps) n s (places (goes steps) (candidates steps) n s)
   visit_places all n s = are_places (goes steps) (candidates steps) candidates_sorted (candidates_all all) n s
 
-  -- the computed answers are what stands at the places
+  -- the computed findings are those at the places
   pub visit_answers : CountsAll steps → {E : Type 0} (found_at : Visit S → List E) (n : ℕ) (s : Visit S) → AreFoundAtPlaces (goes steps) found_at n s (answers (goes steps) (candidates steps) found_at n s)
   unfolding answers
   visit_answers all found_at n s = record { all_places = places (goes steps) (candidates steps) n s; are_all = visit_places all n s; joined = refl }

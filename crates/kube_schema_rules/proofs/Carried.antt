@@ -1,4 +1,4 @@
--- Two walks over different data that lead alike find the same.
+-- Two walks over different data that take the same steps have the same findings.
 use Rattle.std.proofs.Common.{◌≡◌, ℕ, zero, suc, List, ◌++◌, Option, Some, None, refl, sym, ap, ◌∙◌}
 use Rattle.std.specs.List.{flat_map}
 use Rattle.kube_schema_rules.specs.Step.{Step}
@@ -11,7 +11,7 @@ Both R None (Some t) = ⊥
 Both R (Some s) None = ⊥
 Both R (Some s) (Some t) = R s t
 
--- R n: how the visits relate where n steps are left
+-- R n: the relation between the visits when n steps are left
 module _ {S T E : Type 0} (go : Step → S → Option S) (steps : S → List Step) (found : S → List E) (ho : Step → T → Option T) (hteps : T → List Step) (hound : T → List E)
     (R : ℕ → S → T → Type 0) (same_steps : (n : ℕ) (s : S) (t : T) → R (suc n) s t → steps s ≡ hteps t) (same_found : (n : ℕ) (s : S) (t : T) → R n s t → found s ≡ hound t)
     (same_goes : (n : ℕ) (p : Step) (s : S) (t : T) → R (suc n) s t → Both (R n) (go p s) (ho p t)) where

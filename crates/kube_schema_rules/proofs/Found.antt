@@ -1,4 +1,4 @@
--- `answers`, step by step.
+-- `answers`, unfolded step by step.
 use Rattle.std.proofs.Common.{◌≡◌, ℕ, suc, List, [], ◌∷◌, ◌++◌, map, Option, Some, None, option_and_then, refl, ap, ◌∙◌, append-nil}
 use Rattle.std.proofs.lemmas.List.Concat.{flat_map-append}
 use Rattle.std.specs.List.{flat_map}
@@ -30,12 +30,12 @@ module _ {S E : Type 0} (goes : Step → S → Option S) (candidates : S → Lis
       flat_map-map (λ q. if_some verdicts (leads goes q s)) (λ ps. p ∷ ps) (places goes candidates n t)
       ∙ flat_map_same _ (λ q. if_some verdicts (leads goes q t)) (λ q. ap (λ o. if_some verdicts (option_and_then (leads goes q) o)) e) (places goes candidates n t)
 
-  -- at the last step
+  -- with no steps left
   pub answers_end : (s : S) → answers goes candidates verdicts 0 s ≡ verdicts s
   unfolding answers places leads
   answers_end s = append-nil (verdicts s)
 
-  -- what is found at s, and then through each step
+  -- what is found at s, followed by what is found through each step
   pub answers_more : (n : ℕ) (s : S) → answers goes candidates verdicts (suc n) s ≡ verdicts s ++ flat_map (λ p. if_some (answers goes candidates verdicts n) (goes p s)) (candidates s)
   unfolding answers places leads
   answers_more n s =

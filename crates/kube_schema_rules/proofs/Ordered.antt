@@ -1,4 +1,4 @@
--- The places are exactly the sequences of allowed steps, each once, in their order.
+-- The computed places are exactly the sequences of allowed steps, each once, in order.
 use Rattle.std.proofs.Common.{◌≡◌, ◌≤◌, ◌⊎◌, ℕ, zero, suc, List, [], ◌∷◌, ◌++◌, map, length, Option, Some, None, option_and_then, IsSome, Contains, Ordering, Less, refl, sym, ap, ◌∙◌, subst, inl, inr, arith}
 use Rattle.std.proofs.lemmas.Cmp.{tied_itself}
 use Rattle.std.specs.List.{flat_map, AllByRecursion}
@@ -66,7 +66,7 @@ from_cons_map p q (r ∷ ps) (inr h) = let g = from_cons_map p q ps h in (g.0, g
 -- ---- the places
 
 module _ {S : Type 0} (goes : Step → S → Option S) (candidates : S → List Step) where
-  -- the places that go through p
+  -- the places whose first step is p
   abbrev block : ℕ → S → Step → List (List Step)
   block n s p = if_some (λ t. map (λ ps. p ∷ ps) (places goes candidates n t)) (goes p s)
 
@@ -80,7 +80,7 @@ module _ {S : Type 0} (goes : Step → S → Option S) (candidates : S → List 
       let short : length (w.0) ≤ n = k.0 in
       subst (λ p. (length p ≤ suc n) × IsSome (leads goes p s)) w.1 (omega arith, subst (λ o. IsSome (option_and_then (leads goes w.0) o)) (sym e) k.1)
 
-  -- each is allowed
+  -- each computed place is allowed
   pub sound : (n : ℕ) (s : S) (p : List Step) → IsIn p (places goes candidates n s) → (length p ≤ n) × IsSome (leads goes p s)
   unfolding places leads
   sound zero s p (inl e) = subst (λ p. (length p ≤ 0) × IsSome (leads goes p s)) e (omega arith, refl)
@@ -97,7 +97,7 @@ module _ {S : Type 0} (goes : Step → S → Option S) (candidates : S → List 
       in_flat_map (block n s) (candidates s) q (q ∷ p) (all (subst IsSome (sym e) refl))
       (subst (λ o. IsIn (q ∷ p) (if_some (λ t. map (λ ps. q ∷ ps) (places goes candidates n t)) o)) (sym e) (in_cons_map q p (places goes candidates n t) (rec t g)))
 
-  -- each that is allowed is there
+  -- each allowed place is computed
   pub complete : ((p : Step) (s : S) → IsSome (goes p s) → IsIn p (candidates s)) → (n : ℕ) (s : S) (p : List Step) → length p ≤ n → IsSome (leads goes p s) → IsIn p (places goes candidates n s)
   unfolding places leads
   complete all zero s [] h k = inl refl
@@ -122,11 +122,11 @@ unfolding IsStrictlySortedBy
 sorted_append cmp [] ys h g below = g
 sorted_append cmp (x ∷ xs) ys h g below = (all_append (λ y. cmp x y ≡ Less) xs ys h.0 below.0, sorted_append cmp xs ys h.1 g below.1)
 
--- it begins with a step above p
+-- y begins with a step after p
 abbrev Above : Step → List Step → Type 0
 Above p y = (q : Step) × (r : List Step) × (y ≡ q ∷ r) × (step_cmp p q ≡ Less)
 
--- it begins with p
+-- y begins with p
 abbrev Begins : Step → List Step → Type 0
 Begins p y = (r : List Step) × (y ≡ p ∷ r)
 
@@ -193,7 +193,7 @@ module _ {S : Type 0} (goes : Step → S → Option S) (candidates : S → List 
       let heads = λ (p : Step). block_begins n p (goes p s) in
       (first_below_all B heads (candidates s), sorted_blocks B heads (λ p. block_sorted n p (λ t. ordered up n t) (goes p s)) (candidates s) (up s))
 
-  -- the places are exactly the sequences of allowed steps, in order
+  -- the computed places are exactly the sequences of allowed steps, in order
   pub are_places : ((s : S) → IsStrictlySortedBy step_cmp (candidates s)) → ((p : Step) (s : S) → IsSome (goes p s) → IsIn p (candidates s)) → (n : ℕ) (s : S) → ArePlaces goes n s (places goes candidates n s)
   are_places up all n s = record {
     ordered = ordered up n s;

@@ -1,4 +1,4 @@
--- A schema as JSON counts all its branches.
+-- The branch counts of a schema as JSON cover all its branches.
 use Rattle.kube_schema_rules.proofs.Candidates.{CountsAll, counted}
 use Rattle.kube_schema_rules.specs.Raw.{raw_steps}
 use Rattle.kube_schema_rules.specs.Step.{keyword}

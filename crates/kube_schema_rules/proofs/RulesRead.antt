@@ -1,4 +1,4 @@
--- What rules read, rule by rule.
+-- What rules read, one rule after another.
 use Rattle.std.proofs.Common.{◌≡◌, ◌<◌, ℕ, suc, List, map, drop, length, get_or, Option, Some, option_map, Result, Ok, Err, sym, ap, ◌∙◌, drop-cons}
 use Rattle.cel_demand.specs.Part.{Part, both_read, part_read}
 use Rattle.cel_demand.specs.Reads.{reads_of}
@@ -12,19 +12,19 @@ pub text_read : {A : Type 0} (tree : A → Term) (x : List ℕ) (t : Term) (o : 
 text_read tree x t o m p q r is first second joined =
     joined ∙ ap (λ z. both_read z q) first ∙ ap (both_read (part_read x (reads_of t))) second ∙ sym (ap (λ z. texts_read x t (option_map tree z)) is)
 
--- the same of equal trees
+-- equal trees read the same
 pub same_texts_read : (x : List ℕ) (p : Option Part) (t u : Term) (m n : Option Term) → p ≡ texts_read x t m → t ≡ u → m ≡ n → p ≡ texts_read x u n
 same_texts_read x p t u m n is text message = is ∙ ap (λ z. texts_read x z m) text ∙ ap (texts_read x u) message
 
--- a rule that was compiled, and what is read besides
+-- a rule that compiled, with what else is read
 pub compiled_read : (x : List ℕ) (seen : Result Compiled Malformed) (c : Compiled) (p q o : Option Part) → Ok c ≡ seen → p ≡ texts_read x c.tree c.message_tree → q ≡ both_read p o → q ≡ both_read (rule_read x seen) o
 compiled_read x seen c p q o is read joined = joined ∙ ap (λ z. both_read z o) (read ∙ ap (rule_read x) is)
 
--- a malformed one
+-- a malformed rule
 pub malformed_read : (x : List ℕ) (seen : Result Compiled Malformed) (m : Malformed) (o : Option Part) → Err m ≡ seen → o ≡ both_read (rule_read x seen) o
 malformed_read x seen m o is = ap (λ r. both_read (rule_read x r) o) is
 
--- one rule more, from the last one on
+-- one more rule, going backwards from the last one
 pub one_rule_more : {A : Type 0} (seen : A → Result Compiled Malformed) (x : List ℕ) (rules : List A) (i j : ℕ) (r : A) (p q : Option Part)
     → i < length rules → r ≡ get_or rules i r → suc i ≡ j → q ≡ rules_read x (map seen (drop j rules)) → p ≡ both_read (rule_read x (seen r)) q → p ≡ rules_read x (map seen (drop i rules))
 one_rule_more seen x rules i j r p q lt is next later here =

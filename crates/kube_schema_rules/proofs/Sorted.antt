@@ -1,4 +1,4 @@
--- Keys and indices in order, and that all are there.
+-- Keys and indices: sorted and complete.
 use Rattle.kube_schema_rules.proofs.Ordered.{IsIn, in_left, in_right, all_append, all_map, sorted_append}
 use Rattle.kube_schema_rules.specs.Inside.{insert_key, in_order, up_to}
 use Rattle.std.proofs.Common.{◌≡◌, ◌<◌, ◌≤◌, ℕ, zero, suc, List, [], ◌∷◌, ◌++◌, map, Bool, true, false, nat_lt, Ordering, Less, Equal, Greater, nat_cmp, is_eq, refl, sym, ap, ◌∙◌, subst, inl, inr, arith}
@@ -83,7 +83,7 @@ goes_first : (k : List ℕ) (ks : List (List ℕ)) → AllByRecursion (λ y. key
 goes_first k [] h = refl
 goes_first k (l ∷ ks) h = rw h.0 refl
 
--- keys that ascend stay as they are
+-- ascending keys are already in order
 pub ordered_already : (ks : List (List ℕ)) → IsStrictlySortedBy key_cmp ks → in_order ks ≡ ks
 unfolding IsStrictlySortedBy
 ordered_already [] h = refl

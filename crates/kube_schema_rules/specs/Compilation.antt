@@ -1,7 +1,7 @@
 -- Trusted by the headline.
--- Which rules are compiled (Kubernetes API reference, ValidationRule of CustomResourceDefinition): a rule is
--- malformed where its fields have a fault, where its text is no expression of the CEL grammar, or where it
--- has a messageExpression that is none.
+-- Which rules compile (Kubernetes API reference, ValidationRule of
+-- CustomResourceDefinition): a rule is malformed if its fields have a fault, if its text
+-- doesn't derive a tree by the CEL grammar, or if it has a messageExpression that doesn't.
 use Rattle.std.specs.Prelude.{ℕ, List, [], ◌∷◌, ◌++◌, Bool, Option, Some, None, option_map, Result, Ok, Err, codes, decimal, string_bytes}
 use Rattle.serde_json.specs.Data.{Data, Items, no_items, item}
 use Rattle.cel_syntax.specs.Reading.{tree_of}
@@ -13,8 +13,8 @@ use Rattle.kube_schema_rules.specs.declared.result.CompilationResult.{Compilatio
 use Rattle.kube_schema_rules.specs.declared.compilation.CompilationError.{CompilationError}
 use Rattle.kube_schema_rules.specs.declared.compilation.CompilationError.TheVariants as error
 
--- a rule, the tree of its text, whether `oldSelf` is a free name of it, and the tree of its
--- messageExpression, where it has one
+-- a rule, the tree of its text, whether `oldSelf` is a free name of
+-- its text, and the tree of its messageExpression, if it has one
 pub record Compiled : Type 0 where
   pub fields : Fields
   pub tree : Term
@@ -23,20 +23,21 @@ pub record Compiled : Type 0 where
 
 -- why a rule is malformed
 pub data Malformed : Type 0 where
-  -- the text that derives no tree
+  -- the text of the rule derives no tree
   unread : List ℕ → Malformed
-  -- the text of the rule, and its messageExpression, which derives no tree
+  -- the messageExpression, behind the text of the rule, derives no tree
   unread_message : List ℕ → List ℕ → Malformed
   invalid : Fault → Malformed
-  -- no rule of a schema's JSON has this: its node lies past the greatest depth, at this one
+  -- the node lies past the maximum depth, at this depth;
+  -- no rule that is parsed from JSON has this fault
   past_depth : ℕ → Malformed
 
--- a tree, or why there has to be one
+-- the tree, or the fault if there is none
 abbrev pub required_tree : Malformed → Option Term → Result Term Malformed
 required_tree m (Some t) = Ok t
 required_tree m None = Err m
 
--- the tree of a messageExpression, where there is one
+-- the tree of a messageExpression, if there is one
 abbrev pub message_tree_of : List ℕ → Option (List ℕ) → Result (Option Term) Malformed
 message_tree_of rule None = Ok None
 message_tree_of rule (Some m) = do
@@ -67,7 +68,7 @@ abbrev pub compiled_of : Result Fields Fault → Result Compiled Malformed
 compiled_of (Ok fields) = compile_result fields
 compiled_of (Err f) = Err (invalid f)
 
--- the compiled rule that a JSON value gives, or why there is none
+-- the compiled rule in a JSON value, or the reason why there is none
 unfoldable pub compiled_rule : Data → Result Compiled Malformed
 compiled_rule d = compiled_of (rule_of d)
 
@@ -85,7 +86,7 @@ error_text (unread_message rule m) =
 error_text (invalid f) = codes "invalid rule definition: " ++ fault_text f
 error_text (past_depth n) = codes "schema nesting depth " ++ (decimal n ++ codes " exceeds the maximum of 64")
 
--- ---- what the code's values stand for
+-- ---- views of the code's values
 
 abbrev pub error_view : CompilationError → Malformed
 error_view (error.Parse rule source) = unread (string_bytes rule)

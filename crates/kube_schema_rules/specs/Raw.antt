@@ -7,12 +7,12 @@ use Rattle.serde_json.specs.Data.{Data}
 use Rattle.serde_json.specs.Find.{get, at, as_bool, as_object}
 use Rattle.std.specs.Prelude.{ℕ, List, false, if◌then◌else◌, Option, Some, None, option_and_then, unwrap_or, is_some, codes}
 
--- the schema of a declared name
+-- the schema that `properties` declares for a key
 unfoldable pub declared_property : List ℕ → Data → Option Data
 declared_property key node = option_and_then (get key) (get (codes "properties") node)
 
--- the schema of names that aren't declared: `additionalProperties` where it is an object, unless unknown
--- fields are kept as they are
+-- the schema of undeclared keys: `additionalProperties`
+-- if it is an object, unless unknown fields are preserved
 unfoldable pub undeclared_property : Data → Option Data
 undeclared_property node =
     if unwrap_or (option_and_then as_bool (get (codes "x-kubernetes-preserve-unknown-fields") node)) false

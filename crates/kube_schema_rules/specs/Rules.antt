@@ -1,6 +1,6 @@
 -- Trusted by the headline.
--- Which rule a JSON value is, or its first fault (Kubernetes API reference, ValidationRule of
--- CustomResourceDefinition).
+-- Which rule a JSON value holds, or its first fault (Kubernetes
+-- API reference, ValidationRule of CustomResourceDefinition).
 use Rattle.std.specs.Prelude.{ℕ, List, ◌++◌, Bool, Option, Some, None, option_map, option_and_then, unwrap_or, Result, Ok, Err, codes, string_bytes, is_some, if◌then◌else◌}
 use Rattle.serde_json.specs.Data.{Data, null, boolean, number, string, array, object, Items, no_items}
 use Rattle.serde_json.specs.Find.{get, as_str, as_array, as_object}
@@ -9,15 +9,15 @@ use Rattle.kube_schema_rules.specs.declared.rule.RuleFault.TheVariants as fault
 use Rattle.kube_schema_rules.specs.declared.rule.Rule.{Rule}
 use Rattle.kube_schema_rules.specs.declared.rule.Parts.{Parts}
 
--- what is wrong with a value that is no rule; a field is found by its name
+-- the reason why a value isn't a rule; fields are named
 pub data Fault : Type 0 where
   not_object : Fault
   rule_not_string : Fault
   not_string_or_null : List ℕ → Fault
-  -- `optionalOldSelf`, the one bool
+  -- for `optionalOldSelf`, the only bool
   not_bool_or_null : Fault
 
--- what a rule says
+-- the fields of a rule
 pub record Fields : Type 0 where
   pub rule : List ℕ
   pub message : Option (List ℕ)
@@ -37,7 +37,7 @@ abbrev pub ◌>>=◌ : {A B E : Type 0} → Result A E → (A → Result B E) �
 Ok a >>= f = f a
 Err e >>= f = Err e
 
--- a field that may be missing or null
+-- a string that may be missing or null
 abbrev pub text_of : List ℕ → Option Data → Result (Option (List ℕ)) Fault
 text_of name None = Ok None
 text_of name (Some null) = Ok None
@@ -67,7 +67,7 @@ abbrev pub required_text : Option (List ℕ) → Result (List ℕ) Fault
 required_text (Some s) = Ok s
 required_text None = Err rule_not_string
 
--- what an object says, or the first fault of its fields
+-- the fields of a rule, or the first fault among them
 unfoldable pub fields_of : Data → Result Fields Fault
 fields_of d = do
   rule ← required_text (option_and_then as_str (get (codes "rule") d))
@@ -85,7 +85,7 @@ fields_of d = do
     optional_old_self = optional_old_self;
   })
 
--- the rule that a value is, or its first fault
+-- the rule in a value, or its first fault
 unfoldable pub rule_of : Data → Result Fields Fault
 rule_of d = if is_some (as_object d) then fields_of d else Err not_object
 
@@ -94,7 +94,7 @@ unfoldable pub rule_items : Data → Items
 rule_items schema =
     unwrap_or (option_and_then as_array (get (codes "x-kubernetes-validations") schema)) no_items
 
--- ---- what the code's values stand for
+-- ---- views of the code's values
 
 abbrev pub fault_view : RuleFault → Fault
 fault_view fault.NotObject = not_object
@@ -122,7 +122,7 @@ parts_view p = record {
   optional_old_self = p.optional_old_self;
 }
 
--- what was read, or the fault
+-- the view of what was parsed, or of the fault
 abbrev pub reading_view : {A B : Type 0} → (A → B) → Result A RuleFault → Result B Fault
 reading_view f (Ok a) = Ok (f a)
 reading_view f (Err e) = Err (fault_view e)

@@ -1,7 +1,7 @@
 -- Trusted by the headline.
--- What lies at a place of a schema and a JSON value (Kubernetes documentation, "Validation rules": a rule is
--- scoped to the part of the object where its `x-kubernetes-validations` stands),
--- and where steps lead from there.
+-- What lies at a place of a schema and a JSON value (Kubernetes documentation,
+-- "Validation rules": a rule is scoped to the part of the object where its
+-- `x-kubernetes-validations` stands), and where steps lead from there.
 use Rattle.kube_schema_rules.specs.declared.branches.BranchKind.{BranchKind}
 use Rattle.kube_schema_rules.specs.declared.branches.BranchKind.TheVariants.{AllOf, OneOf, AnyOf}
 use Rattle.kube_schema_rules.specs.Inside.{keys_at, count_at, in_order, up_to}
@@ -11,23 +11,23 @@ use Rattle.serde_json.specs.Data.{Data}
 use Rattle.serde_json.specs.Find.{get, at}
 use Rattle.std.specs.Prelude.{ℕ, ◌+◌, List, [], ◌∷◌, ◌++◌, map, Option, Some, None, option_map, option_and_then, decimal}
 
--- what is known of the whole object: its API version, its API group and its kind
+-- the root context: the API version, API group and kind of the whole object
 pub record Root : Type 0 where
   pub api_version : List ℕ
   pub api_group : List ℕ
   pub kind : List ℕ
 
--- the nodes of the schema may have any form
+-- S is the type of the schema's nodes, in either form
 pub record Visit (S : Type 0) : Type 0 where
-  -- the schema's node
+  -- the node of the schema
   pub node : S
-  -- the object's part
+  -- the value in the object
   pub value : Data
-  -- its old counterpart: what the same steps find in the old object, or none
+  -- its old counterpart, if any: what the same steps find in the old object
   pub old : Option Data
-  -- what is known of the whole object, at the root and where only branches lead from there
+  -- the root context, at the root and at places that only branches lead to from there
   pub root : Option Root
-  -- the text of the place
+  -- the text of the path
   pub path : List ℕ
   -- the number of steps from the root
   pub depth : ℕ
@@ -42,33 +42,33 @@ visit node value old root path depth = record {
   depth = depth;
 }
 
--- where every walk begins
+-- the visit at which every walk begins
 abbrev pub root_visit : {S : Type 0} → S → Data → Option Data → Option Root → Visit S
 root_visit node value old root = visit node value old root [] 0
 
--- a path and then a key: `k` after the empty path, else `.k`
+-- a path followed by a key: `k` after the empty path, else `.k`
 unfoldable pub member_path : List ℕ → List ℕ → List ℕ
 member_path [] key = key
 member_path (b ∷ bs) key = (b ∷ bs) ++ 46 ∷ key
 
--- a path and then an index: `[i]`
+-- a path followed by an index: `[i]`
 unfoldable pub item_path : List ℕ → ℕ → List ℕ
 item_path path index = path ++ 91 ∷ (decimal index ++ 93 ∷ [])
 
--- one step further, where node and value are both there
+-- the visit one step further, if node and value both exist there
 abbrev pub further : {S : Type 0} → Option Root → ℕ → List ℕ
     → Option S → Option Data → Option Data → Option (Visit S)
 further root depth path node value old =
     option_and_then (λ n. option_map (λ v. visit n v old root path (depth + 1)) value) node
 
--- the second, where the first isn't there
+-- the second node, unless the first exists
 abbrev pub unless_there : {S : Type 0} → Option S → Option S → Option S
 unless_there None o = o
 unless_there (Some s) o = None
 
 module _ {S : Type 0} (steps : StepAccessors S) where
-  -- where a step leads, if it is allowed: to a declared member, to an item,
-  -- to a member that isn't declared, to a branch
+  -- where a step leads, if it is allowed: to a declared
+  -- member, an item, a member that isn't declared, or a branch
   unfoldable pub goes : Step → Visit S → Option (Visit S)
   goes (property k) s =
       further None s.depth (member_path s.path k) (steps.property k s.node)
@@ -82,7 +82,7 @@ module _ {S : Type 0} (steps : StepAccessors S) where
       (get k s.value) (option_and_then (get k) s.old)
   goes (branch kind j) s = further s.root s.depth s.path (steps.branch kind j s.node) (Some s.value) s.old
 
-  -- all steps that may be allowed, kind by kind: no member is reached but by a key of the value
+  -- the steps that may be allowed, by kind: members are reached only by keys that the value has
   unfoldable pub property_steps : Visit S → List Step
   property_steps s = map property (in_order (keys_at (Some s.value)))
 
@@ -95,7 +95,7 @@ module _ {S : Type 0} (steps : StepAccessors S) where
   unfoldable pub branch_steps : BranchKind → Visit S → List Step
   branch_steps kind s = map (branch kind) (up_to (steps.branch_count kind s.node))
 
-  -- and in order
+  -- all of them, in order
   unfoldable pub candidates : Visit S → List Step
   candidates s =
       property_steps s ++ (item_steps s

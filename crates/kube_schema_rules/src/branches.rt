@@ -1,8 +1,8 @@
-//! The keywords of a schema whose branches apply to a value as a whole.
+//! The keywords whose branches all apply to the same value.
 ghost use Rattle.kube_schema_rules.specs.Step.{keyword};
 ghost use Rattle.std.specs.Prelude.{◌≡◌};
 
-/// A keyword that has a list of schemas for one value (JSON Schema, "Schema Composition").
+/// A keyword that holds a list of schemas for one value (JSON Schema, "Schema Composition").
 #[derive(Clone, Copy, Debug, PartialEq, Eq)]
 pub enum BranchKind {
     /// `allOf`.
@@ -14,7 +14,7 @@ pub enum BranchKind {
 }
 
 impl BranchKind {
-    /// The keyword.
+    /// Returns the keyword.
     pub fn keyword(self) -> &'static str
         ensures { result.now ≡ keyword self }
     {

@@ -1,4 +1,4 @@
-//! Rules with the programs of their texts.
+//! Compilation of rules.
 ghost use Rattle.std.specs.Prelude.{◌≡◌, IfErr, IfOk, map, option_map};
 ghost use Rattle.serde_json.specs.View.{view};
 ghost use Rattle.kube_schema_rules.specs.Rules.{rule_view, rule_items};
@@ -15,28 +15,28 @@ use serde_json::Value;
 use std::alloc::Global;
 use std::fmt;
 
-/// Why a rule was not compiled.
+/// The reason why a rule doesn't compile.
 #[derive(Debug, Drop)]
 pub enum CompilationError {
-    /// The text of the rule is no CEL expression.
+    /// The text of the rule doesn't parse as CEL.
     Parse {
         /// The text.
         rule: String,
-        /// Why it was not read.
+        /// The parse errors.
         source: ParseErrors,
     },
-    /// The messageExpression of the rule is no CEL expression.
+    /// The messageExpression of the rule doesn't parse as CEL.
     MessageExpressionParse {
         /// The text of the rule.
         rule: String,
-        /// The text that was not read.
+        /// The messageExpression.
         message_expression: String,
-        /// Why it was not read.
+        /// The parse errors.
         source: ParseErrors,
     },
-    /// The JSON value is no rule.
+    /// The JSON value isn't a rule.
     InvalidRule(RuleFault),
-    /// The schema goes on past the greatest depth. No JSON value of a rule gives this error.
+    /// The schema goes on past the maximum depth. No JSON value of a rule gives this error.
     SchemaTooDeep {
         /// The depth of the node.
         depth: usize,
@@ -72,12 +72,12 @@ impl fmt::Display for CompilationError {
     }
 }
 
-/// Reads a rule and compiles its texts. The first fault counts: one of the rule's fields, then the text of
-/// the rule, then its messageExpression.
+/// Parses a rule and compiles its texts. Returns the first fault: that of the
+/// rule's fields, else that of its text, else that of its messageExpression.
 ///
 /// # Errors
 ///
-/// [`Refused`] where memory is refused.
+/// [`Refused`] if memory is refused.
 #[tactic(auto, unfolding(crate::specs::Compilation::compiled_rule))]
 pub fn compile_rule(
     alloc: Global,
@@ -92,11 +92,11 @@ pub fn compile_rule(
     }
 }
 
-/// The rules of a schema's node, each read and compiled, in their order.
+/// Parses and compiles the rules of a schema's node, in order.
 ///
 /// # Errors
 ///
-/// [`Refused`] where memory is refused.
+/// [`Refused`] if memory is refused.
 pub fn rules_of(
     alloc: Global,
     schema: &Value,
@@ -131,7 +131,7 @@ fn compile_text(
     }
 }
 
-// Compiles the messageExpression of a rule whose own text has this program.
+// Compiles the messageExpression of a rule. `program` is the program of its own text.
 fn compile_message(
     alloc: Global,
     rule: Rule,
@@ -156,7 +156,7 @@ fn compile_message(
     }
 }
 
-// A rule with the programs of its texts.
+// Returns a rule with the programs of its texts.
 fn with_programs(
     alloc: Global,
     rule: Rule,
@@ -178,7 +178,7 @@ fn with_programs(
     })
 }
 
-// The tree of a program that may be there.
+// The expression of a program, if there is one.
 fn expression_of(program: &Option<Program>) -> Option<&Expr>
     ensures { option_map (λ e. term e.now) result ≡ option_map program_term program.now }
 {

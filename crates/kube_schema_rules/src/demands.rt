@@ -1,4 +1,4 @@
-//! How much of the values at a place rules read.
+//! How much of the values at a place the rules read.
 ghost use Rattle.std.specs.Prelude.{◌≡◌, codes, IfErr, IfOk, map, None, option_map};
 ghost use Rattle.cel_syntax_ast.specs.Term.{term};
 ghost use Rattle.cel_demand.specs.Demand.{part_of};
@@ -15,16 +15,16 @@ use cel_demand::{Demand, both_demands, demand_on, demands_of};
 use kube_types_refused::Refused;
 use std::alloc::Global;
 
-/// How much rules read of `self` and of `oldSelf`; none of what they don't name.
+/// How much rules read of `self` and of `oldSelf`; None for a name that they don't read.
 #[derive(Debug, Drop)]
 pub struct Demands {
-    /// Of the value, `self`.
+    /// The demand on `self`, the value.
     pub value: Option<Demand>,
-    /// Of the value before a change, `oldSelf`.
+    /// The demand on `oldSelf`, the old value.
     pub old: Option<Demand>,
 }
 
-/// Nothing is read.
+/// Returns the demands of rules that read nothing.
 pub fn no_demands() -> Demands
     ensures { AreDemands result (λ x. None) }
 {
@@ -34,7 +34,7 @@ pub fn no_demands() -> Demands
     }
 }
 
-/// What an expression reads.
+/// Returns what an expression reads.
 fn expression_demands(alloc: Global, expression: &Expr) -> Result<Demands, Refused>
     ensures demands { IfOk result (λ d. AreDemands d (λ x. part_read x (reads_of (term expression.now)))) }
     ensures memory { IfErr result (λ e. e ≡ Refused.Memory) }
@@ -45,7 +45,7 @@ fn expression_demands(alloc: Global, expression: &Expr) -> Result<Demands, Refus
     Ok(Demands { value, old })
 }
 
-/// What one reads or another.
+/// Returns what at least one of two demands reads.
 fn joined(alloc: Global, first: &Demands, second: &Demands) -> Result<Demands, Refused>
     ensures value { IfOk result (λ d. option_map part_of d.value
         ≡ both_read (option_map part_of first.now.value) (option_map part_of second.now.value)) }
@@ -58,7 +58,7 @@ fn joined(alloc: Global, first: &Demands, second: &Demands) -> Result<Demands, R
     Ok(Demands { value, old })
 }
 
-/// What a rule reads whose text and whose messageExpression are these.
+/// Returns what a rule with this text and this messageExpression reads.
 pub(crate) fn text_demands(
     alloc: Global,
     text: &Expr,
@@ -77,11 +77,11 @@ pub(crate) fn text_demands(
     Ok(demands)
 }
 
-/// What a rule reads or what is read besides. A malformed rule reads nothing.
+/// Adds what a rule reads to these demands. A malformed rule reads nothing.
 ///
 /// # Errors
 ///
-/// [`Refused`] where memory is refused.
+/// [`Refused`] if memory is refused.
 pub fn with_rule(
     alloc: Global,
     rule: &Result<CompilationResult, CompilationError>,
@@ -102,11 +102,11 @@ pub fn with_rule(
     }
 }
 
-/// What one of these rules reads.
+/// Returns what at least one of these rules reads.
 ///
 /// # Errors
 ///
-/// [`Refused`] where memory is refused.
+/// [`Refused`] if memory is refused.
 pub fn rules_demands(
     alloc: Global,
     rules: &[Result<CompilationResult, CompilationError>],

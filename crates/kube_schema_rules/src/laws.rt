@@ -1,10 +1,10 @@
-//! Laws of rules, each the contract of a call: what `==` compares.
+//! Laws of rules, each stated as the contract of a function: what `==` compares.
 ghost use Rattle.kube_schema_rules.specs.Rules.{fault_view};
 ghost use Rattle.std.specs.Prelude.{◌≡◌, ◌↔◌, IsTrue};
 
 use crate::rule::RuleFault;
 
-/// Two faults of a rule are equal exactly where they are the same one, of the same field.
+/// Two faults of a rule are equal exactly if they are the same variant, for the same field.
 pub fn equal_faults(a: &RuleFault, b: &RuleFault) -> bool
     ensures { IsTrue result ↔ (fault_view a.now ≡ fault_view b.now) }
 {

@@ -1,5 +1,5 @@
-//! The rules of a schema's node, read from JSON and compiled; and the places that a schema and a value share:
-//! definitions and lemmas for every walk over them.
+//! The rules of a schema's node, parsed from JSON and compiled; and the places that
+//! a schema and a value share: definitions and lemmas for every walk over them.
 #![tactic(auto)]
 
 pub mod branches;

@@ -1,4 +1,4 @@
-//! The rules of a node, with what they read.
+//! The rules of a node, together with what they read.
 ghost use Rattle.std.specs.Prelude.{◌≡◌, [], codes, IfErr, IfOk, map, option_map};
 ghost use Rattle.cel_demand.proofs.Sets.{same_read-prop};
 ghost use Rattle.cel_demand.specs.Demand.{part_of};
@@ -11,12 +11,12 @@ use crate::result::CompilationResult;
 use kube_types_refused::Refused;
 use std::alloc::Global;
 
-/// The rules of a node in their order, with how much of the values at a place they read.
+/// The rules of a node, in order, and how much of the values at a place they read.
 #[derive(Debug, Drop)]
 pub struct NodeRules {
-    /// Each rule with its programs, or why it has none.
+    /// The rules, each either compiled or with the reason why it isn't.
     pub rules: Vec<Result<CompilationResult, CompilationError>>,
-    /// What one of them reads.
+    /// What at least one of the rules reads.
     pub demands: Demands,
     ghost value_read: { option_map part_of demands.value
         ≡ rules_read (codes "self") (map compiled_seen rules.items) } by { same_read-prop _ _ },
@@ -25,7 +25,7 @@ pub struct NodeRules {
 }
 
 impl NodeRules {
-    /// No rules. It takes no memory.
+    /// Returns an empty list of rules. Allocates nothing.
     pub fn none(alloc: Global) -> NodeRules
         ensures { result.rules.items ≡ [] }
     {
@@ -35,11 +35,11 @@ impl NodeRules {
         }
     }
 
-    /// These rules.
+    /// Returns these rules, with their demands.
     ///
     /// # Errors
     ///
-    /// [`Refused`] where memory is refused.
+    /// [`Refused`] if memory is refused.
     pub fn of(
         alloc: Global,
         rules: Vec<Result<CompilationResult, CompilationError>>,

@@ -1,4 +1,4 @@
-//! A rule with the programs of its texts.
+//! A compiled rule.
 ghost use Rattle.std.specs.Prelude.{◌≡◌, codes, option_map};
 ghost use Rattle.cel.specs.Program.{program_term};
 ghost use Rattle.cel_demand.proofs.Sets.{same_read-prop};
@@ -9,16 +9,16 @@ use crate::demands::Demands;
 use crate::rule::Rule;
 use cel::Program;
 
-/// A rule that was read, with its programs.
+/// A rule with the programs of its texts.
 #[derive(Debug, Drop)]
 pub struct CompilationResult {
     /// The program of the rule's text.
     pub program: Program,
     /// The rule.
     pub rule: Rule,
-    /// Whether the rule speaks of the value before a change: `oldSelf` is a free name of it.
+    /// Whether this is a transition rule: `oldSelf` is a free name of its text.
     pub is_transition_rule: bool,
-    /// The program of the rule's messageExpression, where it has one.
+    /// The program of the rule's messageExpression, if it has one.
     pub message_program: Option<Program>,
     /// How much of the values at a place its texts read.
     pub demands: Demands,

@@ -1,5 +1,5 @@
-//! The rules of a schema's node, as JSON gives them (Kubernetes API reference, ValidationRule of
-//! CustomResourceDefinition; "Use CEL validation rules").
+//! The rules of a schema's node as JSON (Kubernetes API reference,
+//! ValidationRule of CustomResourceDefinition; "Use CEL validation rules").
 ghost use Rattle.std.specs.Prelude.{◌≡◌, IfErr, IfOk, option_map, string_bytes};
 ghost use Rattle.serde_json.specs.View.{view, items_view};
 ghost use Rattle.kube_schema_rules.specs.Rules.{fault_view, text_at, bool_at, rule_of, rule_items, parts_view, rule_view, reading_view};
@@ -9,12 +9,12 @@ use serde_json::Value;
 use std::alloc::{AllocError, Global};
 use std::fmt;
 
-/// Why a JSON value is no rule: its first fault.
+/// The first reason why a JSON value isn't a rule.
 #[derive(Clone, Copy, Debug, PartialEq, Eq)]
 pub enum RuleFault {
-    /// The value is no object.
+    /// The value isn't an object.
     NotObject,
-    /// The field `rule` is not there, or is no string.
+    /// The field `rule` is missing or not a string.
     RuleNotString,
     /// The named field is neither a string nor null.
     NotStringOrNull(&'static str),
@@ -47,19 +47,19 @@ impl fmt::Display for RuleFault {
 pub struct Rule {
     /// The CEL expression that has to be true.
     pub rule: String,
-    /// What is reported where it is not.
+    /// The message if it isn't.
     pub message: Option<String>,
-    /// A CEL expression that gives what is reported where the rule isn't true.
+    /// A CEL expression that evaluates to the message if the rule is false.
     pub message_expression: Option<String>,
-    /// A word for programs that goes with the error.
+    /// The machine-readable reason of the error.
     pub reason: Option<String>,
-    /// The part of the value that the error speaks of.
+    /// The path of the error, relative to the value.
     pub field_path: Option<String>,
-    /// Whether a rule on `oldSelf` counts also where there is no old value.
+    /// Whether a transition rule also applies if there is no old value.
     pub optional_old_self: Option<bool>,
 }
 
-// The fields of a rule, where they stand in JSON.
+// The fields of a rule, borrowed from JSON.
 #[derive(Clone, Copy)]
 struct Parts<'a> {
     rule: &'a str,
@@ -71,13 +71,14 @@ struct Parts<'a> {
 }
 
 impl Rule {
-    /// Reads a rule: an object with a string `rule`, with a string, null or nothing in `message`,
-    /// `messageExpression`, `reason` and `fieldPath`, and with a bool, null or nothing in `optionalOldSelf`.
-    /// Fields of other names are ignored. The first fault, in this order of the fields, is reported.
+    /// Parses a rule. It is an object with a string at `rule`; a string, null
+    /// or nothing at `message`, `messageExpression`, `reason` and `fieldPath`;
+    /// and a bool, null or nothing at `optionalOldSelf`. Other fields are
+    /// ignored. The first fault, in this order of the fields, is returned.
     ///
     /// # Errors
     ///
-    /// [`Refused`] where memory is refused.
+    /// [`Refused`] if memory is refused.
     pub fn from_json(alloc: Global, value: &Value) -> Result<Result<Rule, RuleFault>, Refused>
         ensures rule { IfOk result (λ r. reading_view rule_view r ≡ rule_of (view value.now)) }
         ensures memory { IfErr result (λ e. e ≡ Refused.Memory) }
@@ -88,11 +89,11 @@ impl Rule {
         }
     }
 
-    /// A copy.
+    /// Returns a copy.
     ///
     /// # Errors
     ///
-    /// [`Refused`] where memory is refused.
+    /// [`Refused`] if memory is refused.
     pub fn try_clone(&self) -> Result<Rule, Refused>
         ensures same { IfOk result (λ r. rule_view r ≡ rule_view self.now) }
         ensures memory { IfErr result (λ e. e ≡ Refused.Memory) }
@@ -108,7 +109,8 @@ impl Rule {
     }
 }
 
-/// The rules of a schema's node: the items of `x-kubernetes-validations` where that is an array, else none.
+/// The rules of a schema's node: the items of
+/// `x-kubernetes-validations` if that is an array, else none.
 #[tactic(auto, unfolding(crate::specs::Rules::rule_items))]
 pub fn rule_values(schema: &Value) -> &[Value]
     ensures { items_view result.now ≡ rule_items (view schema.now) }
@@ -122,7 +124,7 @@ pub fn rule_values(schema: &Value) -> &[Value]
     }
 }
 
-// A text, if the field is there and not null.
+// The string at a field; None if the field is missing or null.
 fn text_at<'v>(value: &'v Value, name: &'static str) -> Result<Option<&'v str>, RuleFault>
     ensures { reading_view (option_map (λ s. s.now)) result ≡ text_at name.now (view value.now) }
 {
@@ -133,7 +135,7 @@ fn text_at<'v>(value: &'v Value, name: &'static str) -> Result<Option<&'v str>, 
     }
 }
 
-// A bool, if the field is there and not null.
+// The bool at a field; None if the field is missing or null.
 fn bool_at(value: &Value, name: &str) -> Result<Option<bool>, RuleFault>
     ensures { reading_view (λ o. o) result ≡ bool_at name.now (view value.now) }
 {
@@ -144,7 +146,7 @@ fn bool_at(value: &Value, name: &str) -> Result<Option<bool>, RuleFault>
     }
 }
 
-// What stands in the fields of a rule, or its first fault.
+// Returns the fields of a rule, or its first fault.
 #[tactic(auto, unfolding(crate::specs::Rules::rule_of, crate::specs::Rules::fields_of))]
 fn parts_of(value: &Value) -> Result<Parts<'_>, RuleFault>
     ensures { reading_view parts_view result ≡ rule_of (view value.now) }
@@ -170,7 +172,7 @@ fn parts_of(value: &Value) -> Result<Parts<'_>, RuleFault>
     })
 }
 
-// The rule of these fields.
+// Copies these fields to a rule.
 fn rule_from(alloc: Global, parts: Parts<'_>) -> Result<Rule, AllocError>
     ensures { IfOk result (λ r. rule_view r ≡ parts_view parts.entry) }
 {

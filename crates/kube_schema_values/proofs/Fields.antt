@@ -1,4 +1,4 @@
--- What is found in the entries of a bound object, with the fields that were put where it lacks them.
+-- Look-ups in the entries of a bound object, with the fields that were added because it lacks them.
 use Rattle.std.proofs.Common.{◌≡◌, ℕ, List, [], Bool, true, false, if◌then◌else◌, is_some, Option, Some, None, option_map, codes, refl, sym, ap, ◌∙◌, subst}
 use Rattle.std.specs.Ordering.{eq_by_cmp}
 use Rattle.std.specs.Str.{bytes_eq}
@@ -31,7 +31,7 @@ absent_or : (f : json.Data → Data) (o : Option json.Data) (a : Option Data) �
 absent_or f None a h = refl
 absent_or f (Some x) a h = absurd (true≢false h)
 
--- under keys that distinguish names
+-- with keys that differ for different names
 module _ (key : List ℕ → List ℕ) (apart : (a b : List ℕ) → key a ≡ key b → a ≡ b) (f : List ℕ → json.Data → Data) (ms : json.Members) where
   own : List ℕ → Option Data
   own name = option_map (f name) (get_member name ms)
@@ -68,7 +68,7 @@ module _ (key : List ℕ → List ℕ) (apart : (a b : List ℕ) → key a ≡ k
       (found_after (codes "kind") (text []) _ _ kind
       (found_after (codes "apiVersion") (text []) (λ name. None) es version (λ name. h name ∙ or_else_none (own name))))
 
--- the names of these fields stay
+-- the names of these fields are their own escapes
 version_stays : (keeps : Bool) → key_in keeps (codes "apiVersion") ≡ codes "apiVersion"
 unfolding escape escaped_text is_reserved
 version_stays true = refl
@@ -95,7 +95,7 @@ module _ {S : Type 0} (accessors : ConversionAccessors S) (f : S → json.Data �
       (λ name. found_member accessors f s name ms) name
   found_by false name = found_member accessors f s name ms ∙ or_else_none (option_map (member_by accessors f s name) (get_member name ms))
 
-  -- at the key of each name stands the object's own member, bound, else the field besides
+  -- at the key of each name stands the object's own member, bound, else the added field
   pub found_in_object : (name : List ℕ) → find (text_key (member_key accessors s name)) (object_by accessors f s ms)
       ≡ or_else (option_map (member_by accessors f s name) (get_member name ms)) (field_besides (accessors.is_embedded s) name)
   unfolding object_by

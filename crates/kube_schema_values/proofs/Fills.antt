@@ -111,7 +111,7 @@ put_there k g o x ms e there = sym (kept (get_member k ms) ms (put k (g x) ms) t
 pub put_here : (k : List ℕ) (g : Data → Data) (o : Option Data) (x : Data) (ms : Members) → Some x ≡ o → is_some (get_member k ms) ≡ false → put k (g x) ms ≡ put_new k (option_map g o) ms
 put_here k g o x ms e new = sym (not_kept (get_member k ms) ms (put k (g x) ms) new) ∙ ap (λ o. put_new k (option_map g o) ms) e
 
--- what a query finds is there
+-- the result of the query is the member's presence
 pub found_there : (name : List ℕ) (es : List Entry) (b : Bool) → b ≡ is_some (lookup (is_at (λ k. slice_cmp nat_cmp name (string_bytes k))) es) → is_some (get_member name (members_view es)) ≡ b
 found_there name es b e = ap is_some (sym (view-lookup name es)) ∙ same (lookup (is_at (λ k. slice_cmp nat_cmp name (string_bytes k))) es) ∙ sym e
   where
@@ -119,7 +119,7 @@ found_there name es b e = ap is_some (sym (view-lookup name es)) ∙ same (looku
     same None = refl
     same (Some v) = refl
 
--- ---- a schema that is JSON
+-- ---- a schema as JSON
 
 pub property_is : (k : List ℕ) (schema : Data) → property k schema ≡ get_member k (members_or_none (declared_properties schema))
 unfolding property declared_properties

@@ -1,4 +1,4 @@
--- What is found in bound entries.
+-- Look-ups in bound entries.
 use Rattle.std.proofs.Common.{◌≡◌, ℕ, List, Some, option_map, false, Ordering, Less, Equal, Greater, nat_cmp, refl, sym, ap, ◌∙◌, if◌then◌else◌}
 use Rattle.std.specs.Cmp.Lexicographic.{slice_cmp}
 use Rattle.std.specs.Ordering.{eq_by_cmp, is_eq, match_ordering}
@@ -47,7 +47,7 @@ find-put_other q k d (entry l e es) other = other_at _ q k l d e es refl other (
 same_name : (k l : List ℕ) → slice_cmp nat_cmp k l ≡ Equal → k ≡ l
 same_name k l h = (bytes_eq-Decides k l).0 (sym (is_eq-slice_cmp k l) ∙ ap is_eq h)
 
--- two names have two keys
+-- different names have different keys
 two_keys : (k l : List ℕ) → (k ≡ l → ⊥) → eq_by_cmp key_order (text_key (escape k)) (text_key (escape l)) ≡ false
 two_keys k l other = is_eq-slice_cmp (escape k) (escape l) ∙ false_from_ne_true _ (λ h. other (escape-injective k l ((bytes_eq-Decides (escape k) (escape l)).0 h)))
 
@@ -60,7 +60,7 @@ found_member_at Less k l d ms is later = find-put_other (text_key (escape k)) (t
 found_member_at Equal k l d ms is later = let e : k ≡ l = same_name k l is in rw e (find-put (text_key (escape l)) (plain d) (plain_entries ms))
 found_member_at Greater k l d ms is later = find-put_other (text_key (escape k)) (text_key (escape l)) (plain d) (plain_entries ms) (two_keys k l (differ_by Greater k l is refl)) ∙ later
 
--- at each escaped name stands the bound member of that name
+-- at each escaped name stands the member of that name, bound
 pub found_member : (k : List ℕ) (ms : json_data.Members) → find (text_key (escape k)) (plain_entries ms) ≡ option_map plain (get_member k ms)
 unfolding plain_entries
 found_member k json_data.no_members = refl

@@ -1,4 +1,4 @@
--- What is found in the entries of a bound object.
+-- Look-ups in the entries of a bound object.
 use Rattle.std.proofs.Common.{◌≡◌, ℕ, List, Bool, true, false, Some, option_map, Ordering, Less, Equal, Greater, nat_cmp, refl, sym, ap, ◌∙◌}
 use Rattle.std.specs.Cmp.Lexicographic.{slice_cmp}
 use Rattle.std.specs.Ordering.{eq_by_cmp, is_eq, match_ordering}
@@ -20,7 +20,7 @@ same_name k l h = (bytes_eq-Decides k l).0 (sym (is_eq-slice_cmp k l) ∙ ap is_
 differ_by : (o : Ordering) (k l : List ℕ) → slice_cmp nat_cmp k l ≡ o → is_eq o ≡ false → k ≡ l → ⊥
 differ_by o k l is unequal e = true≢false (sym ((bytes_eq-Decides k l).1 e) ∙ sym (is_eq-slice_cmp k l) ∙ ap is_eq is ∙ unequal)
 
--- under keys that distinguish names
+-- with keys that differ for different names
 module _ (key : List ℕ → List ℕ) (apart : (a b : List ℕ) → key a ≡ key b → a ≡ b) (f : List ℕ → json.Data → Data) where
   pub two_keys : (k l : List ℕ) → (k ≡ l → ⊥) → eq_by_cmp key_order (text_key (key k)) (text_key (key l)) ≡ false
   two_keys k l other = is_eq-slice_cmp (key k) (key l) ∙ false_from_ne_true _ (λ h. other (apart k l ((bytes_eq-Decides (key k) (key l)).0 h)))
@@ -35,12 +35,12 @@ module _ (key : List ℕ → List ℕ) (apart : (a b : List ℕ) → key a ≡ k
   found k json.no_members = refl
   found k (json.member l d ms) = found_at _ k l d ms refl (found k ms)
 
--- two members have two keys
+-- different members have different keys
 pub keys_apart : (keeps : Bool) (a b : List ℕ) → key_in keeps a ≡ key_in keeps b → a ≡ b
 keys_apart true a b e = e
 keys_apart false a b e = escape-injective a b e
 
--- at the key of each name stands the bound member of that name
+-- at the key of each name stands the member of that name, bound
 pub found_member : {S : Type 0} (accessors : ConversionAccessors S) (f : S → json.Data → Data) (s : S) (k : List ℕ) (ms : json.Members)
     → find (text_key (member_key accessors s k)) (members_by accessors f s ms) ≡ option_map (member_by accessors f s k) (get_member k ms)
 found_member accessors f s k ms = found (member_key accessors s) (keys_apart (accessors.is_map s)) (member_by accessors f s) k ms

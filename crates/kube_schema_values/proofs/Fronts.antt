@@ -1,4 +1,4 @@
--- What stands at the front of an escaped text, and between its underscores.
+-- The front of an escaped text, and the text between its underscores.
 use Rattle.std.proofs.Common.{◌≡◌, ℕ, suc, ◌<◌, Bool, true, false, codes, List, [], ◌∷◌, ◌++◌, length, take, drop, get_or, refl, sym, ap, ◌∙◌, inl, inr, lit<, arith, take-append-drop, length-append}
 use Rattle.std.specs.Char.{encode_utf8}
 use Rattle.std.specs.Str.{bytes_eq}

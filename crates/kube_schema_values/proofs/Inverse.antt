@@ -1,4 +1,4 @@
--- An escaped text determines its name.
+-- A name is determined by its escape.
 use Rattle.std.proofs.Common.{◌≡◌, ℕ, ◌==◌, ◌&&◌, not, Bool, true, false, Some, codes, List, [], ◌∷◌, ◌++◌, refl, sym, ap, ◌∙◌, inl, inr, arith, length-append}
 use Rattle.std.specs.List.{list_any, list_all}
 use Rattle.std.specs.Str.{bytes_eq}
@@ -9,7 +9,7 @@ use Rattle.kube_schema_values.specs.Escape.{reserved_words, is_reserved, between
 use Rattle.kube_schema_values.specs.Unescape.{unescaped_text, inner, is_reserved_form, name_behind, unescape}
 use Rattle.kube_schema_values.proofs.Escapes.{escaped_text-cons, escaped_text-single, escaped_text-double}
 
--- ---- bytes that begin no escaped character
+-- ---- bytes that don't begin an escaped character
 
 pub keeps : (b : ℕ) (t : List ℕ) → (95 == b) ≡ false → unescaped_text 0 (b ∷ t) ≡ b ∷ unescaped_text 0 t
 unfolding unescaped_text
@@ -35,7 +35,7 @@ reads_byte_at false false false b t dot dash slash other = rw (dot, dash, slash)
 reads_byte : (b : ℕ) (t : List ℕ) → (b == 95) ≡ false → unescaped_text 0 (escaped_byte b ++ t) ≡ b ∷ unescaped_text 0 t
 reads_byte b t h = reads_byte_at _ _ _ b t refl refl refl (other_way b h)
 
--- an underscore before an escaped byte begins no word
+-- an underscore before an escaped byte doesn't begin an escaped character
 underscore_at : (x y z : Bool) (b : ℕ) (t : List ℕ) → (b == 46) ≡ x → (b == 45) ≡ y → (b == 47) ≡ z → (95 == b) ≡ false
     → unescaped_text 0 (95 ∷ (escaped_byte b ++ t)) ≡ 95 ∷ unescaped_text 0 (escaped_byte b ++ t)
 unfolding unescaped_text
@@ -96,7 +96,7 @@ unescaped-escaped (b ∷ c ∷ t) = both_back (b == 95) (c == 95) b c t refl ref
 pub inner-between : (s : List ℕ) → inner (between_underscores s) ≡ s
 inner-between s = take_at s (codes "__") _ (omega (arith, length-append s (codes "__")))
 
--- a reserved word between underscores is no other escaped text
+-- a reserved word between underscores isn't the escape of another text
 differs : List ℕ → Bool
 differs w = bytes_eq (unescaped_text 0 (between_underscores w)) (between_underscores w) && not (bytes_eq (escaped_text (between_underscores w)) (between_underscores w))
 

@@ -18,7 +18,7 @@ get_item-map_items f i no_items = refl
 get_item-map_items f zero (item d ds) = refl
 get_item-map_items f (suc i) (item d ds) = get_item-map_items f i ds
 
--- a path leads to the same on the surface
+-- a path leads to the same surface
 abbrev Leads : List Step → Data → Data → Type 0
 Leads path new d = option_map surface (follow path new) ≡ Some (surface d)
 
@@ -36,7 +36,7 @@ module _ {S : Type 0} (accessors : DefaultsAccessors S) (f : S → Data → Data
       by None = refl
       by (Some p) = ap Surface.list_of (items_len-map_items (f p) ds)
 
-  -- what a path leads to from what is filled, it leads to from a member and an item
+  -- if a path leads to the same surface in what f fills, it does so in a member and in an item
   module _ (path : List Step) (d : Data) (inner : (p : S) (old : Data) → follow path old ≡ Some d → Leads path (f p old) d) where
     in_member : (k : List ℕ) (x : Data) → follow path x ≡ Some d → Leads path (member_by accessors f s k x) d
     unfolding member_by

@@ -54,7 +54,7 @@ get_member-put_new_other q k (Some x) ms other = by (get_member k ms)
     by None = get_member-put_other q k x ms other
     by (Some y) = refl
 
--- what a key gets, where it is asked for
+-- the value of a key, if it is looked up
 abbrev pub if_key : Bool → Option Data → Option Data
 if_key b d = if b then d else None
 
@@ -79,7 +79,7 @@ get_member-with_defaults f q (k ∷ ks) ms = get_member-with_defaults f q ks (pu
         ∙ ap (λ g. option_or g (if_key (is_key q ks) (f q))) (get_member-put_new_here q (f q) ms) ∙ joins (get_member q ms) (f q) (is_key q ks)
     by false e = ap (λ g. option_or g (if_key (is_key q ks) (f q))) (get_member-put_new_other q k (f k) ms (other_key q k e))
 
--- ---- a schema that names each key that it declares
+-- ---- a schema that lists each key that it declares
 
 pub record NamesKeys {S : Type 0} (accessors : DefaultsAccessors S) : Type 0 where
   pub named : (k : List ℕ) (s : S) → is_key k (accessors.keys s) ≡ is_some (accessors.property k s)

@@ -1,4 +1,4 @@
--- The items of a list, bound one by one.
+-- The items of a list, converted one by one.
 use Rattle.std.proofs.Common.{◌≡◌, List, [], ◌∷◌, map, refl, ap}
 use Rattle.serde_json.specs.View.{view as json_view, items_view as json_items_view}
 use Rattle.serde_json.specs.declared.value.Value.{Value as Json}

@@ -1,4 +1,4 @@
--- Texts that are read as timestamps, durations or bytes, or stay.
+-- Strings that are converted to timestamps, durations or bytes, or stay.
 use Rattle.std.proofs.Common.{◌≡◌, ◌↔◌, ℕ, ℤ, List, Option, Some, None, Result, Ok, Err, refl, sym, ap}
 use Rattle.std.specs.Option.{option_map_or}
 use Rattle.std.specs.Result.{result_ok}

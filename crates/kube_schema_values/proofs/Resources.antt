@@ -1,4 +1,4 @@
--- The fields that are put where an object lacks them.
+-- The fields that are added if an object lacks them.
 use Rattle.std.proofs.Common.{◌≡◌, ℕ, List, Bool, true, false, if◌then◌else◌, Option, Some, None, option_map, is_some, string_bytes, nat_cmp, refl, sym, ap, ◌∙◌}
 use Rattle.std.specs.BTreeMap.{is_at}
 use Rattle.std.specs.Cmp.Lexicographic.{slice_cmp}
@@ -11,7 +11,7 @@ use Rattle.cel_value.specs.Data.{Data, Entries, text_key}
 use Rattle.cel_value.specs.Keys.{put}
 use Rattle.kube_schema_values.specs.Conversion.{put_absent}
 
--- what a query finds is there
+-- the result of the query is the member's presence
 found_there : (name : List ℕ) (es : List Entry) (b : Bool) → b ≡ is_some (lookup (is_at (λ k. slice_cmp nat_cmp name (string_bytes k))) es) → is_some (get_member name (members_view es)) ≡ b
 found_there name es b e = ap is_some (sym (view-lookup name es)) ∙ same (lookup (is_at (λ k. slice_cmp nat_cmp name (string_bytes k))) es) ∙ sym e
   where

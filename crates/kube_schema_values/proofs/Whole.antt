@@ -1,4 +1,4 @@
--- Values that have their defaults.
+-- Values that have all their defaults.
 use Rattle.std.proofs.Common.{◌≡◌, ℕ, suc, List, [], ◌∷◌, ◌++◌, string_bytes, Option, Some, option_map, option_and_then, sym, ap, ◌∙◌}
 use Rattle.serde_json.proofs.Views.{Entry}
 use Rattle.serde_json.specs.Data.{Data, null, boolean, number, string, array, object, Items, Members}

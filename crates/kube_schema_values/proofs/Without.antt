@@ -1,4 +1,4 @@
--- Where no default lies within a schema, all stays as it is.
+-- If no default lies within a schema, filling changes nothing.
 use Rattle.std.proofs.Common.{◌≡◌, ℕ, zero, suc, List, [], ◌∷◌, Option, Some, None, option_map, option_and_then, unwrap_or, refl, ap, ◌∙◌}
 use Rattle.serde_json.specs.Data.{Data, null, boolean, number, string, array, object, Items, no_items, item, Members, no_members, member}
 use Rattle.kube_schema_values.specs.DefaultsAccessors.{DefaultsAccessors}

@@ -1,6 +1,6 @@
 -- Trusted by the headline.
--- What a JSON value is in CEL by a schema, in whatever form the schema is: Kubernetes documentation, "Use CEL
--- validation rules", the CEL types of schema types and the escaping of property names.
+-- How a JSON value is converted to CEL by a schema of either form: Kubernetes documentation,
+-- "Use CEL validation rules", the CEL types of schema types and the escaping of property names.
 use Rattle.std.specs.Prelude.{ℕ, zero, suc, ◌-◌, List, [], Bool, Option, Some, None, is_some, if◌then◌else◌, codes}
 use Rattle.std.specs.Option.{option_map_or}
 use Rattle.serde_json.specs.Data as json
@@ -13,19 +13,19 @@ use Rattle.kube_schema_values.specs.Formats.{value_by_format}
 use Rattle.kube_schema_values.specs.Node.{format_of, is_map, is_embedded, items_of, property_of, additional_of}
 use Rattle.kube_schema_values.specs.declared.format.SchemaFormat.{SchemaFormat}
 
--- what binding asks of a node
+-- what binding reads of a node
 pub record ConversionAccessors (S : Type 0) : Type 0 where
-  -- the node of a declared member
+  -- the node that is declared for a member
   pub property : List ℕ → S → Option S
   -- the node of members that aren't declared
   pub additional : S → Option S
-  -- the node of the items of a list
+  -- the node of list items
   pub items : S → Option S
-  -- its objects are maps with keys of their own
+  -- the node is a map node: its objects keep their keys unescaped
   pub is_map : S → Bool
-  -- its objects are whole Kubernetes objects
+  -- its objects are embedded resources
   pub is_embedded : S → Bool
-  -- what its texts become
+  -- the format by which its strings are converted
   pub format : S → SchemaFormat
 
 abbrev pub or_else : {S : Type 0} → Option S → Option S → Option S
@@ -40,18 +40,18 @@ abbrev pub entries_by : (List ℕ → List ℕ) → (List ℕ → json.Data → 
 entries_by key f json.no_members = no_entries
 entries_by key f (json.member k d ms) = put (text_key (key k)) (f k d) (entries_by key f ms)
 
--- the value at a key, unless the object has that member
+-- the entries with a value put at a key, unless the object has that member
 abbrev pub put_absent : json.Members → List ℕ → Data → Entries → Entries
 put_absent ms k d es = if is_some (get_member k ms) then es else put (text_key k) d es
 
--- the fields that a Kubernetes object always has
+-- the entries with the fields that an embedded resource always has
 unfoldable pub with_resource_fields : json.Members → Entries → Entries
 with_resource_fields ms es =
     put_absent ms (codes "metadata") (map_of no_entries)
     (put_absent ms (codes "kind") (text [])
     (put_absent ms (codes "apiVersion") (text []) es))
 
--- the key of a member: the keys of a map stay
+-- the key of a member: unescaped in a map node
 abbrev pub key_in : Bool → List ℕ → List ℕ
 key_in keeps_keys k = if keeps_keys then k else escape k
 
@@ -63,7 +63,7 @@ module _ {S : Type 0} (accessors : ConversionAccessors S) where
   abbrev pub member_key : S → List ℕ → List ℕ
   member_key s k = key_in (accessors.is_map s) k
 
-  -- by what is bound at the nodes below
+  -- one level, with values at the nodes below converted by f
   module _ (f : S → json.Data → Data) (s : S) where
     unfoldable pub member_by : List ℕ → json.Data → Data
     member_by k d = option_map_or (λ p. f p d) (member_node s k) (plain d)
@@ -83,12 +83,12 @@ module _ {S : Type 0} (accessors : ConversionAccessors S) where
         option_map_or (λ p. list (items_by (f p) ds)) (accessors.items s) (plain (json.array ds))
     to_cel_by (json.object ms) = map_of (object_by ms)
 
--- the value, by the nodes of this number of levels, and plainly below them
+-- the value converted by this number of levels of nodes, and plainly below them
 unfoldable pub to_cel : {S : Type 0} → ConversionAccessors S → ℕ → S → json.Data → Data
 to_cel accessors zero s d = plain d
 to_cel accessors (suc n) s d = to_cel_by accessors (to_cel accessors n) s d
 
--- how many levels of nodes count from a depth on: those of depth at most 64
+-- the number of levels of nodes that apply from a depth on: those of depth at most 64
 abbrev pub levels : ℕ → ℕ
 levels depth = 65 - depth
 

@@ -1,18 +1,19 @@
 -- Trusted by the headline.
--- What a value becomes under the defaults of a schema: Kubernetes documentation, "Extend the Kubernetes API
--- with CustomResourceDefinitions", "Defaulting". A default that is put in has the defaults put into it too.
+-- How a value is filled with the defaults of a schema: Kubernetes
+-- documentation, "Extend the Kubernetes API with CustomResourceDefinitions",
+-- "Defaulting". A default that is added is itself filled.
 use Rattle.std.specs.Prelude.{◌≡◌, ℕ, zero, suc, List, [], ◌∷◌, Option, Some, None, option_map, option_and_then, unwrap_or}
 use Rattle.std.specs.Option.{option_or}
 use Rattle.serde_json.specs.Data.{Data, null, boolean, number, string, array, object, Items, no_items, item, Members, no_members, member, put}
 use Rattle.serde_json.specs.Find.{get, get_member, as_object}
 use Rattle.kube_schema_values.specs.DefaultsAccessors.{DefaultsAccessors}
 
--- the members, with d at k unless k is there
+-- the members, with d added at k unless k is present
 abbrev pub put_new : List ℕ → Option Data → Members → Members
 put_new k None ms = ms
 put_new k (Some d) ms = unwrap_or (option_map (λ _. ms) (get_member k ms)) (put k d ms)
 
--- the members, with what each missing key gets
+-- the members, with the default of each missing key
 unfoldable pub with_defaults : (List ℕ → Option Data) → List (List ℕ) → Members → Members
 with_defaults default [] ms = ms
 with_defaults default (k ∷ ks) ms = with_defaults default ks (put_new k (default k) ms)
@@ -29,13 +30,13 @@ map_members f (member k d ms) = member k (f k d) (map_members f ms)
 unfoldable pub member_schema : {S : Type 0} → DefaultsAccessors S → S → List ℕ → Option S
 member_schema accessors s k = option_or (accessors.property k s) (accessors.additional s)
 
--- one level of a value by a schema, where f fills the values within it
+-- one level of a value by a schema, with values within it filled by f
 module _ {S : Type 0} (accessors : DefaultsAccessors S) (f : S → Data → Data) (s : S) where
-  -- a member, filled by its schema, or as it is where it has none
+  -- a member, filled by its schema; as it is if it has none
   unfoldable pub member_by : List ℕ → Data → Data
   member_by k d = unwrap_or (option_map (λ p. f p d) (member_schema accessors s k)) d
 
-  -- what a missing key gets: its default, filled by the schema that declares it
+  -- the value of a missing key: its default, filled by the schema that declares it
   unfoldable pub default_by : List ℕ → Option Data
   default_by k = option_and_then (λ p. option_map (f p) (accessors.default p)) (accessors.property k s)
 
@@ -51,15 +52,16 @@ module _ {S : Type 0} (accessors : DefaultsAccessors S) (f : S → Data → Data
       unwrap_or (option_map (λ p. array (map_items (f p) ds)) (accessors.items s)) (array ds)
   defaulted_by (object ms) = object (object_by ms)
 
--- the value with the defaults of the schema, to this depth
+-- the value filled with the defaults of this number of levels of the schema
 unfoldable pub defaulted_value : {S : Type 0} → DefaultsAccessors S → ℕ → S → Data → Data
 defaulted_value accessors zero s d = d
 defaulted_value accessors (suc n) s d = defaulted_by accessors (defaulted_value accessors n) s d
 
 -- ---- the law of an object's members
 
--- Of an object whose schema has n levels below it: a key that it had holds its member, filled by the member's
--- schema; another key holds its default, filled likewise; where there is no default, nothing.
+-- The members of a filled object whose schema has n levels below it: a key
+-- that the object had holds its member, filled by the member's schema; another
+-- key holds its default, filled likewise, or is absent if there is no default.
 pub record FillsMembers {S : Type 0} (accessors : DefaultsAccessors S)
     (n : ℕ) (s : S) (value out : Data) : Type 0 where
   pub members : (ms : Members) (k : List ℕ) → Some ms ≡ as_object value

@@ -1,24 +1,24 @@
 -- Trusted by the headline.
--- What defaults ask of a schema, in whatever form it is, and what a schema that is JSON answers: Kubernetes
--- documentation, "Extend the Kubernetes API with CustomResourceDefinitions",
--- "Defaulting" and "Specifying a structural schema".
+-- What defaults read of a schema in either form, and the accessors of a schema
+-- as JSON: Kubernetes documentation, "Extend the Kubernetes API with
+-- CustomResourceDefinitions", "Defaulting" and "Specifying a structural schema".
 use Rattle.std.specs.Prelude.{ℕ, List, [], ◌∷◌, Bool, false, if◌then◌else◌, Option, Some, None, is_some, option_and_then, unwrap_or, codes}
 use Rattle.serde_json.specs.Data.{Data, Members, no_members, member}
 use Rattle.serde_json.specs.Find.{get, as_object, as_bool}
 
 pub record DefaultsAccessors (S : Type 0) : Type 0 where
-  -- the keys that are declared
+  -- the declared keys
   pub keys : S → List (List ℕ)
-  -- the schema that is declared for a key
+  -- the schema that `properties` declares for a key
   pub property : List ℕ → S → Option S
-  -- the schema of the items of a list
+  -- the schema of list items
   pub items : S → Option S
-  -- the schema of the keys that are not declared, unless unknown fields are preserved
+  -- the schema of undeclared keys, unless unknown fields are preserved
   pub additional : S → Option S
-  -- what stands where nothing is
+  -- the default of the schema itself
   pub default : S → Option Data
 
--- ---- a schema that is JSON
+-- ---- a schema as JSON
 
 -- the declared members
 unfoldable pub declared_properties : Data → Option Members
@@ -35,7 +35,7 @@ keys_in (member k d ms) = k ∷ keys_in ms
 unfoldable pub property : List ℕ → Data → Option Data
 property k schema = option_and_then (get k) (get (codes "properties") schema)
 
--- the schema of other keys, where it is an object
+-- the schema of undeclared keys: `additionalProperties`, if it is an object
 unfoldable pub additional : Data → Option Data
 additional schema =
     option_and_then (λ d. if is_some (as_object d) then Some d else None)

@@ -1,12 +1,12 @@
 -- Trusted by the headline.
--- How a field name is written so that CEL can select it: Kubernetes documentation, "Use CEL validation
--- rules", escaping of property names, but that a single underscore stays.
+-- How a field name is escaped so that CEL can select it: Kubernetes documentation, "Use CEL
+-- validation rules", escaping of property names, except that a single underscore stays.
 use Rattle.std.specs.Prelude.{ℕ, List, [], ◌∷◌, ◌++◌, Bool, ◌==◌, ◌&&◌, if◌then◌else◌, codes}
 use Rattle.std.specs.Char.{encode_utf8}
 use Rattle.std.specs.List.{list_any}
 use Rattle.std.specs.Str.{bytes_eq}
 
--- the words that CEL keeps for itself (CEL language definition, "Syntax")
+-- the reserved words of CEL (CEL language definition, "Syntax")
 abbrev pub reserved_words : List (List ℕ)
 reserved_words = codes "true" ∷ codes "false" ∷ codes "null" ∷ codes "in" ∷ codes "as" ∷ codes "break"
     ∷ codes "const" ∷ codes "continue" ∷ codes "else" ∷ codes "for" ∷ codes "function" ∷ codes "if"
@@ -20,7 +20,8 @@ is_reserved s = list_any (bytes_eq s) reserved_words
 abbrev pub between_underscores : List ℕ → List ℕ
 between_underscores s = codes "__" ++ (s ++ codes "__")
 
--- one byte that is not the first of two underscores: a dot, a dash, a slash, or another
+-- the escape of one byte that isn't the first of a pair
+-- of underscores: a dot, a dash, a slash, or another
 abbrev pub escaped_byte : ℕ → List ℕ
 escaped_byte b =
     if b == 46 then codes "__dot__"
@@ -28,7 +29,8 @@ escaped_byte b =
     else (if b == 47 then codes "__slash__"
     else b ∷ []))
 
--- a text that is no reserved word: each two underscores, taken from the left, then the other bytes
+-- the escape of a text that isn't a reserved word: pairs of
+-- underscores, taken from the left, then the other bytes
 unfoldable pub escaped_text : List ℕ → List ℕ
 escaped_text [] = []
 escaped_text (b ∷ []) = escaped_byte b
@@ -41,7 +43,7 @@ escape s = if is_reserved s then between_underscores s else escaped_text s
 
 -- ---- the parts, for private clauses
 
--- what stands for a character that is not the first of two underscores
+-- the escape of a character that isn't the first of a pair of underscores
 unfoldable pub escaped_character : ℕ → List ℕ
 escaped_character c =
     if c == 46 then codes "__dot__"
@@ -49,6 +51,6 @@ escaped_character c =
     else (if c == 47 then codes "__slash__"
     else encode_utf8 c))
 
--- an underscore that is still to be written
+-- an underscore that is held back and not yet written
 abbrev pub held_text : Bool → List ℕ
 held_text holds = if holds then 95 ∷ [] else []

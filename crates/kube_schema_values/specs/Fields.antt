@@ -1,11 +1,11 @@
 -- Trusted by laws alone.
--- The fields that a Kubernetes object within another has besides its own: Kubernetes documentation, "Extend
--- the Kubernetes API with CustomResourceDefinitions", `x-kubernetes-embedded-resource`.
+-- The fields that an embedded resource has in addition to its own: Kubernetes documentation,
+-- "Extend the Kubernetes API with CustomResourceDefinitions", `x-kubernetes-embedded-resource`.
 use Rattle.std.specs.Prelude.{ℕ, List, [], Bool, Option, Some, None, if◌then◌else◌, codes}
 use Rattle.std.specs.Str.{bytes_eq}
 use Rattle.cel_value.specs.Data.{Data, map_of, no_entries, text}
 
--- what stands at a name that the object itself lacks, if the object is one within another
+-- the value at a name that the object itself lacks, if the object is an embedded resource
 unfoldable pub field_besides : Bool → List ℕ → Option Data
 field_besides embedded name =
     if embedded then

@@ -1,6 +1,7 @@
 -- Trusted by the headline.
--- What a text becomes by the format that its schema names: Kubernetes API reference, JSONSchemaProps, and
--- "Use CEL validation rules", the CEL types of schema types. A text that doesn't read stays a text.
+-- How a string is converted by the `format` of its schema: Kubernetes API
+-- reference, JSONSchemaProps, and "Use CEL validation rules", the CEL types
+-- of schema types. A string that isn't in that format stays a string.
 use Rattle.std.specs.Prelude.{ℕ, List, if◌then◌else◌, codes}
 use Rattle.std.specs.Option.{option_map_or}
 use Rattle.std.specs.Str.{bytes_eq}
@@ -22,7 +23,7 @@ format_named name =
 unfoldable pub timestamp_or_text : List ℕ → Data
 timestamp_or_text s = option_map_or (λ t. timestamp t.0 t.1) (timestamp_of s) (text s)
 
--- the length of time of Go's `time.ParseDuration`
+-- the duration of Go's `time.ParseDuration`
 unfoldable pub duration_or_text : List ℕ → Data
 duration_or_text s = option_map_or duration (duration_of s) (text s)
 

@@ -1,6 +1,6 @@
 -- Trusted by the headline.
--- What a JSON value is in CEL where no schema says more: Kubernetes documentation, "Use CEL validation
--- rules", the CEL types of schema types.
+-- How a JSON value is converted to CEL without a schema: Kubernetes
+-- documentation, "Use CEL validation rules", the CEL types of schema types.
 use Rattle.std.specs.Option.{option_map_or}
 use Rattle.serde_json.specs.Data as json_data
 use Rattle.serde_json.specs.Find.{as_i64, as_u64}
@@ -8,7 +8,7 @@ use Rattle.cel_value.specs.Data.{Data, null, bool, int, uint, double, text, list
 use Rattle.cel_value.specs.Keys.{put}
 use Rattle.kube_schema_values.specs.Escape.{escape}
 
--- an int where 64 bits hold it, else a uint where they do, else a double
+-- an int if it fits 64 bits signed, else a uint if it fits 64 bits unsigned, else a double
 abbrev pub plain_number : json_data.Num → Data
 plain_number n = option_map_or int (as_i64 n) (option_map_or uint (as_u64 n) double)
 

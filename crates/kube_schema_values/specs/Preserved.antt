@@ -1,5 +1,5 @@
 -- Trusted by laws alone.
--- When one value holds all that another holds, where that one holds it.
+-- When one value holds all that another holds, at the same paths.
 use Rattle.std.specs.Prelude.{◌≡◌, ℕ, List, [], ◌∷◌, Option, Some, option_map, option_and_then}
 use Rattle.serde_json.specs.Data.{Data, null, boolean, number, string, array, object}
 use Rattle.serde_json.specs.Find.{get, at}
@@ -9,13 +9,14 @@ pub data Step : Type 0 where
   key : List ℕ → Step
   index : ℕ → Step
 
--- what some steps lead to
+-- the value at the end of a path
 unfoldable pub follow : List Step → Data → Option Data
 follow [] d = Some d
 follow (key k ∷ ps) d = option_and_then (follow ps) (get k d)
 follow (index i ∷ ps) d = option_and_then (follow ps) (at i d)
 
--- what is seen of a value without going into it: all of it, or how many items it has, or that it has members
+-- what is compared of a value without its parts: a scalar whole,
+-- the number of a list's items, or only that it is an object
 pub data Surface : Type 0 where
   whole : Data → Surface
   list_of : ℕ → Surface
@@ -29,8 +30,8 @@ surface (string t) = whole (string t)
 surface (array ds) = list_of (items_len ds)
 surface (object ms) = members
 
--- what each path leads to in the old value is in the new one too, and the same;
--- only objects may have more members
+-- each path of the old value leads to the same surface
+-- in the new one; only objects may have more members
 pub record Keeps (old new : Data) : Type 0 where
   pub kept : (path : List Step) (d : Data) → follow path old ≡ Some d
       → option_map surface (follow path new) ≡ Some (surface d)

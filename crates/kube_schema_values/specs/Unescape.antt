@@ -1,5 +1,5 @@
 -- Trusted by the clauses of other library calls.
--- The name that an escaped text was made of.
+-- The name that an escaped text stands for.
 use Rattle.std.specs.Prelude.{ℕ, zero, suc, ◌-◌, List, [], ◌∷◌, length, take, drop, Bool, ◌&&◌, nat_eq, if◌then◌else◌, codes, Option, Some, None}
 use Rattle.std.specs.List.{starts_with}
 use Rattle.std.specs.Str.{bytes_eq}
@@ -8,7 +8,8 @@ use Rattle.kube_schema_values.specs.Escape.{is_reserved, between_underscores, es
 abbrev pub begins : List ℕ → List ℕ → Bool
 begins s word = starts_with nat_eq s word
 
--- the text with each escaped character read back; the first `skipped` bytes belong to one that was read
+-- the text with each escaped character unescaped; its first
+-- `skipped` bytes belong to a character that was unescaped before
 unfoldable pub unescaped_text : ℕ → List ℕ → List ℕ
 unescaped_text skipped [] = []
 unescaped_text (suc n) (b ∷ bs) = unescaped_text n bs
@@ -19,18 +20,18 @@ unescaped_text zero (b ∷ bs) =
     else (if begins (b ∷ bs) (codes "__slash__") then 47 ∷ unescaped_text 8 bs
     else b ∷ unescaped_text 0 bs)))
 
--- what stands between two bytes at the front and two at the end
+-- the text without its first two and last two bytes
 abbrev pub inner : List ℕ → List ℕ
 inner t = take (length t - 4) (drop 2 t)
 
--- whether a text is a reserved word between double underscores
+-- the text is a reserved word between double underscores
 unfoldable pub is_reserved_form : List ℕ → Bool
 is_reserved_form t = is_reserved (inner t) && bytes_eq t (between_underscores (inner t))
 
--- the only name that may be escaped to the text
+-- the only name whose escape the text may be
 unfoldable pub name_behind : List ℕ → List ℕ
 name_behind t = if is_reserved_form t then inner t else unescaped_text 0 t
 
--- the name that is escaped to the text, if there is one
+-- the name whose escape is the text, if there is one
 unfoldable pub unescape : List ℕ → Option (List ℕ)
 unescape t = if bytes_eq (escape (name_behind t)) t then Some (name_behind t) else None

@@ -1,10 +1,10 @@
 -- Trusted by laws alone.
--- Schemas without a default.
+-- Schemas without defaults.
 use Rattle.std.specs.Prelude.{◌≡◌, ℕ, zero, suc, List, Some, None, ⊤}
 use Rattle.kube_schema_values.specs.DefaultsAccessors.{DefaultsAccessors}
 use Rattle.kube_schema_values.specs.Defaults.{member_schema}
 
--- no key that is declared has a default, to this depth
+-- no declared key has a default, within this number of levels
 unfoldable pub HasNoDefaults : {S : Type 0} → DefaultsAccessors S → ℕ → S → Type 0
 HasNoDefaults accessors zero s = ⊤
 HasNoDefaults {S} accessors (suc n) s =

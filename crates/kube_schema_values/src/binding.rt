@@ -1,5 +1,5 @@
-//! JSON values as CEL values, by a schema (Kubernetes documentation, "Use CEL validation rules", the CEL
-//! types of schema types and the escaping of property names).
+//! Conversion of JSON values to CEL by a schema (Kubernetes documentation, "Use CEL
+//! validation rules", the CEL types of schema types and the escaping of property names).
 ghost use Rattle.std.specs.Prelude.{◌≡◌, ◌≤◌, ◌-◌, IfErr, IfOk, string_bytes};
 ghost use Rattle.serde_json.specs.View.{view as json_view, items_view as json_items_view, members_view};
 ghost use Rattle.cel_value.specs.View.{view, items_view, entries_view};
@@ -15,17 +15,18 @@ use serde_json::{Map as Members, Value as Json};
 use std::alloc::Global;
 use std::rc::Rc;
 
-/// The greatest depth at which a schema is looked at.
+/// The greatest depth at which a schema is read.
 const MAX_DEPTH: usize = 64;
 
-/// The CEL value of a JSON value at a node of a schema that stands `depth` steps below the root.
+/// Converts a JSON value to CEL by a node of a schema, `depth` steps below the root.
 ///
-/// Texts become what the node's format says, members and items are converted by their own nodes, and keys are
-/// escaped unless the node is a map. At a depth of 65 and more no schema is looked at.
+/// Strings are converted by the node's format, members and items by
+/// their own nodes, and keys are escaped unless the node is a map node.
+/// From depth 65 on, values are converted plainly, without a schema.
 ///
 /// # Errors
 ///
-/// [`Refused`] where memory is refused.
+/// [`Refused`] if memory is refused.
 pub fn bind(alloc: Global, schema: &Json, value: &Json, depth: usize) -> Result<Value, Refused>
     ensures value { IfOk result (λ v. view v
         ≡ to_cel raw (levels depth) (json_view schema.now) (json_view value.now)) }
@@ -34,11 +35,11 @@ pub fn bind(alloc: Global, schema: &Json, value: &Json, depth: usize) -> Result<
     bind_at(alloc, JsonNode { schema }, value, depth)
 }
 
-/// The same at a node of a schema in whatever form the schema is held.
+/// Converts a value like `bind`, by a node of either form of a schema.
 ///
 /// # Errors
 ///
-/// [`Refused`] where memory is refused.
+/// [`Refused`] if memory is refused.
 pub fn bind_at<N: Node>(
     alloc: Global,
     node: N,
@@ -54,7 +55,7 @@ pub fn bind_at<N: Node>(
     Ok(bound)
 }
 
-// The same, sharing the keys that were made before.
+// Converts a value like `bind_at`, reusing the keys in `keys`.
 #[cycle(bind)]
 fn bind_with<N: Node>(
     alloc: Global,
@@ -75,7 +76,7 @@ fn bind_with<N: Node>(
     Ok(bound)
 }
 
-// The value at a node that is looked at.
+// Converts a value by a node whose depth is at most 64.
 #[cycle(bind)]
 #[tactic(auto, unfolding(crate::specs::Conversion::to_cel_by))]
 fn bind_by<N: Node>(
@@ -108,7 +109,7 @@ fn bind_by<N: Node>(
     }
 }
 
-// The items of a list, at one node.
+// Converts the items of a list, all by one node.
 #[cycle(bind)]
 fn bind_items<N: Node>(
     alloc: Global,
@@ -132,7 +133,8 @@ fn bind_items<N: Node>(
     Ok(bound)
 }
 
-// The entries of an object, with the fields of a resource where the node is one.
+// Converts the members of an object to entries, adding
+// the fields of a resource if the node is embedded.
 #[cycle(bind)]
 #[tactic(auto, unfolding(crate::specs::Conversion::object_by))]
 fn bind_object<N: Node>(
@@ -181,7 +183,7 @@ fn bind_members<N: Node>(
     Ok(bound)
 }
 
-// The key of a member: its name where the object is a map, else its name escaped.
+// Returns the key of a member: its name if `keeps_keys`, as for a map node, else its escaped name.
 fn bind_key(keeps_keys: bool, name: &str, keys: &mut MemberKeys) -> Result<Rc<String>, Refused>
     ensures key { IfOk result (λ s. string_bytes s.value ≡ key_in keeps_keys name.now) }
     ensures memory { IfErr result (λ e. e ≡ Refused.Memory) }
@@ -194,7 +196,7 @@ fn bind_key(keeps_keys: bool, name: &str, keys: &mut MemberKeys) -> Result<Rc<St
     Ok(key)
 }
 
-// A member at its node, or plainly.
+// Converts a member by its node, or plainly if it has none.
 #[cycle(bind)]
 #[tactic(auto, unfolding(crate::specs::Conversion::member_by))]
 fn bind_member<N: Node>(

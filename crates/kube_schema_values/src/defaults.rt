@@ -1,5 +1,5 @@
-//! The defaults of a schema (Kubernetes documentation, "Extend the Kubernetes API with
-//! CustomResourceDefinitions", "Defaulting").
+//! Filling with the defaults of a schema (Kubernetes documentation, "Extend
+//! the Kubernetes API with CustomResourceDefinitions", "Defaulting").
 ghost use Rattle.std.specs.Prelude.{◌≡◌, IfErr, IfOk, OnOk, option_map};
 ghost use Rattle.serde_json.specs.View.{view, items_view, members_view};
 ghost use Rattle.kube_schema_values.specs.DefaultsAccessors.{raw, declared_properties, keys_in, property, additional, preserves, default_in, members_or_none};
@@ -9,20 +9,20 @@ use kube_types_refused::Refused;
 use serde_json::{Map, Value};
 use std::alloc::{AllocError, Global};
 
-/// How many levels of a schema have defaults: those of depth 0 to 64.
+/// The number of levels of a schema whose defaults apply: depths 0 to 64.
 pub(crate) const LEVELS: usize = 65;
 
-/// The value with the defaults of the schema: an object gets each missing key of `properties` that has a
-/// `default`, and all members and list items that were there get the defaults of their own schemas. A default
-/// that is put in gets the defaults inside it.
+/// Returns the value filled with the defaults of the schema. An object gets each missing
+/// key of `properties` that has a `default`, and all members and list items that it
+/// already had are filled by their own schemas. A default that is added is itself filled.
 ///
-/// Where no property is declared a member takes its schema from `additionalProperties`, if that is an object
-/// and unknown fields are not preserved. Nothing changes past depth 64.
-/// `allOf`, `oneOf` and `anyOf` are not entered.
+/// A member that `properties` doesn't declare takes its schema from
+/// `additionalProperties`, if that is an object and unknown fields aren't preserved.
+/// Nothing changes beyond depth 64. `allOf`, `oneOf` and `anyOf` are ignored.
 ///
 /// # Errors
 ///
-/// [`Refused`] where memory is refused.
+/// [`Refused`] if memory is refused.
 pub fn apply_defaults(alloc: Global, schema: &Value, value: &Value) -> Result<Value, Refused>
     ensures filled { IfOk result (λ v. view v ≡ defaulted_value raw 65 (view schema.now) (view value.now)) }
     ensures members { IfOk result (λ v.
@@ -33,7 +33,7 @@ pub fn apply_defaults(alloc: Global, schema: &Value, value: &Value) -> Result<Va
     Ok(filled)
 }
 
-// The value with the defaults of this number of levels.
+// Returns the value filled with the defaults of this number of levels.
 #[cycle(fill)]
 pub(crate) fn fill(
     alloc: Global,
@@ -113,7 +113,7 @@ fn fill_member(
     Ok(filled)
 }
 
-// The missing keys that have a default.
+// Adds the missing keys that have a default.
 #[cycle(fill)]
 fn add_defaults(
     alloc: Global,
@@ -159,7 +159,7 @@ fn add_default(
     Ok(())
 }
 
-// The schema of a member.
+// Returns the schema of a member, if it has one.
 pub(crate) fn schema_of_member<'s>(schema: &'s Value, key: &str) -> Option<&'s Value>
     ensures { option_map (λ n. view n.now) result
         ≡ member_schema raw (view schema.now) key.now }

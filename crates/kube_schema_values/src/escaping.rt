@@ -1,5 +1,5 @@
-//! Field names written so that CEL can select them, in the manner of the Kubernetes API server
-//! (Kubernetes documentation, "Use CEL validation rules", escaping of property names).
+//! Escaping of field names so that CEL can select them, as the Kubernetes API server does
+//! it (Kubernetes documentation, "Use CEL validation rules", escaping of property names).
 ghost use Rattle.std.specs.Prelude.{◌≡◌, ◌++◌, true, List, ℕ, IfErr, IfOk, OnOk, string_bytes};
 ghost use Rattle.std.specs.Char.{encode_utf8};
 ghost use Rattle.kube_schema_values.specs.Escape.{is_reserved, escape, escaped_text, escaped_character, held_text};
@@ -7,7 +7,7 @@ ghost use Rattle.kube_schema_values.specs.Escape.{is_reserved, escape, escaped_t
 use cel_value::Refused;
 use std::alloc::{AllocError, Global};
 
-/// Whether CEL keeps a word for itself (CEL language definition, "Syntax").
+/// Reports whether a word is reserved in CEL (CEL language definition, "Syntax").
 #[tactic(auto, unfolding(crate::specs::Escape::is_reserved))]
 pub(crate) fn is_reserved(name: &str) -> bool
     ensures { result ≡ is_reserved name.now }
@@ -25,15 +25,16 @@ pub(crate) fn is_reserved(name: &str) -> bool
     }
 }
 
-/// The name as CEL selects it: a reserved word between double underscores; in any other name each two
-/// underscores from the left become `__underscores__`, `.` becomes `__dot__`, `-` `__dash__` and `/`
-/// `__slash__`, and the rest stays.
+/// Returns the name by which CEL selects a field. A reserved word is put
+/// between double underscores. In any other name each pair of underscores,
+/// taken from the left, becomes `__underscores__`; `.` becomes `__dot__`,
+/// `-` becomes `__dash__`, `/` becomes `__slash__`, and all else stays.
 ///
-/// Two names are never escaped to one text.
+/// Different names have different escapes.
 ///
 /// # Errors
 ///
-/// [`Refused`] where memory is refused.
+/// [`Refused`] if memory is refused.
 #[tactic(auto, unfolding(crate::specs::Escape::escape))]
 pub fn escape_field_name(alloc: Global, name: &str) -> Result<String, Refused>
     ensures escaped { IfOk result (λ s. string_bytes s ≡ escape name.now) }
@@ -50,8 +51,8 @@ pub fn escape_field_name(alloc: Global, name: &str) -> Result<String, Refused>
     Ok(escaped)
 }
 
-/// Whether a name is surely its own escaped text. A name with an underscore isn't, even where
-/// [`escape_field_name`] leaves it as it is.
+/// Reports whether a name is certain to be its own escape. Returns false for every
+/// name with an underscore, even if [`escape_field_name`] leaves it as it is.
 #[tactic(auto, unfolding(crate::specs::Escape::escape))]
 pub fn is_its_own_escape(name: &str) -> bool
     ensures { result ≡ true → escape name.now ≡ name.now }
@@ -59,7 +60,7 @@ pub fn is_its_own_escape(name: &str) -> bool
     !is_reserved(name) && stays(name)
 }
 
-// Whether a name that is no reserved word has no byte that another text may stand for.
+// Reports whether a name, which isn't a reserved word, has no byte that escaping might change.
 fn stays(name: &str) -> bool
     ensures { result ≡ true → escaped_text name.now ≡ name.now }
 {
@@ -71,7 +72,7 @@ fn stays(name: &str) -> bool
     true
 }
 
-// Adds a name that is no reserved word.
+// Appends the escape of a name that isn't a reserved word.
 fn push_escaped(name: &str, out: &mut String) -> Result<(), AllocError>
     ensures { OnOk result (string_bytes out.new
         ≡ string_bytes out.old ++ escaped_text name.now) }
@@ -86,8 +87,8 @@ fn push_escaped(name: &str, out: &mut String) -> Result<(), AllocError>
     Ok(())
 }
 
-// Adds the next character, behind an underscore that may still be held back. Answers whether one is held back
-// now, since it may be the first of two.
+// Appends the escape of the next character, after an underscore that may have been held back.
+// Returns whether an underscore is held back now, because it may be the first of a pair.
 fn push_next(holds_underscore: bool, character: char, out: &mut String) -> Result<bool, AllocError>
     ensures { IfOk result (λ holds. (rest : List ℕ)
         → string_bytes out.new ++ escaped_text (held_text holds ++ rest)
@@ -112,7 +113,7 @@ fn push_next(holds_underscore: bool, character: char, out: &mut String) -> Resul
     }
 }
 
-// Adds what stands for a character alone.
+// Appends the escape of a single character.
 #[tactic(auto, unfolding(crate::specs::Escape::escaped_character))]
 fn push_character(character: char, out: &mut String) -> Result<(), AllocError>
     ensures { OnOk result (string_bytes out.new

@@ -1,4 +1,4 @@
-//! Laws of defaults, each the contract of a call that does nothing.
+//! Laws of defaults, each stated as the contract of a function with an empty body.
 ghost use Rattle.std.specs.Prelude.{◌≡◌, ℕ};
 ghost use Rattle.serde_json.specs.Data.{Data};
 ghost use Rattle.kube_schema_values.specs.DefaultsAccessors.{raw};
@@ -6,20 +6,20 @@ ghost use Rattle.kube_schema_values.specs.Defaults.{defaulted_value};
 ghost use Rattle.kube_schema_values.specs.Preserved.{Keeps};
 ghost use Rattle.kube_schema_values.specs.Without.{HasNoDefaults};
 
-/// A value that has its defaults is not changed by them.
+/// Filling a value that is already filled changes nothing.
 pub fn filled_twice_is_filled_once()
     ensures { (levels : ℕ) (schema value : Data)
         → defaulted_value raw levels schema (defaulted_value raw levels schema value)
         ≡ defaulted_value raw levels schema value }
 {}
 
-/// What is there stays: at each path that leads somewhere in a value stands the same afterwards, and only
-/// objects may have got more members.
+/// Filling keeps what is there: each path into the value leads to
+/// the same as before, except that objects may have more members.
 pub fn what_is_there_stays()
     ensures { (levels : ℕ) (schema value : Data) → Keeps value (defaulted_value raw levels schema value) }
 {}
 
-/// Where no default lies within a schema, each value stays as it is.
+/// If no default lies within a schema, filling changes nothing.
 pub fn without_defaults_all_stays()
     ensures { (levels : ℕ) (schema value : Data) → HasNoDefaults raw levels schema
         → defaulted_value raw levels schema value ≡ value }

@@ -1,5 +1,5 @@
-//! What a text becomes by the format that its schema names (Kubernetes API reference, JSONSchemaProps; "Use
-//! CEL validation rules", the CEL types of schema types).
+//! Conversion of strings by the `format` of their schema (Kubernetes API reference,
+//! JSONSchemaProps; "Use CEL validation rules", the CEL types of schema types).
 ghost use Rattle.std.specs.Prelude.{◌≡◌, IfErr, IfOk};
 ghost use Rattle.cel_value.specs.View.{view};
 ghost use Rattle.kube_schema_values.specs.Formats.{format_named, value_by_format, timestamp_or_text, duration_or_text, bytes_or_text};
@@ -11,24 +11,24 @@ use cel_value::{Duration, Refused, Timestamp, Value};
 use std::alloc::Global;
 use std::rc::Rc;
 
-/// What the texts at a node of a schema become.
+/// How strings at a node of a schema are converted.
 #[derive(Clone, Copy, Debug, Default, PartialEq, Eq)]
 pub enum SchemaFormat {
-    /// Timestamps, by RFC 3339: the format `date-time`.
+    /// To timestamps, by RFC 3339: the format `date-time`.
     DateTime,
-    /// Durations, as Go writes them: the format `duration`.
+    /// To durations, as Go writes them: the format `duration`.
     Duration,
-    /// Bytes, in padded base64: the format `byte`.
+    /// To bytes, from padded base64: the format `byte`.
     Bytes,
-    /// Strings, whatever the format, since the node takes integers too.
+    /// Strings stay strings, whatever the format, because the node also accepts integers.
     IntOrString,
-    /// Strings.
+    /// Strings stay strings.
     #[default]
     None,
 }
 
 impl SchemaFormat {
-    /// The format of this name; `None` for a name that changes nothing.
+    /// Returns the format of this name; [`SchemaFormat::None`] if the name has no effect.
     #[tactic(auto, unfolding(crate::specs::Formats::format_named))]
     pub fn named(name: &str) -> SchemaFormat
         ensures { result ≡ format_named name.now }
@@ -42,11 +42,11 @@ impl SchemaFormat {
     }
 }
 
-/// A text as the value that its format makes of it. A text that doesn't read stays a string.
+/// Converts a string by its format. A string that isn't in that format stays a string.
 ///
 /// # Errors
 ///
-/// [`Refused`] where memory is refused.
+/// [`Refused`] if memory is refused.
 #[tactic(auto, unfolding(crate::specs::Formats::value_by_format))]
 pub fn bind_formatted(alloc: Global, format: SchemaFormat, chars: &str) -> Result<Value, Refused>
     ensures value { IfOk result (λ v. view v ≡ value_by_format format chars.now) }
@@ -61,7 +61,7 @@ pub fn bind_formatted(alloc: Global, format: SchemaFormat, chars: &str) -> Resul
     }
 }
 
-// The timestamp that the text means.
+// Converts a string to a timestamp, if it is one.
 fn bind_timestamp(alloc: Global, chars: &str) -> Result<Value, Refused>
     ensures value { IfOk result (λ v. view v ≡ timestamp_or_text chars.now) }
     ensures memory { IfErr result (λ e. e ≡ Refused.Memory) }
@@ -75,7 +75,7 @@ fn bind_timestamp(alloc: Global, chars: &str) -> Result<Value, Refused>
     }
 }
 
-// The duration that the text means.
+// Converts a string to a duration, if it is one.
 fn bind_duration(alloc: Global, chars: &str) -> Result<Value, Refused>
     ensures value { IfOk result (λ v. view v ≡ duration_or_text chars.now) }
     ensures memory { IfErr result (λ e. e ≡ Refused.Memory) }
@@ -89,7 +89,7 @@ fn bind_duration(alloc: Global, chars: &str) -> Result<Value, Refused>
     }
 }
 
-// The bytes whose padded base64 the text is.
+// Converts a string to the bytes whose padded base64 it is, if it is.
 fn bind_bytes(alloc: Global, chars: &str) -> Result<Value, Refused>
     ensures value { IfOk result (λ v. view v ≡ bytes_or_text chars.now) }
     ensures memory { IfErr result (λ e. e ≡ Refused.Memory) }

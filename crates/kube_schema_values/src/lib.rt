@@ -1,5 +1,5 @@
-//! The values of a schema: field names as CEL identifiers, the defaults of a schema put into a value, and
-//! JSON values as CEL values.
+//! The values of a schema: escaping of field names, filling
+//! with defaults, and conversion of JSON values to CEL.
 #![tactic(auto)]
 
 pub mod binding;

@@ -1,4 +1,4 @@
-//! Names of members as the keys of maps, each of them made once.
+//! The keys of maps made from names of members, each allocated once.
 ghost use Rattle.std.specs.Prelude.{◌≡◌, IfErr, IfOk, IfSome, string_bytes};
 ghost use Rattle.kube_schema_values.specs.Escape.{escape};
 
@@ -7,14 +7,14 @@ use cel_value::Refused;
 use std::alloc::{AllocError, Global};
 use std::rc::Rc;
 
-/// The most names that are kept. A name that isn't among them is made anew.
+/// The greatest number of names that are cached. Other names are allocated anew each time.
 const MAX_NAMES: usize = 32;
 
-/// After this number of names in a row that weren't found, only one slot is tried,
-/// so that names that all differ cost little.
+/// After this number of consecutive misses only one slot
+/// is tried, so that names that all differ cost little.
 const MAX_MISSES: usize = 64;
 
-/// A name with its escaped text.
+/// A name and its escape.
 #[derive(Drop)]
 struct EscapedName {
     name: String,
@@ -22,7 +22,7 @@ struct EscapedName {
     ghost right: { string_bytes escaped.value ≡ escape (string_bytes name) },
 }
 
-/// The keys that names of members were bound as, so that a name that comes again shares its text.
+/// A cache of the keys of members, so that a recurring name shares its string.
 #[derive(Drop)]
 pub struct MemberKeys {
     alloc: Global,
@@ -33,7 +33,7 @@ pub struct MemberKeys {
 }
 
 impl MemberKeys {
-    /// With no name, and keeping none yet. It takes no memory.
+    /// Returns an empty cache, which doesn't keep names yet. Allocates nothing.
     pub fn new(alloc: Global) -> MemberKeys {
         MemberKeys {
             alloc,
@@ -44,16 +44,16 @@ impl MemberKeys {
         }
     }
 
-    /// Keeps names from now on. It pays where several objects follow.
+    /// Keeps names from now on, which pays if several objects follow.
     pub fn keep_names(&mut self) {
         self.keeps = true;
     }
 
-    /// A name, escaped as [`escape_field_name`] does.
+    /// Returns a name, escaped like [`escape_field_name`] does.
     ///
     /// # Errors
     ///
-    /// [`Refused`] where memory is refused.
+    /// [`Refused`] if memory is refused.
     pub fn escaped(&mut self, name: &str) -> Result<Rc<String>, Refused>
         ensures key { IfOk result (λ s. string_bytes s.value ≡ escape name.now) }
         ensures memory { IfErr result (λ e. e ≡ Refused.Memory) }
@@ -66,11 +66,11 @@ impl MemberKeys {
         Ok(escaped)
     }
 
-    /// A name as it is.
+    /// Returns a name as it is.
     ///
     /// # Errors
     ///
-    /// [`Refused`] where memory is refused.
+    /// [`Refused`] if memory is refused.
     pub fn unescaped(&mut self, name: &str) -> Result<Rc<String>, Refused>
         ensures key { IfOk result (λ s. string_bytes s.value ≡ name.now) }
         ensures memory { IfErr result (λ e. e ≡ Refused.Memory) }
@@ -82,8 +82,8 @@ impl MemberKeys {
         Ok(Rc::new(self.alloc, String::from_str(self.alloc, name)?)?)
     }
 
-    // The escaped text of a name that is kept. Objects of one kind have their members in one order, so the
-    // name behind the one that was found last is looked at first.
+    // Finds the escape of a cached name. Objects of one kind have their members
+    // in one order, so the name after the one found last is tried first.
     fn find(&mut self, name: &str) -> Result<Option<Rc<String>>, AllocError>
         ensures { IfOk result (λ found. IfSome found (λ s. string_bytes s.value ≡ escape name.now)) }
     {
@@ -105,7 +105,7 @@ impl MemberKeys {
         Ok(None)
     }
 
-    // The escaped text of the name at an index, if it is this one.
+    // Returns the escape of the cached name at an index, if it is this name.
     fn at(&self, index: usize, name: &str) -> Result<Option<Rc<String>>, AllocError>
         ensures { IfOk result (λ found. IfSome found (λ s. string_bytes s.value ≡ escape name.now)) }
     {
@@ -121,7 +121,7 @@ impl MemberKeys {
         }
     }
 
-    // Keeps a name, if names are kept and there is room.
+    // Caches a name, if names are kept and there is room.
     fn keep(&mut self, name: &str, escaped: &Rc<String>) -> Result<(), AllocError>
         requires { string_bytes escaped.now.value ≡ escape name.now }
     {

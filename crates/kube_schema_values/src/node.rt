@@ -1,5 +1,5 @@
-//! What binding asks of a node of a schema, and what a schema as JSON answers (Kubernetes API
-//! reference, JSONSchemaProps).
+//! What binding needs of a schema's node, and its implementation
+//! for schemas as JSON (Kubernetes API reference, JSONSchemaProps).
 ghost use Rattle.std.specs.Prelude.{◌≡◌, option_map, Option};
 ghost use Rattle.serde_json.specs.View.{view};
 ghost use Rattle.kube_schema_values.specs.Node.{is_set, format_of, is_map, is_embedded, property_of, additional_of, items_of};
@@ -8,8 +8,8 @@ ghost use Rattle.kube_schema_values.specs.Conversion.{ConversionAccessors, raw, 
 use crate::format::SchemaFormat;
 use serde_json::Value;
 
-/// A node of a schema, in whatever form the schema is held. Definitions see it as a `Seen`,
-/// and ask of it what the accessors say.
+/// A node of a schema, in either form of a schema. `Seen` is its type
+/// in definitions, and `accessors` those by which definitions read it.
 pub trait Node: Copy {
     ghost Seen: { Type 0 };
 
@@ -17,23 +17,23 @@ pub trait Node: Copy {
 
     ghost accessors: { ConversionAccessors Seen };
 
-    /// The node of a member: its property, else the node of members that aren't declared.
+    /// The node of a member: that of its property, else that of members that aren't declared.
     fn member(&self, name: &str) -> Option<Self>
         ensures { option_map seen result ≡ member_node accessors (seen self.now) name.now };
 
-    /// The node of the items of a list.
+    /// The node of list items, if any.
     fn items(&self) -> Option<Self>
         ensures { option_map seen result ≡ accessors.items (seen self.now) };
 
-    /// Whether the objects at the node are maps with keys of their own.
+    /// Reports whether the node is a map node, whose objects keep their keys unescaped.
     fn is_map(&self) -> bool
         ensures { result ≡ accessors.is_map (seen self.now) };
 
-    /// Whether the objects at the node are whole Kubernetes objects.
+    /// Reports whether the objects at the node are embedded resources.
     fn is_embedded(&self) -> bool
         ensures { result ≡ accessors.is_embedded (seen self.now) };
 
-    /// What the texts at the node become.
+    /// The format by which strings at the node are converted.
     fn format(&self) -> SchemaFormat
         ensures { result ≡ accessors.format (seen self.now) };
 }
@@ -82,15 +82,15 @@ impl Node for JsonNode<'_> {
     }
 }
 
-/// Whether a keyword is there and is `true`.
+/// Reports whether a keyword is present and `true`.
 fn is_set(schema: &Value, keyword: &str) -> bool
     ensures { result ≡ is_set keyword.now (view schema.now) }
 {
     schema.get(keyword).and_then(Value::as_bool) == Some(true)
 }
 
-/// What the texts at a node become: strings under `x-kubernetes-int-or-string: true`, else what `format`
-/// says.
+/// Returns how strings at a node are converted: `IntOrString` under
+/// `x-kubernetes-int-or-string: true`, else what `format` names.
 #[tactic(auto, unfolding(crate::specs::Node::format_of))]
 pub fn format_of(schema: &Value) -> SchemaFormat
     ensures { result ≡ format_of (view schema.now) }
@@ -104,8 +104,8 @@ pub fn format_of(schema: &Value) -> SchemaFormat
     }
 }
 
-/// Whether the objects at a node are maps with keys of their own:
-/// `additionalProperties` is there and isn't `false`.
+/// Reports whether a node is a map node, whose objects keep their
+/// keys unescaped: `additionalProperties` is present and not `false`.
 #[tactic(auto, unfolding(crate::specs::Node::is_map))]
 pub fn is_map(schema: &Value) -> bool
     ensures { result ≡ is_map (view schema.now) }
@@ -116,7 +116,8 @@ pub fn is_map(schema: &Value) -> bool
     }
 }
 
-/// Whether the objects at a node are whole Kubernetes objects: `x-kubernetes-embedded-resource` is `true`.
+/// Reports whether the objects at a node are embedded
+/// resources: `x-kubernetes-embedded-resource` is `true`.
 #[tactic(auto, unfolding(crate::specs::Node::is_embedded))]
 pub fn is_embedded(schema: &Value) -> bool
     ensures { result ≡ is_embedded (view schema.now) }
@@ -124,7 +125,7 @@ pub fn is_embedded(schema: &Value) -> bool
     is_set(schema, "x-kubernetes-embedded-resource")
 }
 
-/// The node of the items of a list.
+/// The node of list items, if any.
 #[tactic(auto, unfolding(crate::specs::Node::items_of))]
 fn items_of(schema: &Value) -> Option<&Value>
     ensures { option_map (λ v. view v.now) result ≡ items_of (view schema.now) }
@@ -132,7 +133,7 @@ fn items_of(schema: &Value) -> Option<&Value>
     schema.get("items")
 }
 
-/// The node of a declared member.
+/// The node that `properties` declares for a member, if any.
 #[tactic(auto, unfolding(crate::specs::Node::property_of))]
 fn property_of<'a>(schema: &'a Value, name: &str) -> Option<&'a Value>
     ensures { option_map (λ v. view v.now) result ≡ property_of name.now (view schema.now) }
@@ -141,7 +142,7 @@ fn property_of<'a>(schema: &'a Value, name: &str) -> Option<&'a Value>
     properties.get(name)
 }
 
-/// The node of members that aren't declared: an object `additionalProperties`.
+/// The node of members that aren't declared: `additionalProperties`, if it is an object.
 #[tactic(auto, unfolding(crate::specs::Node::additional_of))]
 fn additional_of(schema: &Value) -> Option<&Value>
     ensures { option_map (λ v. view v.now) result ≡ additional_of (view schema.now) }
@@ -154,7 +155,7 @@ fn additional_of(schema: &Value) -> Option<&Value>
     }
 }
 
-/// The node of a member: its property, else the node of members that aren't declared.
+/// The node of a member: that of its property, else that of members that aren't declared.
 #[tactic(auto, unfolding(crate::specs::Conversion::raw))]
 fn member_node<'a>(schema: &'a Value, name: &str) -> Option<&'a Value>
     ensures { option_map (λ v. view v.now) result ≡ member_node raw (view schema.now) name.now }

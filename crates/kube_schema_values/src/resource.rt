@@ -1,4 +1,4 @@
-//! The fields that a Kubernetes object within another always has (Kubernetes documentation, "Extend the
+//! The fields that an embedded resource always has (Kubernetes documentation, "Extend the
 //! Kubernetes API with CustomResourceDefinitions", `x-kubernetes-embedded-resource`).
 ghost use Rattle.std.specs.Prelude.{◌≡◌, [], IfErr, OnOk};
 ghost use Rattle.serde_json.specs.View.{members_view};
@@ -11,12 +11,12 @@ use cel_value::{Entries, Refused, Value};
 use serde_json::{Map as Members, Value as Json};
 use std::alloc::Global;
 
-/// Puts the fields of a resource that aren't there: empty texts at `apiVersion` and `kind`,
-/// an empty map at `metadata`.
+/// Inserts the fields of a resource that the object lacks: an empty
+/// string at `apiVersion` and at `kind`, an empty map at `metadata`.
 ///
 /// # Errors
 ///
-/// [`Refused`] where memory is refused.
+/// [`Refused`] if memory is refused.
 #[tactic(auto, unfolding(crate::specs::Conversion::with_resource_fields))]
 pub fn put_resource_fields(
     alloc: Global,
@@ -33,7 +33,7 @@ pub fn put_resource_fields(
     Ok(())
 }
 
-// Puts an empty text, unless the object has the member.
+// Inserts an empty string, unless the object has the member.
 fn put_absent_text(
     alloc: Global,
     members: &Members<String, Json>,
@@ -54,7 +54,7 @@ fn put_absent_text(
     Ok(())
 }
 
-// Puts an empty map, unless the object has the member.
+// Inserts an empty map, unless the object has the member.
 fn put_absent_map(
     alloc: Global,
     members: &Members<String, Json>,

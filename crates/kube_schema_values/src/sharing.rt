@@ -1,4 +1,4 @@
-//! The defaults of a schema without a copy, where a value has them all.
+//! Filling by the defaults of a schema, without a copy if nothing is missing.
 ghost use Rattle.std.specs.Bool.{IsTrue};
 ghost use Rattle.std.specs.Cow.{cow_value};
 ghost use Rattle.std.specs.Prelude.{◌≡◌, IfErr, IfOk, option_map};
@@ -13,12 +13,12 @@ use serde_json::{Map, Value};
 use std::alloc::Global;
 use std::borrow::Cow;
 
-/// The value that `apply_defaults` makes. Where no default is missing,
-/// the value itself is lent, and takes no memory.
+/// Returns the value that `apply_defaults` returns. If no default
+/// is missing, it lends the value itself and allocates nothing.
 ///
 /// # Errors
 ///
-/// [`Refused`] where memory is refused.
+/// [`Refused`] if memory is refused.
 pub fn filled_value<'v>(
     alloc: Global,
     schema: &Value,
@@ -35,7 +35,7 @@ pub fn filled_value<'v>(
     Ok(Cow::Owned(made))
 }
 
-// Whether a value has the defaults of this number of levels.
+// Reports whether a value has the defaults of this number of levels. The contract only covers true.
 #[cycle(has)]
 fn has_defaults(schema: &Value, value: &Value, levels: usize) -> bool
     ensures { IsTrue result → defaulted_value raw levels (view schema.now) (view value.now) ≡ view value.now }
@@ -93,7 +93,7 @@ fn member_has_defaults(schema: &Value, key: &str, member: &Value, levels: usize)
     }
 }
 
-// Whether each key that has a default is there.
+// Reports whether all keys that have a default are present. The contract only covers true.
 fn lacks_no_key(schema: &Value, members: &Map<String, Value>) -> bool
     ensures { IsTrue result → (f : Data → Data → Data)
         → with_defaults (default_by raw f (view schema.now))
@@ -111,7 +111,7 @@ fn lacks_no_key(schema: &Value, members: &Map<String, Value>) -> bool
     true
 }
 
-// Whether a key is there, or has no default.
+// Reports whether a key is present or has no default. The contract only covers true.
 fn lacks_no_default(key: &str, property: &Value, members: &Map<String, Value>) -> bool
     ensures { IsTrue result → (f : Data → Data)
         → members_view members.now.entries

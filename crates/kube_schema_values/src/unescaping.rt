@@ -1,4 +1,4 @@
-//! The field names that escaped texts were made of.
+//! Unescaping of field names.
 ghost use Rattle.std.specs.Prelude.{◌≡◌, ◌++◌, ◌∷◌, [], ◌<◌, length, true, false, List, ℕ, IfErr, IfOk, MatchOption, option_map, string_bytes};
 ghost use Rattle.kube_schema_values.specs.Escape.{escape};
 ghost use Rattle.kube_schema_values.specs.Unescape.{unescape, name_behind, unescaped_text, inner, is_reserved_form};
@@ -7,11 +7,12 @@ use crate::escaping::{escape_field_name, is_reserved};
 use cel_value::Refused;
 use std::alloc::{AllocError, Global};
 
-/// The name that [`escape_field_name`] makes the text of, or none where it makes the text of no name.
+/// Returns the name whose escape by [`escape_field_name`]
+/// is this text; None if no name has this escape.
 ///
 /// # Errors
 ///
-/// [`Refused`] where memory is refused.
+/// [`Refused`] if memory is refused.
 #[tactic(auto, using(crate::proofs::Fronts::no_name), unfolding(crate::specs::Unescape::unescape))]
 pub fn unescape_field_name(alloc: Global, text: &str) -> Result<Option<String>, Refused>
     ensures found { IfOk result (λ name. option_map string_bytes name ≡ unescape text.now) }
@@ -29,7 +30,7 @@ pub fn unescape_field_name(alloc: Global, text: &str) -> Result<Option<String>, 
     }
 }
 
-// The only name that the text may be of.
+// Returns the only name whose escape the text may be.
 #[tactic(auto, unfolding(crate::specs::Unescape::name_behind))]
 fn name_behind(alloc: Global, text: &str) -> Result<String, AllocError>
     ensures { IfOk result (λ name. string_bytes name ≡ name_behind text.now) }
@@ -40,7 +41,7 @@ fn name_behind(alloc: Global, text: &str) -> Result<String, AllocError>
     }
 }
 
-// The reserved word that stands between double underscores.
+// Returns the reserved word between double underscores, if the text is one.
 fn reserved_word_in(text: &str) -> Option<&str>
     ensures { MatchOption result (is_reserved_form text.now ≡ false)
         (λ word. (is_reserved_form text.now ≡ true) × (word.now ≡ inner text.now)) }
@@ -54,7 +55,7 @@ fn reserved_word_in(text: &str) -> Option<&str>
     if is_reserved(word) { Some(word) } else { None }
 }
 
-// The text with each escaped character read back.
+// Returns the text with each escaped character unescaped.
 #[tactic(auto, unfolding(crate::specs::Unescape::unescaped_text))]
 fn unescaped(alloc: Global, text: &str) -> Result<String, AllocError>
     ensures { IfOk result (λ name. string_bytes name ≡ unescaped_text 0 text.now) }
@@ -67,8 +68,8 @@ fn unescaped(alloc: Global, text: &str) -> Result<String, AllocError>
     Ok(name)
 }
 
-// Adds what the first character stands for, escaped or not, and answers the rest of the text;
-// none where the text is empty.
+// Appends the unescaped first character, and returns
+// the rest of the text; None if the text is empty.
 fn push_first<'t>(text: &'t str, name: &mut String) -> Result<Option<&'t str>, AllocError>
     ensures { IfOk result (λ found. MatchOption found
         ((string_bytes name.new ≡ string_bytes name.old) × (text.now ≡ []))
@@ -88,7 +89,8 @@ fn push_first<'t>(text: &'t str, name: &mut String) -> Result<Option<&'t str>, A
     Ok(Some(characters.as_str()))
 }
 
-// What the escaped character at the front of a text stands for, and the rest of the text.
+// If the text begins with an escaped character,
+// returns what it stands for and the rest of the text.
 fn first_escaped(text: &str) -> Option<(&'static str, &str)>
     ensures { MatchOption result
         ((byte : ℕ) (rest : List ℕ) → text.now ≡ byte ∷ rest

@@ -1,5 +1,6 @@
-//! JSON values as CEL values, where no schema says more: numbers by their range, objects as maps with escaped
-//! keys (Kubernetes documentation, "Use CEL validation rules", the CEL types of schema types).
+//! Conversion of JSON values to CEL without a schema: numbers by their
+//! range, objects to maps with escaped keys (Kubernetes documentation,
+//! "Use CEL validation rules", the CEL types of schema types).
 ghost use Rattle.std.specs.Prelude.{◌≡◌, IfErr, IfOk, OnOk, OnErr, string_bytes};
 ghost use Rattle.serde_json.specs.View.{view as json_view, items_view as json_items_view, members_view, number_view};
 ghost use Rattle.cel_value.specs.Data.{text, text_key};
@@ -13,13 +14,13 @@ use serde_json::{Map as Members, Number, Value as Json};
 use std::alloc::Global;
 use std::rc::Rc;
 
-/// A JSON value as a CEL value: a number becomes an int where `i64` holds it, else a uint where `u64` does,
-/// else a double; an object becomes a map whose keys are escaped as
-/// [`escape_field_name`](crate::escape_field_name) does.
+/// Converts a JSON value to CEL without a schema. A number becomes an int if it fits
+/// `i64`, else a uint if it fits `u64`, else a double. An object becomes a map whose
+/// keys are escaped like [`escape_field_name`](crate::escape_field_name) does.
 ///
 /// # Errors
 ///
-/// [`Refused`] where memory is refused.
+/// [`Refused`] if memory is refused.
 pub fn bind_plain(alloc: Global, value: &Json) -> Result<Value, Refused>
     ensures value { IfOk result (λ v. view v ≡ plain (json_view value.now)) }
     ensures memory { IfErr result (λ e. e ≡ Refused.Memory) }
@@ -29,11 +30,11 @@ pub fn bind_plain(alloc: Global, value: &Json) -> Result<Value, Refused>
     Ok(bound)
 }
 
-/// The same, sharing the keys that were made before.
+/// Converts a value like [`bind_plain`], reusing the keys in `keys`.
 ///
 /// # Errors
 ///
-/// [`Refused`] where memory is refused.
+/// [`Refused`] if memory is refused.
 #[cycle(plain)]
 #[tactic(auto, unfolding(crate::specs::Plain::plain))]
 pub fn bind_plain_with(alloc: Global, value: &Json, keys: &mut MemberKeys) -> Result<Value, Refused>
@@ -50,7 +51,8 @@ pub fn bind_plain_with(alloc: Global, value: &Json, keys: &mut MemberKeys) -> Re
     }
 }
 
-/// A JSON number as a CEL value: an int where `i64` holds it, else a uint where `u64` does, else a double.
+/// Converts a JSON number to CEL: an int if it fits
+/// `i64`, else a uint if it fits `u64`, else a double.
 pub fn bind_number(number: &Number) -> Value
     ensures { view result ≡ plain_number (number_view number.now) }
 {
@@ -63,11 +65,11 @@ pub fn bind_number(number: &Number) -> Value
     }
 }
 
-/// A text as a CEL string.
+/// Converts a string to a CEL string.
 ///
 /// # Errors
 ///
-/// [`Refused`] where memory is refused.
+/// [`Refused`] if memory is refused.
 pub fn bind_text(alloc: Global, chars: &str) -> Result<Value, Refused>
     ensures value { IfOk result (λ v. view v ≡ text chars.now) }
     ensures memory { IfErr result (λ e. e ≡ Refused.Memory) }
@@ -113,11 +115,11 @@ fn bind_members(
     Ok(bound)
 }
 
-/// Puts a value into a map at a text, in place of the one that was there.
+/// Inserts a value into a map at a string key, replacing the value that was there.
 ///
 /// # Errors
 ///
-/// [`Refused`] where memory is refused; the value is dropped, and the map is as it was.
+/// [`Refused`] if memory is refused; the value is dropped, and the map is as it was.
 pub fn put_entry(
     alloc: Global,
     entries: &mut Entries,
@@ -134,11 +136,11 @@ pub fn put_entry(
     Ok(())
 }
 
-/// The same, at a text that is shared.
+/// Inserts a value like `put_entry`, at a shared string.
 ///
 /// # Errors
 ///
-/// [`Refused`] where memory is refused; the value is dropped, and the map is as it was.
+/// [`Refused`] if memory is refused; the value is dropped, and the map is as it was.
 pub fn put_shared(entries: &mut Entries, key: Rc<String>, value: Value) -> Result<(), Refused>
     ensures entered { OnOk result (entries_view entries.new.entries
         ≡ put (text_key (string_bytes key.value)) (view value) (entries_view entries.old.entries)) }

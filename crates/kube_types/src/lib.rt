@@ -1,28 +1,29 @@
-//! The types that Kubernetes adds to those of CEL, and `Refused`,
-//! the one outer error of every call that takes memory.
+//! The types that Kubernetes adds to CEL, and `Refused`, the outer error of every call that takes
+//! memory.
 //!
-//! Resource quantities ([`KubeQuantity`]), IP addresses and CIDRs ([`KubeIP`], [`KubeCIDR`]), versions
-//! ([`KubeSemver`]), URLs ([`KubeUrl`]) and named formats of texts ([`KubeFormat`]). What takes memory to be
-//! read takes an allocator first.
+//! Resource quantities ([`KubeQuantity`]), IP addresses and CIDRs ([`KubeIP`], [`KubeCIDR`]),
+//! versions ([`KubeSemver`]), URLs ([`KubeUrl`]) and named formats ([`KubeFormat`]). Where parsing
+//! takes memory, the allocator is the first argument.
 //!
 //! ```rust
 //! use kube_types::{KubeCIDR, KubeIP, KubeQuantity};
 //!
-//! /// Whether a request, as "500m", is within a limit, as "2"; `None` where one of them is no quantity.
+//! /// Reports whether a request such as "500m" is within a limit such as "2".
+//! /// None if one of them isn't a quantity.
 //! fn is_within(request: &str, limit: &str) -> Option<bool> {
 //!     let (request, limit) = (KubeQuantity::read(request)?, KubeQuantity::read(limit)?);
 //!     Some(request <= limit)
 //! }
 //!
-//! /// Whether an address lies in a network, or why one of them isn't read.
+//! /// Reports whether an address is in a network, or why one of them doesn't parse.
 //! fn is_member(network: &str, address: &str) -> Result<bool, &'static str> {
 //!     Ok(KubeCIDR::read(network)?.contains_ip(KubeIP::read(address)?))
 //! }
 //! ```
 //!
-//! Proved: each operation answers its definition, which names its source (RFCs, the documentation of
-//! Kubernetes, SemVer 2.0). The modules `*_laws` state theorems: the order of quantities is total, a printed
-//! address is read as the same, and more.
+//! Proved: the result of each operation is that of its definition, which names its source (RFCs,
+//! the documentation of Kubernetes, SemVer 2.0). The modules `*_laws` state theorems: the order of
+//! quantities is total, a printed address parses to the same address, and more.
 #![tactic(auto)]
 
 pub use kube_types_address::{KubeCIDR, KubeIP, laws as address_laws};

@@ -1,4 +1,4 @@
--- CIDR texts, cut at the first slash.
+-- CIDR texts, split at the first slash.
 use Rattle.std.proofs.Common.{◌≡◌, ℕ, suc, ◌+◌, ◌-◌, ◌<◌, ◌≤◌, ◌^◌, Bool, true, false, ◌&&◌, ◌||◌, not, cond, eqb, ltb, leb, ◌⊎◌, List, [], ◌∷◌, ◌++◌, length, take, drop, get_or, Option, Some, None, Result, Ok, Err, option_map, decimal, one-add, add-one, length-append, lt-ltb, le-ltb, le-leb, ne_eqb, refl, sym, ap, ap₂, ◌∙◌, subst, arith, inl, inr}
 use Rattle.std.proofs.NetLemmas.Options.{cond_some}
 use Rattle.std.proofs.lemmas.Bool.Decides.{nat_tests}
@@ -37,7 +37,7 @@ all_digits : (ds : List ℕ) → list_all is_ascii_digit ds ≡ true → AllDigi
 all_digits [] h = tt
 all_digits (c ∷ cs) h = (digit_below c (first_so (is_ascii_digit c) (list_all is_ascii_digit cs) h), all_digits cs (second_so (is_ascii_digit c) (list_all is_ascii_digit cs) h))
 
--- what plain digits are
+-- facts about plain digits
 pub record Plain (ds : List ℕ) : Type 0 where
   pub digits : AllDigits 10 ds
   pub some : 0 < length ds
@@ -62,7 +62,7 @@ plain_from ds h =
       no_plus = without_leading_plus_none ds (plain_first ds all long);
     }
 
--- plain digits whose number is not above the most
+-- the length of plain digits, by comparing their number with the most
 length_by : (most : ℕ) (ds : List ℕ) (b : Bool) → is_plain ds ≡ true → leb (digits_value 10 ds) most ≡ b → length_of most ds ≡ cond b (Some (digits_value 10 ds)) None
 unfolding length_of
 length_by most ds b plain e = ap₂ (λ x y. cond (x && y) (Some (digits_value 10 ds)) None) plain e
@@ -77,7 +77,7 @@ parse_cases E ds (Err e) plain parsed =
     let value : digits_value 10 (without_leading_plus ds) ≡ digits_value 10 ds = ap (digits_value 10) p.no_plus in
     λ fits. parsed (numeral, subst (λ x. x < 2 ^ 8) (sym value) fits)
 
--- plain digits that write a number too large for 8 bits, above the most, or neither
+-- the number of plain digits is too large for 8 bits, above the most, or neither
 pub length_large : (most : ℕ) (ds : List ℕ) → most < 2 ^ 8 → is_plain ds ≡ true → ¬ (digits_value 10 ds < 2 ^ 8) → length_of most ds ≡ None
 length_large most ds h plain large = elim (cases_lt most (digits_value 10 ds)) as (λ _. length_of most ds ≡ None) [
   | inl above ↦ length_by most ds false plain (lt-leb (digits_value 10 ds) most above)
@@ -90,7 +90,7 @@ length_above most ds plain above = length_by most ds false plain (lt-leb (digits
 pub length_known : (most : ℕ) (ds : List ℕ) → is_plain ds ≡ true → digits_value 10 ds ≤ most → length_of most ds ≡ Some (digits_value 10 ds)
 length_known most ds plain within = length_by most ds true plain (le-leb (digits_value 10 ds) most within)
 
--- what `parse` of std gives for plain digits
+-- the result of `parse` of `std` for plain digits
 pub parse_some : (E : Type 0) (ds text : List ℕ) (r : Result ℕ E) (o : Option ℕ) → is_plain ds ≡ true → text ≡ ds → ParsesUnsigned {E = E} 8 10 text r → o ≡ result_ok r → SomeIff o (digits_value 10 ds < 2 ^ 8) (digits_value 10 ds)
 parse_some E ds text r o plain same parsed e =
     let on : ParsesUnsigned {E = E} 8 10 ds r = subst (λ t. ParsesUnsigned {E = E} 8 10 t r) same parsed in
@@ -156,7 +156,7 @@ around_none text h =
     ap (λ o. option_map (λ i. (take i text, drop (i + 1) text)) o)
     (ap (λ i. cond (ltb i (length text)) (Some i) None) (no_offset text h) ∙ ap (λ b. cond b (Some (length text)) None) (le-ltb (length text) (length text) (omega arith)))
 
--- a text with a first slash
+-- a text split at its first slash
 record Cut (text : List ℕ) : Type 0 where
   front : List ℕ
   back : List ℕ
@@ -194,7 +194,7 @@ around-sound text p h = elim (cut_cases text) as (λ _. (text ≡ p.0 ++ 47 ∷ 
       (subst (λ q. text ≡ q.0 ++ 47 ∷ q.1) same c.spelled, subst (λ q. list_any is_slash q.0 ≡ false) same c.clear)
 ]
 
--- what the offset of a first slash gives
+-- the split of a text at the offset of its first slash
 pub around_by_offset : (text : List ℕ) (offset : ℕ) → position is_slash text ≡ Some offset → around_slash text ≡ Some (take offset text, take (length text - (offset + 1)) (drop (offset + 1) text))
 unfolding around_slash
 around_by_offset text offset e =
@@ -246,7 +246,7 @@ written-none text h = elim (network_none_or_some (written_cidr text)) as (λ _. 
   | inr w ↦ absurd (h w.0 (written-sound text w.0 w.1))
 ]
 
--- the cases of the answer
+-- the cases of the result
 pub cidr_by : (text : List ℕ) (o : Option Network) → written_cidr text ≡ o → cidr_of text ≡ unmapped_cidr o
 unfolding cidr_of
 cidr_by text o e = ap unmapped_cidr e
@@ -274,7 +274,7 @@ answer_is-cidr_of text (Ok c) h = sym (cidr_address text c (written-complete tex
 answer_is-cidr_of text (Err e) (inl h) = ap Err h.1 ∙ sym (cidr_mapped text h.0.0 (written-complete text h.0.0 h.0.1) h.0.2)
 answer_is-cidr_of text (Err e) (inr h) = ap Err h.1 ∙ sym (cidr_by text None (written-none text h.0))
 
--- ---- printed
+-- ---- printed texts
 
 digit_is : (c : ℕ) → digit_value c < 10 → is_ascii_digit c ≡ true
 digit_is c h =

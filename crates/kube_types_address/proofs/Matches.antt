@@ -43,7 +43,7 @@ complete front rest =
 complete_at : (front text rest : List ℕ) → text ≡ front ++ rest → rest_after front text ≡ Some rest
 complete_at front text rest e = ap (rest_after front) e ∙ complete front rest
 
--- what follows two texts is what follows the second after the first
+-- the text after `a ++ b` is the text after b in the text after a
 pub append_none : (a b text : List ℕ) → rest_after a text ≡ None → rest_after (a ++ b) text ≡ None
 append_none a b text h = elim (none_or_some (rest_after (a ++ b) text)) as (λ _. rest_after (a ++ b) text ≡ None) [
   | inl none ↦ none
@@ -73,7 +73,7 @@ append_then a b text = elim (none_or_some (rest_after a text)) as (λ _. rest_af
 pub after_nothing : (text : List ℕ) → rest_after [] text ≡ Some text
 after_nothing text = complete [] text
 
--- the whole of a text
+-- the whole text is matched
 append_nil : (xs : List ℕ) → xs ++ [] ≡ xs
 append_nil [] = refl
 append_nil (x ∷ xs) = ap (λ t. x ∷ t) (append_nil xs)
@@ -95,13 +95,13 @@ by_rest front text (Some rest) e = whole_some front text rest (sound front text 
 pub whole_is : (front text : List ℕ) → is_whole (rest_after front text) ≡ bytes_eq text front
 whole_is front text = one_answer _ _ (by_rest front text (rest_after front text) refl) (bytes_eq-Decides text front)
 
--- `strip_prefix` of std
+-- the result of `strip_prefix` of `std`
 pub stripped : (front text : List ℕ) (r : Option (Bor (List ℕ))) → MatchOption r (bytes_eq (take (length front) text) front ≡ false) (λ x. (bytes_eq (take (length front) text) front ≡ true) × (x.now ≡ drop (length front) text) × (length x.now + length front ≡ length text)) → option_copied r ≡ rest_after front text
 unfolding rest_after
 stripped front text None h = sym (ap (λ b. cond b (Some (drop (length front) text)) None) h)
 stripped front text (Some x) h = ap Some h.1 ∙ sym (ap (λ b. cond b (Some (drop (length front) text)) None) h.0)
 
--- a turn of the loop over groups
+-- one pass of the loop over the groups
 drop-all : (i : ℕ) (xs : List ℕ) → length xs ≤ i → drop i xs ≡ []
 drop-all zero [] h = refl
 drop-all zero (x ∷ xs) h = absurd (omega arith)
@@ -119,7 +119,7 @@ pub after_all : (i : ℕ) (groups text : List ℕ) → length groups ≤ i → r
 unfolding more_text
 after_all i groups text h = ap (λ gs. rest_after (flat_map (λ g. 58 ∷ hex g) gs) text) (drop-all i groups h) ∙ after_nothing text
 
--- the groups of a text, the first apart
+-- the groups of a text, with the first one separate
 pub groups_cons : (g : ℕ) (others : List ℕ) → groups_text (g ∷ others) ≡ hex g ++ more_text others
 unfolding more_text
 groups_cons g others = refl
@@ -135,12 +135,12 @@ pub printed_long : (groups : List ℕ) → 1 < (longest_zero_run groups).1 → h
 unfolding hex_groups_text
 printed_long groups h = ap (λ b. cond b (compressed groups) (groups_text groups)) (lt-ltb 1 (longest_zero_run groups).1 h)
 
--- what follows the first group
+-- the text after the first group
 pub first_some : (groups text rest : List ℕ) → 1 ≤ length groups → rest_after (hex (get_or groups 0 0)) text ≡ Some rest → rest_after (groups_text groups) text ≡ rest_after (more_text (drop 1 groups)) rest
 first_some [] text rest h e = absurd (omega arith)
 first_some (g ∷ others) text rest h e = ap (λ t. rest_after t text) (groups_cons g others) ∙ append_some (hex g) (more_text others) text rest e
 
--- what follows the groups before the run, and the two colons
+-- the text after the groups before the run, and after the two colons
 pub printed_steps : (groups text head middle : List ℕ) (run : ℕ × ℕ) → run ≡ longest_zero_run groups → 2 ≤ run.1 → rest_after (groups_text (take run.0 groups)) text ≡ Some head → rest_after (58 ∷ 58 ∷ []) head ≡ Some middle → rest_after (hex_groups_text groups) text ≡ rest_after (groups_text (drop (run.0 + run.1) groups)) middle
 printed_steps groups text head middle run is long e f =
     let many : 1 < (longest_zero_run groups).1 = subst (λ r. 2 ≤ r.1) is long in
@@ -151,7 +151,7 @@ printed_steps groups text head middle run is long e f =
     ∙ append_some (groups_text (take (longest_zero_run groups).0 groups) ++ 58 ∷ 58 ∷ []) (groups_text (drop ((longest_zero_run groups).0 + (longest_zero_run groups).1) groups)) text middle both
     ∙ ap (λ r. rest_after (groups_text (drop (r.0 + r.1) groups)) middle) (sym is)
 
--- an IPv4 address has one text
+-- an IPv4 address has only one text
 pub dotted_is_printed : (text octets : List ℕ) → IsDotted text octets → bytes_eq text (ipv4_text octets) ≡ true
 dotted_is_printed text octets h =
     (bytes_eq-Decides text (ipv4_text octets)).1 (h.spelled ∙ sym (ap ipv4_text h.value))

@@ -19,7 +19,7 @@ one_more : (base n d : ℕ) → value_after base n (d ∷ []) ≡ n * base + d
 unfolding value_after
 one_more base n d = refl
 
--- the digits of a number write it
+-- the digits of a number spell it
 value-lowest : (base count n : ℕ) → 0 < base → n < base ^ count → value_after base 0 (lowest_digits base count n) ≡ n
 unfolding value_after lowest_digits
 value-lowest base zero n h below = omega (arith, pow-zero base)
@@ -30,14 +30,14 @@ value-lowest base (suc count) n h below =
     ∙ ap (λ v. v * base + n % base) front
     ∙ omega arith
 
--- one more digit below the base
+-- one more digit, which is below the base
 step_below : (base n d p v q : ℕ) → d < base → v < (n * base + d + 1) * p → q ≡ p * base → v < (n + 1) * q
 step_below base n d p v q digit later power =
     let wider = mul-le-mul_left {m = n * base + d + 1} {n = n * base + base} p (omega arith) in
     let whole : (n + 1) * q ≡ (n + 1) * (p * base) = ap (λ x. (n + 1) * x) power in
     first_of (omega (arith, wider, whole), grind (arith, wider, whole))
 
--- digits write a number below the power of the base
+-- digits spell a number below a power of the base
 value_below : (base n : ℕ) (xs : List ℕ) → ((k : ℕ) → get_or xs k 0 < base) → value_after base n xs < (n + 1) * base ^ length xs
 unfolding value_after
 value_below base n [] small = rw pow-zero (omega arith)
@@ -48,7 +48,7 @@ pub number_below : (a : Address) → IsAddress a → number a < 2 ^ width a
 number_below (four octets) h = subst (λ k. value_after 256 0 octets < (0 + 1) * 256 ^ k) h.0 (value_below 256 0 octets h.1)
 number_below (six groups) h = subst (λ k. value_after 65536 0 groups < (0 + 1) * 65536 ^ k) h.0 (value_below 65536 0 groups h.1)
 
--- an address made of a number has it
+-- an address made from a number has that number
 pub number-with_number : (a : Address) (n : ℕ) → n < 2 ^ width a → number (with_number a n) ≡ n
 number-with_number (four octets) n h = value-lowest 256 4 n (omega arith) h
 number-with_number (six groups) n h = value-lowest 65536 8 n (omega arith) h
@@ -71,7 +71,7 @@ same_width (four x) (six y) e = absurd (omega arith)
 same_width (six x) (four y) e = absurd (omega arith)
 same_width (six x) (six y) e = refl
 
--- the numbers of std
+-- the numbers that `std` computes
 four_value : (a b c d : ℕ) → from_be_bytes w32 (a ∷ b ∷ c ∷ d ∷ []) ≡ value_after 256 0 (a ∷ b ∷ c ∷ d ∷ [])
 unfolding value_after
 four_value a b c d = omega arith
@@ -102,7 +102,7 @@ groups_number groups bytes e h =
     let eight : length groups ≡ 8 = omega (arith, length-octets groups, ap length e, h) in
     ap (from_be_bytes w128) e ∙ subst (λ g. from_be_bytes w128 (octets_of g) ≡ value_after 65536 0 g) (sym (eight_items groups eight)) (six_value _ _ _ _ _ _ _ _)
 
--- the digits of std
+-- the digits that `std` computes
 two_down : (n : ℕ) → n / 256 / 256 ≡ n / 65536
 two_down n = div-div-eq-div-mul n 256 256
 
@@ -129,7 +129,7 @@ group_digit n p q m e h =
 cons_same : (x y : ℕ) (xs ys : List ℕ) → x ≡ y → xs ≡ ys → x ∷ xs ≡ y ∷ ys
 cons_same x y xs ys e h = ap₂ (λ a b. a ∷ b) e h
 
--- one group further down
+-- a quotient shifted right by one more group
 down : (n m p : ℕ) → m ≡ n / p → m / 65536 ≡ n / (p * 65536)
 down n m p e = ap (λ x. x / 65536) e ∙ div-div-eq-div-mul n p 65536
 
@@ -156,7 +156,7 @@ pub ipv6_of_number : (a : Ipv6Addr) (n : ℕ) → IsIpv6OfBits a n → ipv6_segm
 unfolding IsIpv6OfBits
 ipv6_of_number a n h = h ∙ six_digits n
 
--- the digits of a number are those of an address
+-- the digits of a number make an address
 length-lowest : (base count n : ℕ) → length (lowest_digits base count n) ≡ count
 unfolding lowest_digits
 length-lowest base zero n = refl
@@ -178,7 +178,7 @@ pub with_number_is_address : (a : Address) (n : ℕ) → IsAddress (with_number 
 with_number_is_address (four octets) n = (length-lowest 256 4 n, lowest_small 256 4 n (omega arith))
 with_number_is_address (six groups) n = (length-lowest 65536 8 n, lowest_small 65536 8 n (omega arith))
 
--- shifts by as much as the whole width
+-- shifts by up to the whole width
 pub shifted_down : (n k : ℕ) → n < 2 ^ 128 → k ≤ 128 → cond (ltb k 128) (n / 2 ^ k) 0 ≡ n / 2 ^ k
 shifted_down n k below h = elim (cases_lt k 128) as (λ _. cond (ltb k 128) (n / 2 ^ k) 0 ≡ n / 2 ^ k) [
   | inl less ↦ ap (λ b. cond b (n / 2 ^ k) 0) (lt-ltb k 128 less)
@@ -200,7 +200,7 @@ shifted_back n k below h = elim (cases_lt k 128) as (λ _. cond (ltb k 128) ((n 
       ap (λ b. cond b ((n / 2 ^ k * 2 ^ k) % 2 ^ 128) 0) (le-ltb k 128 more) ∙ none ∙ ap (λ j. n / 2 ^ j * 2 ^ j) (sym whole)
 ]
 
--- what the bits after a prefix of `first` bits leave, by shifts
+-- shifting `k` bits out and back clears them
 pub masked_bits : (n first shifted k : ℕ) → n < 2 ^ 128 → k ≤ 128 → first ≡ cond (ltb k 128) (n / 2 ^ k) 0 → shifted ≡ cond (ltb k 128) ((first * 2 ^ k) % 2 ^ 128) 0 → shifted ≡ n / 2 ^ k * 2 ^ k
 masked_bits n first shifted k below h e f =
     f ∙ ap (λ x. cond (ltb k 128) ((x * 2 ^ k) % 2 ^ 128) 0) (e ∙ shifted_down n k below h) ∙ shifted_back n k below h

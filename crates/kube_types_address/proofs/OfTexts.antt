@@ -1,4 +1,4 @@
--- What a text writes is an address, and what it writes as a CIDR a network.
+-- A text parses to a valid address, and a CIDR's text to a valid network.
 use Rattle.kube_types_address.specs.Addresses.{Address, four, six, IsAddress, is_mapped}
 use Rattle.kube_types_address.specs.CidrTexts.{IsCidrAnswer, cidr_of}
 use Rattle.kube_types_address.specs.Prefixes.{IsNetwork, Network}
@@ -66,7 +66,7 @@ groups_below dotted lead text [] h = tt
 groups_below dotted lead text (s ∷ segments) (inl h) = (group_below h.0 s h.3, groups_below dotted (codes ":") h.1 segments h.4)
 groups_below dotted lead text (s ∷ segments) (inr h) = subst (Below 65536) (sym h.5) (segments_below h.0 h.1 h.4)
 
--- the head of an elided text, and the zeros that stand for `::`
+-- the groups before `::`, and the zeros that it stands for
 abbrev front : (text segments : List ℕ) → IsElided text segments → List ℕ
 front text segments e = e.head ++ replicate (8 - length e.head - length e.tail) 0
 

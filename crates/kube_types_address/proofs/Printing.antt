@@ -9,7 +9,7 @@ use Rattle.kube_types_address.proofs.Readings.{answer_address, address_of-comple
 use Rattle.kube_types_address.specs.Addresses.{Address, four, six, IsAddress, is_mapped}
 use Rattle.kube_types_address.specs.Texts.{IsTextOf, address_text, canonical_answer, canonical_of, ip_of}
 
--- a byte that no byte of a text is does not stand in it
+-- if no byte of a text can be `c`, the text doesn't contain it
 lacks : (P : ℕ → Type 0) (c : ℕ) (xs : List ℕ) → ((x : ℕ) → P x → x ≡ c → ⊥) → AllByRecursion P xs → list_any (λ x. eqb x c) xs ≡ false
 lacks P c [] apart h = refl
 lacks P c (x ∷ xs) apart h = ap (λ b. b || list_any (λ y. eqb y c) xs) (ne_eqb x c (apart x h.0)) ∙ lacks P c xs apart h.1

@@ -1,4 +1,4 @@
--- What the reader of std finds is what the grammar says.
+-- The parser of `std` finds what the grammar says.
 use Rattle.std.proofs.Common.{◌≡◌, ℕ, Bool, true, false, cond, eqb, ◌⊎◌, List, [], ◌∷◌, ◌++◌, length, Option, Some, None, Result, Ok, Err, option_map, refl, sym, ap, ap₂, ◌∙◌, subst, arith, inl, inr, lit≤}
 use Rattle.std.proofs.lemmas.Bool.{eqb-true}
 use Rattle.std.proofs.NetLemmas.Ipv4.{read_ipv4_complete, read_ipv4_sound}
@@ -20,7 +20,7 @@ empty_from_length : (xs : List ℕ) → length xs ≡ 0 → xs ≡ []
 empty_from_length [] h = refl
 empty_from_length (x ∷ xs) h = absurd (omega arith)
 
--- a whole reading leaves no text
+-- a whole reading leaves no text over
 whole_some : (r : Option (List ℕ × List ℕ)) (v : List ℕ) → whole_value r ≡ Some v → r ≡ Some (v, [])
 whole_some None v h = absurd (cc)
 whole_some (Some p) v h =
@@ -46,7 +46,7 @@ six_sound text groups h =
 six_complete : (text groups : List ℕ) → IsColonHex text groups → whole_value (read_ipv6 text) ≡ Some groups
 six_complete text groups h = whole_from _ _ (ap read_ipv6 (sym (append_nil text)) ∙ read_ipv6_complete text groups [] h EndsGroups-nil)
 
--- the two readings of a text
+-- the two ways to parse a text
 chosen : (o p : Option (List ℕ)) (a : Address) (P : Type 0) → or_else (option_map four o) (option_map six p) ≡ Some a → ((x : List ℕ) → o ≡ Some x → a ≡ four x → P) → ((x : List ℕ) → p ≡ Some x → a ≡ six x → P) → P
 chosen (Some x) p a P h left right = left x refl (cc)
 chosen None (Some x) a P h left right = right x refl (cc)
@@ -74,7 +74,7 @@ address_of-complete text (six groups) h =
     ] in
     ap (λ o. or_else (option_map four o) (option_map six (whole_value (read_ipv6 text)))) no_four ∙ ap (λ o. option_map six o) (six_complete text groups h)
 
--- where the grammar gives a text no address, the reader finds none
+-- if a text has no address by the grammar, the parser finds none
 pub address_of-none : (text : List ℕ) → ((a : Address) → ¬ (IsTextOf text a)) → address_of text ≡ None
 address_of-none text h =
     elim (none_or_some (address_of text)) as (λ _. address_of text ≡ None) [
@@ -85,7 +85,7 @@ address_of-none text h =
 some_is_not_none : (o : Option Address) (a : Address) → o ≡ None → o ≡ Some a → ⊥
 some_is_not_none o a h k = cc
 
--- what `parse_ascii` of std says of a text
+-- the result of `parse_ascii` of `std`
 pub parsed : (text : List ℕ) (a : IpAddr) → IsIpText text a → address_of text ≡ Some (parts a)
 parsed text (Ip.V4 a) h = address_of-complete text (parts (Ip.V4 a)) h
 parsed text (Ip.V6 a) h = address_of-complete text (parts (Ip.V6 a)) h
@@ -97,7 +97,7 @@ no_text text h (six groups) k = h (Ip.V6 (record { segments = groups })) k
 pub not_parsed : (text : List ℕ) → ((a : IpAddr) → ¬ (IsIpText text a)) → address_of text ≡ None
 not_parsed text h = address_of-none text (no_text text h)
 
--- the cases of the answer
+-- the cases of the result
 pub answer_zone : (text : List ℕ) → has_zone text ≡ true → ip_of text ≡ Err zone_error
 unfolding ip_of
 answer_zone text z = ap (λ b. cond b (Err zone_error) (unless_mapped (address_of text))) z
@@ -121,7 +121,7 @@ by_parts text true o z e = inl (z, refl)
 by_parts text false None z e = inr (inr (z, (λ a t. some_is_not_none (address_of text) a e (address_of-complete text a t)), refl))
 by_parts text false (Some a) z e = mapped_or_not text a (is_mapped a) refl z (address_of-sound text a e)
 
--- the answer as a function is right by the grammar, and it alone
+-- the result of the function is right by the grammar, and no other is
 pub ip_of-is_answer : (text : List ℕ) → IsIpAnswer text (ip_of text)
 unfolding ip_of
 ip_of-is_answer text = by_parts text (has_zone text) (address_of text) refl refl

@@ -1,4 +1,4 @@
--- CIDRs as sets.
+-- CIDRs as sets of addresses.
 use Rattle.std.proofs.Common.{◌≡◌, ℕ, suc, ◌+◌, ◌-◌, ◌*◌, ◌/◌, ◌^◌, ◌<◌, ◌≤◌, Bool, true, false, ◌&&◌, eqb, leb, ◌↔◌, refl, sym, ap, ap₂, ◌∙◌, subst, arith, inl, inr, eq-eqb, le-leb}
 use Rattle.std.proofs.Math.Nat.{pow-suc, mul-le-mul_left, div-mul-le_self, div-div-eq-div-mul, mul-div_cancel}
 use Rattle.std.proofs.lemmas.Bool.{cases_lt, eqb-true, leb-true}
@@ -12,7 +12,7 @@ both_true : (a b : Bool) → a ≡ true → b ≡ true → (a && b) ≡ true
 both_true true b h k = k
 both_true false b h k = absurd (cc)
 
--- what membership says
+-- what it means to be a member
 pub record Member (c : Network) (a : Address) : Type 0 where
   pub one_family : family c.ip ≡ family a
   pub bits : first_bits c.prefix c.ip ≡ first_bits c.prefix a
@@ -26,7 +26,7 @@ member_from c a h = record {
 holds_from : (c : Network) (a : Address) → Member c a → holds c a ≡ true
 holds_from c a m = both_true (eqb (family c.ip) (family a)) (eqb (first_bits c.prefix c.ip) (first_bits c.prefix a)) (eq-eqb (family c.ip) (family a) m.one_family) (eq-eqb (first_bits c.prefix c.ip) (first_bits c.prefix a) m.bits)
 
--- fewer first bits are those of more
+-- a shorter prefix is a quotient of a longer one
 coarser : (n w less more : ℕ) → less ≤ more → more ≤ w → n / 2 ^ (w - less) ≡ n / 2 ^ (w - more) / 2 ^ (more - less)
 coarser n w less more h k =
     let apart : w - less ≡ (w - more) + (more - less) = omega arith in
@@ -35,7 +35,7 @@ coarser n w less more h k =
 first_bits_coarser : (a : Address) (less more : ℕ) → less ≤ more → more ≤ width a → first_bits less a ≡ first_bits more a / 2 ^ (more - less)
 first_bits_coarser a less more h k = coarser (number a) (width a) less more h k
 
--- an inner set lies in the outer one
+-- an inner set is contained in the outer one
 pub inside : (outer inner : Network) → IsNetwork inner → encloses outer inner ≡ true → (a : Address) → holds inner a ≡ true → holds outer a ≡ true
 inside outer inner net h a k =
     let near = member_from outer inner.ip (first_so (holds outer inner.ip) (leb outer.prefix inner.prefix) h) in
@@ -47,7 +47,7 @@ inside outer inner net h a k =
       bits = near.bits ∙ first_bits_coarser inner.ip outer.prefix inner.prefix short net.1 ∙ ap (λ b. b / 2 ^ (inner.prefix - outer.prefix)) far.bits ∙ sym (first_bits_coarser a outer.prefix inner.prefix short wide);
     })
 
--- two numbers that differ in one bit differ in no shorter quotient
+-- two numbers that differ in one bit differ in every quotient that keeps it
 doubled : (p j : ℕ) → p * 2 ^ suc j ≡ (2 * p) * 2 ^ j
 doubled p j = let power = pow-suc 2 j in omega (arith, ap (λ x. p * x) power)
 
@@ -71,7 +71,7 @@ member_at c low net small below =
       bits = sym (ap₂ (λ x w. x / 2 ^ (w - c.prefix)) is (width-with_number c.ip n) ∙ div-mul-add (first_bits c.prefix c.ip) (2 ^ (width c.ip - c.prefix)) low small);
     }
 
--- the whole set is below the width
+-- all addresses of the set are below 2 to the width
 pub set_below : (c : Network) → IsNetwork c → first_bits c.prefix c.ip * 2 ^ (width c.ip - c.prefix) + 2 ^ (width c.ip - c.prefix) ≤ 2 ^ width c.ip
 set_below c net =
     let host = 2 ^ (width c.ip - c.prefix) in
@@ -80,7 +80,7 @@ set_below c net =
     let rows = mul-le-mul_left {m = first_bits c.prefix c.ip + 1} {n = 2 ^ c.prefix} host (omega arith) in
     omega (arith, rows, power)
 
--- where the outer prefix is longer, an inner address lies outside
+-- if the outer prefix is longer, some inner address is outside
 longer : (outer inner : Network) (j : ℕ) → IsNetwork outer → IsNetwork inner → family outer.ip ≡ family inner.ip → width inner.ip - inner.prefix ≡ suc j → inner.prefix < outer.prefix → ((a : Address) → IsAddress a → holds inner a ≡ true → holds outer a ≡ true) → ⊥
 longer outer inner j out net one host h all =
     let p = first_bits inner.prefix inner.ip in
@@ -111,7 +111,7 @@ contained outer inner out net all =
 pub containment : (outer inner : Network) → IsNetwork outer → IsNetwork inner → (encloses outer inner ≡ true) ↔ ((a : Address) → IsAddress a → holds inner a ≡ true → holds outer a ≡ true)
 containment outer inner out net = ((λ h a _ k. inside outer inner net h a k), contained outer inner out net)
 
--- the same of the answer of a test
+-- the same for the result of a test
 pub containment_of : (outer inner : Network) (answer : Bool) → IsNetwork outer → IsNetwork inner → answer ≡ encloses outer inner → (answer ≡ true) ↔ ((a : Address) → IsAddress a → holds inner a ≡ true → holds outer a ≡ true)
 containment_of outer inner answer out net is = ((λ h a _ k. inside outer inner net (sym is ∙ h) a k), (λ all. is ∙ contained outer inner out net all))
 

@@ -1,8 +1,8 @@
 -- Trusted by the headline.
 -- The kinds of addresses.
--- Source: the address blocks of RFC 1122, section 3.2.1.3, RFC 3927, RFC 5771, section 4, and RFC 4291,
--- sections 2.5.2, 2.5.3, 2.5.6 and 2.7; `IsGlobalUnicast` and `IsLinkLocalMulticast` as Go's
--- package `net` defines them.
+-- Source: the address blocks of RFC 1122, section 3.2.1.3, RFC 3927, RFC 5771,
+-- section 4, and RFC 4291, sections 2.5.2, 2.5.3, 2.5.6 and 2.7; `IsGlobalUnicast`
+-- and `IsLinkLocalMulticast` as Go's package `net` defines them.
 use Rattle.std.specs.Prelude.{Bool, false, not, ◌&&◌, ◌||◌, ◌==◌, [], ◌∷◌, slice_index, bytes_eq, bit_and}
 use Rattle.std.specs.Int.{is_in_range}
 use Rattle.kube_types_address.specs.Addresses.{Address, four, six}
@@ -22,7 +22,7 @@ abbrev pub multicast : Address → Bool
 multicast (four octets) = is_in_range 224 239 (slice_index octets 0)
 multicast (six groups) = is_in_range 0xff00 0xffff (slice_index groups 0)
 
--- 224.0.0.0/24, and the multicast addresses of the scope of one link, whatever their flags
+-- 224.0.0.0/24, and the multicast addresses of link-local scope, with any flags
 abbrev pub link_local_multicast : Address → Bool
 link_local_multicast (four octets) =
     (slice_index octets 0 == 224) && ((slice_index octets 1 == 0) && (slice_index octets 2 == 0))

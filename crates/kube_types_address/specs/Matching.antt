@@ -4,7 +4,7 @@ use Rattle.std.specs.Prelude.{ℕ, Bool, false, List, ◌++◌, length, take, dr
 use Rattle.std.specs.Borrow.{Bor}
 use Rattle.std.specs.Net.Text.{hex}
 
--- what follows `front` in a text that begins with it
+-- the text after `front`, or none if it doesn't start with that
 unfoldable pub rest_after : List ℕ → List ℕ → Option (List ℕ)
 rest_after front text =
     if bytes_eq (take (length front) text) front then Some (drop (length front) text) else None
@@ -13,12 +13,12 @@ rest_after front text =
 unfoldable pub more_text : List ℕ → List ℕ
 more_text groups = flat_map (λ g. codes ":" ++ hex g) groups
 
--- nothing is left
+-- the text matched, and nothing is left of it
 abbrev pub is_whole : Option (List ℕ) → Bool
 is_whole None = false
 is_whole (Some rest) = length rest == 0
 
--- the answer or the error's text
+-- the view of a result: the bool, or the error's text
 abbrev pub test_answer : Result Bool (Bor (List ℕ)) → Result Bool (List ℕ)
 test_answer (Ok b) = Ok b
 test_answer (Err text) = Err text.now

@@ -4,7 +4,7 @@
 use Rattle.std.specs.Prelude.{ℕ, ◌-◌, ◌*◌, ◌/◌, ◌^◌, ◌≤◌, Bool, ◌&&◌, ◌==◌, nat_le}
 use Rattle.kube_types_address.specs.Addresses.{Address, IsAddress, family, width, number, with_number}
 
--- an address, with as many of its first bits as the prefix has
+-- an address, and the number of first bits that all addresses of the network share with it
 pub record Network : Type 0 where
   pub ip : Address
   pub prefix : ℕ
@@ -17,11 +17,11 @@ IsNetwork c = IsAddress c.ip × (c.prefix ≤ width c.ip)
 abbrev pub first_bits : ℕ → Address → ℕ
 first_bits count a = number a / 2 ^ (width a - count)
 
--- the address is in the set: its family and the bits of the prefix are the same
+-- the address is in the set: it has the same family and the same prefix bits
 abbrev pub holds : Network → Address → Bool
 holds c a = (family c.ip == family a) && (first_bits c.prefix c.ip == first_bits c.prefix a)
 
--- the inner set lies in the outer one
+-- the inner set is contained in the outer one
 abbrev pub encloses : Network → Network → Bool
 encloses outer inner = holds outer inner.ip && nat_le outer.prefix inner.prefix
 

@@ -1,5 +1,5 @@
 -- Trusted by the headline.
--- What clauses see of an address.
+-- The view of an address in contracts.
 use Rattle.std.specs.Prelude.{List, ℕ, Option, Result, Ok, Err, option_map}
 use Rattle.std.specs.Borrow.{Bor}
 use Rattle.std.specs.Net.Addr.{ipv4_octets, ipv6_segments}
@@ -13,15 +13,15 @@ abbrev pub parts : IpAddr → Address
 parts (Ip.V4 a) = four (ipv4_octets a)
 parts (Ip.V6 a) = six (ipv6_segments a)
 
--- the address that a value holds
+-- the address of a `KubeIP`
 abbrev pub address : KubeIP → Address
 address ip = parts ip.address
 
--- the address or the error's text
+-- the view of a result: the address, or the error's text
 abbrev pub ip_answer : Result KubeIP (Bor (List ℕ)) → Result Address (List ℕ)
 ip_answer (Ok ip) = Ok (address ip)
 ip_answer (Err text) = Err text.now
 
--- two parts of a text
+-- the view of a text split in two
 abbrev pub part_texts : Option (Bor (List ℕ) × Bor (List ℕ)) → Option (List ℕ × List ℕ)
 part_texts o = option_map (λ p. (p.0.now, p.1.now)) o

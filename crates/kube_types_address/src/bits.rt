@@ -8,7 +8,7 @@ use crate::ip::KubeIP;
 use std::net::{IpAddr, Ipv4Addr, Ipv6Addr};
 
 impl KubeIP {
-    /// How many bits an address of this family has.
+    /// The number of bits in an address of this family.
     pub(crate) fn width(&self) -> u8
         ensures { result ≡ width (address self.now) }
     {
@@ -18,7 +18,7 @@ impl KubeIP {
         }
     }
 
-    /// The address as one number.
+    /// The address as a number.
     fn bits(&self) -> u128
         ensures value { result ≡ number (address self.now) }
         ensures below { result < 2 ^ width (address self.now) }
@@ -29,7 +29,7 @@ impl KubeIP {
         }
     }
 
-    /// The address of the same family that is this number.
+    /// The address of the same family with this number.
     fn with_bits(&self, bits: u128) -> KubeIP
         requires { bits < 2 ^ width (address self.now) }
         ensures { address result ≡ with_number (address self.now) bits }
@@ -41,7 +41,7 @@ impl KubeIP {
         KubeIP { address }
     }
 
-    /// The first `count` bits, as a number.
+    /// The first `count` bits as a number.
     pub(crate) fn first_bits(&self, count: u8) -> u128
         ensures { result ≡ first_bits count (address self.now) }
     {
@@ -49,7 +49,7 @@ impl KubeIP {
             .unbounded_shr(u32::from(self.width().saturating_sub(count)))
     }
 
-    /// The address whose first `count` bits are the same, and whose others are 0.
+    /// The address with the same first `count` bits and all others 0.
     pub(crate) fn masked(&self, count: u8) -> KubeIP
         requires { count ≤ width (address self.now) }
         ensures { address result ≡ with_number (address self.now)

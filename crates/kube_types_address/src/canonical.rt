@@ -1,4 +1,5 @@
-//! Whether a text is the printed one of its address, by RFC 5952, section 4, without printing it.
+//! Tests if a text is the canonical text of its address
+//! (RFC 5952, section 4), without printing the address.
 ghost use Rattle.std.specs.Char.{digit_char};
 ghost use Rattle.std.specs.Net.Text.{hex, groups_text, hex_groups_text, leading_zero_digits, longest_zero_run};
 ghost use Rattle.std.specs.Prelude.{◌≡◌, ◌+◌, ◌/◌, ◌%◌, ◌<◌, ◌≤◌, [], length, bytes_eq, option_copied};
@@ -10,11 +11,12 @@ use crate::ip::KubeIP;
 use std::net::IpAddr;
 
 impl KubeIP {
-    /// Whether a text is the printed text of the address that it means. No memory is taken.
+    /// Reports whether a text is the canonical text of the address that
+    /// it parses to: the one that the address prints. Takes no memory.
     ///
     /// # Errors
     ///
-    /// The error of `read`, where the text means no address.
+    /// The error of `read` if the text doesn't parse.
     pub fn is_canonical(text: &str) -> Result<bool, &'static str>
         ensures { test_answer result ≡ canonical_of text.now }
     {
@@ -24,7 +26,8 @@ impl KubeIP {
         }
     }
 
-    /// Whether a text of this address is its printed one. An IPv4 address has one text.
+    /// Reports whether a text of this address is its
+    /// canonical one. An IPv4 address has only one text.
     fn is_printed(&self, text: &[u8]) -> bool
         requires { IsTextOf text.now (address self.now) }
         ensures { result ≡ bytes_eq text.now (address_text (address self.now)) }
@@ -36,14 +39,14 @@ impl KubeIP {
     }
 }
 
-/// Whether a text is the printed one of these groups.
+/// Reports whether the text is the canonical one of these groups.
 fn is_printed_text(text: &[u8], groups: &[u16]) -> bool
     ensures { result ≡ bytes_eq text.now (hex_groups_text groups.now) }
 {
     is_empty_rest(strip_printed(text, groups))
 }
 
-/// Whether a text was matched, and nothing is left of it.
+/// Reports whether the text matched and nothing is left of it.
 fn is_empty_rest(rest: Option<&[u8]>) -> bool
     ensures { result ≡ is_whole (option_copied rest.entry) }
 {
@@ -53,7 +56,7 @@ fn is_empty_rest(rest: Option<&[u8]>) -> bool
     }
 }
 
-/// What follows the printed text of these groups.
+/// The text after the canonical text of these groups, or None if it doesn't start with that.
 #[tactic(auto, using(crate::proofs::Matches::printed_short, crate::proofs::Matches::printed_long, crate::proofs::Matches::append_then))]
 fn strip_printed<'a>(text: &'a [u8], groups: &[u16]) -> Option<&'a [u8]>
     ensures { option_copied result ≡ rest_after (hex_groups_text groups.now) text.now }
@@ -67,7 +70,7 @@ fn strip_printed<'a>(text: &'a [u8], groups: &[u16]) -> Option<&'a [u8]>
     strip_groups(middle, &groups[start + len..])
 }
 
-/// What follows groups with colons between them.
+/// The text after groups separated by colons, or None if it doesn't start with them.
 #[tactic(auto, using(crate::proofs::Matches::groups_cons, crate::proofs::Matches::append_then, crate::proofs::Matches::after_nothing))]
 fn strip_groups<'a>(text: &'a [u8], groups: &[u16]) -> Option<&'a [u8]>
     ensures { option_copied result ≡ rest_after (groups_text groups.now) text.now }
@@ -81,7 +84,7 @@ fn strip_groups<'a>(text: &'a [u8], groups: &[u16]) -> Option<&'a [u8]>
     }
 }
 
-/// What follows groups with a colon before each.
+/// The text after groups with a colon before each, or None if it doesn't start with them.
 #[tactic(auto, using(crate::proofs::Matches::turn_then, crate::proofs::Matches::append_then, crate::proofs::Matches::after_all))]
 fn strip_more<'a>(text: &'a [u8], groups: &[u16]) -> Option<&'a [u8]>
     ensures { option_copied result ≡ rest_after (more_text groups.now) text.now }
@@ -95,7 +98,8 @@ fn strip_more<'a>(text: &'a [u8], groups: &[u16]) -> Option<&'a [u8]>
     Some(rest)
 }
 
-/// What follows a group in lower-case hex with no leading zeros.
+/// The text after a group in lower-case hex without
+/// leading zeros, or None if it doesn't start with that.
 fn strip_group(text: &[u8], group: u16) -> Option<&[u8]>
     ensures { option_copied result ≡ rest_after (hex group) text.now }
 {
@@ -109,7 +113,7 @@ fn strip_group(text: &[u8], group: u16) -> Option<&[u8]>
     strip(text, printed)
 }
 
-/// What follows `front`.
+/// The text after `front`, or None if it doesn't start with that.
 fn strip<'a>(text: &'a [u8], front: &[u8]) -> Option<&'a [u8]>
     ensures { option_copied result ≡ rest_after front.now text.now }
 {
@@ -127,7 +131,7 @@ fn hex_digit(digit: u16) -> u8
     }
 }
 
-/// How many of a group's four hex digits are leading zeros, the last digit apart.
+/// The number of leading zeros among a group's four hex digits. The last digit isn't counted.
 fn leading_zero_digits(group: u16) -> usize
     ensures value { result ≡ leading_zero_digits group }
     ensures within { result < 4 }
@@ -140,7 +144,7 @@ fn leading_zero_digits(group: u16) -> usize
     }
 }
 
-/// The start and the length of the longest run of zeros, and of two such runs the first.
+/// The start and the length of the longest run of zeros. If two runs are equally long, the first.
 fn longest_zero_run(groups: &[u16]) -> (usize, usize)
     ensures value { result ≡ longest_zero_run groups.now }
     ensures within { result.0 + result.1 ≤ length groups.now }

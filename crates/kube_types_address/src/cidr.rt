@@ -1,4 +1,4 @@
-//! `KubeCIDR`: its text, its printed text and its set of addresses.
+//! `KubeCIDR`: parsing, printing and its set of addresses.
 ghost use Rattle.std.specs.Char.{is_ascii_digit};
 ghost use Rattle.std.specs.List.{list_all, position};
 ghost use Rattle.std.specs.Option.{SomeIff};
@@ -24,12 +24,13 @@ pub struct KubeCIDR {
 impl KubeCIDR {
     ghost use Rattle.kube_types_address.specs.Networks.{network, cidr_answer};
 
-    /// The CIDR that a text writes: an address, `/`, and the length of the prefix, to 32 or 128, without a
-    /// sign or leading zeros. No memory is taken.
+    /// Parses a CIDR: an address, `/`, and the length of the prefix, which is at most 32 or 128 and
+    /// has no sign and no leading zeros. Takes no memory.
     ///
     /// # Errors
     ///
-    /// Where the text writes a CIDR of an address in `::ffff:0:0/96`, and where it writes none.
+    /// An error message if the address is in `::ffff:0:0/96`,
+    /// and another one if the text doesn't parse.
     pub fn read(text: &str) -> Result<KubeCIDR, &'static str>
         ensures value { cidr_answer result ≡ cidr_of text.now }
         ensures grammar { IsCidrAnswer text.now (cidr_answer result) }
@@ -37,7 +38,7 @@ impl KubeCIDR {
         KubeCIDR::read_ascii(text.as_bytes())
     }
 
-    /// The same of bytes.
+    /// The same for bytes.
     #[tactic(auto, unfolding(crate::specs::CidrTexts::cidr_of))]
     fn read_ascii(text: &[u8]) -> Result<KubeCIDR, &'static str>
         ensures { cidr_answer result ≡ cidr_of text.now }
@@ -48,7 +49,7 @@ impl KubeCIDR {
         }
     }
 
-    /// This CIDR, unless its addresses are IPv4-mapped.
+    /// This CIDR, or an error if its addresses are IPv4-mapped.
     fn unless_mapped(self) -> Result<KubeCIDR, &'static str>
         ensures { cidr_answer result ≡ unmapped_cidr (Some (network self)) }
     {
@@ -58,7 +59,7 @@ impl KubeCIDR {
         Ok(self)
     }
 
-    /// The CIDR that bytes write, one of IPv4-mapped addresses too.
+    /// Parses a CIDR, including one of IPv4-mapped addresses. None if the bytes don't parse.
     #[tactic(auto, unfolding(crate::specs::CidrTexts::written_cidr))]
     fn parse(text: &[u8]) -> Option<KubeCIDR>
         ensures { option_map network result ≡ written_cidr text.now }
@@ -72,28 +73,28 @@ impl KubeCIDR {
         })
     }
 
-    /// The address as it was written, with its host bits.
+    /// The address as written, including the host bits.
     pub fn ip(&self) -> KubeIP
         ensures { result ≡ self.now.written }
     {
         self.written
     }
 
-    /// How many bits the prefix has.
+    /// The length of the prefix in bits.
     pub fn prefix_length(&self) -> u8
         ensures { result ≡ self.now.prefix }
     {
         self.prefix
     }
 
-    /// 4 or 6.
+    /// Returns 4 for a CIDR of IPv4 addresses and 6 for one of IPv6 addresses.
     pub fn family(&self) -> u8
         ensures { result ≡ family (network self.now).ip }
     {
         self.ip().family()
     }
 
-    /// The same set, written by its first address: the bits after the prefix are 0.
+    /// The same set, written with its first address: the bits after the prefix are 0.
     pub fn masked(&self) -> KubeCIDR
         ensures { network result ≡ masked_network (network self.now) }
     {
@@ -103,7 +104,7 @@ impl KubeCIDR {
         }
     }
 
-    /// Whether the address is in the set.
+    /// Reports whether the address is in the set.
     pub fn contains_ip(&self, ip: KubeIP) -> bool
         ensures { result ≡ holds (network self.now) (address ip) }
     {
@@ -111,7 +112,7 @@ impl KubeCIDR {
         self.family() == ip.family() && self.ip().first_bits(count) == ip.first_bits(count)
     }
 
-    /// Whether every address of `inner` is in the set.
+    /// Reports whether every address of `inner` is in the set.
     pub fn contains_cidr(&self, inner: KubeCIDR) -> bool
         ensures value { result ≡ encloses (network self.now) (network inner) }
         ensures sets { (result ≡ true) ↔ ((a : Address) → IsAddress a → holds (network inner) a ≡ true
@@ -123,7 +124,7 @@ impl KubeCIDR {
     }
 }
 
-/// Where the first slash stands.
+/// The offset of the first slash, or None if there is none.
 fn first_slash(text: &[u8]) -> Option<usize>
     ensures value { result ≡ position is_slash text.now }
     ensures within { IfSome result (λ offset. offset < length text.now) }
@@ -131,7 +132,7 @@ fn first_slash(text: &[u8]) -> Option<usize>
     text.iter().position(|byte| *byte == b'/')
 }
 
-/// What stands before and after the first slash.
+/// The text before and the text after the first slash, or None if there is none.
 #[tactic(auto, using(crate::proofs::Cuts::around_by_offset), unfolding(crate::specs::CidrTexts::around_slash))]
 fn split_at_slash(text: &[u8]) -> Option<(&[u8], &[u8])>
     ensures { part_texts result ≡ around_slash text.now }
@@ -146,7 +147,7 @@ fn all_digits(text: &[u8]) -> bool
     text.iter().all(|byte| byte.is_ascii_digit())
 }
 
-/// Whether these are decimal digits, at least one, with no needless zero before them.
+/// Reports whether the text is one or more decimal digits without a superfluous leading zero.
 #[tactic(auto, unfolding(crate::specs::CidrTexts::is_plain))]
 fn is_plain(digits: &[u8]) -> bool
     ensures { result ≡ is_plain digits.now }
@@ -154,7 +155,7 @@ fn is_plain(digits: &[u8]) -> bool
     all_digits(digits) && !digits.is_empty() && (digits.len() < 2 || digits[0] != b'0')
 }
 
-/// The number that plain digits write, if 8 bits hold it.
+/// The number that plain digits spell, or None if it doesn't fit in 8 bits.
 fn parse_plain(digits: &[u8]) -> Option<u8>
     requires { is_plain digits.now ≡ true }
     ensures { SomeIff result (digits_value 10 digits.now < 2 ^ 8) (digits_value 10 digits.now) }
@@ -165,7 +166,7 @@ fn parse_plain(digits: &[u8]) -> Option<u8>
     }
 }
 
-/// The number that plain digits write, up to `most`.
+/// The number that the digits spell, or None if they aren't plain or it is above `most`.
 #[tactic(auto, using(crate::proofs::Cuts::length_not_plain, crate::proofs::Cuts::length_large, crate::proofs::Cuts::length_above, crate::proofs::Cuts::length_known))]
 fn read_length(digits: &[u8], most: u8) -> Option<u8>
     ensures value { result ≡ length_of most digits.now }
@@ -178,7 +179,7 @@ fn read_length(digits: &[u8], most: u8) -> Option<u8>
     if number <= most { Some(number) } else { None }
 }
 
-/// The address as it was written, `/` and the length of the prefix.
+/// Prints the address as written, `/` and the length of the prefix.
 impl fmt::Display for KubeCIDR {
     ghost use Rattle.kube_types_address.specs.Networks.{network};
 

@@ -1,4 +1,4 @@
-//! `KubeIP`: its text, its printed text and what kind of address it is.
+//! `KubeIP`: parsing, printing and the kinds of addresses.
 ghost use Rattle.std.specs.Prelude.{◌≡◌, Some, option_map};
 ghost use Rattle.kube_types_address.specs.Addresses.{is_mapped};
 ghost use Rattle.kube_types_address.specs.Shown.{address, ip_answer};
@@ -7,21 +7,21 @@ ghost use Rattle.kube_types_address.specs.Texts.{address_of, address_text, ip_of
 use std::fmt;
 use std::net::IpAddr;
 
-/// An IPv4 address, or an IPv6 address.
+/// An IPv4 or IPv6 address.
 #[derive(Clone, Copy, Debug, PartialEq, Eq)]
 pub struct KubeIP {
     pub(crate) address: IpAddr,
 }
 
 impl KubeIP {
-    /// The address that a text writes. No memory is taken.
+    /// Parses an address. Takes no memory.
     ///
     /// IPv4: four numbers up to 255 without leading zeros. IPv6: RFC 4291, section 2.2.
     ///
     /// # Errors
     ///
-    /// The first of these that holds: the text has a `%`;
-    /// its address is in `::ffff:0:0/96`; it writes no address.
+    /// The message of the first of these errors: the text contains a `%`; its address is in
+    /// `::ffff:0:0/96`; it doesn't parse as an address.
     pub fn read(text: &str) -> Result<KubeIP, &'static str>
         ensures value { ip_answer result ≡ ip_of text.now }
         ensures grammar { IsIpAnswer text.now (ip_answer result) }
@@ -29,7 +29,7 @@ impl KubeIP {
         KubeIP::read_ascii(text.as_bytes())
     }
 
-    /// The same of bytes.
+    /// The same for bytes.
     #[tactic(auto, unfolding(crate::specs::Texts::ip_of))]
     fn read_ascii(text: &[u8]) -> Result<KubeIP, &'static str>
         ensures { ip_answer result ≡ ip_of text.now }
@@ -44,7 +44,7 @@ impl KubeIP {
         }
     }
 
-    /// The address that bytes write, an IPv4-mapped one too.
+    /// Parses an address, including an IPv4-mapped one. None if the bytes don't parse.
     pub(crate) fn parse(text: &[u8]) -> Option<KubeIP>
         ensures { option_map address result ≡ address_of text.now }
     {
@@ -54,7 +54,7 @@ impl KubeIP {
         }
     }
 
-    /// Whether the address is in `::ffff:0:0/96`.
+    /// Reports whether the address is in `::ffff:0:0/96`.
     pub(crate) fn is_ipv4_mapped(&self) -> bool
         ensures { result ≡ is_mapped (address self.now) }
     {
@@ -65,7 +65,8 @@ impl KubeIP {
     }
 }
 
-/// An IPv4 address by its octets, an IPv6 address by RFC 5952, section 4: lower case, never dotted.
+/// Prints an IPv4 address as its octets, and an IPv6 address
+/// by RFC 5952, section 4: in lower case, never dotted.
 impl fmt::Display for KubeIP {
     ghost output = { λ ip. Some (address_text (address ip)) };
 

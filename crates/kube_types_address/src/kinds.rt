@@ -1,4 +1,4 @@
-//! What kind of address a `KubeIP` is.
+//! The kinds of addresses.
 ghost use Rattle.std.specs.Prelude.{◌≡◌};
 ghost use Rattle.kube_types_address.specs.Addresses.{family};
 ghost use Rattle.kube_types_address.specs.Kinds.{loopback, unspecified, multicast, link_local_multicast, link_local_unicast, broadcast, global_unicast};
@@ -8,7 +8,7 @@ use crate::ip::KubeIP;
 use std::net::IpAddr;
 
 impl KubeIP {
-    /// 4 or 6.
+    /// Returns 4 for an IPv4 address and 6 for an IPv6 address.
     pub fn family(&self) -> u8
         ensures { result ≡ family (address self.now) }
     {
@@ -18,7 +18,7 @@ impl KubeIP {
         }
     }
 
-    /// `127.0.0.0/8`, and `::1`.
+    /// Reports whether the address is in `127.0.0.0/8` or is `::1`.
     pub fn is_loopback(&self) -> bool
         ensures { result ≡ loopback (address self.now) }
     {
@@ -28,7 +28,7 @@ impl KubeIP {
         }
     }
 
-    /// `0.0.0.0`, and `::`.
+    /// Reports whether the address is `0.0.0.0` or `::`.
     pub fn is_unspecified(&self) -> bool
         ensures { result ≡ unspecified (address self.now) }
     {
@@ -38,7 +38,7 @@ impl KubeIP {
         }
     }
 
-    /// `224.0.0.0/4`, and `ff00::/8`.
+    /// Reports whether the address is in `224.0.0.0/4` or `ff00::/8`.
     fn is_multicast(&self) -> bool
         ensures { result ≡ multicast (address self.now) }
     {
@@ -48,7 +48,8 @@ impl KubeIP {
         }
     }
 
-    /// `224.0.0.0/24`, and the IPv6 multicast addresses of the scope of one link, whatever their flags.
+    /// Reports whether the address is in `224.0.0.0/24`, or is an
+    /// IPv6 multicast address of link-local scope, with any flags.
     pub fn is_link_local_multicast(&self) -> bool
         ensures { result ≡ link_local_multicast (address self.now) }
     {
@@ -61,7 +62,7 @@ impl KubeIP {
         }
     }
 
-    /// `169.254.0.0/16`, and `fe80::/10`.
+    /// Reports whether the address is in `169.254.0.0/16` or `fe80::/10`.
     pub fn is_link_local_unicast(&self) -> bool
         ensures { result ≡ link_local_unicast (address self.now) }
     {
@@ -74,7 +75,7 @@ impl KubeIP {
         }
     }
 
-    /// `255.255.255.255`.
+    /// Reports whether the address is `255.255.255.255`.
     fn is_broadcast(&self) -> bool
         ensures { result ≡ broadcast (address self.now) }
     {
@@ -84,8 +85,8 @@ impl KubeIP {
         }
     }
 
-    /// Whether the address is none of these: loopback, unspecified, multicast (`224.0.0.0/4`, `ff00::/8`),
-    /// link-local unicast, `255.255.255.255`.
+    /// Reports whether the address is none of these: loopback, unspecified, multicast
+    /// (`224.0.0.0/4`, `ff00::/8`), link-local unicast, `255.255.255.255`.
     pub fn is_global_unicast(&self) -> bool
         ensures { result ≡ global_unicast (address self.now) }
     {

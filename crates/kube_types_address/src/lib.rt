@@ -1,4 +1,4 @@
-//! IP addresses and CIDRs, as policies of Kubernetes read, compare and print them.
+//! IP addresses and CIDRs, as Kubernetes' policies parse, compare and print them.
 //!
 //! Sources: RFC 4291 and RFC 5952 for the texts of addresses, RFC 4632 for prefixes.
 #![tactic(auto)]

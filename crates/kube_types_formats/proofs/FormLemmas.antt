@@ -17,7 +17,7 @@ fits_end form text i h same =
     let there : length text ≤ i = omega arith in
     λ k. fits (drop_all i form h k) (drop_all i text there k)
 
--- a text of another length
+-- a text of a different length
 pub fits_lengths : (form text : List ℕ) → (length form ≡ length text → ⊥) → fits form text ≡ false
 fits_lengths [] [] h = absurd (h refl)
 fits_lengths [] (c ∷ cs) h = refl

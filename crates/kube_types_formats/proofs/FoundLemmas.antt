@@ -1,4 +1,4 @@
--- The texts of a table's faults, rule by rule.
+-- The texts of a table's faults, one rule at a time.
 use Rattle.std.proofs.Common.{◌≡◌, ℕ, ◌+◌, ◌<◌, ◌≤◌, Bool, true, false, List, [], ◌∷◌, ◌++◌, length, get_or, drop, refl, sym, ap, ◌∙◌, append_assoc}
 use Rattle.std.proofs.lemmas.List.{at_drop_more, at_drop_all, append-nil}
 use Rattle.kube_types_formats.specs.declared.fault.Fault.{Fault}

@@ -1,4 +1,4 @@
--- Each kind of format stands in the table of kinds, and is found there by its name.
+-- Each kind of format is in the table of kinds, and is found there by its name.
 use Rattle.std.proofs.Common.{◌≡◌, ℕ, ◌<◌, List, get_or, Option, Some, refl, sym, ap, ◌∙◌, lit<}
 use Rattle.std.specs.List.{find}
 use Rattle.std.specs.Str.{bytes_eq}

@@ -1,4 +1,4 @@
--- What the rules for labels have to do with one another.
+-- How the rules for labels are related.
 use Rattle.std.proofs.Common.{◌≡◌, ℕ, ◌==◌, Bool, true, false, not, ◌||◌, ltb, List, [], ◌∷◌, ◌++◌, length, refl, arith, if◌then◌else◌}
 use Rattle.std.proofs.lemmas.Bool.Decides.{nat_tests}
 use Rattle.std.specs.Char.{is_ascii_lowercase}
@@ -26,7 +26,7 @@ letter_label_is_label text e =
     by_tests n false false false true true false apart e = let clash = apart refl in cc
     by_tests n false false false true false false apart e = refl
 
--- a label begins one
+-- a label is a prefix of a label
 pub label_is_prefix : (text : List ℕ) → label_faults Rfc1123 [] text ≡ [] → label_faults Rfc1123Prefix [] text ≡ []
 unfolding label_faults end_tests faults_found
 label_is_prefix text e =

@@ -1,4 +1,4 @@
--- The offset of the last mark, from the end on, and of the first.
+-- The offset of the last mark, searched from the end, and of the first.
 use Rattle.std.proofs.Common.{◌≡◌, ℕ, zero, suc, ◌+◌, ◌<◌, ◌≤◌, Bool, true, false, cond, ltb, List, [], ◌∷◌, length, get_or, drop, Some, None, refl, ap, ◌∙◌, add-one, drop-cons, length-drop, position, arith}
 use Rattle.std.proofs.lemmas.Bool.Decides.{nat_tests}
 use Rattle.std.proofs.lemmas.List.{at_drop_all}
@@ -9,7 +9,7 @@ pub last_offset_step : (marks text : List ℕ) (i : ℕ) → i < length text →
 unfolding last_offset
 last_offset_step marks text i h = rw add-one (ap (last_offset marks) (drop-cons text i 0 h))
 
--- no mark from here on
+-- there is no mark from here on
 pub last_offset_more : (marks text : List ℕ) (i : ℕ) → i < length text → last_offset marks (drop (i + 1) text) ≡ None → is_one_of marks (get_or text i 0) ≡ false → last_offset marks (drop i text) ≡ None
 last_offset_more marks text i h none absent =
     last_offset_step marks text i h ∙ (λ k. later_or_first (none k) (absent k))
@@ -25,12 +25,12 @@ pub last_offset_end : (marks text : List ℕ) (i : ℕ) → length text ≤ i �
 unfolding last_offset
 last_offset_end marks text i h = at_drop_all (last_offset marks) text i h
 
--- a mark here, and none later
+-- there is a mark here, and none later
 pub last_offset_here : (marks text : List ℕ) (i : ℕ) → i < length text → last_offset marks (drop (i + 1) text) ≡ None → is_one_of marks (get_or text i 0) ≡ true → last_offset marks text ≡ Some i
 last_offset_here marks text i h none here =
     last_offset_from marks text i 0 (last_offset_step marks text i h ∙ (λ k. later_or_first (none k) (here k))) ∙ ap Some (omega arith)
 
--- what `position` says
+-- the result of `position`
 pub position_is : (p : ℕ → Bool) (text : List ℕ) (i : ℕ) → position p text ≡ Some i → (position_or_len p text ≡ i) × (i < length text)
 position_is p text i e = by_test (position_or_len p text) (length text) i (ltb (position_or_len p text) (length text)) refl e
   where

@@ -1,4 +1,4 @@
--- The faults of a text's parts, part by part.
+-- The faults of a text's parts, one part at a time.
 use Rattle.std.proofs.Common.{◌≡◌, ℕ, suc, ◌+◌, ◌<◌, ◌≤◌, Bool, true, false, cond, not, List, [], ◌∷◌, ◌++◌, length, take, drop, Some, None, refl, sym, ap, ◌∙◌, append_assoc, position, arith}
 use Rattle.std.specs.List.{slice_split, onto_first, position_or_len}
 use Rattle.std.proofs.lemmas.List.Splits.{slice_split_first, length-slice_split}
@@ -29,12 +29,12 @@ parts_more p each last text i e =
     let some : 0 < length (slice_split p (drop (i + 1) text)) = omega (arith, length-slice_split p (drop (i + 1) text)) in
     ap (faults_of_parts each last) cut_here ∙ first_of_parts each last (take i text) (slice_split p (drop (i + 1) text)) some
 
--- one part alone
+-- a single part
 pub parts_end : (p : ℕ → Bool) (each last : List ℕ → List (List ℕ)) (text : List ℕ) → position p text ≡ None → faults_of_parts each last (slice_split p text) ≡ last text
 unfolding faults_of_parts
 parts_end p each last text e = ap (faults_of_parts each last) (split_none p text (position_none p text e))
 
--- one turn of a walk over the parts
+-- one pass of a loop over the parts
 pub parts_turn : (p : ℕ → Bool) (each last : List ℕ → List (List ℕ)) (text part rest : List ℕ) (i : ℕ) (before after : List (List ℕ)) → position p text ≡ Some i → part ≡ take i text → rest ≡ drop (i + 1) text → after ≡ before ++ each part → after ++ faults_of_parts each last (slice_split p rest) ≡ before ++ faults_of_parts each last (slice_split p text)
 parts_turn p each last text part rest i before after e first others added =
     ap (λ texts. texts ++ faults_of_parts each last (slice_split p rest)) added

@@ -1,7 +1,7 @@
 -- Trusted by the headline.
--- Dates and date-times. Source: RFC 3339, section 5.6: `full-date` and `date-time`, whose letters may be of
--- either case; an hour is at most 23, a minute 59 and a second 60. The calendar is the proleptic Gregorian
--- one of `jiff_core`, in which 0000 is a leap year.
+-- Dates and date-times. Source: RFC 3339, section 5.6: `full-date` and `date-time`, whose letters
+-- may be upper or lower case; an hour is at most 23, a minute 59 and a second 60. The calendar is
+-- the proleptic Gregorian one of `jiff_core`, in which 0000 is a leap year.
 use Rattle.std.specs.Prelude.{ℕ, ◌+◌, ◌*◌, Bool, true, false, ◌&&◌, ◌||◌, ◌==◌, nat_le, List, [], ◌∷◌, length, take, drop, position, codes, pos, Option, Some, None, option_map, is_some, if◌then◌else◌}
 use Rattle.std.specs.Char.{is_ascii_digit}
 use Rattle.std.specs.List.{list_all}
@@ -51,11 +51,11 @@ is_zone (c ∷ cs) =
     (is_one_of (codes "Zz") c && (length cs == 0))
     || (is_one_of (codes "+-") c && is_offset cs)
 
--- where the last sign stands, from the third byte on
+-- the offset of the last sign, searched from the third byte on
 abbrev pub last_sign : List ℕ → Option ℕ
 last_sign rest = option_map (λ byte_offset. byte_offset + 2) (last_offset (codes "+-") (drop 2 rest))
 
--- where the zone starts: at the last `Z` or `z`, else at the last sign
+-- the offset at which the zone starts: the last `Z` or `z`, or else the last sign
 abbrev pub else_sign : Option ℕ → List ℕ → Option ℕ
 else_sign (Some byte_offset) rest = Some byte_offset
 else_sign None rest = last_sign rest
@@ -63,7 +63,7 @@ else_sign None rest = last_sign rest
 unfoldable pub zone_start : List ℕ → Option ℕ
 zone_start rest = else_sign (last_offset (codes "Zz") rest) rest
 
--- the time and the zone that starts at this offset
+-- the fault of a time and the zone that starts at this offset
 abbrev pub zoned_fault : Option ℕ → List ℕ → Option Fault
 zoned_fault None rest = Some NoTimeZone
 zoned_fault (Some byte_offset) rest =
@@ -72,7 +72,7 @@ zoned_fault (Some byte_offset) rest =
 abbrev pub time_fault : List ℕ → Option Fault
 time_fault rest = if length rest == 0 then Some NotDateTime else zoned_fault (zone_start rest) rest
 
--- the date and the time around the first letter, which stands at this offset
+-- the fault of a date and a time around the first letter, which is at this offset
 abbrev pub around_letter : Option ℕ → List ℕ → Option Fault
 around_letter None text = Some NotDateTime
 around_letter (Some byte_offset) text =

@@ -1,5 +1,5 @@
 -- Trusted by the headline.
--- What a fault of a text says: the messages of Kubernetes' validation of names
+-- The text of each fault: the messages of Kubernetes' validation of names
 -- (`k8s.io/apimachinery/pkg/util/validation` and the format library of CEL in Kubernetes).
 use Rattle.std.specs.Prelude.{ℕ, List, ◌++◌, codes}
 use Rattle.std.specs.Fmt.{decimal}

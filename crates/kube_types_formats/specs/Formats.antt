@@ -1,5 +1,6 @@
 -- Trusted by the headline.
--- The named formats of Kubernetes' CEL library `format`: their names, and the faults that a text has as each.
+-- The named formats of Kubernetes' CEL library `format`:
+-- their names, and the faults of a text in each.
 use Rattle.std.specs.Prelude.{ℕ, List, [], codes, Option, Some, None, if◌then◌else◌}
 use Rattle.kube_types_formats.specs.declared.dns.Label.TheVariants.{Rfc1123, Rfc1123Prefix, Rfc1035, Rfc1035Prefix}
 use Rattle.kube_types_formats.specs.declared.fault.Fault.{Fault}
@@ -15,7 +16,7 @@ use Rattle.kube_types_formats.specs.Uris.{uri_fault}
 use Rattle.kube_types_formats.specs.Base64.{is_base64}
 use Rattle.kube_types_formats.specs.Dates.{date_fault, date_time_fault}
 
--- what a format is called
+-- the name of a format
 unfoldable pub name_of : FormatKind → List ℕ
 name_of Dns1123Label = codes "dns1123Label"
 name_of Dns1035Label = codes "dns1035Label"

@@ -1,6 +1,7 @@
 -- Trusted by the headline.
--- Qualified names and label values. Source: the Kubernetes page "Labels and Selectors", section "Syntax and
--- character set": an optional DNS subdomain and a slash, then a name of at most 63 bytes.
+-- Qualified names and label values. Source: the Kubernetes page
+-- "Labels and Selectors", section "Syntax and character set": an
+-- optional DNS subdomain and a slash, then a name of at most 63 bytes.
 use Rattle.std.specs.Prelude.{ℕ, ◌+◌, ◌==◌, Bool, not, ◌||◌, nat_lt, List, [], ◌∷◌, ◌++◌, length, take, drop, codes, Option, Some, None, if◌then◌else◌}
 use Rattle.std.specs.Char.{is_ascii_alphanumeric}
 use Rattle.std.specs.List.{list_all}
@@ -22,17 +23,17 @@ name_faults prefix text = unless_empty prefix text (faults_found prefix (
     ∷ (not (is_ascii_alphanumeric (last_byte text)), LastNotAlphanumeric)
     ∷ []))
 
--- the value of a label, which may be empty
+-- the faults of a label value, which may be empty
 unfoldable pub label_value_faults : List ℕ → List (List ℕ)
 label_value_faults text = if length text == 0 then [] else name_faults [] text
 
--- what stands before the slash
+-- the faults of the part before the slash
 unfoldable pub name_prefix_faults : List ℕ → List (List ℕ)
 name_prefix_faults prefix =
     if length prefix == 0 then fault_line [] EmptyPrefix ∷ []
     else subdomain_faults Rfc1123 (codes "prefix: ") prefix
 
--- the text, cut at the offset of its last slash (47)
+-- the faults of a text that is split at the offset of its last slash (47)
 unfoldable pub faults_around : Option ℕ → List ℕ → List (List ℕ)
 faults_around None text = name_faults [] text
 faults_around (Some slash) text =

@@ -3,7 +3,7 @@
 use Rattle.std.specs.Prelude.{ℕ, ◌+◌, ◌==◌, Bool, List, [], ◌∷◌, Option, Some, None, if◌then◌else◌}
 use Rattle.std.specs.List.{list_any}
 
--- whether a byte is one of the marks
+-- the byte is one of the marks
 unfoldable pub is_one_of : List ℕ → ℕ → Bool
 is_one_of marks c = list_any (λ mark. mark == c) marks
 

@@ -1,6 +1,6 @@
 -- Trusted by the headline.
--- URIs, by their scheme alone. Source: RFC 3986, section 3.1: a letter, then letters, digits, `+`, `-` and
--- `.`, up to the first colon.
+-- URIs, of which only the scheme is checked. Source: RFC 3986, section 3.1: a letter, then letters,
+-- digits, `+`, `-` and `.`, up to the first colon.
 use Rattle.std.specs.Prelude.{ℕ, ◌==◌, Bool, false, ◌&&◌, ◌||◌, List, [], ◌∷◌, length, take, position, Option, Some, None, if◌then◌else◌}
 use Rattle.std.specs.Char.{is_ascii_alphabetic, is_ascii_alphanumeric}
 use Rattle.std.specs.List.{list_all}
@@ -16,7 +16,7 @@ abbrev pub is_scheme : List ℕ → Bool
 is_scheme [] = false
 is_scheme (c ∷ cs) = is_ascii_alphabetic c && list_all is_scheme_byte cs
 
--- the text, whose first colon (58) stands at this offset
+-- the fault of a text whose first colon (58) is at this offset
 abbrev pub scheme_fault : Option ℕ → List ℕ → Option Fault
 scheme_fault None text = Some NoScheme
 scheme_fault (Some colon) text = if is_scheme (take colon text) then None else Some InvalidScheme

@@ -9,7 +9,7 @@ use crate::forms::{fits, two_digits};
 use crate::offsets::{cut, first_offset, last_offset};
 use jiff::civil::Date;
 
-/// Whether the calendar has this day.
+/// Reports whether the calendar has this day.
 fn is_civil(year: u32, month: u32, day: u32) -> bool
     ensures { result ≡ is_civil year month day }
 {
@@ -19,7 +19,7 @@ fn is_civil(year: u32, month: u32, day: u32) -> bool
         && Date::new(year as i16, month as i8, day as i8).is_ok()
 }
 
-/// The fault of a text as a date.
+/// The fault of the text as a date, if any.
 #[tactic(auto, unfolding(crate::specs::Dates::date_fault))]
 pub(crate) fn date_fault(text: &[u8]) -> Option<Fault>
     ensures { result ≡ date_fault text.now }
@@ -35,7 +35,7 @@ pub(crate) fn date_fault(text: &[u8]) -> Option<Fault>
     }
 }
 
-/// Whether a text is an hour, a minute and a second.
+/// Reports whether the text is an hour, a minute and a second.
 #[tactic(auto, unfolding(crate::specs::Dates::is_clock))]
 fn is_clock(text: &[u8]) -> bool
     ensures { result ≡ is_clock text.now }
@@ -46,14 +46,14 @@ fn is_clock(text: &[u8]) -> bool
         && two_digits(text, 6) <= 60
 }
 
-/// Whether all bytes are digits.
+/// Reports whether all bytes are digits.
 fn is_digits(text: &[u8]) -> bool
     ensures { result ≡ list_all is_ascii_digit text.now }
 {
     text.iter().all(|byte| byte.is_ascii_digit())
 }
 
-/// Whether a text is nothing, or a dot and digits.
+/// Reports whether the text is empty, or a dot and digits.
 fn is_fraction(text: &[u8]) -> bool
     ensures { result ≡ is_fraction text.now }
 {
@@ -63,7 +63,7 @@ fn is_fraction(text: &[u8]) -> bool
     }
 }
 
-/// Whether a text is a time.
+/// Reports whether the text is a time.
 #[tactic(auto, using(crate::proofs::DateLemmas::short_clock))]
 fn is_time(text: &[u8]) -> bool
     ensures { result ≡ is_time text.now }
@@ -75,14 +75,14 @@ fn is_time(text: &[u8]) -> bool
     is_clock(clock) && is_fraction(fraction)
 }
 
-/// Whether a text is the hours and minutes of an offset.
+/// Reports whether the text is the hours and minutes of an offset.
 fn is_offset(text: &[u8]) -> bool
     ensures { result ≡ is_offset text.now }
 {
     fits(b"dd:dd", text) && two_digits(text, 0) <= 23 && two_digits(text, 3) <= 59
 }
 
-/// Whether a text is a time zone.
+/// Reports whether the text is a time zone.
 #[tactic(auto, unfolding(crate::specs::Dates::is_zone, crate::specs::Offsets::is_one_of))]
 fn is_zone(text: &[u8]) -> bool
     ensures { result ≡ is_zone text.now }
@@ -94,7 +94,7 @@ fn is_zone(text: &[u8]) -> bool
     }
 }
 
-/// Where the last sign stands, from the third byte on.
+/// The offset of the last sign, searched from the third byte on.
 fn last_sign(rest: &[u8]) -> Option<usize>
     ensures byte_offset { result ≡ last_sign rest.now }
     ensures within { IfSome result (λ byte_offset. byte_offset < length rest.now) }
@@ -105,7 +105,7 @@ fn last_sign(rest: &[u8]) -> Option<usize>
     Some(last_offset(b"+-", &rest[2..])? + 2)
 }
 
-/// Where the zone of a time starts.
+/// The offset at which the zone of a time starts, or None if there is none.
 #[tactic(auto, unfolding(crate::specs::Dates::zone_start))]
 fn zone_start(rest: &[u8]) -> Option<usize>
     ensures byte_offset { result ≡ zone_start rest.now }
@@ -117,7 +117,7 @@ fn zone_start(rest: &[u8]) -> Option<usize>
     }
 }
 
-/// The fault of what follows the date and its letter.
+/// The fault of the text after the date and the letter that follows it, if any.
 fn time_fault(rest: &[u8]) -> Option<Fault>
     ensures { result ≡ time_fault rest.now }
 {
@@ -136,7 +136,7 @@ fn time_fault(rest: &[u8]) -> Option<Fault>
     }
 }
 
-/// The fault of a text as a date-time.
+/// The fault of the text as a date-time, if any.
 #[tactic(auto, unfolding(crate::specs::Dates::date_time_fault))]
 pub(crate) fn date_time_fault(text: &[u8]) -> Option<Fault>
     ensures { result ≡ date_time_fault text.now }

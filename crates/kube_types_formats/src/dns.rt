@@ -9,26 +9,26 @@ use crate::offsets::{cut, first_offset};
 use crate::report::Report;
 use kube_types_refused::Refused;
 
-/// The most bytes of a label.
+/// The maximum length of a label in bytes.
 pub(crate) const LABEL_LIMIT: usize = 63;
 
-/// The most bytes of a subdomain.
+/// The maximum length of a subdomain in bytes.
 const SUBDOMAIN_LIMIT: usize = 253;
 
-/// What a label has to be.
+/// The kinds of labels.
 #[derive(Clone, Copy)]
 pub(crate) enum Label {
     /// A label of RFC 1123.
     Rfc1123,
-    /// What a label of RFC 1123 begins with.
+    /// A prefix of a label of RFC 1123.
     Rfc1123Prefix,
     /// A label of RFC 1035.
     Rfc1035,
-    /// What a label of RFC 1035 begins with, which may be nothing.
+    /// A prefix of a label of RFC 1035, which may be empty.
     Rfc1035Prefix,
 }
 
-/// The fault of an empty text as a label.
+/// The fault of an empty text as a label, if any.
 fn empty_fault(label: Label) -> Option<Fault>
     ensures { result ≡ empty_fault label }
 {
@@ -38,7 +38,7 @@ fn empty_fault(label: Label) -> Option<Fault>
     }
 }
 
-/// Whether all bytes are lower case letters, digits and hyphens.
+/// Reports whether all bytes are lower case letters, digits or hyphens.
 fn is_label_text(text: &[u8]) -> bool
     ensures { result ≡ list_all is_label_byte text.now }
 {
@@ -61,7 +61,7 @@ pub(crate) fn last_byte(text: &[u8]) -> u8
     text[text.len() - 1]
 }
 
-/// The fault of a text that is longer than a limit, with the test for it.
+/// Tests if the text is longer than the limit. Returns the result with the fault to report.
 pub(crate) fn too_long(limit: usize, text: &[u8]) -> (bool, Fault)
     ensures { result ≡ (nat_lt limit (length text.now), Fault.TooLong limit (length text.now)) }
 {
@@ -70,7 +70,7 @@ pub(crate) fn too_long(limit: usize, text: &[u8]) -> (bool, Fault)
 }
 
 impl Report {
-    /// Adds the faults of a label's ends.
+    /// Adds the faults at both ends of a label.
     #[tactic(auto, unfolding(crate::specs::Labels::end_tests))]
     fn add_end_faults(&mut self, label: Label, prefix: &str, text: &[u8]) -> Result<(), Refused>
         requires { 0 < length text.now }
@@ -126,7 +126,7 @@ impl Report {
         self.add_end_faults(label, prefix, text)
     }
 
-    /// Adds the faults of each part before the last dot, and gives the part after it.
+    /// Adds the faults of each part before the last dot, and returns the text after it.
     fn add_front_parts<'a>(&mut self, prefix: &str, text: &'a [u8]) -> Result<&'a [u8], Refused>
         ensures added { IfOk result (λ last_part.
             (last : List ℕ → List (List ℕ)) → texts_of self.new ++ last last_part.now
@@ -143,7 +143,7 @@ impl Report {
         Ok(rest)
     }
 
-    /// Adds the faults of a subdomain of RFC 1123, whose last label has a rule of its own.
+    /// Adds the faults of a subdomain of RFC 1123. Its last label is tested as the given kind.
     #[tactic(auto, unfolding(crate::specs::Labels::subdomain_faults))]
     pub(crate) fn add_subdomain(
         &mut self,

@@ -1,9 +1,9 @@
-//! What is wrong with a text.
+//! Faults of a text.
 ghost use Rattle.std.specs.Prelude.{Some};
 
 use std::fmt;
 
-/// One fault of a text, in the words of its format.
+/// A fault of a text. It prints as the message of its format.
 #[derive(Clone, Copy, Debug, PartialEq, Eq)]
 pub(crate) enum Fault {
     /// The text is empty.
@@ -12,31 +12,31 @@ pub(crate) enum Fault {
     TooLong { limit: usize, len: usize },
     /// A byte is neither a lower case letter nor a digit nor a hyphen.
     NotLabel,
-    /// The first byte is no lower case letter.
+    /// The first byte isn't a lower case letter.
     FirstNotLetter,
-    /// The first byte is neither a letter nor a digit.
+    /// The first byte of a name is neither a letter nor a digit, or that of a label is a hyphen.
     FirstNotAlphanumeric,
-    /// The last byte is neither a letter nor a digit.
+    /// The last byte of a name is neither a letter nor a digit, or that of a label is a hyphen.
     LastNotAlphanumeric,
     /// The first or the last byte is a hyphen.
     EndNotAlphanumeric,
     /// A byte is neither a letter nor a digit nor one of `-`, `_` and `.`.
     NotName,
-    /// Nothing stands before the slash of a qualified name.
+    /// The part before the slash of a qualified name is empty.
     EmptyPrefix,
-    /// No colon ends a scheme.
+    /// There is no colon to end a scheme.
     NoScheme,
-    /// What stands before the colon is no scheme.
+    /// The text before the colon isn't a scheme.
     InvalidScheme,
-    /// The text is no UUID.
+    /// The text isn't a UUID.
     NotUuid,
-    /// The text is not encoded in base64.
+    /// The text isn't Base64.
     NotBase64,
-    /// The text hasn't the form of a date.
+    /// The text doesn't have the form of a date.
     NotDate,
     /// The calendar has no such day.
     NoSuchDay,
-    /// The text is no date and time.
+    /// The text isn't a date and time.
     NotDateTime,
     /// No time zone follows the time.
     NoTimeZone,

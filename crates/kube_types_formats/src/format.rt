@@ -1,4 +1,4 @@
-//! Named formats, which find the faults of a text.
+//! Named formats, which find the faults of texts.
 ghost use Rattle.std.specs.Prelude.{◌≡◌, ◌≢◌, ◌++◌, map, string_bytes, IfOk, IfErr, OnOk, MatchOption};
 ghost use Rattle.kube_types_formats.specs.Found.{texts_of};
 ghost use Rattle.kube_types_formats.specs.Formats.{name_of, kind_of, faults_of, uuid_fault, base64_fault};
@@ -22,14 +22,14 @@ pub struct KubeFormat {
 }
 
 impl KubeFormat {
-    /// The format of this kind.
+    /// Returns the format of a kind.
     pub fn new(kind: FormatKind) -> KubeFormat
         ensures { kind_of result ≡ kind }
     {
         KubeFormat { kind }
     }
 
-    /// The format of this name, if there is one.
+    /// Returns the format with a name, or None if there is none.
     pub fn named(name: &str) -> Option<KubeFormat>
         ensures { MatchOption result ((kind : FormatKind) → name_of kind ≢ name.now)
             (λ format. name_of (kind_of format) ≡ name.now) }
@@ -44,12 +44,13 @@ impl KubeFormat {
         self.kind
     }
 
-    /// What is wrong with the text as one of this format, in order; nothing where it is one.
+    /// Returns the faults of a text in this format, in
+    /// order. The list is empty if the text is valid.
     ///
-    /// Lengths count bytes.
+    /// Lengths are counted in bytes.
     ///
     /// # Errors
-    /// `Refused::Memory` if there is no memory for the texts.
+    /// [`Refused::Memory`] if memory is refused.
     pub fn faults(&self, alloc: Global, text: &str) -> Result<Vec<String>, Refused>
         ensures faults { IfOk result
             (λ texts. map string_bytes texts.items ≡ faults_of (kind_of self.now) text.now) }
@@ -62,7 +63,7 @@ impl KubeFormat {
 }
 
 impl Report {
-    /// Adds the faults of a text as one of a kind of formats.
+    /// Adds the faults of a text in the format of a kind.
     #[tactic(auto, unfolding(crate::specs::Formats::faults_of))]
     fn add_faults(&mut self, kind: FormatKind, text: &[u8]) -> Result<(), Refused>
         ensures added { OnOk result
@@ -91,7 +92,7 @@ impl Report {
     }
 }
 
-/// The fault of a text as a UUID, by RFC 4122.
+/// The fault of the text as a UUID (RFC 4122), if any.
 #[tactic(auto, unfolding(crate::specs::Formats::uuid_fault))]
 fn uuid_fault(text: &[u8]) -> Option<Fault>
     ensures { result ≡ uuid_fault text.now }
@@ -103,7 +104,7 @@ fn uuid_fault(text: &[u8]) -> Option<Fault>
     }
 }
 
-/// The fault of a text as bytes in base64.
+/// The fault of the text as Base64, if any.
 #[tactic(auto, unfolding(crate::specs::Formats::base64_fault))]
 fn base64_fault(text: &[u8]) -> Option<Fault>
     ensures { result ≡ base64_fault text.now }

@@ -2,7 +2,7 @@
 ghost use Rattle.std.specs.Prelude.{◌≡◌, ◌+◌, ◌<◌, length};
 ghost use Rattle.kube_types_formats.specs.Forms.{fits_mark, fits, two_digits};
 
-/// Whether a byte is what the mark stands for.
+/// Reports whether the byte fits the mark.
 #[tactic(auto, unfolding(crate::specs::Forms::fits_mark))]
 fn fits_mark(mark: u8, byte: u8) -> bool
     ensures { result ≡ fits_mark mark byte }
@@ -14,9 +14,10 @@ fn fits_mark(mark: u8, byte: u8) -> bool
     }
 }
 
-/// Whether a text has the form: as many bytes, each as its mark says.
+/// Reports whether the text has the form: the same length, and each byte fits its mark.
 ///
-/// `d` stands for a decimal digit, `x` for a hexadecimal one, and any other mark for itself.
+/// The mark `d` stands for a decimal digit, `x` for a
+/// hexadecimal digit, and any other mark for itself.
 #[tactic(auto, using(crate::proofs::FormLemmas::fits_step, crate::proofs::FormLemmas::fits_lengths, crate::proofs::FormLemmas::fits_end))]
 pub(crate) fn fits(form: &[u8], text: &[u8]) -> bool
     ensures { result ≡ fits form.now text.now }
@@ -32,7 +33,7 @@ pub(crate) fn fits(form: &[u8], text: &[u8]) -> bool
     true
 }
 
-/// The number that the two decimal digits at an offset write.
+/// The value of the two decimal digits at an offset.
 pub(crate) fn two_digits(text: &[u8], byte_offset: usize) -> u32
     requires { byte_offset + 1 < length text.now }
     ensures value { result ≡ two_digits text.now byte_offset }

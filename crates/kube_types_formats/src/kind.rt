@@ -3,30 +3,30 @@ ghost use Rattle.std.specs.Prelude.{◌≡◌, ◌≢◌, MatchOption, Some};
 
 use std::fmt;
 
-/// One of the formats that Kubernetes names; it prints as its name.
+/// A format that Kubernetes has a name for. It prints as that name.
 #[derive(Clone, Copy, Debug, PartialEq, Eq)]
 pub enum FormatKind {
     /// A label of RFC 1123.
     Dns1123Label,
     /// A label of RFC 1035.
     Dns1035Label,
-    /// What a label of RFC 1035 begins with.
+    /// A prefix of a label of RFC 1035.
     Dns1035LabelPrefix,
-    /// What a label of RFC 1123 begins with.
+    /// A prefix of a label of RFC 1123.
     Dns1123LabelPrefix,
-    /// Labels of RFC 1123 between dots.
+    /// Labels of RFC 1123, separated by dots.
     Dns1123Subdomain,
-    /// What labels of RFC 1123 between dots begin with.
+    /// A prefix of labels of RFC 1123, separated by dots.
     Dns1123SubdomainPrefix,
-    /// A name, after a subdomain and a slash or not.
+    /// A name, with an optional subdomain and slash before it.
     QualifiedName,
     /// The value of a label.
     LabelValue,
-    /// A URI, by its scheme.
+    /// A URI. Only its scheme is checked.
     Uri,
     /// A UUID.
     Uuid,
-    /// Bytes in base64.
+    /// Bytes in Base64.
     Byte,
     /// A date of RFC 3339.
     Date,
@@ -55,7 +55,7 @@ impl FormatKind {
     ghost use Rattle.kube_types_formats.specs.Formats.{name_of};
     ghost use Rattle.kube_types_formats.specs.declared.kind.FormatKind.{FormatKind};
 
-    /// The kind of this name, if there is one.
+    /// Returns the kind with a name, or None if there is none.
     pub fn named(name: &str) -> Option<FormatKind>
         ensures { MatchOption result ((kind : FormatKind) → name_of kind ≢ name.now)
             (λ kind. name_of kind ≡ name.now) }
@@ -68,7 +68,7 @@ impl FormatKind {
         None
     }
 
-    /// What the kind is called.
+    /// Returns the kind's name.
     #[tactic(auto, unfolding(crate::specs::Formats::name_of))]
     pub fn name(self) -> &'static str
         ensures { result.now ≡ name_of self }

@@ -1,5 +1,5 @@
-//! The named formats of Kubernetes: what is wrong with a text as a DNS label, a qualified name, a
-//! URI, a UUID, base64, a date or a date-time.
+//! Kubernetes' named formats: the faults of a text as a DNS label,
+//! a qualified name, a URI, a UUID, Base64, a date or a date-time.
 #![tactic(auto)]
 
 mod base64;

@@ -1,4 +1,4 @@
-//! Qualified names and label values of Kubernetes.
+//! Kubernetes' qualified names and label values.
 ghost use Rattle.std.specs.Prelude.{◌≡◌, ◌++◌, OnOk, IfErr};
 ghost use Rattle.std.specs.List.{list_all};
 ghost use Rattle.kube_types_formats.specs.Found.{texts_of};
@@ -10,7 +10,7 @@ use crate::offsets::{cut, last_offset};
 use crate::report::Report;
 use kube_types_refused::Refused;
 
-/// Whether all bytes are letters, digits, hyphens, underscores and dots.
+/// Reports whether all bytes are letters, digits, hyphens, underscores or dots.
 fn is_name_text(text: &[u8]) -> bool
     ensures { result ≡ list_all is_name_byte text.now }
 {
@@ -41,7 +41,7 @@ impl Report {
         )
     }
 
-    /// Adds the faults of what stands before the slash of a qualified name.
+    /// Adds the faults of the part before the slash of a qualified name.
     #[tactic(auto, unfolding(crate::specs::Names::name_prefix_faults))]
     fn add_name_prefix(&mut self, prefix: &[u8]) -> Result<(), Refused>
         ensures added { OnOk result
@@ -74,7 +74,7 @@ impl Report {
         }
     }
 
-    /// Adds the faults of a label's value.
+    /// Adds the faults of a label value.
     #[tactic(auto, unfolding(crate::specs::Names::label_value_faults))]
     pub(crate) fn add_label_value(&mut self, text: &[u8]) -> Result<(), Refused>
         ensures added { OnOk result

@@ -15,7 +15,7 @@ pub(crate) struct Report {
 }
 
 impl Report {
-    /// A report of no fault.
+    /// An empty report.
     pub(crate) fn new(alloc: Global) -> Report
         ensures { texts_of result ≡ [] }
     {
@@ -25,15 +25,15 @@ impl Report {
         }
     }
 
-    /// The texts, in the order in which the faults were found.
+    /// The texts, in the order in which the faults were added.
     pub(crate) fn into_texts(self) -> Vec<String>
         ensures { map string_bytes result.items ≡ texts_of self }
     {
         self.texts
     }
 
-    /// Adds the text of a fault. The prefix names the part of the text that has it;
-    /// it is empty for the whole text.
+    /// Adds the text of a fault. The prefix names the part of the
+    /// text that the fault is in; it is empty for the whole text.
     pub(crate) fn add(&mut self, prefix: &str, fault: Fault) -> Result<(), Refused>
         ensures added { OnOk result
             (texts_of self.new ≡ texts_of self.old ++ (fault_line prefix.now fault ∷ [])) }
@@ -56,7 +56,7 @@ impl Report {
         }
     }
 
-    /// Adds the fault, if its test found it.
+    /// Adds the fault if its test found it.
     #[tactic(auto, unfolding(crate::specs::Found::faults_found))]
     fn add_if(&mut self, prefix: &str, found: bool, fault: Fault) -> Result<(), Refused>
         ensures added { OnOk result
@@ -70,7 +70,7 @@ impl Report {
         }
     }
 
-    /// Adds each fault of the table whose test found it.
+    /// Adds each fault in the table whose test found it.
     pub(crate) fn add_chosen(
         &mut self,
         prefix: &str,

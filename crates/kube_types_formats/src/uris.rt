@@ -6,14 +6,14 @@ ghost use Rattle.kube_types_formats.specs.Uris.{is_scheme_byte, is_scheme, uri_f
 use crate::fault::Fault;
 use crate::offsets::first_offset;
 
-/// Whether all bytes may follow the first letter of a scheme.
+/// Reports whether all bytes may follow the first letter of a scheme.
 fn is_scheme_rest(text: &[u8]) -> bool
     ensures { result ≡ list_all is_scheme_byte text.now }
 {
     text.iter().all(|byte| byte.is_ascii_alphanumeric() || matches!(*byte, b'+' | b'-' | b'.'))
 }
 
-/// Whether a text is a scheme.
+/// Reports whether the text is a scheme.
 fn is_scheme(text: &[u8]) -> bool
     ensures { result ≡ is_scheme text.now }
 {
@@ -23,7 +23,7 @@ fn is_scheme(text: &[u8]) -> bool
     }
 }
 
-/// The fault of a text as a URI.
+/// The fault of the text as a URI, if any.
 #[tactic(auto, unfolding(crate::specs::Uris::uri_fault))]
 pub(crate) fn uri_fault(text: &[u8]) -> Option<Fault>
     ensures { result ≡ uri_fault text.now }

@@ -1,4 +1,4 @@
--- The digits that a text begins with, and the number that they write.
+-- The digits that a text starts with, and the number that they spell.
 use Rattle.std.proofs.Common.{◌≡◌, ℕ, suc, ◌+◌, ◌-◌, ◌*◌, ◌<◌, ◌≤◌, Bool, true, false, cond, List, [], ◌∷◌, ◌++◌, length, take, drop, get_or, refl, sym, ◌∙◌, ap, subst, arith, add-one, drop-cons}
 use Rattle.std.proofs.lemmas.Bool.Decides.{nat_tests}
 use Rattle.std.proofs.Math.Nat.{le-mul_of_pos_right}
@@ -11,7 +11,7 @@ use Rattle.std.specs.Str.Parse.{AllDigits, digits_value, digits_value_after}
 digit_below : (c : ℕ) → is_ascii_digit c ≡ true → digit_value c < 10
 digit_below c h = grind (arith, nat_tests)
 
--- what a text begins with is digits
+-- a text starts with its leading digits
 leading_from : (c : ℕ) (rest : List ℕ) (b : Bool) → is_ascii_digit c ≡ b → AllDigits 10 (take (prefix_len is_ascii_digit rest) rest) → AllDigits 10 (take (cond b (1 + prefix_len is_ascii_digit rest) 0) (c ∷ rest))
 leading_from c rest true h all =
     let one : suc (prefix_len is_ascii_digit rest) ≡ 1 + prefix_len is_ascii_digit rest = omega arith in
@@ -24,22 +24,23 @@ pub leading_are_digits : (text : List ℕ) → AllDigits 10 (take (prefix_len is
 leading_are_digits [] = tt
 leading_are_digits (c ∷ rest) = leading_from c rest (is_ascii_digit c) refl (leading_are_digits rest)
 
--- digits read on from where others end
+-- reading digits in two steps
 pub value_after_append : (n : ℕ) (xs ys : List ℕ) → digits_value_after 10 n (xs ++ ys) ≡ digits_value_after 10 (digits_value_after 10 n xs) ys
 value_after_append n [] ys = refl
 value_after_append n (x ∷ xs) ys = value_after_append (n * 10 + digit_value x) xs ys
 
--- more digits write no smaller number
+-- more digits don't make the number smaller
 pub value_after_above : (n : ℕ) (xs : List ℕ) → n ≤ digits_value_after 10 n xs
 value_after_above n [] = omega arith
 value_after_above n (x ∷ xs) = omega (arith, value_after_above (n * 10 + digit_value x) xs)
 
--- one digit read off
+-- one digit is read
 value_step : (n i : ℕ) (ds : List ℕ) → i < length ds
     → digits_value_after 10 n (drop i ds) ≡ digits_value_after 10 (n * 10 + digit_value (get_or ds i 0)) (drop (i + 1) ds)
 value_step n i ds h = rw (add-one, drop-cons ds i 0) refl
 
--- a loop's turn over the digits: what it reads next, and that the whole is no smaller
+-- one pass of a loop over the digits: the remaining digits
+-- continue the number, which doesn't exceed the total
 pub record Turn (n i next : ℕ) (ds : List ℕ) (total : ℕ) : Type 0 where
   pub left : digits_value_after 10 (n * 10 + next) (drop (i + 1) ds) ≡ total
   pub above : n * 10 + next ≤ total

@@ -14,7 +14,7 @@ use Rattle.kube_types_quantity.specs.Scales.{product_parts, scale_above, scale_g
 use Rattle.kube_types_quantity.specs.Sums.{decimal_at}
 use Rattle.kube_types_quantity.proofs.Zeros.{power_out, trailing_are, shorter_is, trailing_of_zero, not_equal}
 
--- a number as one that ends in no zero, times a power of ten
+-- a number as one without trailing zeros times a power of ten
 pub record Split (n : ℕ) : Type 0 where
   pub front : ℕ
   pub zeros : ℕ
@@ -55,7 +55,7 @@ sign_parts true zero = refl
 sign_parts true (suc n) = refl
 sign_parts false n = refl
 
--- what the normal form is, from the number split
+-- the normal form of a number that is split this way
 pub normal_form_is : (x : Decimal) (a z : ℕ) → unsigned_abs x.mantissa ≡ a * 10 ^ z → a % 10 ≢ 0 → 0 < unsigned_abs x.mantissa
     → normal_form x ≡ decimal_at (with_sign (is_negative x.mantissa) a) (x.scale +ℤ pos z)
 unfolding normal_form
@@ -80,7 +80,7 @@ normal_form_zero x e =
 pub ltb_none : (n : ℕ) → ltb n 0 ≡ false
 ltb_none n = grind (arith, nat_tests)
 
--- a mantissa with its zeros in the power is the mantissa
+-- a mantissa is its front times the power of its trailing zeros
 sign_back : (m : ℤ) (a z : ℕ) → unsigned_abs m ≡ a * 10 ^ z → times_ten_to (with_sign (is_negative m) a) z ≡ m
 sign_back (pos n) a z e =
     let flag : is_negative (pos n) ≡ false = ltb_none n in
@@ -93,7 +93,7 @@ sign_back (negsuc n) a z e =
     let ups : up (times_ten_to (with_sign true a) z) ≡ 0 = parts.0 ∙ ap (λ v. v * 10 ^ z) up_is ∙ omega arith in
     same_in (times_ten_to (with_sign true a) z) (negsuc n) (omega (arith, downs, ups))
 
--- a number whose zeros go into the scale is the same number
+-- moving zeros into the scale doesn't change the number
 shifted_same : (m k s : ℤ) (z : ℕ) → times_ten_to k z ≡ m → SameNumber (decimal_at k (s +ℤ pos z)) (decimal_at m s)
 shifted_same m k s z e =
     let n = mag s in
@@ -146,7 +146,7 @@ fits_128 z f = fits_true 127 z f.sfits
 beyond : (z : ℤ) → ¬ (FitsSigned w32 z) → 2 ^ 31 ≤ mag z
 beyond z out = elim (cases_lt (mag z) (2 ^ 31)) as (λ _. 2 ^ 31 ≤ mag z) [ inl h ↦ absurd (out (record { sfits = h })) | inr h ↦ h ]
 
--- what holds a number that is zero
+-- the quantity for a number that is zero
 pub held_zero : (m s : ℤ) → m ≡ pos 0 → quantity_holding (decimal_at m s) ≡ Some (decimal_at (pos 0) (pos 0))
 unfolding quantity_holding
 held_zero m s e =
@@ -161,7 +161,7 @@ form_mantissa : (m s : ℤ) → (normal_form (decimal_at m s)).mantissa ≡ mant
 unfolding normal_form
 form_mantissa m s = refl
 
--- what holds another number, if anything does
+-- the quantity for a number that isn't zero, if there is one
 pub held_some : (m s r t : ℤ) (z : ℕ) → 0 < unsigned_abs m → r ≡ mantissa_without_zeros m → z ≡ trailing_zeros (unsigned_abs m) → t ≡ s +ℤ pos z → FitsSigned w32 t
     → Some (decimal_at r t) ≡ quantity_holding (decimal_at m s)
 unfolding quantity_holding

@@ -1,4 +1,4 @@
--- The gap between two scales, and mantissas brought over it.
+-- The distance between two scales, and mantissas converted across it.
 use Rattle.std.proofs.Common.{◌≡◌, ℤ, pos, negsuc, ◌-ℤ◌, ◌≤ℤ◌, refl, sym, ◌∙◌, ap, arith}
 use Rattle.std.proofs.lemmas.Cmp.{int_cmp_total}
 use Rattle.std.proofs.lemmas.Int.{ints}
@@ -15,11 +15,11 @@ pub natural_none : (z : ℤ) → z ≤ℤ pos 0 → natural z ≡ 0
 natural_none (pos n) h = omega (arith, ints)
 natural_none (negsuc n) h = refl
 
--- the mantissa at the smaller scale stays as it is
+-- the mantissa at the smaller scale is unchanged
 pub aligned_low : (x y : Decimal) → x.scale ≤ℤ y.scale → aligned_mantissa x y ≡ x.mantissa
 aligned_low x y h = ap (times_ten_to x.mantissa) (natural_none (x.scale -ℤ y.scale) (omega (arith, ints))) ∙ times_zero x.mantissa
 
--- the other is multiplied
+-- the mantissa at the larger scale is multiplied
 pub aligned_high : (x y : Decimal) → y.scale ≤ℤ x.scale → aligned_mantissa x y ≡ times_ten_to x.mantissa (unsigned_abs (x.scale -ℤ y.scale))
 aligned_high x y h = ap (times_ten_to x.mantissa) (natural_abs (x.scale -ℤ y.scale) (omega (arith, ints)))
 

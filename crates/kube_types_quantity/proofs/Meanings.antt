@@ -1,4 +1,4 @@
--- What a text means, from its parts, and what a sum is.
+-- The quantity of a text from its parts, and the result of a sum.
 use Rattle.std.proofs.Common.{◌≡◌, ◌≢◌, ℕ, ◌+◌, ◌*◌, ◌^◌, ◌<◌, ◌++◌, ◌&&◌, Bool, true, false, cond, ltb, ℤ, pos, ◌+ℤ◌, ◌-ℤ◌, List, [], length, sym, ◌∙◌, ap, arith}
 use Rattle.std.proofs.lemmas.Bool.Decides.{nat_tests}
 use Rattle.std.specs.Int.{w128, int_min}
@@ -39,7 +39,7 @@ unsigned_is negative text factor some e =
     ap (λ b. cond b None (option_and_then value (factor_of (suffix_of text)))) (not_equal (length (leading_digits text) + length (fraction_digits text)) 0 some)
     ∙ ap (option_and_then value) (sym e)
 
--- the parts that a text is cut into
+-- the parts that a text is split into
 pub record Parts (text : List ℕ) (negative : Bool) (unsigned whole fraction suffix : List ℕ) : Type 0 where
   pub sign : negative ≡ starts_with_minus (trim text)
   pub rest : unsigned ≡ without_leading_sign (trim text)
@@ -47,7 +47,7 @@ pub record Parts (text : List ℕ) (negative : Bool) (unsigned whole fraction su
   pub after : fraction ≡ fraction_digits unsigned
   pub last : suffix ≡ suffix_of unsigned
 
--- what a text means that is read
+-- the quantity of a text that parses
 pub meaning_is : (text : List ℕ) (negative : Bool) (unsigned whole fraction suffix : List ℕ) (factor : Factor) (size : ℕ) (mantissa scale : ℤ)
     → Parts text negative unsigned whole fraction suffix → length whole + length fraction ≢ 0 → Some factor ≡ factor_of suffix
     → size ≡ digits_value 10 (whole ++ fraction) * factor.times → size < 2 ^ 127 → mantissa ≡ with_sign negative size
@@ -67,7 +67,7 @@ meaning_is text negative unsigned whole fraction suffix factor size mantissa sca
     (λ i. quantity_holding (decimal_at (m i) (s i))) ∙ sym value ∙ sym parts
     ∙ (λ i. unsigned_quantity (p.sign i) (p.rest i))
 
--- what an operation gives where it fits
+-- the result of an operation that fits
 combined_is : (op : ℤ → ℤ → ℤ) (x y : Decimal) (left right result : ℤ) → FitsSigned w128 (aligned_mantissa x y) → left ≡ aligned_mantissa x y → FitsSigned w128 (aligned_mantissa y x) → right ≡ aligned_mantissa y x
     → FitsSigned w128 (op left right) → result ≡ op left right → quantity_holding (decimal_at result (int_min x.scale y.scale)) ≡ combination op x y
 combined_is op x y left right result f e g h k s =
@@ -77,13 +77,13 @@ combined_is op x y left right result f e g h k s =
     (λ i. quantity_holding (decimal_at ((s ∙ total) i) (int_min x.scale y.scale)))
     ∙ sym (ap (λ b. cond b (quantity_holding (decimal_at (op (aligned_mantissa x y) (aligned_mantissa y x)) (int_min x.scale y.scale))) None) all)
 
--- a sum whose parts fit
+-- a sum whose operands and result fit
 pub sum_is : (x y : Decimal) (left right sum : ℤ) → FitsSigned w128 (aligned_mantissa x y) → left ≡ aligned_mantissa x y → FitsSigned w128 (aligned_mantissa y x) → right ≡ aligned_mantissa y x
     → FitsSigned w128 (left +ℤ right) → sum ≡ left +ℤ right → quantity_holding (decimal_at sum (int_min x.scale y.scale)) ≡ sum_of x y
 unfolding sum_of
 sum_is = combined_is (λ a b. a +ℤ b)
 
--- a difference whose parts fit
+-- a difference whose operands and result fit
 pub difference_is : (x y : Decimal) (left right difference : ℤ) → FitsSigned w128 (aligned_mantissa x y) → left ≡ aligned_mantissa x y → FitsSigned w128 (aligned_mantissa y x) → right ≡ aligned_mantissa y x
     → FitsSigned w128 (left -ℤ right) → difference ≡ left -ℤ right → quantity_holding (decimal_at difference (int_min x.scale y.scale)) ≡ difference_of x y
 unfolding difference_of

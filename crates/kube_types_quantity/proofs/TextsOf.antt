@@ -1,4 +1,4 @@
--- A text means a quantity by the definition that reads it exactly where it is spelled as one.
+-- A text parses as a quantity exactly if it is spelled as one.
 use Rattle.std.proofs.Common.{◌≡◌, ℕ, suc, ◌+◌, ◌*◌, ◌^◌, ◌<◌, ◌&&◌, ◌||◌, ◌↔◌, Bool, true, false, cond, eqb, ltb, ℤ, pos, negsuc, ◌-ℤ◌, ◌⊎◌, List, [], ◌∷◌, ◌++◌, length, take, drop, get_or, codes, refl, sym, ap, subst, ◌∙◌, inl, inr, arith, one-add, append-nil, append_assoc}
 use Rattle.std.proofs.lemmas.Bool.{eqb-true, eqb-false, ne_eqb, ltb-true, ltb-false, lt-ltb, cases_eq, and_from, and_right, and_parts, or_cases}
 use Rattle.std.proofs.lemmas.List.{take-append-drop}
@@ -19,7 +19,7 @@ use Rattle.kube_types_quantity.specs.Texts.{AreDigits, IsSign, IsNumber, suffixe
 use Rattle.kube_types_quantity.specs.declared.reading.Factor.{Factor}
 use Rattle.kube_types_quantity.proofs.Forms.{normal_form-normal, normal_form-same}
 
--- ---- answers that are there
+-- ---- results that aren't none
 
 same_some : {A : Type 0} (x y : A) → ◌≡◌ {A = Option A} (Some x) (Some y) → x ≡ y
 same_some x y e = cc
@@ -79,7 +79,7 @@ first_byte : (xs : List ℕ) (c : ℕ) → 0 < c → get_or xs 0 0 ≡ c → xs 
 first_byte [] c some h = absurd (let none : 0 ≡ c = h in omega arith)
 first_byte (x ∷ xs) c some h = ap (λ y. y ∷ xs) h
 
--- ---- what a text is cut into
+-- ---- splitting a text
 
 lead_from : (c : ℕ) (rest : List ℕ) (b : Bool) → is_ascii_digit c ≡ b → AreDigits (take (prefix_len is_ascii_digit rest) rest) → AreDigits (take (cond b (1 + prefix_len is_ascii_digit rest) 0) (c ∷ rest))
 lead_from c rest true h all =
@@ -114,7 +114,7 @@ signed_by text false false e f = record { sign = []; spelled = refl; sign_text =
 signed_of : (text : List ℕ) → Signed text (without_leading_sign text) (starts_with_minus text)
 signed_of text = signed_by text (eqb (get_or text 0 0) 45) (eqb (get_or text 0 0) 43) refl refl
 
--- digits with a point or none, and the rest
+-- digits with an optional point, and the rest
 record Cut (text whole fraction suffix : List ℕ) : Type 0 where
   number : List ℕ
   spelled : text ≡ number ++ suffix
@@ -190,7 +190,7 @@ binary_row c k n v e there here row =
 no_binary : {A : Type 0} (o : Option ℕ) (n : ℕ) → o ≡ None → o ≡ Some n → A
 no_binary o n h k = absurd (cc)
 
--- a row of the binary suffixes, after the ten decimal ones
+-- the rows of the binary suffixes follow ten rows of decimal ones
 after_ten : (text : List ℕ) (f : Factor) → IsRow (drop 10 suffixes) text f → IsRow suffixes text f
 after_ten text f r = inr (inr (inr (inr (inr (inr (inr (inr (inr (inr r)))))))))
 
@@ -331,7 +331,7 @@ quantity-sound text x h =
       scale_within = subst (λ (y : Decimal). fits 31 y.scale ≡ true) held.0 held.1;
     }
 
--- ---- the other way: what a spelled text is cut into
+-- ---- the converse: splitting a spelled text
 
 front_taken : (front back : List ℕ) → take (length front) (front ++ back) ≡ front
 front_taken [] back = refl
@@ -400,7 +400,7 @@ parts_of number whole fraction suffix n h none = elim n.3 as (λ _. Parts (numbe
 
 -- ---- signs
 
--- a text begins with no sign
+-- the text starts with no sign
 record Unsigned (text : List ℕ) : Type 0 where
   no_minus : eqb (get_or text 0 0) 45 ≡ false
   no_plus : eqb (get_or text 0 0) 43 ≡ false
@@ -480,7 +480,7 @@ suffix_follows : (text : List ℕ) (f : Factor) → IsSuffix text f → Follows 
 suffix_follows text f (inl row) = row_has Follows suffixes text f rows_follow row
 suffix_follows text f (inr e) = exponent_follows text e.0 f e.1
 
--- an exponent as it is read, from its sign, its digits and what follows them
+-- the exponent made of its sign, its digits and the text after them
 abbrev exponent_from : Bool → List ℕ → List ℕ → Option ℤ
 exponent_from negative digits rest = cond (eqb (length digits) 0 || ltb 0 (length rest)) None (cond (fits 31 (with_sign negative (digits_value 10 digits))) (Some (with_sign negative (digits_value 10 digits))) None)
 
@@ -509,7 +509,7 @@ exponent-complete sign digits negative z s all some value within =
     ∙ ap (λ d. exponent_from negative digits d) after
     ∙ exponent_read negative digits z some value within
 
--- the factor as it is read, from three tests and the answers of each case
+-- the factor, from three tests and the result in each case
 factor_by_letter : (c : ℕ) (text : List ℕ) (z : ℤ) → 0 < length text → eqb (get_or text 0 0) 105 ≡ false → (eqb c 101 || eqb c 69) ≡ true → exponent_of text ≡ Some z
     → factor_of (c ∷ text) ≡ Some (power_of_ten z)
 unfolding factor_of
@@ -527,7 +527,7 @@ factor_by_letter c text z some other letter e =
     ∙ ap (λ b. cond b s None) letter
     ∙ ap (λ o. option_map power_of_ten o) e
 
--- the first byte of a sign and digits is no `i`
+-- the first byte of a sign and digits isn't an `i`
 no_i_digits : (ds : List ℕ) → AreDigits ds → 0 < length ds → eqb (get_or ds 0 0) 105 ≡ false
 no_i_digits [] all some = absurd (omega arith)
 no_i_digits (d ∷ ds) all some = digit_not d 105 (and_parts (is_ascii_digit d) (list_all is_ascii_digit ds) all).0 refl
@@ -573,7 +573,7 @@ unfolding value_of
 value-complete negative digits places factor x small held =
     ap (λ b. cond b (quantity_holding (decimal_at (with_sign negative (digits_value 10 digits * factor.times)) (factor.tens -ℤ pos places))) None) (lt-ltb (digits_value 10 digits * factor.times) (2 ^ 127) small) ∙ held
 
--- what is read of the parts of a text
+-- the quantity made of the parts of a text
 abbrev quantity_from : Bool → List ℕ → List ℕ → List ℕ → Option Decimal
 quantity_from negative whole fraction suffix = cond (eqb (length whole + length fraction) 0) None (option_and_then (value_of negative (whole ++ fraction) (length fraction)) (factor_of suffix))
 

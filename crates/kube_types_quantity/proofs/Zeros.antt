@@ -1,4 +1,4 @@
--- The zeros that a number ends in.
+-- The trailing zeros of a number.
 use Rattle.std.proofs.Common.{◌≡◌, ◌≢◌, ℕ, zero, suc, ◌+◌, ◌*◌, ◌/◌, ◌%◌, ◌^◌, ◌<◌, ◌≤◌, false, cond, eqb, refl, sym, ◌∙◌, ap, inl, inr, arith}
 use Rattle.std.proofs.Math.Nat.{pow-suc, pow-le-pow_right, mul-mod_left, mul-div_cancel, mul_assoc, mul-le-mul}
 use Rattle.std.proofs.lemmas.Bool.{cases_lt, eq-eqb}
@@ -6,7 +6,7 @@ use Rattle.std.proofs.lemmas.Bool.Decides.{nat_tests}
 use Rattle.kube_types_quantity.specs.Normal.{zeros_among, trailing_zeros}
 use Rattle.kube_types_quantity.specs.Scales.{power_pos}
 
--- one more power of ten taken out
+-- one power of ten taken out
 pub power_out : (a z : ℕ) → a * 10 ^ suc z ≡ a * 10 ^ z * 10
 power_out a z = ap (λ p. a * p) (pow-suc 10 z) ∙ sym (mul_assoc a (10 ^ z) 10)
 
@@ -22,7 +22,7 @@ few_zeros n a z bound positive e =
       | inr h ↦ absurd (omega (arith, pow-le-pow_right {n = 10} (omega arith) h, mul-le-mul {n₁ = 1} {m₁ = 10 ^ z} {n₂ = a} {m₂ = 10 ^ z} (omega arith) (omega arith)))
     ]
 
--- a zero at the end goes from the number into the power
+-- a trailing zero is moved from the number into the power
 pub zero_out : (n r z : ℕ) → n ≡ r * 10 ^ z → r % 10 ≡ 0 → n ≡ (r / 10) * 10 ^ (z + 1)
 zero_out n r z e ends =
     let tens : r ≡ r / 10 * 10 = omega arith in
@@ -59,7 +59,8 @@ positive_from : (a : ℕ) → a % 10 ≢ 0 → 0 < a
 positive_from zero h = absurd (h refl)
 positive_from (suc a) h = omega arith
 
--- the zeros at the end of a number, and what stands before them
+-- the trailing zeros of a number that is split into
+-- a power of ten and a number without trailing zeros
 pub trailing_are : (n a z : ℕ) → n ≡ a * 10 ^ z → a % 10 ≢ 0 → trailing_zeros n ≡ z
 trailing_are n a z e h =
     let positive : 0 < a = positive_from a h in

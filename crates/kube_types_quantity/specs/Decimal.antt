@@ -1,7 +1,7 @@
 -- Trusted by the headline.
--- Numbers written as an integer and a power of ten, and their order.
--- Source: the documentation of `Quantity` in `k8s.io/apimachinery/pkg/api/resource` of Kubernetes, where a
--- quantity is a fixed-point number, and its canonical form keeps no needless zeros.
+-- Decimal numbers as an integer and a power of ten, and their order.
+-- Source: the documentation of `Quantity` in `k8s.io/apimachinery/pkg/api/resource` of Kubernetes:
+-- a quantity is a fixed-point number, and its canonical form has no superfluous zeros.
 use Rattle.std.specs.Prelude.{◌≡◌, ℕ, ◌^◌, Bool, ℤ, pos, negsuc, neg_ℤ, ◌-ℤ◌, ◌*ℤ◌, if◌then◌else◌}
 use Rattle.std.specs.Ordering.{int_cmp}
 use Rattle.std.specs.declared.cmp.Ordering.{Ordering}
@@ -11,7 +11,7 @@ pub record Decimal : Type 0 where
   pub mantissa : ℤ
   pub scale : ℤ
 
--- z, and 0 where z is negative
+-- z, or 0 if z is negative
 abbrev pub natural : ℤ → ℕ
 natural (pos n) = n
 natural (negsuc n) = 0
@@ -24,14 +24,14 @@ times_ten_to z k = z *ℤ pos (10 ^ k)
 abbrev pub aligned_mantissa : Decimal → Decimal → ℤ
 aligned_mantissa x y = times_ten_to x.mantissa (natural (x.scale -ℤ y.scale))
 
--- The order of two numbers: that of their mantissas at the smaller scale.
+-- The order of two numbers: the order of their mantissas at the smaller scale.
 abbrev pub decimal_cmp : Decimal → Decimal → Ordering
 decimal_cmp x y = int_cmp (aligned_mantissa x y) (aligned_mantissa y x)
 
--- x and y are one number
+-- x and y are the same number
 abbrev pub SameNumber : Decimal → Decimal → Type 0
 SameNumber x y = aligned_mantissa x y ≡ aligned_mantissa y x
 
--- the number with this sign and size
+-- the number with this sign and absolute value
 abbrev pub with_sign : Bool → ℕ → ℤ
 with_sign negative n = if negative then neg_ℤ (pos n) else pos n

@@ -1,5 +1,5 @@
 -- Trusted by the headline.
--- The integer that a quantity is, if it is one.
+-- Quantities as integers.
 use Rattle.std.specs.Prelude.{ℕ, List, codes, ℤ, Result, Ok, Err, if◌then◌else◌}
 use Rattle.std.specs.Int.{is_negative}
 use Rattle.kube_types_quantity.specs.Decimal.{Decimal, natural, times_ten_to}
@@ -7,8 +7,8 @@ use Rattle.kube_types_quantity.specs.Normal.{fits}
 use Rattle.kube_types_quantity.specs.declared.integer.IntegerError.{IntegerError}
 use Rattle.kube_types_quantity.specs.declared.integer.IntegerError.TheVariants.{NotAnInteger, TooLargeForInteger}
 
--- A number in normal form is an integer exactly where its scale is not negative.
--- It is given where 64 bits hold it.
+-- A number in normal form is an integer exactly if its scale
+-- isn't negative. It is an error if it doesn't fit in 64 bits.
 unfoldable pub integer_of : Decimal → Result ℤ IntegerError
 integer_of x =
     if is_negative x.scale then Err NotAnInteger
@@ -16,7 +16,7 @@ integer_of x =
     then Ok (times_ten_to x.mantissa (natural x.scale))
     else Err TooLargeForInteger)
 
--- what each error prints
+-- the message of each error
 abbrev pub integer_error_text : IntegerError → List ℕ
 integer_error_text NotAnInteger = codes "quantity is not an integer"
 integer_error_text TooLargeForInteger = codes "quantity too large for integer"

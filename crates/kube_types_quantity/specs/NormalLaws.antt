@@ -1,5 +1,5 @@
 -- Scaffolding: only proofs and private clauses cite it.
--- A number has one normal form.
+-- A number has exactly one normal form.
 use Rattle.std.specs.Prelude.{◌≡◌, ℕ, zero, suc, ◌+◌, ◌-◌, ◌*◌, ◌%◌, ◌^◌, ◌≤◌, ◌&&◌, ◌==◌, ◌⊎◌, true, cond, ℤ, pos, negsuc, ◌+ℤ◌, unsigned_abs}
 use Rattle.std.proofs.Common.{sym, ◌∙◌, ap, inl, inr, arith}
 use Rattle.std.proofs.Math.Nat.{pow-suc, mul-mod_left, mul_assoc, eq_of_mul-eq-mul_right}
@@ -16,7 +16,7 @@ pub times_zero : (z : ℤ) → times_ten_to z 0 ≡ z
 unfolding one
 times_zero z = *ℤ-one z
 
--- a normal mantissa that ends in a zero is 0, at the scale 0
+-- a mantissa in normal form with a trailing zero is 0, and has the scale 0
 pub normal_zero : (m s : ℤ) → is_normal m s ≡ true → unsigned_abs m % 10 ≡ 0
     → (unsigned_abs m ≡ 0) × (unsigned_abs s ≡ 0)
 normal_zero m s normal ends =
@@ -31,7 +31,7 @@ zero_from_abs : (z : ℤ) → unsigned_abs z ≡ 0 → z ≡ pos 0
 zero_from_abs (pos n) e = ap pos e
 zero_from_abs (negsuc n) e = absurd (omega arith)
 
--- two normal forms of one number, of which the first has the scale that is k above the other's
+-- two normal forms of the same number are equal if the scale of the first is k above the other's
 unique_above : (m n s t : ℤ) (k : ℕ) → is_normal m s ≡ true → is_normal n t ≡ true → s ≡ t +ℤ pos k
     → times_ten_to m k ≡ n → (m ≡ n) × (s ≡ t)
 unique_above m n s t zero p q gap e = (sym (times_zero m) ∙ e, omega (arith, ints))
@@ -55,7 +55,7 @@ sides (suc a) zero = inl (omega arith)
 sides (suc a) (suc b) = elim (sides a b) as (λ _. (suc b ≤ suc a) ⊎ (suc a ≤ suc b))
     [ inl h ↦ inl (omega arith) | inr h ↦ inr (omega arith) ]
 
--- a number has one normal form
+-- a number has only one normal form
 pub normal_unique : (x y : Decimal) → IsNormal x → IsNormal y → SameNumber x y
     → (x.mantissa ≡ y.mantissa) × (x.scale ≡ y.scale)
 normal_unique x y p q e =

@@ -1,5 +1,5 @@
 -- Scaffolding: only proofs and private clauses cite it.
--- The order of quantities is a total one, and ties those alone that are equal.
+-- The order of quantities is total, and only equal quantities compare as equal.
 use Rattle.std.specs.Prelude.{◌≡◌, ◌&&◌, true, ℤ, refl}
 use Rattle.std.proofs.Common.{sym, ◌∙◌, ap}
 use Rattle.std.specs.Ordering.{int_cmp, int_eq, on, as_partial_cmp, eq_by_cmp, is_eq}
@@ -19,7 +19,7 @@ int_eq_same a b e = int_cmp-IsAntisymmetric a b ((Equal-is (int_cmp a b)).0 e)
 same_int_eq : (a b : ℤ) → a ≡ b → int_eq a b ≡ true
 same_int_eq a b e = ap (int_eq a) (sym e) ∙ int_eq_equiv.refl a
 
--- numbers tie exactly where they are one number
+-- numbers compare as equal exactly if they are the same number
 pub tied_same : (x y : Decimal) → decimal_cmp x y ≡ Equal → SameNumber x y
 tied_same x y e = int_cmp-IsAntisymmetric (aligned_mantissa x y) (aligned_mantissa y x) e
 
@@ -33,7 +33,7 @@ quantity_cmp_total = on_total number decimal_cmp_total
 pub quantity_cmp_agrees : Agrees (as_partial_cmp (on number decimal_cmp)) (on number decimal_cmp)
 quantity_cmp_agrees = λ x y. refl
 
--- the fields of two quantities are equal exactly where their numbers tie
+-- the fields of two quantities are equal exactly if their numbers compare as equal
 pub quantity_cmp_matches_eq : (x y : KubeQuantity)
     → (int_eq x.mantissa y.mantissa && int_eq x.scale y.scale) ≡ eq_by_cmp (on number decimal_cmp) x y
 quantity_cmp_matches_eq x y =

@@ -1,8 +1,8 @@
 -- Trusted by the headline.
 -- The text of a quantity: a sign, digits with at most one point, and a suffix.
 -- Source: the grammar in the documentation of `Quantity`, `k8s.io/apimachinery/pkg/api/resource` of
--- Kubernetes: <quantity> ::= <signedNumber><suffix>, <number> ::= <digits> | <digits>.<digits> | <digits>. |
--- .<digits>, <suffix> ::= <binarySI> | <decimalExponent> | <decimalSI>.
+-- Kubernetes: <quantity> ::= <signedNumber><suffix>, <number> ::= <digits> | <digits>.<digits> |
+-- <digits>. | .<digits>, <suffix> ::= <binarySI> | <decimalExponent> | <decimalSI>.
 use Rattle.std.specs.Prelude.{◌+◌, ◌*◌, ◌^◌, ◌==◌, ◌&&◌, ◌||◌, Bool, ℕ, ℤ, pos, negsuc, ◌-ℤ◌, nat_lt, List, [], ◌++◌, length, drop, slice_index, Option, Some, None, option_and_then, if◌then◌else◌}
 use Rattle.std.specs.Char.{is_ascii_digit}
 use Rattle.std.specs.List.{take_while, prefix_len}
@@ -14,14 +14,14 @@ use Rattle.kube_types_quantity.specs.Normal.{fits, quantity_holding}
 use Rattle.kube_types_quantity.specs.Sums.{decimal_at}
 use Rattle.kube_types_quantity.specs.declared.reading.Factor.{Factor}
 
--- the digits that a text begins with, and what follows them
+-- the digits that a text starts with, and the rest
 abbrev pub leading_digits : List ℕ → List ℕ
 leading_digits text = take_while is_ascii_digit text
 
 abbrev pub after_digits : List ℕ → List ℕ
 after_digits text = drop (prefix_len is_ascii_digit text) text
 
--- whether a point, `.`, follows the digits that a text begins with
+-- a point, `.`, follows the digits that a text starts with
 abbrev pub has_point : List ℕ → Bool
 has_point text = slice_index (after_digits text) 0 == 46
 
@@ -32,7 +32,7 @@ after_point text = drop 1 (after_digits text)
 unfoldable pub fraction_digits : List ℕ → List ℕ
 fraction_digits text = if has_point text then leading_digits (after_point text) else []
 
--- what follows the digits and the point
+-- the text after the digits and the point
 unfoldable pub suffix_of : List ℕ → List ℕ
 suffix_of text = if has_point text then after_digits (after_point text) else after_digits text
 
@@ -69,7 +69,7 @@ binary_suffix c =
     else (if c == 69 then Some (2 ^ 60)
     else None)))))
 
--- The exponent that an optional sign and digits write, where 32 bits hold it.
+-- The exponent that an optional sign and digits spell, or none if it doesn't fit in 32 bits.
 unfoldable pub exponent_of : List ℕ → Option ℤ
 exponent_of text = let digits = leading_digits (without_leading_sign text) in
     if (length digits == 0) || (nat_lt 0 (length (after_digits (without_leading_sign text)))) then None
@@ -77,8 +77,8 @@ exponent_of text = let digits = leading_digits (without_leading_sign text) in
     then Some (with_sign (starts_with_minus text) (digits_value 10 digits))
     else None)
 
--- The factor of a suffix: nothing, a letter of <decimalSI>, two letters of <binarySI> that end in `i` (105),
--- or `e` (101) or `E` (69) and an exponent.
+-- The factor of a suffix, which is nothing, a letter of <decimalSI>, two letters of <binarySI> that
+-- end in `i` (105), or `e` (101) or `E` (69) and an exponent.
 unfoldable pub factor_of : List ℕ → Option Factor
 factor_of suffix =
     if length suffix == 0 then Some (power_of_ten (pos 0))
@@ -89,9 +89,9 @@ factor_of suffix =
     then option_map power_of_ten (exponent_of (drop 1 suffix))
     else None)))
 
--- The number of these digits, of which the last `places` stand after the point, times the factor. The digits
--- times the whole number of the factor, and so the digits alone, are below 2 to the 127: a signed integer of
--- 128 bits holds them before the sign.
+-- The number with these digits, the last `places` of them after the point, times the factor. The
+-- digits times the whole number of the factor, and so the digits alone, have to be below 2 to the
+-- 127, so that a signed integer of 128 bits can hold them before the sign is applied.
 unfoldable pub value_of : Bool → List ℕ → ℕ → Factor → Option Decimal
 value_of negative digits places factor =
     if nat_lt (digits_value 10 digits * factor.times) (2 ^ 127)
@@ -99,7 +99,7 @@ value_of negative digits places factor =
     (decimal_at (with_sign negative (digits_value 10 digits * factor.times)) (factor.tens -ℤ pos places))
     else None
 
--- the same of a text with no sign: at least one digit, at most one point, and a suffix
+-- the quantity of a text with its sign removed: at least one digit, at most one point, and a suffix
 unfoldable pub unsigned_quantity : Bool → List ℕ → Option Decimal
 unsigned_quantity negative text =
     if length (leading_digits text) + length (fraction_digits text) == 0 then None
@@ -107,7 +107,7 @@ unsigned_quantity negative text =
     (value_of negative (leading_digits text ++ fraction_digits text) (length (fraction_digits text)))
     (factor_of (suffix_of text))
 
--- The number that a text means as a quantity, in normal form, if it means one.
--- White space at both ends counts for nothing.
+-- The quantity that a text parses to, as a number in normal
+-- form, if it parses. White space at both ends is ignored.
 unfoldable pub quantity_of : List ℕ → Option Decimal
 quantity_of text = unsigned_quantity (starts_with_minus (trim text)) (without_leading_sign (trim text))

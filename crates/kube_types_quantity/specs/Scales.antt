@@ -1,5 +1,5 @@
 -- Scaffolding: only proofs and private clauses cite it.
--- Integers times powers of ten, and the order of numbers at a common scale.
+-- Integers times powers of ten, and comparing numbers at a common scale.
 use Rattle.std.proofs.Common.{◌≡◌, ℕ, zero, suc, ◌+◌, ◌-◌, ◌*◌, ◌^◌, ◌<◌, ◌≤◌, min, ℤ, pos, negsuc, neg_ℤ, ◌+ℤ◌, ◌-ℤ◌, ◌*ℤ◌, ◌<ℤ◌, refl, sym, ◌∙◌, ap, arith}
 use Rattle.std.proofs.Math.Nat.{mul-lt-mul_of_pos_right, mul_assoc, min_comm, one-le-pow}
 use Rattle.std.proofs.lemmas.Nat.{pow-add}
@@ -17,7 +17,7 @@ neg_parts : (n : ℕ) → (up (neg_ℤ (pos n)) ≡ 0) × (down (neg_ℤ (pos n)
 neg_parts zero = (refl, refl)
 neg_parts (suc n) = (refl, refl)
 
--- the two parts of a product
+-- the positive and the negative part of a product
 pub product_parts : (z : ℤ) (k : ℕ) → (up (z *ℤ pos k) ≡ up z * k) × (down (z *ℤ pos k) ≡ down z * k)
 product_parts (pos a) k = (refl, omega arith)
 product_parts (negsuc a) k = ((neg_parts (suc a * k)).0 ∙ omega arith, (neg_parts (suc a * k)).1)
@@ -66,19 +66,19 @@ one_part : (z : ℤ) (a b : ℕ) → up z + b ≡ down z + a → up z ≡ a - b
 one_part (pos n) a b e = omega arith
 one_part (negsuc n) a b e = omega arith
 
--- how far one scale is above another, both counted from a base
+-- the distance of one scale above another, with both counted from a base
 pub scale_gap : (base s t : ℤ) (a b : ℕ) → s ≡ base +ℤ pos a → t ≡ base +ℤ pos b → natural (s -ℤ t) ≡ a - b
 scale_gap base s t a b p q = natural_up (s -ℤ t)
     ∙ one_part (s -ℤ t) a b (let e : (s -ℤ t) +ℤ pos b ≡ pos a = omega (arith, ints) in omega (arith, ints))
 
--- a mantissa brought down to the base
+-- a mantissa converted to the scale `base`
 pub aligned_at : (base : ℤ) (x y : Decimal) (a b : ℕ) → x.scale ≡ base +ℤ pos a → y.scale ≡ base +ℤ pos b
     → times_ten_to (aligned_mantissa x y) (min a b) ≡ times_ten_to x.mantissa a
 aligned_at base x y a b p q =
     ap (λ k. times_ten_to (times_ten_to x.mantissa k) (min a b)) (scale_gap base x.scale y.scale a b p q)
     ∙ times_times x.mantissa (a - b) (min a b) ∙ ap (times_ten_to x.mantissa) (omega arith)
 
--- numbers compare as their mantissas at a scale that is below both
+-- numbers compare as their mantissas at a scale below both
 pub compared_at : (base : ℤ) (x y : Decimal) (a b : ℕ) → x.scale ≡ base +ℤ pos a → y.scale ≡ base +ℤ pos b
     → decimal_cmp x y ≡ int_cmp (times_ten_to x.mantissa a) (times_ten_to y.mantissa b)
 compared_at base x y a b p q =
@@ -89,7 +89,7 @@ compared_at base x y a b p q =
     ∙ ap (λ z. int_cmp z (times_ten_to (aligned_mantissa y x) (min a b))) left
     ∙ ap (int_cmp (times_ten_to x.mantissa a)) (ap (times_ten_to (aligned_mantissa y x)) (sym same) ∙ right)
 
--- a scale, counted from a base far below
+-- a scale, counted from a base far below it
 pub scale_above : (n : ℕ) (s : ℤ) → mag s ≤ n → (a : ℕ) × (s ≡ negsuc n +ℤ pos a)
 scale_above n (pos k) h = (suc n + k, same_in (pos k) (negsuc n +ℤ pos (suc n + k)) (omega (arith, ints)))
 scale_above n (negsuc k) h = (n - k, same_in (negsuc k) (negsuc n +ℤ pos (n - k)) (omega (arith, ints)))

@@ -9,8 +9,9 @@ use Rattle.kube_types_quantity.specs.Normal.{fits, quantity_holding}
 abbrev pub decimal_at : ℤ → ℤ → Decimal
 decimal_at m s = record { mantissa = m; scale = s }
 
--- The number whose mantissa this operation gives of both mantissas at the smaller scale, where 128 bits hold
--- these and what it gives, and 32 bits the scale of the normal form.
+-- The number whose mantissa is the operation's result on both mantissas
+-- at the smaller scale. None if these mantissas or the result don't fit
+-- in 128 bits, or the scale of the normal form in 32 bits.
 abbrev pub combination : (ℤ → ℤ → ℤ) → Decimal → Decimal → Option Decimal
 combination op x y =
     if fits 127 (aligned_mantissa x y)

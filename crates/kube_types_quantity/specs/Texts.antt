@@ -1,6 +1,6 @@
 -- Trusted by laws alone.
--- What the text of a quantity as a whole means: a number with a sign or none,
--- and a suffix that it is multiplied by.
+-- The meaning of a quantity's text as a whole: a number with
+-- an optional sign, and a suffix that it is multiplied by.
 -- Source: the grammar and the suffixes in the documentation of `Quantity`,
 -- `k8s.io/apimachinery/pkg/api/resource` of Kubernetes.
 use Rattle.std.specs.Prelude.{◌≡◌, ◌+◌, ◌*◌, ◌^◌, ◌<◌, ◌⊎◌, Bool, true, false, ℕ, ℤ, pos, negsuc, ◌-ℤ◌, List, [], ◌∷◌, ◌++◌, length, codes}
@@ -14,11 +14,11 @@ use Rattle.kube_types_quantity.specs.Reading.{power_of_ten, whole_factor}
 use Rattle.kube_types_quantity.specs.Sums.{decimal_at}
 use Rattle.kube_types_quantity.specs.declared.reading.Factor.{Factor}
 
--- digits and nothing else
+-- nothing but digits
 abbrev pub AreDigits : List ℕ → Type 0
 AreDigits text = list_all is_ascii_digit text ≡ true
 
--- no sign, a plus or a minus, and whether it is a minus
+-- no sign, a plus or a minus; `negative` says if it is a minus
 abbrev pub IsSign : List ℕ → Bool → Type 0
 IsSign sign negative = ((sign ≡ codes "") × (negative ≡ false))
     ⊎ (((sign ≡ codes "+") × (negative ≡ false)) ⊎ ((sign ≡ codes "-") × (negative ≡ true)))
@@ -49,12 +49,12 @@ suffixes =
     ∷ (codes "Ei", whole_factor (2 ^ 60))
     ∷ []
 
--- a table has the text with the factor
+-- the table contains the text with the factor
 abbrev pub IsRow : List (List ℕ × Factor) → List ℕ → Factor → Type 0
 IsRow [] text factor = ⊥
 IsRow (row ∷ rows) text factor = ((text ≡ row.0) × (factor ≡ row.1)) ⊎ IsRow rows text factor
 
--- <decimalExponent>: `e` or `E`, and digits with a sign or none, whose number 32 bits hold
+-- <decimalExponent>: `e` or `E`, and digits with an optional sign, whose number fits in 32 bits
 pub record IsExponent (text : List ℕ) (exponent : ℤ) : Type 0 where
   pub letter : List ℕ
   pub sign : List ℕ
@@ -68,14 +68,15 @@ pub record IsExponent (text : List ℕ) (exponent : ℤ) : Type 0 where
   pub value : with_sign negative (digits_value 10 digits) ≡ exponent
   pub within : fits 31 exponent ≡ true
 
--- <suffix>: one of the table, or an exponent of ten
+-- <suffix>: one in the table, or an exponent of ten
 abbrev pub IsSuffix : List ℕ → Factor → Type 0
 IsSuffix text factor = IsRow suffixes text factor
     ⊎ ((exponent : ℤ) × IsExponent text exponent × (power_of_ten exponent ≡ factor))
 
--- The text means the number x, which is in normal form: white space at both ends counts for nothing, and x is
--- the number with its sign, times the factor of the suffix. A signed integer of 128 bits holds the digits
--- times the whole number of the factor before the sign, and 32 bits the scale of x.
+-- The text is a quantity whose number is x, in normal form. White space at both
+-- ends is ignored, and x is the number with its sign, times the factor of the
+-- suffix. A signed integer of 128 bits can hold the digits times the whole number
+-- of the factor before the sign is applied, and 32 bits can hold the scale of x.
 pub record IsQuantityText (text : List ℕ) (x : Decimal) : Type 0 where
   pub sign : List ℕ
   pub negative : Bool

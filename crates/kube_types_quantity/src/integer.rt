@@ -1,14 +1,14 @@
-//! Why a quantity is given as no integer.
+//! The reasons why a quantity isn't an integer of 64 bits.
 ghost use Rattle.std.specs.Prelude.{Some};
 
 use std::fmt;
 
-/// Why a quantity has no integer of 64 bits.
+/// Why a quantity isn't an integer of 64 bits.
 #[derive(Clone, Copy, Debug, PartialEq, Eq)]
 pub enum IntegerError {
     /// The number has digits after the point.
     NotAnInteger,
-    /// The number is an integer, and 64 bits cannot hold it.
+    /// The number is an integer, but doesn't fit in 64 bits.
     TooLargeForInteger,
 }
 

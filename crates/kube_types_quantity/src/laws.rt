@@ -1,5 +1,5 @@
-//! Laws of quantities, over the definitions alone: each function here does nothing,
-//! and its contract is the law.
+//! Laws of quantities, about the definitions alone. Each
+//! is the contract of a function with an empty body.
 ghost use Rattle.std.specs.Cmp.{IsTotalOrder};
 ghost use Rattle.std.specs.Int.{is_negative};
 ghost use Rattle.std.specs.Prelude.{◌≡◌, ◌↔◌, false, ℕ, ℤ, pos, List, Some};
@@ -10,17 +10,17 @@ ghost use Rattle.kube_types_quantity.specs.Reading.{quantity_of};
 ghost use Rattle.kube_types_quantity.specs.Sums.{decimal_at};
 ghost use Rattle.kube_types_quantity.specs.Texts.{IsQuantityText};
 
-/// The order of numbers is a total one, at every scale.
+/// The order of numbers is total, at any scales.
 pub fn order_is_total()
     ensures { IsTotalOrder decimal_cmp }
 {}
 
-/// The order ties two numbers exactly where they are one number, at every scale.
+/// Two numbers compare as equal exactly if they are the same number, at any scales.
 pub fn order_agrees_with_equality()
     ensures { (x y : Decimal) → (decimal_cmp x y ≡ Equal) ↔ SameNumber x y }
 {}
 
-/// Two numbers in normal form are one number exactly where their mantissas and scales are equal.
+/// Two numbers in normal form are the same number exactly if their mantissas and scales are equal.
 pub fn equality_is_that_of_normal_forms()
     ensures { (x y : Decimal) → IsNormal x → IsNormal y → SameNumber x y ↔ (x ≡ y) }
 {}
@@ -30,15 +30,15 @@ pub fn normal_form_keeps_the_number()
     ensures { (x : Decimal) → IsNormal (normal_form x) × SameNumber (normal_form x) x }
 {}
 
-/// A number in normal form is the integer z exactly where its scale is not negative,
-/// and its mantissa times ten to the scale is z.
+/// A number in normal form is the integer z exactly if its scale
+/// isn't negative and its mantissa times ten to the scale is z.
 pub fn integers_have_no_places()
     ensures { (x : Decimal) (z : ℤ) → IsNormal x → SameNumber x (decimal_at z (pos 0))
         ↔ ((is_negative x.scale ≡ false) × (z ≡ times_ten_to x.mantissa (natural x.scale))) }
 {}
 
-/// A text means a quantity exactly where it spells a number and a suffix,
-/// and then the number times the factor of the suffix.
+/// A text parses as a quantity exactly if it spells a number and a
+/// suffix. The quantity is the number times the suffix's factor.
 pub fn texts_mean_their_number()
     ensures { (text : List ℕ) (x : Decimal) → (quantity_of text ≡ Some x) ↔ IsQuantityText text x }
 {}

@@ -1,4 +1,5 @@
-//! Resource quantities of Kubernetes: exact decimal numbers with suffixes, as `1.5Gi` and `200m`.
+//! Kubernetes' resource quantities: exact decimal
+//! numbers with suffixes, such as `1.5Gi` and `200m`.
 //!
 //! Source: the documentation of `Quantity` in `k8s.io/apimachinery/pkg/api/resource`.
 #![tactic(auto)]

@@ -1,4 +1,4 @@
-//! Normal forms: the zeros that a mantissa ends in go into the scale.
+//! Normal forms: trailing zeros of a mantissa are moved into the scale.
 ghost use Rattle.std.specs.Option.{option_map};
 ghost use Rattle.std.specs.Prelude.{◌≡◌, ◌≢◌, ◌*◌, ◌^◌, ◌%◌, ◌<◌, unsigned_abs};
 ghost use Rattle.kube_types_quantity.specs.Normal.{mantissa_without_zeros, trailing_zeros, quantity_holding};
@@ -8,7 +8,7 @@ ghost use Rattle.kube_types_quantity.specs.Sums.{decimal_at};
 use crate::quantity::KubeQuantity;
 use crate::scaling::signed;
 
-/// A positive number without the zeros that it ends in, and how many they were.
+/// A positive number without its trailing zeros, and the number of these zeros.
 fn without_trailing_zeros(size: u128) -> (u128, u32)
     requires { 0 < size }
     ensures product { size ≡ result.0 * 10 ^ result.1 }
@@ -24,7 +24,7 @@ fn without_trailing_zeros(size: u128) -> (u128, u32)
     (rest, zeros)
 }
 
-/// A mantissa without the zeros that it ends in, and how many they were.
+/// A mantissa without its trailing zeros, and the number of these zeros.
 pub(crate) fn reduced(mantissa: i128) -> (i128, u32)
     ensures value { result.0 ≡ mantissa_without_zeros mantissa }
     ensures zeros { result.1 ≡ trailing_zeros (unsigned_abs mantissa) }
@@ -39,7 +39,8 @@ pub(crate) fn reduced(mantissa: i128) -> (i128, u32)
     (signed(mantissa.is_negative(), size).unwrap(), zeros)
 }
 
-/// The quantity that holds `mantissa` times ten to the `scale`, if its normal form has a scale of 32 bits.
+/// The quantity `mantissa` times ten to the `scale`, or
+/// None if the scale of its normal form exceeds 32 bits.
 #[tactic(auto, unfolding(crate::specs::Normal::quantity_holding, crate::specs::Normal::normal_form))]
 pub(crate) fn normalised(mantissa: i128, scale: i128) -> Option<KubeQuantity>
     requires { unsigned_abs scale < 2 ^ 66 }

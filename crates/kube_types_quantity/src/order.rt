@@ -1,4 +1,4 @@
-//! The order of quantities: that of their numbers, at every scale.
+//! The order of quantities: the order of their numbers, at any scales.
 ghost use Rattle.std.specs.Ordering.{int_cmp, on, as_partial_cmp};
 ghost use Rattle.std.specs.Prelude.{◌≡◌};
 ghost use Rattle.kube_types_quantity.specs.Decimal.{times_ten_to, decimal_cmp};
@@ -9,9 +9,9 @@ use crate::quantity::KubeQuantity;
 use crate::scaling::scaled;
 use std::cmp::Ordering;
 
-/// The order of `left` times ten to the `places`, and `right`.
+/// Compares `left` times ten to the `places` with `right`.
 ///
-/// A product that 128 bits cannot hold is farther from zero than any mantissa.
+/// A product that exceeds 128 bits is farther from zero than any mantissa.
 fn compare_scaled(left: i128, places: u32, right: i128) -> Ordering
     ensures { result ≡ int_cmp (times_ten_to left places) right }
 {

@@ -5,7 +5,7 @@ ghost use Rattle.std.specs.Prelude.{◌≡◌, ◌/◌, ◌%◌, ◌^◌, length
 use crate::quantity::KubeQuantity;
 use std::fmt;
 
-/// A number of zeros.
+/// Prints as this number of zeros.
 #[derive(Clone, Copy)]
 struct Zeros(u32);
 
@@ -20,14 +20,14 @@ impl fmt::Display for Zeros {
     }
 }
 
-/// How many digits a number is printed with.
+/// The number of digits that a number is printed with.
 fn printed_len(number: u128) -> u32
     ensures { result ≡ length (decimal number) }
 {
     if number == 0 { 1 } else { number.ilog10() + 1 }
 }
 
-/// The parts of a number before and after the point that stands before its last `places` digits.
+/// The parts of a number before and after a point in front of its last `places` digits.
 fn split_at_point(number: u128, places: u32) -> (u128, u128)
     ensures whole { result.0 ≡ number / 10 ^ places }
     ensures fraction { result.1 ≡ number % 10 ^ places }
@@ -38,8 +38,8 @@ fn split_at_point(number: u128, places: u32) -> (u128, u128)
     }
 }
 
-/// The decimal number in full, with no exponent and no suffix;
-/// a scale near its end takes thousands of millions of zeros.
+/// Prints the decimal number in full, with no exponent and no suffix.
+/// A scale near its upper or lower limit prints billions of zeros.
 #[tactic(auto, unfolding(crate::specs::Printed::decimal_text))]
 impl fmt::Display for KubeQuantity {
     ghost use Rattle.kube_types_quantity.specs.Printed.{decimal_text};

@@ -1,4 +1,4 @@
-//! `KubeQuantity`: its number, its order, sums and integers.
+//! `KubeQuantity`: parsing, order, sums and conversion to integers.
 ghost use Rattle.std.specs.Int.{w128, int_min};
 ghost use Rattle.std.specs.Option.{option_map, SomeIff};
 ghost use Rattle.std.specs.Prelude.{◌≡◌, true, Some, pos, FitsSigned, is_ok};
@@ -12,8 +12,8 @@ use crate::scaling::{scaled, signed};
 
 /// An exact decimal number: `mantissa` times ten to the `scale`, in normal form.
 ///
-/// The mantissa ends in no zero, and zero is 0 at the scale 0.
-/// So two quantities are one number exactly where their fields are equal.
+/// The mantissa has no trailing zeros, and zero has mantissa 0 and scale 0. So two quantities are
+/// the same number exactly if their fields are equal.
 #[derive(Clone, Copy, Debug, PartialEq, Eq)]
 pub struct KubeQuantity {
     pub(crate) mantissa: i128,
@@ -29,12 +29,12 @@ impl KubeQuantity {
     ghost use Rattle.kube_types_quantity.specs.Shown.{number};
     ghost use Rattle.kube_types_quantity.specs.Sums.{sum_of, difference_of};
 
-    /// The quantity that a text means, if it means one. No memory is taken.
+    /// Parses a quantity, or returns None if the text isn't one. Takes no memory.
     ///
-    /// White space at both ends is dropped; a sign may stand first; then digits with at most one point, and
-    /// nothing, a suffix (`n u m k M G T P E`, `Ki Mi Gi Ti Pi Ei`) or `e` or `E` with an exponent. The
-    /// digits times the factor of a binary suffix must fit 127 bits,
-    /// and the scale of the normal form 32 bits.
+    /// White space at both ends is ignored. An optional sign is followed by digits with at most one
+    /// point, and then nothing, a suffix (`n u m k M G T P E`, `Ki Mi Gi Ti Pi Ei`), or `e` or `E`
+    /// with an exponent. The digits times the factor of a binary suffix must fit in 127 bits, and
+    /// the scale of the normal form in 32 bits.
     #[tactic(auto, unfolding(crate::specs::Reading::quantity_of, crate::specs::Reading::unsigned_quantity, crate::specs::Reading::value_of))]
     pub fn read(text: &str) -> Option<KubeQuantity>
         ensures { option_map number result ≡ quantity_of text.now }
@@ -50,7 +50,7 @@ impl KubeQuantity {
         normalised(mantissa, scale_of(factor.tens, numeral.fraction.len()))
     }
 
-    /// The quantity that is this integer.
+    /// Converts an integer to a quantity.
     #[tactic(auto, unfolding(crate::specs::Normal::quantity_holding, crate::specs::Normal::normal_form))]
     pub fn from_integer(value: i128) -> KubeQuantity
         ensures { Some (number result) ≡ quantity_holding (decimal_at value (pos 0)) }
@@ -62,7 +62,7 @@ impl KubeQuantity {
         }
     }
 
-    /// -1, 0 or 1: whether the number is below, at or above zero.
+    /// Returns -1, 0 or 1 if the number is below, at or above zero.
     pub fn sign(&self) -> i64
         ensures { result ≡ int_signum (number self.now).mantissa }
     {
@@ -75,8 +75,8 @@ impl KubeQuantity {
         }
     }
 
-    /// The exact sum. `None` where 128 bits do not hold both mantissas at the smaller scale and their sum, or
-    /// 32 bits the scale of the sum.
+    /// Returns the exact sum. None if both mantissas at the smaller scale, or their sum, don't fit
+    /// in 128 bits, or if the scale of the sum doesn't fit in 32 bits.
     #[tactic(auto, unfolding(crate::specs::Sums::sum_of))]
     pub fn add(&self, other: &KubeQuantity) -> Option<KubeQuantity>
         ensures { option_map number result ≡ sum_of (number self.now) (number other.now) }
@@ -87,7 +87,7 @@ impl KubeQuantity {
         self.at_smaller_scale(other, sum)
     }
 
-    /// The exact difference. `None` as for `add`.
+    /// Returns the exact difference, or None under the conditions of `add`.
     #[tactic(auto, unfolding(crate::specs::Sums::difference_of))]
     pub fn sub(&self, other: &KubeQuantity) -> Option<KubeQuantity>
         ensures { option_map number result ≡ difference_of (number self.now) (number other.now) }
@@ -98,14 +98,14 @@ impl KubeQuantity {
         self.at_smaller_scale(other, difference)
     }
 
-    /// Whether `as_integer` gives an integer.
+    /// Reports whether `as_integer` returns an integer.
     pub fn is_integer(&self) -> bool
         ensures { result ≡ is_ok (integer_of (number self.now)) }
     {
         self.as_integer().is_ok()
     }
 
-    /// The integer that this quantity is, or why 64 bits hold none.
+    /// Returns the quantity as an integer, or the reason why it isn't one of 64 bits.
     #[tactic(auto, unfolding(crate::specs::Integers::integer_of))]
     pub fn as_integer(&self) -> Result<i64, IntegerError>
         ensures { result ≡ integer_of (number self.now) }
@@ -122,7 +122,7 @@ impl KubeQuantity {
         }
     }
 
-    /// The mantissa at the smaller of the two scales, if 128 bits hold it.
+    /// The mantissa at the smaller of the two scales, or None if it exceeds 128 bits.
     fn aligned_to(&self, other: &KubeQuantity) -> Option<i128>
         ensures { SomeIff result (FitsSigned w128 (aligned_mantissa (number self.now) (number other.now)))
             (aligned_mantissa (number self.now) (number other.now)) }
@@ -134,8 +134,8 @@ impl KubeQuantity {
         }
     }
 
-    /// The quantity of a mantissa at the smaller of the two scales,
-    /// if its normal form has a scale of 32 bits.
+    /// The quantity with a mantissa at the smaller of the two scales,
+    /// or None if the scale of its normal form exceeds 32 bits.
     fn at_smaller_scale(&self, other: &KubeQuantity, mantissa: i128) -> Option<KubeQuantity>
         ensures { option_map number result ≡ quantity_holding (decimal_at mantissa
             (int_min (number self.now).scale (number other.now).scale)) }

@@ -1,4 +1,4 @@
-//! Reading the text of a quantity, part by part.
+//! Reads the text of a quantity, part by part.
 //!
 //! Source: the grammar in the documentation of `Quantity`, `k8s.io/apimachinery/pkg/api/resource`.
 ghost use Rattle.std.specs.Char.{is_ascii_digit};
@@ -10,7 +10,7 @@ ghost use Rattle.kube_types_quantity.specs.Reading.{leading_digits, after_digits
 
 use crate::scaling::signed;
 
-/// An unsigned text, cut into its digits before and after the point, and what follows them.
+/// An unsigned text, split into the digits before and after the point and the suffix after them.
 #[derive(Clone, Copy)]
 pub(crate) struct Numeral<'a> {
     pub whole: &'a [u8],
@@ -18,14 +18,14 @@ pub(crate) struct Numeral<'a> {
     pub suffix: &'a [u8],
 }
 
-/// What a suffix multiplies by: ten to the `tens`, times the whole number `times`.
+/// The factor of a suffix: ten to the `tens`, times the whole number `times`.
 #[derive(Clone, Copy)]
 pub(crate) struct Factor {
     pub tens: i32,
     pub times: u64,
 }
 
-/// Whether a minus stands first, and what follows a sign.
+/// Reports whether the text starts with a minus, and returns the text after an optional sign.
 pub(crate) fn split_sign(text: &[u8]) -> (bool, &[u8])
     ensures negative { result.0 ≡ starts_with_minus text.now }
     ensures rest { result.1.now ≡ without_leading_sign text.now }
@@ -37,14 +37,14 @@ pub(crate) fn split_sign(text: &[u8]) -> (bool, &[u8])
     }
 }
 
-/// How many digits a text begins with.
+/// The number of digits that the text starts with.
 fn digit_count(text: &[u8]) -> usize
     ensures { result ≡ prefix_len is_ascii_digit text.now }
 {
     text.iter().take_while(|byte| byte.is_ascii_digit()).count()
 }
 
-/// The digits that a text begins with, and what follows them.
+/// The digits that the text starts with, and the rest.
 fn split_digits(text: &[u8]) -> (&[u8], &[u8])
     ensures digits { result.0.now ≡ leading_digits text.now }
     ensures rest { result.1.now ≡ after_digits text.now }
@@ -52,7 +52,7 @@ fn split_digits(text: &[u8]) -> (&[u8], &[u8])
     text.split_at(digit_count(text))
 }
 
-/// Cuts an unsigned text at the ends of its digits.
+/// Splits an unsigned text at the ends of its digits.
 #[tactic(auto, unfolding(crate::specs::Reading::fraction_digits, crate::specs::Reading::suffix_of))]
 pub(crate) fn split_numeral(text: &[u8]) -> Numeral<'_>
     ensures whole { result.whole.now ≡ leading_digits text.now }
@@ -77,7 +77,8 @@ pub(crate) fn split_numeral(text: &[u8]) -> Numeral<'_>
     }
 }
 
-/// The number that `start` and these digits after it write, if it is below 2 to the 127.
+/// The number read so far, `start`, continued with
+/// these digits. None if it isn't below 2 to the 127.
 pub(crate) fn digits_number(start: u128, digits: &[u8]) -> Option<u128>
     requires { AllDigits 10 digits.now }
     ensures { SomeIff result (digits_value_after 10 start digits.now < 2 ^ 127)
@@ -95,7 +96,7 @@ pub(crate) fn digits_number(start: u128, digits: &[u8]) -> Option<u128>
     }
 }
 
-/// The exponent that an optional sign and digits write, if 32 bits hold it.
+/// Parses an exponent: an optional sign and digits. None if it doesn't fit in 32 bits.
 #[tactic(auto, unfolding(crate::specs::Reading::exponent_of))]
 fn exponent(text: &[u8]) -> Option<i32>
     ensures { result ≡ exponent_of text.now }
@@ -145,7 +146,7 @@ fn binary_power(letter: u8) -> Option<u64>
     }
 }
 
-/// The factor that a suffix stands for.
+/// The factor of a suffix.
 #[tactic(auto, unfolding(crate::specs::Reading::factor_of))]
 pub(crate) fn suffix_factor(suffix: &[u8]) -> Option<Factor>
     ensures value { result ≡ factor_of suffix.now }
@@ -169,7 +170,7 @@ pub(crate) fn suffix_factor(suffix: &[u8]) -> Option<Factor>
     }
 }
 
-/// The digits of a numeral as one number, if it is below 2 to the 127.
+/// The digits before and after the point as one number. None if it isn't below 2 to the 127.
 fn numeral_digits(whole: &[u8], fraction: &[u8]) -> Option<u128>
     requires whole_digits { AllDigits 10 whole.now }
     requires fraction_digits { AllDigits 10 fraction.now }
@@ -180,7 +181,8 @@ fn numeral_digits(whole: &[u8], fraction: &[u8]) -> Option<u128>
     digits_number(start, fraction)
 }
 
-/// The digits of a numeral as one number, times a whole number, if the product is below 2 to the 127.
+/// The digits before and after the point as one number, times a
+/// whole number. None if the product isn't below 2 to the 127.
 pub(crate) fn numeral_size(whole: &[u8], fraction: &[u8], times: u64) -> Option<u128>
     requires whole_digits { AllDigits 10 whole.now }
     requires fraction_digits { AllDigits 10 fraction.now }
@@ -193,7 +195,8 @@ pub(crate) fn numeral_size(whole: &[u8], fraction: &[u8], times: u64) -> Option<
     if size < 1 << 127 { Some(size) } else { None }
 }
 
-/// The scale of a numeral with this number of digits after its point, under a factor of ten to the `tens`.
+/// The scale of a numeral with `places` digits after
+/// its point, under a factor of ten to the `tens`.
 pub(crate) fn scale_of(tens: i32, places: usize) -> i128
     ensures value { result ≡ tens -ℤ pos places }
     ensures bound { unsigned_abs result < 2 ^ 66 }

@@ -4,7 +4,7 @@ ghost use Rattle.std.specs.Option.{SomeIff};
 ghost use Rattle.std.specs.Prelude.{FitsSigned};
 ghost use Rattle.kube_types_quantity.specs.Decimal.{times_ten_to, with_sign};
 
-/// The number with this sign and size, if 128 bits hold it.
+/// The number with this sign and absolute value, or None if it exceeds 128 bits.
 pub(crate) fn signed(negative: bool, size: u128) -> Option<i128>
     ensures { SomeIff result (FitsSigned w128 (with_sign negative size)) (with_sign negative size) }
 {
@@ -15,7 +15,7 @@ pub(crate) fn signed(negative: bool, size: u128) -> Option<i128>
     }
 }
 
-/// `mantissa` times ten to the `places`, if 128 bits hold it.
+/// `mantissa` times ten to the `places`, or None if it exceeds 128 bits.
 pub(crate) fn scaled(mantissa: i128, places: u32) -> Option<i128>
     ensures { SomeIff result (FitsSigned w128 (times_ten_to mantissa places)) (times_ten_to mantissa places) }
 {

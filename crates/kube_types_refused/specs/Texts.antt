@@ -1,5 +1,5 @@
 -- Trusted by the clauses of policies.
--- What a refusal prints, and which kind of error it is where input and output are.
+-- The text of a refusal, and its kind as an I/O error.
 use Rattle.std.specs.Prelude.{ℕ, List, codes}
 use Rattle.std.specs.declared.io.ErrorKind.{ErrorKind}
 use Rattle.std.specs.declared.io.ErrorKind.TheVariants.{InvalidInput, OutOfMemory}

@@ -1,4 +1,4 @@
-//! `Refused`, the one outer error: why a call gave no answer at all.
+//! `Refused`, the outer error of every call that takes memory: the call has no answer.
 #![tactic(auto)]
 
 ghost use Rattle.kube_types_refused.specs.declared.Refused.TheVariants.{Memory};
@@ -7,15 +7,16 @@ ghost use Rattle.std.specs.Prelude.{◌≡◌};
 use std::alloc::{AllocError, AllocFailed};
 use std::{fmt, io};
 
-/// Why a call gave no answer at all.
+/// Why a call has no answer.
 ///
-/// It is never an answer: not a rule's error, not a failed validation and not a pass.
-/// What was lent to the call is as it was before.
+/// It is never an answer itself: not a rule's error, not a failed
+/// validation and not a pass. What the call only borrowed is unchanged. Of
+/// a `&mut` argument, only what the call's contract says can be relied on.
 #[derive(Clone, Copy, Debug, PartialEq, Eq)]
 pub enum Refused {
-    /// Memory was refused, or a growth would have passed the greatest capacity.
+    /// Memory was refused, or a capacity would have exceeded its maximum.
     Memory,
-    /// A text is longer than the crate that reads it can hold.
+    /// A text is longer than the crate that parses it can hold.
     TooLarge,
 }
 
@@ -49,7 +50,7 @@ impl fmt::Display for Refused {
     }
 }
 
-/// So that a program whose `main` answers an `io::Result` hands a refusal on by `?`.
+/// Lets a `main` that returns an `io::Result` propagate a refusal with `?`.
 impl From<Refused> for io::Error {
     ghost use Rattle.std.specs.IoError.{error_kind};
     ghost use Rattle.kube_types_refused.specs.Texts.{refusal_kind};

@@ -1,4 +1,4 @@
--- A lenient reading of a text that is a version changes nothing.
+-- A text that is a version is unchanged by a lenient reading.
 use Rattle.semver.proofs.Grammar.{version_parts-sound}
 use Rattle.semver.specs.Identifiers.{marked, parts_text}
 use Rattle.semver.specs.Order.{parts, strip_zeros}
@@ -27,7 +27,7 @@ second_true : (a b : Bool) → (a && b) ≡ true → b ≡ true
 second_true true b e = e
 second_true false b e = cc e
 
--- a decimal number is digits
+-- a decimal number consists of digits
 pub decimal-digits : (n : ℕ) → n < 2 ^ 64 → AreDigits (decimal n)
 decimal-digits n small = decimal_by_steps (λ _ ds. AreDigits ds)
     (λ k low. let d : is_ascii_digit (48 + k) ≡ true = grind arith in rw d refl)
@@ -44,7 +44,7 @@ first_kept (b ∷ rest) some first =
     let n : (length (b ∷ rest) == 0) ≡ false = ne_eqb (length (b ∷ rest)) 0 (λ h. omega arith) in
     rw (e, n) refl
 
--- a decimal number has no leading zeros to lose
+-- a decimal number has no leading zeros
 decimal-number : (n : ℕ) → n < 2 ^ 64 → number_text (decimal n) ≡ decimal n
 unfolding number_text strip_zeros
 decimal-number n small = elim (cases_lt 0 n) [
@@ -64,7 +64,7 @@ decimal-is_number n small =
 digit-not : (b c : ℕ) → is_ascii_digit b ≡ true → is_ascii_digit c ≡ false → (b == c) ≡ false
 digit-not b c d e = ne_eqb b c (λ same. cc (d, e, ap is_ascii_digit same))
 
--- digits before a text go to its core
+-- leading digits belong to the text's core
 pub core-digits : (ds text : List ℕ) → AreDigits ds → core_of (ds ++ text) ≡ ds ++ core_of text
 unfolding core_of
 core-digits [] text h = refl
@@ -87,7 +87,7 @@ pub tail-dot : (text : List ℕ) → tail_of (46 ∷ text) ≡ tail_of text
 unfolding tail_of
 tail-dot text = refl
 
--- digits are the first part
+-- leading digits are the first part
 pub parts-dot : (ds text : List ℕ) → AreDigits ds → parts (ds ++ 46 ∷ text) ≡ ds ∷ parts text
 parts-dot [] text h = refl
 parts-dot (b ∷ ds) text h =
@@ -100,7 +100,7 @@ parts-one (b ∷ ds) h =
     let e = digit-not b 46 (first_true (is_ascii_digit b) (list_all is_ascii_digit ds) h) refl in
     rw (e, parts-one ds (second_true (is_ascii_digit b) (list_all is_ascii_digit ds) h)) refl
 
--- a plus, `+` (43), makes its part no number
+-- a part with a plus, `+` (43), isn't a number
 parts-plus : (ds text : List ℕ) → AreDigits ds → (first : List ℕ) × (others : List (List ℕ)) × (parts (ds ++ 43 ∷ text) ≡ (ds ++ 43 ∷ first) ∷ others)
 parts-plus [] text h =
     let shape = parts-shape text in
@@ -135,7 +135,7 @@ dotted-tail a b c rest x y z = rw (tail-digits a (46 ∷ (b ++ (46 ∷ (c ++ res
 pub dotted-parts : (a b c rest : List ℕ) → AreDigits a → AreDigits b → parts (dotted a b c rest) ≡ a ∷ b ∷ parts (c ++ rest)
 dotted-parts a b c rest x y = rw (parts-dot a (b ++ (46 ∷ (c ++ rest))) x, parts-dot b (c ++ rest) y) refl
 
--- three numbers with a hyphen after them, or with nothing
+-- three numbers followed by a hyphen, or by nothing
 numbers_stay : (k m n : ℕ) (rest : List ℕ) → k < 2 ^ 64 → m < 2 ^ 64 → n < 2 ^ 64 → core_of rest ≡ [] → tail_of rest ≡ rest
     → normal_text (dotted (decimal k) (decimal m) (decimal n) rest) ≡ Some (dotted (decimal k) (decimal m) (decimal n) rest)
 unfolding normal_text full_text
@@ -153,7 +153,7 @@ numbers_stay k m n rest x y z core tail =
     rw (cut, pieces, after, decimal-is_number k x, decimal-is_number m y, decimal-is_number n z, decimal-number k x, decimal-number m y, decimal-number n z)
     refl
 
--- three numbers with a plus after them
+-- three numbers followed by a plus
 plus_stays : (k m n : ℕ) (rest : List ℕ) → k < 2 ^ 64 → m < 2 ^ 64 → n < 2 ^ 64
     → normal_text (dotted (decimal k) (decimal m) (decimal n) (43 ∷ rest)) ≡ Some (dotted (decimal k) (decimal m) (decimal n) (43 ∷ rest))
 unfolding normal_text core_of
@@ -181,7 +181,7 @@ pub empty-tail : tail_of [] ≡ []
 unfolding tail_of
 empty-tail = refl
 
--- the text of a version stays
+-- the text of a version is unchanged
 pub version_stays : (k m n : ℕ) (pre build : List ℕ) → k < 2 ^ 64 → m < 2 ^ 64 → n < 2 ^ 64
     → normal_text (parts_text (k, m, n, pre, build)) ≡ Some (parts_text (k, m, n, pre, build))
 version_stays k m n [] [] x y z = numbers_stay k m n [] x y z empty-core empty-tail

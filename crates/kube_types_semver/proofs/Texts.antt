@@ -14,7 +14,7 @@ use Rattle.std.specs.Prelude.{Result, Ok, Err, IsOk}
 use Rattle.std.specs.Result.{result_ok}
 use Rattle.kube_types_semver.specs.Reading.{IsPlain, without_v, core_of, tail_of, is_number, number_text, full_text, normal_text}
 
--- a text with no leading `v` stays
+-- a text without a leading `v` is unchanged
 pub without_v-kept : (text : List ℕ) → ((rest : List ℕ) → text ≢ 118 ∷ rest) → ((rest : List ℕ) → text ≢ 86 ∷ rest) → text ≡ without_v text
 unfolding without_v
 without_v-kept [] small capital = refl
@@ -32,7 +32,7 @@ unfolding without_v
 without_v-dropped text rest c (inl small) e = rw (e, small) refl
 without_v-dropped text rest c (inr capital) e = rw (e, capital) refl
 
--- the first hyphen cuts a text in two
+-- the first hyphen splits a text in two
 pub core_tail_at : (text : List ℕ) (k : ℕ) → k ≤ length text → ((i : ℕ) → i < k → get_or text i 0 ≢ 45) → (k < length text → get_or text k 0 ≡ 45)
     → (take k text ≡ core_of text) × (drop k text ≡ tail_of text)
 unfolding core_of tail_of
@@ -48,7 +48,7 @@ core_tail_at (b ∷ rest) (suc k) h free here = elim (cases_Bool (b == 45)) [
       (rw e (ap (λ l. b ∷ l) more.0), rw e more.1)
 ]
 
--- digits that follow zeros
+-- digits after zeros
 pub strip_zeros-zero : (text : List ℕ) → strip_zeros (48 ∷ text) ≡ strip_zeros text
 unfolding strip_zeros
 strip_zeros-zero text = refl
@@ -61,14 +61,14 @@ strip_zeros-stops (b ∷ rest) other = elim (cases_Bool (b == 48)) [
   | inr e ↦ rw e refl
 ]
 
--- cutting zeros off the front leaves the same digits
+-- dropping leading zeros leaves the same digits
 zeros_cut : (text rest : List ℕ) (ns : List ℕ) → CutsPrefixes (FindsCharPrefix 48) text ns rest → strip_zeros text ≡ strip_zeros rest
 zeros_cut text rest [] cut = ap strip_zeros (sym cut)
 zeros_cut text rest (n ∷ ns) cut =
     let before : cut.0 ≡ 48 ∷ drop n cut.0 = (cut.2).split ∙ ap (λ l. l ++ drop n cut.0) (encode_ascii 48 (lit< tt)) in
     zeros_cut text cut.0 ns cut.1 ∙ ap strip_zeros before ∙ strip_zeros-zero (drop n cut.0) ∙ ap strip_zeros (sym cut.3)
 
--- a text that is fully cut begins with no zero
+-- a text with all leading zeros dropped doesn't start with one
 fully_cut : (rest : List ℕ) (o : Option ℕ) → FindsCharPrefix 48 rest o → (IfSome o (λ n. n ≡ 0)) → strip_zeros rest ≡ rest
 fully_cut rest None other small = strip_zeros-stops rest (λ more e. other more (e ∙ ap (λ l. l ++ more) (sym (encode_ascii 48 (lit< tt)))))
 fully_cut rest (Some n) here small = absurd (let e : n ≡ 0 = small in omega (arith, here.ends, len_utf8_ascii 48 (lit< tt)))
@@ -84,7 +84,7 @@ pub number_left : (digits rest : List ℕ) → strip_zeros digits ≡ rest → (
 unfolding number_text
 number_left digits rest e some = rw (e, some) refl
 
--- lists of one, two, three and more
+-- lists of one, two, three and more items
 one_part : {X Y : Type 0} (f : X → Y) (xs : List X) (d : X) → 1 ≤ length xs → length xs < 2 → map f xs ≡ f (get_or xs 0 d) ∷ []
 one_part f [] d low high = absurd (omega arith)
 one_part f (x ∷ []) d low high = refl
@@ -133,7 +133,7 @@ pub three_texts : (xs : List (Bor (List ℕ))) (d : Bor (List ℕ)) (tail major 
 unfolding full_text
 three_texts xs d tail major minor patch low high e f g = rw (three_parts (λ (p : Bor (List ℕ)). p.now) xs d low high, e, f, g) refl
 
--- the two ways of a text with no leading `v`
+-- the two cases for a text without a leading `v`
 pub normal_text-numbers : (text core tail : List ℕ) (ps : List (Bor (List ℕ))) → core ≡ core_of text → tail ≡ tail_of text → map (λ p. p.now) ps ≡ parts core
     → list_all (λ p. is_number p.now) ps ≡ true → full_text (map (λ p. p.now) ps) tail ≡ normal_text text
 unfolding normal_text
@@ -150,7 +150,7 @@ normal_text-other text core ps at_core pieces other =
     let all : list_all is_number (parts (core_of text)) ≡ false = ap (list_all is_number) (sym cut) ∙ list_all-map is_number (λ (p : Bor (List ℕ)). p.now) ps ∙ other in
     rw all refl
 
--- a version with neither a pre-release nor build metadata needs no memory
+-- reading a version with neither a pre-release nor build metadata takes no memory
 pub plain_read : {T : Type 0} (read : Result Parts Error) (result : Result T Error) → PlainRead read result → IsPlain (result_ok read) → IsOk result
 plain_read (Ok p) result plain empty = plain empty.0 empty.1
 plain_read (Err e) result plain empty = absurd empty

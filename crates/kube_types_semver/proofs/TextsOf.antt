@@ -1,4 +1,4 @@
--- A text is a version by the definitions that read it exactly where it is spelled as one.
+-- A text parses as a version exactly if it is spelled as one.
 use Rattle.semver.proofs.Grammar.{version_parts-sound, version_parts-complete}
 use Rattle.semver.specs.Grammar.{IsValid}
 use Rattle.semver.specs.Identifiers.{marked, parts_text}
@@ -76,7 +76,7 @@ v_read text bare (inl small) = ap without_v small ∙ small_v bare
 v_read text bare (inr (inl capital)) = ap without_v capital ∙ capital_v bare
 v_read text bare (inr (inr none)) = ap without_v none.0 ∙ no_v bare none.1 none.2
 
--- ---- numbers with zeros before them
+-- ---- numbers with leading zeros
 
 digit_below : (c : ℕ) → is_ascii_digit c ≡ true → digit_value c < 10
 digit_below c h = grind (arith, nat_tests)
@@ -85,7 +85,7 @@ all_digits : (ds : List ℕ) → AreDigits ds → AllDigits 10 ds
 all_digits [] h = tt
 all_digits (c ∷ cs) h = let both = and_parts (is_ascii_digit c) (list_all is_ascii_digit cs) h in (digit_below c both.0, all_digits cs both.1)
 
--- digits that `decimal` writes of their number
+-- digits as `decimal` writes them for their number
 record Plain (digits : List ℕ) (n : ℕ) : Type 0 where
   all : AreDigits digits
   some : 0 < length digits
@@ -96,7 +96,7 @@ strip_by : (b : ℕ) (rest : List ℕ) (x : Bool) → (b == 48) ≡ x → strip_
 unfolding strip_zeros
 strip_by b rest x e = ap (λ y. cond y (strip_zeros rest) (b ∷ rest)) e
 
--- digits without the zeros before them
+-- digits without their leading zeros
 record Stripped (digits rest : List ℕ) : Type 0 where
   all : AreDigits rest
   first : 0 < length rest → get_or rest 0 0 ≡ 48 → ⊥
@@ -140,7 +140,7 @@ plain_decimal digits n small p =
     let fits : digits_value 10 digits < 2 ^ 64 = subst (λ v. v < 2 ^ 64) (sym p.value) small in
     sym (decimal-digits_value (numerals_by_value _ tells_digits) digits (all_digits digits p.all) p.some p.alone fits) ∙ ap decimal p.value
 
--- a number is written in decimal
+-- the text of a number is its decimal form
 number_written : (digits : List ℕ) (n : ℕ) → n < 2 ^ 64 → IsNumberText digits n → number_text digits ≡ decimal n
 number_written digits n small t = plain_decimal (number_text digits) n small (subst (λ v. Plain (number_text digits) v) t.2 (plain_of digits t.1))
 
@@ -156,7 +156,7 @@ is_number_text digits n t =
     let there : (length digits == 0) ≡ false = ne_eqb (length digits) 0 (λ h. omega arith) in
     and_from (not (length digits == 0)) (list_all is_ascii_digit digits) (ap not there) t.1
 
--- a number that was written in decimal
+-- digits whose decimal form is known spell that number
 number_read : (n : ℕ) (digits : List ℕ) → n < 2 ^ 64 → is_number digits ≡ true → decimal n ≡ number_text digits → IsNumberText digits n
 number_read n digits small h e =
     let d = number_digits digits h in
@@ -168,7 +168,7 @@ zero_read n small e = sym (decimal_is_IsNumeral n small).1 ∙ ap (digits_value 
 zero_written : (n : ℕ) → n ≡ 0 → 48 ∷ [] ≡ decimal n
 zero_written n e = sym (ap decimal e ∙ decimal_digit 0 (omega arith))
 
--- ---- where digits end
+-- ---- the end of the digits
 
 abbrev NoDigit : List ℕ → Type 0
 NoDigit text = is_ascii_digit (get_or text 0 0) ≡ false
@@ -200,7 +200,7 @@ dots_apart a b c x y z t u ha hb hc hx hy hz clear bare e =
     let three = told_apart c z t u hc hz clear bare third in
     (one.0, two.0, three.0, three.1)
 
--- ---- what follows the numbers
+-- ---- the text after the numbers
 
 abbrev tail_text : Parts → List ℕ
 tail_text p = marked 45 p.3 ++ marked 43 p.4
@@ -238,7 +238,7 @@ tail_cut [] [] h = (empty-core, empty-tail)
 tail_cut [] (b ∷ build) h = absurd (let none : length (b ∷ build) ≡ 0 = h refl in omega arith)
 tail_cut (b ∷ pre) build h = (hyphen-core ((b ∷ pre) ++ marked 43 build), hyphen-tail ((b ∷ pre) ++ marked 43 build))
 
--- ---- the text in full
+-- ---- the full form
 
 full_one : (major tail : List ℕ) → full_text (major ∷ []) tail ≡ Some (dotted (number_text major) (48 ∷ []) (48 ∷ []) tail)
 unfolding full_text
@@ -264,7 +264,7 @@ full_more a b c d more tail = refl
 none_or_some : {A B : Type 0} (o : Option A) (x : A) → o ≡ None → o ≡ Some x → B
 none_or_some o x e f = absurd (cc)
 
--- what is known of a text in full that is a version
+-- facts about a full form that is a version
 record Numbered (runs : List (List ℕ)) (tail : List ℕ) (p : Parts) : Type 0 where
   values : AreNumbers runs p.0 p.1 p.2
   rest : tail_text p ≡ tail
@@ -303,7 +303,7 @@ numbered (x ∷ y ∷ z ∷ []) tail full p h f v s =
     record { values = (number_read p.0 x v.1.0 a apart.0, number_read p.1 y v.1.1 b apart.1, number_read p.2 z v.1.2 c apart.2); rest = apart.3 }
 numbered (x ∷ y ∷ z ∷ w ∷ more) tail full p h f v s = none_or_some (full_text (x ∷ y ∷ z ∷ w ∷ more) tail) full (full_more x y z w more tail) f
 
--- ---- the lenient reading of a text with no leading `v`
+-- ---- the lenient reading of a text without a leading `v`
 
 core_step : (b : ℕ) (rest core tail : List ℕ) (x : Bool) → core ++ tail ≡ rest → cond x [] (b ∷ core) ++ cond x (b ∷ rest) tail ≡ b ∷ rest
 core_step b rest core tail true e = refl
@@ -355,7 +355,7 @@ join_three x y z = refl
 both_numbers : (x y : List ℕ) → is_number x ≡ true → is_number y ≡ true → list_all is_number (x ∷ y ∷ []) ≡ true
 both_numbers x y a b = and_from (is_number x) (is_number y && true) a (and_from (is_number y) true b refl)
 
--- the text in full of numbers, a hyphen and what follows it, or of numbers alone
+-- the full form of numbers, a hyphen and the rest, or of numbers alone
 full-of : (runs : List (List ℕ)) (tail : List ℕ) (k m n : ℕ) → k < 2 ^ 64 → m < 2 ^ 64 → n < 2 ^ 64 → AreNumbers runs k m n
     → core_of tail ≡ [] → tail_of tail ≡ tail → normal_text (join_dots runs ++ tail) ≡ Some (dotted (decimal k) (decimal m) (decimal n) tail)
 full-of [] tail k m n hk hm hn v c t = absurd v

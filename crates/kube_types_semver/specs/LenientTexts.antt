@@ -1,7 +1,7 @@
 -- Trusted by laws alone.
--- What the text of a version as a whole means, read strictly or leniently.
--- Source: SemVer 2.0, semver.org; and the `normalize` option of `semver` in the CEL library `Semver`,
--- `k8s.io/apiserver/pkg/cel/library` of Kubernetes.
+-- The meaning of a version's text as a whole, read strictly or leniently.
+-- Source: SemVer 2.0, semver.org; and the `normalize` option of `semver` in the CEL library
+-- `Semver`, `k8s.io/apiserver/pkg/cel/library` of Kubernetes.
 use Rattle.semver.specs.Grammar.{IsValid}
 use Rattle.semver.specs.Identifiers.{marked, parts_text}
 use Rattle.semver.specs.OrderLaws.{join_dots}
@@ -11,16 +11,16 @@ use Rattle.std.specs.List.{list_all}
 use Rattle.std.specs.Prelude.{◌≡◌, ◌≢◌, ◌<◌, ◌⊎◌, ℕ, true, List, [], ◌∷◌, ◌++◌, length, slice_index, codes}
 use Rattle.std.specs.Str.Parse.{digits_value}
 
--- the text is this version by the grammar of SemVer 2.0
+-- the text spells this version by the grammar of SemVer 2.0
 abbrev pub IsVersionText : List ℕ → Parts → Type 0
 IsVersionText text p = (parts_text p ≡ text) × IsValid p
 
--- one digit or more, zeros before others too, and their number
+-- one or more digits, with any number of leading zeros, and the number that they spell
 abbrev pub IsNumberText : List ℕ → ℕ → Type 0
 IsNumberText digits n =
     (0 < length digits) × (list_all is_ascii_digit digits ≡ true) × (digits_value 10 digits ≡ n)
 
--- one to three numbers as texts; a number that is missing is 0
+-- one to three numbers as texts; a missing number is 0
 abbrev pub AreNumbers : List (List ℕ) → ℕ → ℕ → ℕ → Type 0
 AreNumbers [] k m n = ⊥
 AreNumbers (major ∷ []) k m n = IsNumberText major k × (m ≡ 0) × (n ≡ 0)
@@ -29,9 +29,9 @@ AreNumbers (major ∷ minor ∷ patch ∷ []) k m n =
     IsNumberText major k × IsNumberText minor m × IsNumberText patch n
 AreNumbers (major ∷ minor ∷ patch ∷ next ∷ more) k m n = ⊥
 
--- The text is this version but for zeros before its numbers and for numbers that are missing: one to three
--- numbers with dots between them, then a hyphen and its pre-release, then a plus and its build metadata, or
--- nothing after the numbers.
+-- The text spells this version apart from leading zeros of its numbers and missing numbers: one to
+-- three numbers separated by dots, then optionally a hyphen and the pre-release, then optionally a
+-- plus and build metadata, which need a pre-release before them.
 pub record IsLooseText (text : List ℕ) (p : Parts) : Type 0 where
   pub numbers : List (List ℕ)
   pub spelled : text ≡ join_dots numbers ++ (marked 45 p.3 ++ marked 43 p.4)
@@ -39,12 +39,13 @@ pub record IsLooseText (text : List ℕ) (p : Parts) : Type 0 where
   pub no_build_alone : length p.3 ≡ 0 → length p.4 ≡ 0
   pub valid : IsValid p
 
--- the first text is the second with one `v` or `V` before it, or the second, which begins with neither
+-- the first text is the second with one leading `v`
+-- or `V`, or is the second and starts with neither
 abbrev pub IsAfterV : List ℕ → List ℕ → Type 0
 IsAfterV text bare = (text ≡ codes "v" ++ bare) ⊎ ((text ≡ codes "V" ++ bare)
     ⊎ ((text ≡ bare) × (slice_index bare 0 ≢ 118) × (slice_index bare 0 ≢ 86)))
 
--- The text, read leniently, is this version: after one `v` or none it is that by SemVer 2.0,
--- or but for zeros and missing numbers.
+-- The text, read leniently, is this version: after an optional leading `v` it spells the version by
+-- SemVer 2.0, or apart from leading zeros and missing numbers.
 abbrev pub IsLenientText : List ℕ → Parts → Type 0
 IsLenientText text p = (bare : List ℕ) × IsAfterV text bare × (IsVersionText bare p ⊎ IsLooseText bare p)

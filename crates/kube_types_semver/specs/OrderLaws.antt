@@ -1,5 +1,5 @@
 -- Scaffolding: only proofs and private clauses cite it.
--- The order of versions is a total one, and ties those alone that are equal in every part.
+-- The order of versions is total, and only versions that are equal in every part compare as equal.
 use Rattle.semver.specs.OrderLaws.{pre_total, build_total, pre-anti, build-anti, same_text}
 use Rattle.semver.specs.Parse.{Parts}
 use Rattle.std.proofs.Common.{◌≡◌, true, refl, sym, ◌∙◌, ap}
@@ -22,7 +22,7 @@ parts_cmp_total =
     (then_total (on_total (λ (p : Parts). p.2) nat_cmp_total) (on_total (λ (p : Parts). p.3) pre_total))))
     (on_total (λ (p : Parts). p.4) build_total)
 
--- what a tie of two orders, one after the other, says of each
+-- if two orders in sequence compare as equal, so does each of them
 tie_first : (r s : Ordering) → ordering_then r s ≡ Equal → r ≡ Equal
 tie_first Less s e = cc e
 tie_first Equal s e = refl
@@ -33,7 +33,7 @@ tie_second Less s e = cc e
 tie_second Equal s e = e
 tie_second Greater s e = cc e
 
--- versions that tie are equal in every part
+-- versions that compare as equal are equal in every part
 pub tied_same : (p q : Parts) → parts_cmp p q ≡ Equal → p ≡ q
 tied_same p q e =
     let rank = tie_first _ _ e in
@@ -58,7 +58,7 @@ same_parts_equiv =
     (and_equiv (on_equiv (λ (p : Parts). p.3) nat_list_eq_equiv)
     (on_equiv (λ (p : Parts). p.4) nat_list_eq_equiv))))
 
--- the test for equality
+-- versions that the test finds equal are equal in every part
 pub tested_same : (p q : Parts) → same_parts p q ≡ true → p ≡ q
 tested_same p q e =
     let b1 = second_so _ _ e in

@@ -1,5 +1,5 @@
 -- Trusted by the headline.
--- What clauses see of a version: its three numbers, its pre-release and its build metadata.
+-- The view of a version in contracts: its three numbers, its pre-release and its build metadata.
 use Rattle.semver.specs.Identifiers.{parts_of}
 use Rattle.semver.specs.Parse.{Parts}
 use Rattle.kube_types_semver.specs.declared.version.KubeSemver.{KubeSemver}

@@ -1,6 +1,7 @@
-//! Versions of SemVer 2.0, as Kubernetes reads and orders them.
+//! Versions by SemVer 2.0, as Kubernetes reads and orders them.
 //!
-//! Source: <https://semver.org>, and the CEL library `Semver` in `k8s.io/apiserver/pkg/cel/library`.
+//! Source: <https://semver.org>, and the CEL library
+//! `Semver` in `k8s.io/apiserver/pkg/cel/library`.
 #![tactic(auto)]
 
 pub mod laws;

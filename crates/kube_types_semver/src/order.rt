@@ -7,7 +7,7 @@ ghost use Rattle.kube_types_semver.specs.Shown.{parts};
 use crate::version::KubeSemver;
 use std::cmp::Ordering;
 
-/// Two versions are equal where their numbers, pre-releases and build metadata are.
+/// Two versions are equal if their numbers, pre-releases and build metadata are.
 impl PartialEq for KubeSemver {
     ghost eq = { λ a b. same_parts (parts a) (parts b) };
 
@@ -22,7 +22,7 @@ impl Eq for KubeSemver {
     ghost laws = { version_eq_equivalence };
 }
 
-/// Versions are ordered by precedence, and those of one precedence by their build metadata.
+/// Versions are ordered by precedence, and versions of the same precedence by their build metadata.
 impl Ord for KubeSemver {
     ghost cmp = { on parts parts_cmp };
 

@@ -1,4 +1,4 @@
-//! Reading the text of a version, part by part.
+//! Reads the text of a version, part by part.
 ghost use Rattle.semver.specs.Order.{parts as parts_between_dots};
 ghost use Rattle.std.specs.List.{list_all};
 ghost use Rattle.std.specs.Option.{option_map};
@@ -12,7 +12,7 @@ use kube_types_refused::Refused;
 use semver::Version;
 use std::alloc::{AllocError, Global};
 
-/// The version that a text is by SemVer 2.0, if it is one.
+/// Parses a version by SemVer 2.0, or returns None if the text isn't one.
 #[tactic(auto, unfolding(crate::specs::Reading::strictly), using(crate::proofs::Texts::plain_read))]
 pub(crate) fn strict_version(alloc: Global, text: &str) -> Result<Option<KubeSemver>, Refused>
     ensures answer { IfOk result (λ version. option_map parts version ≡ strictly text.now) }
@@ -44,7 +44,7 @@ pub(crate) fn without_v(text: &str) -> &str
     text
 }
 
-/// The part before the first hyphen, and what follows that part.
+/// The text before the first hyphen, and the rest from the hyphen on.
 fn split_at_hyphen(text: &str) -> (&str, &str)
     ensures core { result.0.now ≡ core_of text.now }
     ensures tail { result.1.now ≡ tail_of text.now }
@@ -55,21 +55,21 @@ fn split_at_hyphen(text: &str) -> (&str, &str)
     }
 }
 
-/// Whether a part is one digit or more, and nothing else.
+/// Reports whether the part is one or more digits and nothing else.
 fn is_number(part: &str) -> bool
     ensures { result ≡ is_number part.now }
 {
     !part.is_empty() && part.as_bytes().iter().all(|byte| byte.is_ascii_digit())
 }
 
-/// Whether each part is one digit or more, and nothing else.
+/// Reports whether each part is one or more digits and nothing else.
 fn are_numbers(parts: &[&str]) -> bool
     ensures { result ≡ list_all (λ part. is_number part.now) parts.now }
 {
     parts.iter().all(|part| is_number(part))
 }
 
-/// A number without its leading zeros.
+/// The number without its leading zeros.
 fn number_text(digits: &str) -> &str
     ensures { result.now ≡ number_text digits.now }
 {
@@ -84,7 +84,8 @@ fn parts_of<'a>(alloc: Global, text: &'a str) -> Result<Vec<&'a str>, AllocError
     text.split('.').collect(alloc)
 }
 
-/// Three numbers in full, and the tail after them. `None` for no part, and for more than three.
+/// Three numbers in full, followed by the tail. None if
+/// there is no part, or if there are more than three.
 fn full_text(alloc: Global, parts: &[&str], tail: &str) -> Result<Option<String>, AllocError>
     ensures { IfOk result
         (λ text. option_map string_bytes text ≡ full_text (map (λ part. part.now) parts.now) tail.now) }
@@ -110,7 +111,9 @@ fn full_text(alloc: Global, parts: &[&str], tail: &str) -> Result<Option<String>
     }
 }
 
-/// The text in full that a text with no leading `v` stands for, if it stands for one.
+/// The text with three numbers in full if the part before its first
+/// hyphen is numbers separated by dots, or else the text itself. None
+/// if there are more than three numbers. The text has no leading `v`.
 pub(crate) fn normal_text(alloc: Global, text: &str) -> Result<Option<String>, Refused>
     ensures answer { IfOk result (λ full. option_map string_bytes full ≡ normal_text text.now) }
     ensures memory { IfErr result (λ e. e ≡ Memory) }

@@ -1,4 +1,4 @@
-//! `KubeSemver`: its reading, its three numbers and its copies.
+//! `KubeSemver`: parsing, its three numbers and copies.
 ghost use Rattle.std.specs.Option.{option_map};
 ghost use Rattle.std.specs.Prelude.{◌≡◌, false, IfOk, IfErr, IsOk};
 ghost use Rattle.kube_types_refused.specs.declared.Refused.TheVariants.{Memory};
@@ -10,22 +10,24 @@ use kube_types_refused::Refused;
 use semver::Version;
 use std::alloc::Global;
 
-/// A version of SemVer 2.0: three numbers, a pre-release and build metadata.
+/// A version by SemVer 2.0: three numbers, a pre-release and build metadata.
 #[derive(Debug, Drop)]
 pub struct KubeSemver {
     pub(crate) version: Version,
 }
 
 impl KubeSemver {
-    /// The version that a text is, if it is one.
+    /// Parses a version, or returns None if the text isn't one.
     ///
-    /// Strictly, a text is a version by SemVer 2.0 with numbers below 2 to the 64. A lenient reading drops
-    /// one leading `v` or `V`; where the part before the first `-` is one to three runs of digits with dots
-    /// between them, it drops their leading zeros and takes 0 for each number that is missing, and where it
-    /// is four runs or more, the text is no version. Any other text it reads strictly.
+    /// Strictly, a text is a version by SemVer 2.0 with numbers below 2 to the 64. A lenient
+    /// reading first drops one leading `v` or `V`. If the part before the first `-` is then one to
+    /// three runs of digits separated by dots, it drops their leading zeros and takes 0 for each
+    /// missing number; four or more runs aren't a version. Any other text is read strictly.
     ///
-    /// Answers `Refused::Memory` where memory is refused, and no other refusal. A strict reading of a version
-    /// with neither a pre-release nor build metadata takes no memory.
+    /// A strict reading of a version with neither a pre-release nor build metadata takes no memory.
+    ///
+    /// # Errors
+    /// [`Refused::Memory`] if memory is refused.
     #[tactic(auto, unfolding(crate::specs::Reading::version_of))]
     pub fn read(alloc: Global, text: &str, lenient: bool) -> Result<Option<KubeSemver>, Refused>
         ensures answer { IfOk result (λ version. option_map parts version ≡ version_of lenient text.now) }
@@ -41,28 +43,31 @@ impl KubeSemver {
         }
     }
 
-    /// The major number, if 64 bits hold it with a sign.
+    /// The major number, or None if it exceeds a signed 64-bit integer.
     pub fn major(&self) -> Option<i64>
         ensures { result ≡ integer_of (parts self.now).0 }
     {
         i64::try_from(self.version.major).ok()
     }
 
-    /// The minor number, if 64 bits hold it with a sign.
+    /// The minor number, or None if it exceeds a signed 64-bit integer.
     pub fn minor(&self) -> Option<i64>
         ensures { result ≡ integer_of (parts self.now).1 }
     {
         i64::try_from(self.version.minor).ok()
     }
 
-    /// The patch number, if 64 bits hold it with a sign.
+    /// The patch number, or None if it exceeds a signed 64-bit integer.
     pub fn patch(&self) -> Option<i64>
         ensures { result ≡ integer_of (parts self.now).2 }
     {
         i64::try_from(self.version.patch).ok()
     }
 
-    /// A copy of this version, or `Refused::Memory` where memory is refused.
+    /// Returns a copy of this version.
+    ///
+    /// # Errors
+    /// [`Refused::Memory`] if memory is refused.
     pub fn try_clone(&self) -> Result<KubeSemver, Refused>
         ensures same { IfOk result (λ version. parts version ≡ parts self.now) }
         ensures memory { IfErr result (λ e. e ≡ Memory) }

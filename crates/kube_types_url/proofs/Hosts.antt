@@ -3,7 +3,7 @@ use Rattle.std.proofs.Common.{◌≡◌, ◌≢◌, ℕ, List, [], ◌∷◌, �
 use Rattle.std.proofs.lemmas.List.{append_cancel_right}
 use Rattle.std.specs.Prelude.{codes}
 
--- what follows the first bracket
+-- the text after the first bracket
 after_bracket : (host rest inner : List ℕ) → host ≡ 91 ∷ rest → host ≡ codes "[" ++ inner ++ codes "]" → rest ≡ inner ++ (93 ∷ [])
 after_bracket host rest inner e f = let same : 91 ∷ rest ≡ 91 ∷ (inner ++ (93 ∷ [])) = sym e ∙ f in cc same
 

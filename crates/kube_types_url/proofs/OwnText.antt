@@ -1,4 +1,4 @@
--- The text of a web URL is read as that URL.
+-- The text of a web URL parses to that URL.
 use Rattle.std.proofs.Common.{◌≡◌, ◌==◌, ◌<◌, ℕ, List, length, slice_index, true, false, Some, None, sym, ◌∙◌, ap, arith, inl, inr}
 use Rattle.std.proofs.Math.ListN.{get_or-append}
 use Rattle.std.proofs.lemmas.Bool.{cases_Bool, ne_eqb}
@@ -13,7 +13,7 @@ use Rattle.url.specs.declared.scheme.SchemeType.TheVariants.{SpecialNotFile}
 use Rattle.kube_types_url.specs.Reading.{is_path, url_of}
 use Rattle.kube_types_url.proofs.Parsed.{full_other}
 
--- a scheme begins with a letter
+-- a scheme starts with a letter
 letter_first : (scheme : List ℕ) → 0 < length scheme → scheme_len scheme ≡ length scheme → is_ascii_alphabetic (slice_index scheme 0) ≡ true
 unfolding scheme_len
 letter_first scheme some whole = elim (cases_Bool (is_ascii_alphabetic (slice_index scheme 0))) [

@@ -1,4 +1,4 @@
--- What the parser reads of a text or a path.
+-- The result of parsing a text or a path.
 use Rattle.std.proofs.Common.{◌≡◌, ◌++◌, ℕ, Bool, List, true, false, Option, Some, None, refl, sym, ◌∙◌, ap}
 use Rattle.std.specs.Option.{option_map}
 use Rattle.std.specs.Prelude.{codes}

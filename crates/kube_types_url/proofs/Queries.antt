@@ -1,4 +1,4 @@
--- The values of a name among pairs, pair by pair.
+-- The values of a name among pairs, added one by one.
 use Rattle.std.proofs.Common.{◌≡◌, ℕ, Bool, ◌||◌, List, [], ◌∷◌, ◌++◌, map, take, get_or, filter, ltb, ◌<◌, ◌+◌, Bor, arith, cond, true, false, Some, refl, sym, ◌∙◌, ap, inl, inr}
 use Rattle.std.proofs.lemmas.Bool.{cases_Bool, eqb-true, eqb-false, lt-ltb}
 use Rattle.std.proofs.lemmas.List.{map-append, nil_from_length, take_more}
@@ -15,7 +15,7 @@ use Rattle.kube_types_url.specs.Query.{decoded_text, name_of, value_of, pairs_of
 abbrev Pair : Type 0
 Pair = List ℕ × List ℕ
 
--- the last element decides where no other does
+-- the last element decides if no other one does
 any_more : (p : Pair → Bool) (xs : List Pair) (y : Pair) → list_any p (xs ++ y ∷ []) ≡ (list_any p xs || p y)
 any_more p [] y = elim (p y) as (λ b. (b || false) ≡ (false || b)) [ true ↦ refl | false ↦ refl ]
 any_more p (x ∷ xs) y = elim (p x) as (λ b. (b || list_any p (xs ++ y ∷ [])) ≡ ((b || list_any p xs) || p y)) [ true ↦ refl | false ↦ any_more p xs y ]
@@ -67,13 +67,13 @@ values_more pairs name value other =
           rw (any, differs, kept_same test pairs (name, value) differs) refl
     ]
 
--- a map with no entries has no values
+-- a map without entries has no values
 pub no_values : (query : BTreeMap (String Global) (Vec (String Global) Global)) (other : List ℕ) → query.entries ≡ []
     → option_map texts (get_by_text query other) ≡ values_of [] other
 unfolding values_of
 no_values query other empty = rw empty refl
 
--- the values of a name after one pair more
+-- the values of a name after one more pair
 pub values_step : (pairs : List (String Global × String Global)) (name value : String Global) (other : List ℕ) (before after : Option (List (List ℕ)))
     → before ≡ values_of (map pair_texts pairs) other
     → after ≡ cond (bytes_eq other (string_bytes name)) (Some (values_or_none before ++ string_bytes value ∷ [])) before
@@ -83,7 +83,7 @@ values_step pairs name value other before after was step =
     ∙ sym (values_more (map pair_texts pairs) (string_bytes name) (string_bytes value) other)
     ∙ ap (λ l. values_of l other) (sym (map-append pair_texts pairs ((name, value) ∷ [])))
 
--- one piece more
+-- one more piece
 pub piece_more : (pieces : List (List ℕ)) (piece : List ℕ) → 0 < length piece
     → pairs_of_pieces (pieces ++ piece ∷ []) ≡ pairs_of_pieces pieces ++ (decoded_text (name_of piece), decoded_text (value_of piece)) ∷ []
 unfolding pairs_of_pieces
@@ -105,13 +105,13 @@ pub no_pieces : [] ≡ pairs_of_pieces []
 unfolding pairs_of_pieces
 no_pieces = refl
 
--- the next piece of a list
+-- the next piece of the list
 pub piece_taken : (items : List (Bor (List ℕ))) (i : ℕ) (d : Bor (List ℕ)) → i < length items
     → map (λ (p : Bor (List ℕ)). p.now) (take (i + 1) items) ≡ map (λ (p : Bor (List ℕ)). p.now) (take i items) ++ (get_or items i d).now ∷ []
 piece_taken items i d low =
     ap (map (λ (p : Bor (List ℕ)). p.now)) (take_more items i d low) ∙ map-append (λ (p : Bor (List ℕ)). p.now) (take i items) (get_or items i d ∷ [])
 
--- a pair for a piece
+-- a piece adds a pair
 pub pair_pushed : (old new : List (String Global × String Global)) (n v : String Global) (name value piece : List ℕ) (pieces : List (List ℕ))
     → new ≡ old ++ (n, v) ∷ [] → string_bytes n ≡ decoded_text name → string_bytes v ≡ decoded_text value → name ≡ name_of piece → value ≡ value_of piece
     → map pair_texts old ≡ pairs_of_pieces pieces → (length piece == 0) ≡ false → map pair_texts new ≡ pairs_of_pieces (pieces ++ piece ∷ [])
@@ -123,7 +123,7 @@ pair_pushed old new n v name value piece pieces pushed n_is v_is name_is value_i
     ap (map pair_texts) pushed ∙ map-append pair_texts old ((n, v) ∷ [])
     ∙ (λ i. was i ++ (first i, second i) ∷ []) ∙ sym (piece_more pieces piece long)
 
--- no pair for an empty piece
+-- an empty piece adds no pair
 pub piece_skipped : (old new : List (String Global × String Global)) (piece : List ℕ) (pieces : List (List ℕ))
     → new ≡ old → map pair_texts old ≡ pairs_of_pieces pieces → (length piece == 0) ≡ true → map pair_texts new ≡ pairs_of_pieces (pieces ++ piece ∷ [])
 piece_skipped old new piece pieces same was none =

@@ -1,5 +1,5 @@
 -- Trusted by the clauses of other library calls.
--- Equality of URLs: by text, and by whether they were read from a path.
+-- Equality of URLs: they have the same text, and either both or neither were parsed from a path.
 use Rattle.std.specs.Cmp.{IsEquivalence, on_equiv, and_equiv, bool_eq_equiv}
 use Rattle.std.specs.Cmp.Lexicographic.{nat_list_eq_equiv}
 use Rattle.std.specs.Prelude.{◌&&◌, Bool}

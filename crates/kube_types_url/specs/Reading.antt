@@ -1,7 +1,7 @@
 -- Trusted by the headline.
--- The text of a URL or of a path.
--- Source: the CEL library `URLs`, `k8s.io/apiserver/pkg/cel/library` of Kubernetes: a URL or an absolute
--- path; and the URL Standard, url.spec.whatwg.org, whose parser is `parse_url`.
+-- Parsing a URL or a path.
+-- Source: the CEL library `URLs`, `k8s.io/apiserver/pkg/cel/library` of Kubernetes: a URL or an
+-- absolute path; and the URL Standard, url.spec.whatwg.org, whose parser is `parse_url`.
 use Rattle.std.specs.Option.{option_map}
 use Rattle.std.specs.Prelude.{ℕ, ◌==◌, Bool, List, ◌++◌, Option, Some, None, slice_index, codes, if◌then◌else◌}
 use Rattle.std.specs.Result.{result_ok}
@@ -12,15 +12,15 @@ use Rattle.url.specs.declared.error.ParseError.{ParseError}
 use Rattle.url.specs.declared.error.ParseError.TheVariants.{OutOfMemory, Overflow}
 use Rattle.kube_types_url.specs.Shown.{Shown}
 
--- whether a text is read as a path: it begins with a slash, `/` (47)
+-- is a text a path? it is if it starts with a slash, `/` (47)
 abbrev pub is_path : List ℕ → Bool
 is_path text = slice_index text 0 == 47
 
--- what is parsed: a path stands on a host that counts for nothing
+-- the text that is parsed: a path is put after a host that has no effect
 unfoldable pub full_text : List ℕ → List ℕ
 full_text text = if is_path text then codes "http://localhost" ++ text else text
 
--- the URL that a text is, if it is one, and whether it is a path
+-- the URL that a text parses to, if it does, and whether it is a path
 unfoldable pub url_of : List ℕ → Option Shown
 url_of text = option_map (λ url. (url, is_path text)) (result_ok (parse_url None (full_text text)))
 

@@ -1,7 +1,7 @@
 -- Trusted by the headline.
--- What clauses see of a URL, and the texts of its parts.
--- Source: the CEL library `URLs`, `k8s.io/apiserver/pkg/cel/library` of Kubernetes: `getScheme`, `getHost`,
--- `getHostname`, `getPort`. A path has no scheme, and its host is `localhost`.
+-- The view of a URL in contracts, and the texts of its parts.
+-- Source: the CEL library `URLs`, `k8s.io/apiserver/pkg/cel/library` of Kubernetes: `getScheme`,
+-- `getHost`, `getHostname`, `getPort`. A path has no scheme, and its host is `localhost`.
 use Rattle.std.specs.Fmt.{decimal}
 use Rattle.std.specs.Prelude.{ℕ, Bool, List, [], ◌++◌, Option, Some, None, Vec, String, map, string_bytes, codes, if◌then◌else◌}
 use Rattle.std.specs.declared.alloc.Global.{Global}
@@ -13,7 +13,7 @@ use Rattle.url.specs.declared.host.Host.{Host}
 use Rattle.url.specs.declared.host.Host.TheVariants.{Domain, Ipv4, Ipv6}
 use Rattle.kube_types_url.specs.declared.kube_url.KubeUrl.{KubeUrl}
 
--- the parts of a URL, and whether it was read from a path
+-- the parts of a URL, and whether it was parsed from a path
 abbrev pub Shown : Type 0
 Shown = Parts × Bool
 
@@ -33,7 +33,7 @@ abbrev pub after_host : Option ℕ → List ℕ
 after_host None = []
 after_host (Some port) = codes ":" ++ decimal port
 
--- the host as a URL writes it, or nothing
+-- the host as written in a URL, or nothing
 abbrev pub host_or_nothing : Option (Host (List ℕ)) → List ℕ
 host_or_nothing None = []
 host_or_nothing (Some host) = host_text host

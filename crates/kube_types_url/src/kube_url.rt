@@ -1,4 +1,4 @@
-//! `KubeUrl`: its reading, its parts, its equality and its copies.
+//! `KubeUrl`: parsing, its parts, equality and copies.
 ghost use Rattle.std.specs.BTreeMap.{get_by_text};
 ghost use Rattle.std.specs.Cmp.{on_per, on_equiv, partial_equiv_from_equiv};
 ghost use Rattle.std.specs.Option.{option_map};
@@ -16,7 +16,7 @@ use std::alloc::Global;
 use std::collections::BTreeMap;
 use url::{Host, Url};
 
-/// A URL, or an absolute path that stands for one.
+/// A URL, or an absolute path in place of one.
 #[derive(Debug, Drop)]
 pub struct KubeUrl {
     pub(crate) url: Url,
@@ -24,13 +24,14 @@ pub struct KubeUrl {
 }
 
 impl KubeUrl {
-    /// The URL that a text is, if it is one.
+    /// Parses a URL or an absolute path, or returns None if the text is neither.
     ///
-    /// A text that begins with `/` is a path: it is read as `http://localhost` and the text.
+    /// A text that starts with `/` is a path. It is parsed
+    /// as a URL with `http://localhost` in front of it.
     ///
     /// # Errors
-    /// `Memory` where memory is refused, and `TooLarge` where `url` answers `Overflow`, which it does for no
-    /// text of less than 256 MiB.
+    /// [`Refused::Memory`] if memory is refused. [`Refused::TooLarge`] if `url` returns `Overflow`,
+    /// which is never reported for a text of less than 256 MiB.
     pub fn read(alloc: Global, text: &str) -> Result<Option<KubeUrl>, Refused>
         ensures url { IfOk result (λ url. option_map url_view url ≡ url_of text.now) }
         ensures large { IfErr result (λ e. e ≡ TooLarge → 268_435_456 ≤ length text.now) }
@@ -43,9 +44,10 @@ impl KubeUrl {
         }
     }
 
-    /// The scheme, and an empty text for a path.
+    /// Returns the scheme, which is empty for a path.
     ///
-    /// Answers `Refused::Memory` where memory is refused.
+    /// # Errors
+    /// [`Refused::Memory`] if memory is refused.
     pub fn scheme(&self, alloc: Global) -> Result<String, Refused>
         ensures answer { IfOk result (λ scheme. string_bytes scheme ≡ scheme_of (url_view self.now)) }
         ensures memory { IfErr result (λ e. e ≡ Memory) }
@@ -53,18 +55,20 @@ impl KubeUrl {
         Ok(String::from_str(alloc, self.scheme_str())?)
     }
 
-    /// The scheme, lent.
+    /// The scheme, borrowed.
     pub fn scheme_str(&self) -> &str
         ensures { result.now ≡ scheme_of (url_view self.now) }
     {
         if self.is_path { "" } else { self.url.scheme() }
     }
 
-    /// The host, with `:` and the port where the URL keeps one: `localhost` for a path,
-    /// and an empty text for no host.
+    /// Returns the host, followed by `:` and the port if the URL has
+    /// one. It is `localhost` for a path, and empty if there is no host.
     ///
-    /// A URL keeps no port that is the default of its scheme.
-    /// Answers `Refused::Memory` where memory is refused.
+    /// A URL doesn't keep a port that is the default of its scheme.
+    ///
+    /// # Errors
+    /// [`Refused::Memory`] if memory is refused.
     pub fn host(&self, alloc: Global) -> Result<String, Refused>
         ensures answer { IfOk result (λ host. string_bytes host ≡ host_of (url_view self.now)) }
         ensures memory { IfErr result (λ e. e ≡ Memory) }
@@ -79,10 +83,11 @@ impl KubeUrl {
         }
     }
 
-    /// The host without a port, and without the brackets of an IPv6 address: `localhost` for a path,
-    /// and an empty text for no host.
+    /// Returns the host without a port and without the brackets of an IPv6 address. It is
+    /// `localhost` for a path, and empty if there is no host.
     ///
-    /// Answers `Refused::Memory` where memory is refused.
+    /// # Errors
+    /// [`Refused::Memory`] if memory is refused.
     pub fn hostname(&self, alloc: Global) -> Result<String, Refused>
         ensures answer { IfOk result (λ name. string_bytes name ≡ hostname_of (url_view self.now)) }
         ensures memory { IfErr result (λ e. e ≡ Memory) }
@@ -90,7 +95,7 @@ impl KubeUrl {
         Ok(String::from_str(alloc, self.hostname_str())?)
     }
 
-    /// The host without a port and brackets, lent.
+    /// The host without port and brackets, borrowed.
     pub fn hostname_str(&self) -> &str
         ensures { result.now ≡ hostname_of (url_view self.now) }
     {
@@ -104,9 +109,10 @@ impl KubeUrl {
         }
     }
 
-    /// The port in decimal, where the URL keeps one, and else an empty text.
+    /// Returns the port in decimal, or an empty string if the URL has none.
     ///
-    /// Answers `Refused::Memory` where memory is refused.
+    /// # Errors
+    /// [`Refused::Memory`] if memory is refused.
     pub fn port(&self, alloc: Global) -> Result<String, Refused>
         ensures answer { IfOk result (λ port. string_bytes port ≡ port_text self.now.url.port) }
         ensures memory { IfErr result (λ e. e ≡ Memory) }
@@ -117,9 +123,10 @@ impl KubeUrl {
         }
     }
 
-    /// The path, percent-encoded.
+    /// Returns the path, percent-encoded.
     ///
-    /// Answers `Refused::Memory` where memory is refused.
+    /// # Errors
+    /// [`Refused::Memory`] if memory is refused.
     pub fn escaped_path(&self, alloc: Global) -> Result<String, Refused>
         ensures answer { IfOk result (λ path. string_bytes path ≡ self.now.url.path) }
         ensures memory { IfErr result (λ e. e ≡ Memory) }
@@ -127,20 +134,22 @@ impl KubeUrl {
         Ok(String::from_str(alloc, self.escaped_path_str())?)
     }
 
-    /// The path, percent-encoded and lent.
+    /// The path, percent-encoded and borrowed.
     pub fn escaped_path_str(&self) -> &str
         ensures { result.now ≡ self.now.url.path }
     {
         self.url.path()
     }
 
-    /// The query as a map from names to their values, these in the order in which they stand.
+    /// Returns the query as a map from each name to its
+    /// values, which are in the order of the query.
     ///
-    /// The query is cut at `&`, and empty pieces are dropped. A piece is a name and a value, cut at its first
-    /// `=`, and the value is empty where there is none. In both, `+` stands for a space, escapes are decoded,
-    /// and what is not UTF-8 is replaced.
+    /// The query is split at `&`, and empty pieces are dropped. A piece is split at its first `=`
+    /// into a name and a value; without a `=` the value is empty. In names and values, `+` is a
+    /// space, escapes are decoded, and invalid UTF-8 is replaced.
     ///
-    /// Answers `Refused::Memory` where memory is refused.
+    /// # Errors
+    /// [`Refused::Memory`] if memory is refused.
     pub fn query(&self, alloc: Global) -> Result<BTreeMap<String, Vec<String>>, Refused>
         ensures answer { IfOk result (λ query. (name : List ℕ) → option_map texts (get_by_text query name)
             ≡ values_of (pairs_of (unwrap_or self.now.url.query [])) name) }
@@ -150,7 +159,10 @@ impl KubeUrl {
         grouped(alloc, pairs)
     }
 
-    /// A copy of this URL, or `Refused::Memory` where memory is refused.
+    /// Returns a copy of this URL.
+    ///
+    /// # Errors
+    /// [`Refused::Memory`] if memory is refused.
     pub fn try_clone(&self) -> Result<KubeUrl, Refused>
         ensures same { IfOk result (λ copy. url_view copy ≡ url_view self.now) }
         ensures memory { IfErr result (λ e. e ≡ Memory) }
@@ -162,7 +174,7 @@ impl KubeUrl {
     }
 }
 
-/// Two URLs are equal where their texts are, and both or neither were read from a path.
+/// Two URLs are equal if their texts are, and either both or neither were parsed from a path.
 impl PartialEq for KubeUrl {
     ghost eq = { λ a b. same_url (url_view a) (url_view b) };
 

@@ -1,4 +1,5 @@
-//! Laws of URLs, over the definitions alone: each function here does nothing, and its contract is the law.
+//! Laws of URLs, about the definitions alone. Each
+//! is the contract of a function with an empty body.
 ghost use Rattle.std.specs.Cmp.{IsEquivalence};
 ghost use Rattle.std.specs.Prelude.{◌≡◌, ℕ, List, ◌++◌, ◌∷◌, [], true, false, Some, if◌then◌else◌};
 ghost use Rattle.std.specs.Str.{bytes_eq};
@@ -13,12 +14,13 @@ pub fn equality_is_an_equivalence()
     ensures { IsEquivalence same_url }
 {}
 
-/// A path is no URL's equal, also where both have one text.
+/// A path never equals a URL, even if both have the same text.
 pub fn paths_differ_from_urls()
     ensures { (path url : Parts) → same_url (path, true) (url, false) ≡ false }
 {}
 
-/// One pair more adds its value after those of its name, and leaves the values of every other name.
+/// One more pair adds its value after those of its name,
+/// and leaves the values of all other names unchanged.
 pub fn a_pair_adds_one_value()
     ensures { (pairs : List (List ℕ × List ℕ)) (name value other : List ℕ)
         → values_of (pairs ++ (name, value) ∷ []) other
@@ -27,7 +29,8 @@ pub fn a_pair_adds_one_value()
         else values_of pairs other) }
 {}
 
-/// The text of an `http`, `https`, `ws`, `wss` or `ftp` URL is read as that URL, and as no path.
+/// The text of an `http`, `https`, `ws`, `wss` or `ftp`
+/// URL parses to the same URL, and not to a path.
 pub fn web_urls_read_back()
     ensures { (url : Parts) → IsValid url → kind_of url ≡ SpecialNotFile
         → url_of (serialize url) ≡ Some (url, false) }

@@ -1,7 +1,7 @@
 //! URLs and absolute paths, as Kubernetes reads them in CEL rules.
 //!
-//! Source: the CEL library `URLs` in `k8s.io/apiserver/pkg/cel/library`, and the URL Standard,
-//! <https://url.spec.whatwg.org>.
+//! Source: the CEL library `URLs` in `k8s.io/apiserver/pkg/cel/library`,
+//! and the URL Standard, <https://url.spec.whatwg.org>.
 #![tactic(auto)]
 
 mod kube_url;

@@ -1,4 +1,4 @@
-//! The query of a URL: its pieces, and the map from names to values.
+//! The query of a URL: splitting it, and the map from names to values.
 ghost use Rattle.form_urlencoded.specs.Form.{decode};
 ghost use Rattle.std.specs.BTreeMap.{get_by_text};
 ghost use Rattle.std.specs.List.{slice_split};
@@ -13,14 +13,14 @@ use kube_types_refused::Refused;
 use std::alloc::{AllocError, Global};
 use std::collections::BTreeMap;
 
-/// What a name or a value stands for, in UTF-8.
+/// Decodes a name or a value to UTF-8.
 fn decoded_text(alloc: Global, text: &str) -> Result<String, AllocError>
     ensures { IfOk result (λ plain. string_bytes plain ≡ decoded_text text.now) }
 {
     form_urlencoded::decode(alloc, text.as_bytes())?.into_owned(alloc)
 }
 
-/// The pieces of a query between `&`.
+/// The pieces of a query, separated by `&`.
 fn pieces<'a>(alloc: Global, query: &'a str) -> Result<Vec<&'a str>, AllocError>
     ensures { IfOk result
         (λ pieces. map (λ piece. piece.now) pieces.items ≡ slice_split (λ b. b == 38) query.now) }
@@ -28,7 +28,7 @@ fn pieces<'a>(alloc: Global, query: &'a str) -> Result<Vec<&'a str>, AllocError>
     query.split('&').collect(alloc)
 }
 
-/// The name and the value of a piece, as they are written.
+/// The name and the value of a piece, as written.
 fn name_and_value(piece: &str) -> (&str, &str)
     ensures name { result.0.now ≡ name_of piece.now }
     ensures value { result.1.now ≡ value_of piece.now }
@@ -39,7 +39,7 @@ fn name_and_value(piece: &str) -> (&str, &str)
     }
 }
 
-/// The names and values of a query, in the order in which they stand.
+/// The names and values of a query, decoded and in order.
 pub(crate) fn pairs(alloc: Global, query: &str) -> Result<Vec<(String, String)>, Refused>
     ensures answer { IfOk result (λ pairs. map pair_texts pairs.items ≡ pairs_of query.now) }
     ensures memory { IfErr result (λ e. e ≡ Memory) }
@@ -55,7 +55,7 @@ pub(crate) fn pairs(alloc: Global, query: &str) -> Result<Vec<(String, String)>,
     Ok(pairs)
 }
 
-/// Adds a value after those of its name.
+/// Adds a value after the others of its name.
 fn add_value(
     query: &mut BTreeMap<String, Vec<String>>,
     alloc: Global,
@@ -72,7 +72,7 @@ fn add_value(
     Ok(())
 }
 
-/// The values of each name, in order.
+/// Groups the values by name, in order.
 pub(crate) fn grouped(
     alloc: Global,
     pairs: Vec<(String, String)>,

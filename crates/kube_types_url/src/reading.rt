@@ -1,4 +1,4 @@
-//! Reading a URL, and cutting the brackets off a host.
+//! Parses a URL, and removes the brackets of a host.
 ghost use Rattle.std.specs.Prelude.{◌≡◌, ◌≤◌, ◌<◌, ◌++◌, ℕ, List, None, codes, IfOk, IfErr, string_bytes};
 ghost use Rattle.std.specs.Result.{result_ok};
 ghost use Rattle.url.specs.Parser.{parse_url};
@@ -9,7 +9,7 @@ use kube_types_refused::Refused;
 use std::alloc::Global;
 use url::{ParseError, Url};
 
-/// The refusal that an error of the parser stands for, if it stands for one.
+/// The refusal for an error of the parser, or None if the error isn't a refusal.
 fn refusal(error: ParseError) -> Option<Refused>
     ensures { result ≡ refusal_of error }
 {
@@ -20,11 +20,11 @@ fn refusal(error: ParseError) -> Option<Refused>
     }
 }
 
-/// The least length of a text, in bytes, whose URL may be too large. `url` holds texts of less than 4 GB, and
-/// writes no byte as that many.
+/// The least length in bytes of a text whose URL may be too large: `url` holds texts of less than 4
+/// GB, which is sixteen times as long, and never writes one byte as sixteen.
 const LEAST_TOO_LARGE: usize = 268_435_456;
 
-/// What is reported of a refusal of a text of this length: no short text is too large.
+/// The refusal reported for a text of this length: a short text is never too large.
 fn exact_refusal(refused: Refused, length: usize) -> Refused
     ensures large { result ≡ TooLarge → 268_435_456 ≤ length }
     ensures short { length < 268_435_456 → result ≡ Memory }
@@ -36,7 +36,7 @@ fn exact_refusal(refused: Refused, length: usize) -> Refused
     refused
 }
 
-/// The text that is parsed: that of a path has `http://localhost` before it.
+/// The text that is parsed: for a path, `http://localhost` is put in front of it.
 pub(crate) fn full_text(alloc: Global, text: &str) -> Result<String, Refused>
     ensures answer { IfOk result (λ full. string_bytes full ≡ full_text text.now) }
     ensures memory { IfErr result (λ e. e ≡ Memory) }
@@ -48,8 +48,8 @@ pub(crate) fn full_text(alloc: Global, text: &str) -> Result<String, Refused>
     }
 }
 
-/// The URL that a text is by the URL Standard, if it is one.
-/// The length is that of the text that was given to be read.
+/// Parses a URL by the URL Standard, or returns None if the text isn't
+/// one. `length` is the length of the text that the caller was given.
 pub(crate) fn parsed(alloc: Global, text: &str, length: usize) -> Result<Option<Url>, Refused>
     ensures url { IfOk result (λ url. url ≡ result_ok (parse_url None text.now)) }
     ensures large { IfErr result (λ e. e ≡ TooLarge → 268_435_456 ≤ length) }
@@ -63,7 +63,7 @@ pub(crate) fn parsed(alloc: Global, text: &str, length: usize) -> Result<Option<
     }
 }
 
-/// What stands between the brackets of a host.
+/// The host without its brackets.
 pub(crate) fn without_brackets(host: &str) -> &str
     ensures { (inner : List ℕ) → host.now ≡ codes "[" ++ inner ++ codes "]" → result.now ≡ inner }
 {

@@ -9,7 +9,7 @@ use super::{List, Value, level_around};
 use kube_types_refused::Refused;
 use std::slice::Iter;
 
-/// One of these items.
+/// The item at an index, if any.
 #[tactic(auto, using(crate::proofs::Members::listed_get))]
 fn nth(items: &[Value], index: usize) -> Option<&Value>
     ensures { option_map (λ v. view v.now) result ≡ slice_get (list_of_items (items_view items.now)) index }
@@ -22,10 +22,11 @@ fn nth(items: &[Value], index: usize) -> Option<&Value>
 }
 
 impl List {
-    /// The list of these items.
+    /// Returns the list of these items.
     ///
     /// # Errors
-    /// `Memory` where it would have more levels than [`MAX_VALUE_LEVELS`](super::MAX_VALUE_LEVELS).
+    /// [`Refused::Memory`] if it would have more levels than
+    /// [`MAX_VALUE_LEVELS`](super::MAX_VALUE_LEVELS).
     pub fn of(items: Vec<Value>) -> Result<List, Refused>
         ensures value { IfOk result (λ l. l ≡ items_view items.items) }
         ensures memory { IfErr result (λ e. e ≡ Refused.Memory) }
@@ -55,14 +56,14 @@ impl List {
         self.items.as_slice()
     }
 
-    /// The items, one after the other.
+    /// Iterates over the items in order.
     pub fn iter(&self) -> Iter<'_, Value>
         ensures { items_view (iter_rest result) ≡ self.now }
     {
         self.items.as_slice().iter()
     }
 
-    /// How many items there are.
+    /// The number of items.
     #[tactic(auto, using(crate::proofs::Members::listed_length))]
     pub fn len(&self) -> usize
         ensures { result ≡ length (list_of_items self.now) }
@@ -70,7 +71,7 @@ impl List {
         self.items.len()
     }
 
-    /// Whether there are none.
+    /// Reports whether there are no items.
     #[tactic(auto, using(crate::proofs::Members::listed_length))]
     pub fn is_empty(&self) -> bool
         ensures { result ≡ (length (list_of_items self.now) == 0) }
@@ -78,14 +79,14 @@ impl List {
         self.items.len() == 0
     }
 
-    /// The item at an index.
+    /// The item at an index, if any.
     pub fn get(&self, index: usize) -> Option<&Value>
         ensures { option_map (λ v. view v.now) result ≡ slice_get (list_of_items self.now) index }
     {
         nth(self.items.as_slice(), index)
     }
 
-    /// Whether a double stands in the list, at any depth.
+    /// Reports whether the list contains a double, at any depth.
     pub fn holds_double(&self) -> bool
         ensures { result ≡ items_have_double self.now }
     {

@@ -32,7 +32,7 @@ fn put_into(entries: &mut Entries, key: Key, value: Value) -> Result<(), Refused
 }
 
 impl Map {
-    /// A map with no entries.
+    /// Returns an empty map.
     pub fn new(alloc: Global) -> Map
         ensures { result ≡ no_entries }
     {
@@ -43,10 +43,11 @@ impl Map {
         }
     }
 
-    /// The map of these entries.
+    /// Returns the map of these entries.
     ///
     /// # Errors
-    /// `Memory` where it would have more levels than [`MAX_VALUE_LEVELS`](super::MAX_VALUE_LEVELS).
+    /// [`Refused::Memory`] if it would have more levels than
+    /// [`MAX_VALUE_LEVELS`](super::MAX_VALUE_LEVELS).
     pub fn of(entries: Entries) -> Result<Map, Refused>
         ensures value { IfOk result (λ m. m ≡ entries_view entries.entries) }
         ensures memory { IfErr result (λ e. e ≡ Refused.Memory) }
@@ -69,10 +70,10 @@ impl Map {
         })
     }
 
-    /// One more entry, whose key isn't there.
+    /// Adds an entry whose key isn't there yet.
     ///
     /// # Errors
-    /// `Memory`, also where the map would have more levels than
+    /// [`Refused::Memory`] if memory is refused, or if the map would have more levels than
     /// [`MAX_VALUE_LEVELS`](super::MAX_VALUE_LEVELS).
     #[tactic(auto, using(crate::proofs::Members::more_doubles, crate::proofs::Members::more_levels))]
     pub(crate) fn insert_new(&mut self, key: Key, value: Value) -> Result<(), Refused>
@@ -89,14 +90,14 @@ impl Map {
         Ok(())
     }
 
-    /// The value at a key.
+    /// The value at a key, if any.
     pub fn get(&self, key: &Key) -> Option<&Value>
         ensures { option_map (λ v. view v.now) result ≡ find (key_view key.now) self.now }
     {
         self.entries.get(key)
     }
 
-    /// How many entries there are.
+    /// The number of entries.
     #[tactic(auto, using(crate::proofs::Members::entries_length))]
     pub fn len(&self) -> usize
         ensures { result ≡ length (list_of_entries self.now) }
@@ -104,7 +105,7 @@ impl Map {
         self.entries.len()
     }
 
-    /// The entries in the order of their keys, one after the other.
+    /// Iterates over the entries in key order.
     pub fn iter(&self) -> Iter<'_, Key, Value>
         ensures value { entries_view result ≡ self.now }
         ensures ordered { IsStrictlySortedBy
@@ -113,7 +114,7 @@ impl Map {
         self.entries.iter()
     }
 
-    /// Whether a double stands in the map, at any depth.
+    /// Reports whether the map contains a double, at any depth.
     pub fn holds_double(&self) -> bool
         ensures { result ≡ entries_have_double self.now }
     {

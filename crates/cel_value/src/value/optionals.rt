@@ -10,10 +10,11 @@ use std::alloc::Global;
 use std::rc::Rc;
 
 impl OptionalValue {
-    /// An optional that holds the value.
+    /// Returns an optional that holds the value.
     ///
     /// # Errors
-    /// `Memory`, also where it would have more levels than [`MAX_VALUE_LEVELS`](super::MAX_VALUE_LEVELS).
+    /// [`Refused::Memory`] if memory is refused, or if the optional would have more levels than
+    /// [`MAX_VALUE_LEVELS`](super::MAX_VALUE_LEVELS).
     pub fn of(alloc: Global, value: Value) -> Result<OptionalValue, Refused>
         ensures value { IfOk result (λ o. o ≡ item (view value) no_items) }
         ensures memory { IfErr result (λ e. e ≡ Refused.Memory) }
@@ -30,14 +31,14 @@ impl OptionalValue {
         })
     }
 
-    /// An optional without a value.
+    /// Returns an optional without a value.
     pub fn none() -> OptionalValue
         ensures { result ≡ no_items }
     {
         OptionalValue { held: None }
     }
 
-    /// The value that it holds.
+    /// The value that it holds, if any.
     pub fn value(&self) -> Option<&Value>
         ensures first { option_map (λ v. view v.now) result ≡ first_item self.now }
         ensures whole { option_items (option_map (λ v. view v.now) result) ≡ self.now }
@@ -48,7 +49,7 @@ impl OptionalValue {
         }
     }
 
-    /// The same optional. Its value is shared.
+    /// Returns a copy of the optional. Its value is shared.
     pub fn try_clone(&self) -> Result<OptionalValue, Refused>
         ensures value { IfOk result (λ o. o ≡ self.now) }
         ensures memory { IfErr result (λ e. e ≡ Refused.Memory) }

@@ -3,7 +3,7 @@ use Rattle.cel_syntax.specs.Names.{names_of}
 use Rattle.kube_cel_analysis.proofs.rule.add_names.Given as goal
 use Rattle.kube_cel_analysis.specs.Findings.{finding_view, names_findings}
 
--- what was found, with what is found of the names that are left
+-- the findings so far, followed by those of the names that are left
 abbrev pub invariant-loop-name : goal.invariant-loop-name
 invariant-loop-name l =
     map finding_view l.found.items ++ names_findings l.pointer l.rule (names_of (drop l.name-index l.names))

@@ -22,7 +22,7 @@ decreases-lint_additional l = 2 * count (node_tree l.node.now)
 abbrev pub decreases-lint_branches : goal.decreases-lint_branches
 decreases-lint_branches l = 2 * count (node_tree l.node.now)
 
--- what was found, with what is found within the properties that are left
+-- the findings so far, followed by those within the properties that are left
 abbrev pub invariant-lint_properties-loop-index : goal.invariant-lint_properties-loop-index
 invariant-lint_properties-loop-index l = (names : Naming)
     → map finding_view l.found.items ++ named_findings names l.pointer (rest l.index (named_of (node_tree l.node)))

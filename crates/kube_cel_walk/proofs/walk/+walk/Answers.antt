@@ -121,7 +121,7 @@ walk_properties-returns-clause-found g t c = λ b h.
     let steps = property_steps_are g.N.Node.form.steps s l.invariant.done (ap (λ es. Some (members_view es)) (sym ended) ∙ l.invariant.all) (subst (λ es. IsStrictlySortedBy string_cmp (keys_of es)) ended l.invariant.ordered) in
     l.invariant.found b h ∙ ap (λ ps. map error_view c.args.errors.now.items ++ found_through g.N.Node.form b (64 - c.args.state.now.depth) s ps) (sym steps)
 
--- ---- other members
+-- ---- additional members
 
 pub walk_extras-returns-in_default-clause-found : goal.walk_extras-returns-in_default-clause-found
 walk_extras-returns-in_default-clause-found g t c = λ b h.

@@ -6,7 +6,7 @@ use denote.Text.{Utf8}
 use denote.Shadow.{shadow}
 use Rattle.kube_functions_strings.proofs.splitting.pieces.Given as goal
 
--- says that each `&str` the loop changes is text
+-- shows that each `&str` that the loop changes is UTF-8
 abbrev pub invariant-loop-piece : goal.invariant-loop-piece
 invariant-loop-piece l =
     shadow (Utf8 l.rest)

@@ -4,7 +4,7 @@ use denote.Shadow.{shadow}
 use Rattle.kube_schema_values.specs.Unescape.{unescaped_text}
 use Rattle.kube_schema_values.proofs.unescaping.unescaped.Given as goal
 
--- says that each `&str` the loop changes is text
+-- records that each `&str` that the loop changes is UTF-8
 abbrev pub invariant-loop-name : goal.invariant-loop-name
 invariant-loop-name l = shadow (Utf8 l.rest) × (string_bytes l.name ++ unescaped_text 0 l.rest ≡ unescaped_text 0 l.text)
 
