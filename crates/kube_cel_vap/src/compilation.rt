@@ -1,7 +1,7 @@
 //! Compilation of the expressions of a policy.
 ghost use Rattle.cel.specs.Program.{program_term};
 ghost use Rattle.kube_cel_vap.specs.Validations.{expression_view};
-ghost use Rattle.kube_cel_vap.specs.Expressions.{compile_result, compiled_seen, compiled_view, error_view, message_program_seen, message_tree_in, program_seen, tree_in, unread_text, with_tree, with_trees};
+ghost use Rattle.kube_cel_vap.specs.Expressions.{compile_result, compiled_seen, compiled_view, error_view, unread_text, with_tree, with_trees};
 ghost use Rattle.std.specs.Prelude.{◌≡◌, IfErr, IfOk, option_map, Some, string_bytes};
 
 use crate::expression::{VapExpression, clone_text};
@@ -61,13 +61,14 @@ pub(crate) fn compile_expression(
     ensures compiled { IfOk result (λ r. compiled_seen r ≡ compile_result (expression_view expression.now)) }
     ensures memory { IfErr result (λ e. e ≡ Refused.Memory) }
 {
-    match read(alloc, expression, expression.expression.as_str())? {
-        Err(error) => Ok(Err(error)),
+    let text = expression.expression.as_str();
+    match Program::compile(alloc, text)? {
+        Err(source) => Ok(Err(error_of(alloc, text, expression, source)?)),
         Ok(program) => compile_message(alloc, expression, program),
     }
 }
 
-/// Compiles the messageExpression of an expression that has this program.
+/// Compiles the messageExpression, if there is one, of an expression that has this program.
 fn compile_message(
     alloc: Global,
     expression: &VapExpression,
@@ -77,43 +78,12 @@ fn compile_message(
         ≡ with_tree (expression_view expression.now) (program_term program)) }
     ensures memory { IfErr result (λ e. e ≡ Refused.Memory) }
 {
-    match read_message(alloc, expression)? {
-        Err(error) => Ok(Err(error)),
-        Ok(message) => Ok(Ok(with_programs(expression, program, message)?)),
-    }
-}
-
-/// Compiles the messageExpression of an expression, if it has one.
-fn read_message(
-    alloc: Global,
-    expression: &VapExpression,
-) -> Result<Result<Option<Program>, VapError>, Refused>
-    ensures read { IfOk result (λ r. message_program_seen r
-        ≡ message_tree_in (expression_view expression.now)
-        (expression_view expression.now).message_expression) }
-    ensures memory { IfErr result (λ e. e ≡ Refused.Memory) }
-{
     let Some(text) = &expression.message_expression else {
-        return Ok(Ok(None));
+        return Ok(Ok(with_programs(expression, program, None)?));
     };
-    match read(alloc, expression, text.as_str())? {
-        Ok(program) => Ok(Ok(Some(program))),
-        Err(unread) => Ok(Err(unread)),
-    }
-}
-
-/// Compiles one of the texts of an expression.
-fn read(
-    alloc: Global,
-    expression: &VapExpression,
-    text: &str,
-) -> Result<Result<Program, VapError>, Refused>
-    ensures read { IfOk result (λ r. program_seen r ≡ tree_in (expression_view expression.now) text.now) }
-    ensures memory { IfErr result (λ e. e ≡ Refused.Memory) }
-{
-    match Program::compile(alloc, text)? {
-        Ok(program) => Ok(Ok(program)),
-        Err(source) => Ok(Err(error_of(alloc, text, expression, source)?)),
+    match Program::compile(alloc, text.as_str())? {
+        Err(source) => Ok(Err(error_of(alloc, text.as_str(), expression, source)?)),
+        Ok(message) => Ok(Ok(with_programs(expression, program, Some(message))?)),
     }
 }
 
