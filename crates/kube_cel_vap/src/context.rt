@@ -89,17 +89,30 @@ fn bind_given(
     context.add_variable(name, bind_plain(alloc, value)?)
 }
 
-/// Returns a context with the names that are always bound.
-fn context_always<'a>(alloc: Global, given: &Given) -> Result<PolicyContext<'a>, Refused>
-    ensures bound { IfOk result (λ c. (x : List ℕ) → binding x (bindings_of c)
+/// Binds the names that are always bound, in a context without bindings.
+fn bind_always(alloc: Global, context: &mut PolicyContext<'_>, given: &Given) -> Result<(), Refused>
+    requires { bindings_of context.old ≡ [] }
+    ensures bound { OnOk result ((x : List ℕ) → binding x (bindings_of context.new)
         ≡ binding x (bindings_always (given_view given.now))) }
     ensures memory { IfErr result (λ e. e ≡ Refused.Memory) }
 {
-    let mut context = empty_context(alloc);
     context.add_variable("object", value_or_null(alloc, &given.object)?)?;
     context.add_variable("oldObject", value_or_null(alloc, &given.old_object)?)?;
     context.add_variable("request", request_or_empty(alloc, &given.request)?)?;
-    Ok(context)
+    Ok(())
+}
+
+/// Binds the names of all variables of a policy, in a context without bindings.
+fn bind_all(alloc: Global, context: &mut PolicyContext<'_>, given: &Given) -> Result<(), Refused>
+    requires { bindings_of context.old ≡ [] }
+    ensures bound { OnOk result ((x : List ℕ) → binding x (bindings_of context.new)
+        ≡ binding x (policy_bindings (given_view given.now))) }
+    ensures memory { IfErr result (λ e. e ≡ Refused.Memory) }
+{
+    bind_always(alloc, context, given)?;
+    bind_given(alloc, context, "params", &given.params)?;
+    bind_given(alloc, context, "namespaceObject", &given.namespace_object)?;
+    Ok(())
 }
 
 /// Returns the context of a policy's expressions, with the variables that were set.
@@ -108,13 +121,7 @@ pub(crate) fn context_of<'a>(alloc: Global, given: &Given) -> Result<PolicyConte
         ≡ binding x (policy_bindings (given_view given.now))) }
     ensures memory { IfErr result (λ e. e ≡ Refused.Memory) }
 {
-    let mut context = context_always(alloc, given)?;
-    bind_given(alloc, &mut context, "params", &given.params)?;
-    bind_given(
-        alloc,
-        &mut context,
-        "namespaceObject",
-        &given.namespace_object,
-    )?;
+    let mut context = empty_context(alloc);
+    bind_all(alloc, &mut context, given)?;
     Ok(context)
 }
