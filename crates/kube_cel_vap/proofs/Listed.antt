@@ -8,3 +8,9 @@ pub one_more_seen : {A B C D : Type 0} (see : A → D) (f : C → D) (g : B → 
 one_more_seen see f g done after a xs i x pushed before seen below is =
     ap (map see) pushed ∙ map-append see done (a ∷ []) ∙ (λ j. before j ++ (seen ∙ ap (λ y. f (g y)) is) j ∷ [])
     ∙ sym (ap (map f) (map_more g xs i x below) ∙ map-append f (map g (take i xs)) (g (get_or xs i x) ∷ []))
+
+-- one more item is copied
+pub one_more_copied : {A B : Type 0} (see : A → B) (done after : List A) (a : A) (xs : List A) (i : ℕ) (x : A) → after ≡ done ++ a ∷ [] → map see done ≡ map see (take i xs) → see a ≡ see x
+    → i < length xs → x ≡ get_or xs i x → map see after ≡ map see (take (i + 1) xs)
+one_more_copied see done after a xs i x pushed before seen below is =
+    ap (map see) pushed ∙ map-append see done (a ∷ []) ∙ (λ j. before j ++ (seen ∙ ap see is) j ∷ []) ∙ sym (map_more see xs i x below)

@@ -149,7 +149,7 @@ impl AdmissionRequest {
             operation: self.operation.clone()?,
             username: self.username.clone()?,
             uid: self.uid.clone()?,
-            groups: clone_texts(&self.groups)?,
+            groups: clone_texts(*self.groups.allocator(), self.groups.as_slice())?,
             name: self.name.clone()?,
             namespace: self.namespace.clone()?,
             dry_run: self.dry_run,
@@ -160,10 +160,10 @@ impl AdmissionRequest {
 }
 
 /// Returns copies of the texts.
-fn clone_texts(texts: &Vec<String>) -> Result<Vec<String>, AllocError>
-    ensures { IfOk result (λ v. map string_bytes v.items ≡ map string_bytes texts.now.items) }
+fn clone_texts(alloc: Global, texts: &[String]) -> Result<Vec<String>, AllocError>
+    ensures { IfOk result (λ v. map string_bytes v.items ≡ map string_bytes texts.now) }
 {
-    let mut cloned = Vec::with_capacity(*texts.allocator(), texts.len())?;
+    let mut cloned = Vec::with_capacity(alloc, texts.len())?;
     for text in texts {
         cloned.push(text.clone()?)?;
     }
