@@ -4,16 +4,12 @@ use Rattle.cel_semantics.specs.Bindings.{Bindings, binding}
 use Rattle.cel_semantics.specs.Outcome.{Outcome}
 use Rattle.cel_syntax.specs.Reading.{tree_of}
 use Rattle.cel_syntax_ast.specs.Term.{Term}
-use Rattle.cel_value.specs.Data.{Data}
-use Rattle.cel_value.specs.Faults.{Fault}
-use Rattle.cel_value.specs.Parts.{bool_in}
-use Rattle.cel_value.specs.Texts.{fault_text}
 use Rattle.kube_cel_vap.specs.Validations.{ExpressionData}
 use Rattle.kube_cel_vap.proofs.Bound.{meaning_same}
 use Rattle.kube_cel_vap.specs.Expressions.{Compiled, Unread, compile_result, message_tree_in, required_tree, with_tree, with_trees, ◌>>=◌}
-use Rattle.kube_cel_vap.specs.Results.{compiled_result, compiled_results, false_message, message_in, outcome_in, outcome_message, policy_library, policy_results, result_in, result_with, value_message}
+use Rattle.kube_cel_vap.specs.Results.{compiled_result, compiled_results, false_message, message_in, outcome_in, own_message, outcome_message, policy_library, policy_results, result_in, result_with}
 use Rattle.kube_cel_vap.specs.Variables.{Variables, policy_bindings}
-use Rattle.std.proofs.Common.{◌≡◌, ℕ, List, [], ◌∷◌, ◌++◌, map, codes, Option, Some, None, is_none, option_map, Result, Ok, Err, refl, sym, ap, ◌∙◌}
+use Rattle.std.proofs.Common.{◌≡◌, ℕ, List, [], ◌∷◌, ◌++◌, map, codes, Bool, true, false, not, Option, Some, None, is_none, is_some, option_map, Result, Ok, Err, refl, sym, ap, ◌∙◌}
 use Rattle.std.proofs.lemmas.List.{map-append}
 
 -- ---- laws
@@ -85,11 +81,21 @@ pub message_reported : (b : Book) (e : Bindings) (c : Compiled) (o : Option Term
     → s ≡ false_message c (Some outcome) → s ≡ false_message c (option_map (outcome_in b e) o)
 message_reported b e c o t s outcome k q p = p ∙ ap (λ r. false_message c (Some r)) q ∙ sym (ap (λ o. false_message c (option_map (outcome_in b e) o)) k)
 
-pub fault_reported : (b : Book) (e : Bindings) (c : Compiled) (f : Fault) (s : List ℕ) → Err f ≡ outcome_in b e c.tree → s ≡ codes "evaluation error: " ++ fault_text f → Some s ≡ message_in b e c
+pub outcome_reported : (b : Book) (e : Bindings) (c : Compiled) (r : Outcome) (o : Option (List ℕ)) → r ≡ outcome_in b e c.tree
+    → o ≡ outcome_message (false_message c (option_map (outcome_in b e) c.message_tree)) r → o ≡ message_in b e c
 unfolding message_in
-fault_reported b e c f s q p = ap Some p ∙ ap (outcome_message (false_message c (option_map (outcome_in b e) c.message_tree))) q
+outcome_reported b e c r o q p = p ∙ ap (outcome_message (false_message c (option_map (outcome_in b e) c.message_tree))) q
 
-pub value_reported : (b : Book) (e : Bindings) (c : Compiled) (v : Data) (o : Option (List ℕ)) → Ok v ≡ outcome_in b e c.tree
-    → o ≡ value_message (false_message c (option_map (outcome_in b e) c.message_tree)) v (bool_in v) → o ≡ message_in b e c
-unfolding message_in
-value_reported b e c v o q p = p ∙ ap (outcome_message (false_message c (option_map (outcome_in b e) c.message_tree))) q
+-- ---- messages that are there or not
+
+pub absence_seen : {A B : Type 0} (f : A → B) (o : Option A) (absent : Bool) → is_some o ≡ not absent → absent ≡ is_none (option_map f o)
+absence_seen f None true e = refl
+absence_seen f None false e = cc
+absence_seen f (Some a) true e = cc
+absence_seen f (Some a) false e = refl
+
+pub own_given : (c : Compiled) (m s : List ℕ) → c.message ≡ Some m → s ≡ m → s ≡ own_message c
+own_given c m s e p = p ∙ sym (ap (λ o. own_message (record c { message = o })) e)
+
+pub own_made : (c : Compiled) (s t : List ℕ) → c.message ≡ None → s ≡ codes "validation expression '" ++ (t ++ codes "' evaluated to false") → t ≡ c.expression → s ≡ own_message c
+own_made c s t e p q = p ∙ ap (λ t. codes "validation expression '" ++ (t ++ codes "' evaluated to false")) q ∙ sym (ap (λ o. own_message (record c { message = o })) e)

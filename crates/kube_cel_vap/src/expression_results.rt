@@ -8,7 +8,7 @@ ghost use Rattle.cel_value.specs.Parts.{bool_in};
 ghost use Rattle.cel_value.specs.View.{view};
 ghost use Rattle.kube_cel_vap.specs.Validations.{result_view};
 ghost use Rattle.kube_cel_vap.specs.Expressions.{compiled_seen, compiled_view, error_view, unread_text};
-ghost use Rattle.kube_cel_vap.specs.Results.{compiled_result, false_message, message_in, outcome_in, own_message, result_with, message_text, value_message};
+ghost use Rattle.kube_cel_vap.specs.Results.{compiled_result, false_message, message_in, outcome_in, outcome_message, own_message, result_with, message_text, value_message};
 ghost use Rattle.kube_cel_vap.specs.CallResults.{AreResultsUnder};
 ghost use Rattle.std.specs.Prelude.{◌≡◌, IfErr, IfOk, map, option_map, Some, string_bytes};
 
@@ -51,10 +51,12 @@ fn own_message(alloc: Global, compiled: &CompiledVapExpression) -> Result<String
     ensures { IfOk result (λ s. string_bytes s ≡ own_message (compiled_view compiled.now)) }
 {
     if let Some(message) = &compiled.message {
-        return message.clone();
+        let copied = message.clone()?;
+        return Ok(copied);
     }
     let text = compiled.text();
-    format!(in alloc; "validation expression '{text}' evaluated to false")
+    let made = format!(in alloc; "validation expression '{text}' evaluated to false")?;
+    Ok(made)
 }
 
 /// Returns the message of an expression that is false: the string that
@@ -125,6 +127,32 @@ fn value_message(
     }
 }
 
+/// Returns the message of an expression by its outcome; None if it is true.
+fn outcome_message(
+    alloc: Global,
+    compiled: &CompiledVapExpression,
+    outcome: &Answer,
+    context: &PolicyContext<'_>,
+    book: &mut PatternBook,
+) -> Result<Option<String>, Refused>
+    ensures keeps { Extends (entries_of book.new) (entries_of book.old) }
+    ensures reported { IfOk result
+        (λ o. HoldsForExtensions (entries_of book.new) (option_map string_bytes o)
+        (λ b. outcome_message
+        (false_message (compiled_view compiled.now)
+        (option_map (outcome_in b (bindings_of context.now)) (compiled_view compiled.now).message_tree))
+        (outcome_view outcome.now))) }
+    ensures memory { IfErr result (λ e. e ≡ Refused.Memory) }
+{
+    match outcome {
+        Ok(value) => value_message(alloc, compiled, value, context, book),
+        Err(fault) => {
+            let message = format!(in alloc; "evaluation error: {fault}")?;
+            Ok(Some(message))
+        }
+    }
+}
+
 /// Evaluates a compiled expression. Returns its message; None if it is true.
 fn message_of(
     alloc: Global,
@@ -137,16 +165,9 @@ fn message_of(
         (λ b. message_in b (bindings_of context.now) (compiled_view compiled.now))) }
     ensures memory { IfErr result (λ e. e ≡ Refused.Memory) }
 {
-    match outcome_of(alloc, &compiled.program, context, book)? {
-        Err(fault) => {
-            let message = format!(in alloc; "evaluation error: {fault}")?;
-            Ok(Some(message))
-        }
-        Ok(value) => {
-            let message = value_message(alloc, compiled, &value, context, book)?;
-            Ok(message)
-        }
-    }
+    let outcome = outcome_of(alloc, &compiled.program, context, book)?;
+    let message = outcome_message(alloc, compiled, &outcome, context, book)?;
+    Ok(message)
 }
 
 /// Returns the result of an expression that doesn't compile.
