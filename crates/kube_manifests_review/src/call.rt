@@ -115,8 +115,7 @@ fn add_old_self(
         message,
         Condition::Always,
         candidates,
-    )?;
-    Ok(())
+    )
 }
 
 /// Adds a candidate: a call of this function with this string, if there is one, may always fail.
@@ -133,11 +132,11 @@ fn add_fails(
     let Some(string) = string else {
         return Ok(());
     };
-    let message = fails_text(alloc, name, string)?;
     let condition = Condition::Fails {
         name: String::from_str(alloc, name)?,
         text: String::from_str(alloc, string)?,
     };
+    let message = fails_text(alloc, name, string)?;
     add_candidate(
         alloc,
         text,
@@ -145,8 +144,7 @@ fn add_fails(
         message,
         condition,
         candidates,
-    )?;
-    Ok(())
+    )
 }
 
 /// Adds a candidate: this pattern, if there is one, may be refused.
@@ -171,8 +169,7 @@ fn add_refused(
         message,
         condition,
         candidates,
-    )?;
-    Ok(())
+    )
 }
 
 /// Adds a candidate for the call's literal pattern, if it has one.
@@ -209,8 +206,7 @@ fn add_known(
 {
     add_old_self(alloc, text, receiver, name, candidates)?;
     add_fails(alloc, text, name, only_text(receiver, args), candidates)?;
-    add_pattern(alloc, text, receiver, name, args, candidates)?;
-    Ok(())
+    add_pattern(alloc, text, receiver, name, args, candidates)
 }
 
 /// Adds a candidate: the function has no form with this number of arguments, with or without a
@@ -235,8 +231,7 @@ fn add_wrong(
         message,
         Condition::Always,
         candidates,
-    )?;
-    Ok(())
+    )
 }
 
 /// Adds a candidate if a messageExpression calls an unknown function.
@@ -261,8 +256,7 @@ fn add_unknown(
         message,
         Condition::Always,
         candidates,
-    )?;
-    Ok(())
+    )
 }
 
 /// Adds the candidate findings of a call.

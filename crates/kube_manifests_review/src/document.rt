@@ -109,8 +109,7 @@ fn add_no_version(
         ReviewKind::Document,
         "the document has no versions",
         candidates,
-    )?;
-    Ok(())
+    )
 }
 
 /// Returns the candidate findings of a document.

@@ -54,10 +54,9 @@ fn add_method(
         (map term args.now))) }
 {
     match receiver {
-        Some(receiver) => add_call(alloc, text, Some(&**receiver), name, args, candidates)?,
-        None => add_call(alloc, text, None, name, args, candidates)?,
+        Some(receiver) => add_call(alloc, text, Some(&**receiver), name, args, candidates),
+        None => add_call(alloc, text, None, name, args, candidates),
     }
-    Ok(())
 }
 
 /// Adds the candidates of one node.

@@ -65,8 +65,7 @@ fn add_message(
     };
     let tree = program.expression();
     add_tree(alloc, text, tree, candidates)?;
-    add_kind(alloc, text, tree, candidates)?;
-    Ok(())
+    add_kind(alloc, text, tree, candidates)
 }
 
 /// Adds the candidates of a rule's own expression.
@@ -86,8 +85,7 @@ fn add_text(
         rule,
         is_message: false,
     };
-    add_tree(alloc, text, tree, candidates)?;
-    Ok(())
+    add_tree(alloc, text, tree, candidates)
 }
 
 /// Adds the candidates of a rule's messageExpression, if it has one.
@@ -108,8 +106,7 @@ fn add_message_text(
         rule,
         is_message: true,
     };
-    add_message(alloc, text, program, candidates)?;
-    Ok(())
+    add_message(alloc, text, program, candidates)
 }
 
 /// Adds the candidates of a compiled rule.
@@ -130,8 +127,7 @@ fn add_compiled(
         compiled.program.expression(),
         candidates,
     )?;
-    add_message_text(alloc, pointer, rule, &compiled.message_program, candidates)?;
-    Ok(())
+    add_message_text(alloc, pointer, rule, &compiled.message_program, candidates)
 }
 
 /// Adds the candidates of a rule, if it compiled.
@@ -145,10 +141,9 @@ fn add_result(
         (spec.compiled_candidates pointer.now (compiled_seen outcome.now))) }
 {
     match outcome {
-        Ok(compiled) => add_compiled(alloc, pointer, compiled, candidates)?,
-        Err(_) => {}
+        Ok(compiled) => add_compiled(alloc, pointer, compiled, candidates),
+        Err(_) => Ok(()),
     }
-    Ok(())
 }
 
 /// The source of a rule. Empty if it has none.
@@ -175,10 +170,9 @@ pub(crate) fn add_keys_of(
         (spec.members_of (view value.now)))) }
 {
     match value.as_object() {
-        Some(members) => add_keys(alloc, words, pointer, rule, members, candidates)?,
-        None => {}
+        Some(members) => add_keys(alloc, words, pointer, rule, members, candidates),
+        None => Ok(()),
     }
-    Ok(())
 }
 
 /// Adds the candidates of a rule.

@@ -7,7 +7,6 @@ ghost use Rattle.kube_manifests_review.specs.Candidates.{AddsCandidates, candida
 ghost use Rattle.kube_manifests_review.specs.Locations.{location_view};
 ghost use Rattle.kube_manifests_review.specs.Reviewed as spec;
 ghost use Rattle.kube_manifests_review.specs.Rules.{location_candidates};
-ghost use Rattle.kube_schema_rules.specs.Rules.{rule_items};
 ghost use Rattle.serde_json.specs.View.{items_view, view};
 
 use crate::candidate::{Candidate, Condition};
@@ -79,19 +78,12 @@ pub(crate) fn has_item(items: &[Value]) -> bool
     }
 }
 
-/// Reports whether a schema has a rule itself.
-fn has_rule(schema: &Value) -> bool
-    ensures { result ≡ spec.any_item (rule_items (view schema.now)) }
-{
-    has_item(rule_values(schema))
-}
-
 /// Reports whether any of these schemas has a rule.
 fn has_rules(locations: &[SchemaLocation<'_>]) -> bool
     ensures { result ≡ list_any spec.has_rules (map location_view locations.now) }
 {
     for location in locations {
-        if has_rule(location.schema) {
+        if has_item(rule_values(location.schema)) {
             return true;
         }
     }
@@ -117,8 +109,7 @@ fn add_no_rule(
         ReviewKind::NoRules,
         "the schema has no rules",
         candidates,
-    )?;
-    Ok(())
+    )
 }
 
 /// Adds the candidates of one schema: its keys, then its rules.

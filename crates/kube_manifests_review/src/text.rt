@@ -53,14 +53,11 @@ pub(crate) fn add_unconditional(
     ensures { OnOk result (AddsCandidates candidates.old.items candidates.new.items
         (unconditional pointer.now kind message.now ∷ [])) }
 {
-    candidates.push(Candidate {
-        finding: ReviewFinding {
-            pointer: String::from_str(alloc, pointer)?,
-            rule: String::new(alloc),
-            kind,
-            message: String::from_str(alloc, message)?,
-        },
-        condition: Condition::Always,
-    })?;
-    Ok(())
+    let text = Text {
+        pointer,
+        rule: "",
+        is_message: false,
+    };
+    let message = String::from_str(alloc, message)?;
+    add_candidate(alloc, text, kind, message, Condition::Always, candidates)
 }
