@@ -18,11 +18,13 @@ use std::alloc::{AllocError, Global};
 fn versions_of(crd: &Value) -> &[Value]
     ensures { items_view result.now ≡ spec.versions_of (view crd.now) }
 {
-    match crd
-        .get("spec")
-        .and_then(|it| it.get("versions"))
-        .and_then(Value::as_array)
-    {
+    let Some(spec) = crd.get("spec") else {
+        return &[];
+    };
+    let Some(listed) = spec.get("versions") else {
+        return &[];
+    };
+    match listed.as_array() {
         Some(versions) => versions.as_slice(),
         None => &[],
     }

@@ -134,14 +134,14 @@ fn add_compiled(
 fn add_result(
     alloc: Global,
     pointer: &str,
-    outcome: &Result<CompilationResult, CompilationError>,
+    outcome: Result<CompilationResult, CompilationError>,
     candidates: &mut Vec<Candidate>,
 ) -> Result<(), AllocError>
     ensures { OnOk result (AddsCandidates candidates.old.items candidates.new.items
-        (spec.compiled_candidates pointer.now (compiled_seen outcome.now))) }
+        (spec.compiled_candidates pointer.now (compiled_seen outcome))) }
 {
     match outcome {
-        Ok(compiled) => add_compiled(alloc, pointer, compiled, candidates),
+        Ok(compiled) => add_compiled(alloc, pointer, &compiled, candidates),
         Err(_) => Ok(()),
     }
 }
@@ -150,7 +150,10 @@ fn add_result(
 fn text_of_rule(rule: &Value) -> &str
     ensures { result.now ≡ spec.text_of_rule (view rule.now) }
 {
-    match rule.get("rule").and_then(Value::as_str) {
+    let Some(source) = rule.get("rule") else {
+        return "";
+    };
+    match source.as_str() {
         Some(text) => text,
         None => "",
     }
@@ -195,7 +198,7 @@ fn add_rule(
         candidates,
     )?;
     let compiled = compile_rule(alloc, rule)?;
-    add_result(alloc, pointer, &compiled, candidates)?;
+    add_result(alloc, pointer, compiled, candidates)?;
     Ok(())
 }
 

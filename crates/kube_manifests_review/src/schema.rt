@@ -35,18 +35,13 @@ fn candidate_of_finding(
     ensures { IfOk result (λ d. candidate_view d
         ≡ spec.candidate_of_finding base.now (linter.finding_view finding)) }
 {
-    let LintFinding {
-        pointer,
-        rule,
-        kind,
-        message,
-    } = finding;
+    let pointer = format!(in alloc; "{base}{}", finding.pointer)?;
     Ok(Candidate {
         finding: ReviewFinding {
-            pointer: format!(in alloc; "{base}{pointer}")?,
-            rule,
-            kind: ReviewKind::Lint(kind),
-            message,
+            pointer,
+            rule: finding.rule,
+            kind: ReviewKind::Lint(finding.kind),
+            message: finding.message,
         },
         condition: Condition::Always,
     })
