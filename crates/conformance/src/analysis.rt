@@ -1,13 +1,21 @@
 //! Answers rows about the analysis of a rule without an object: unknown names, costs, and both.
 
-use crate::schemas::compiled_given;
-use crate::types::{put_and_read, scope_of};
+use crate::types::{Returned, find_written, scope_of};
 use conformance_rows::texts::push_line;
 use conformance_rows::{Field, Found, Stop, given as rows};
 use kube_cel::cel::Program;
-use kube_cel::{AnalysisWarning, analyze_rule, check_rule_scope, estimate_rule_cost};
+use kube_cel::{
+    AnalysisWarning, CompiledSchema, analyze_rule, check_rule_scope, compile_schema,
+    estimate_rule_cost,
+};
 use kube_cel_analysis::{Sizes, estimated_cost};
 use std::alloc::Global;
+
+/// Compiles the schema that a row gave last.
+pub(crate) fn compiled_given(alloc: Global, given: &[Field]) -> Result<CompiledSchema, Stop> {
+    let schema = rows::json_needed(alloc, given, "schema")?;
+    Ok(compile_schema(alloc, &schema)?)
+}
 
 /// Writes a warning about a rule: its kind and message. A copy of it must be equal.
 fn put_warning(warning: &AnalysisWarning, rule: &str, out: &mut String) -> Result<(), Stop> {
@@ -37,11 +45,12 @@ fn warnings_of(
         return Ok(check_rule_scope(alloc, rule, scope)?);
     }
     let compiled = compiled_given(alloc, given)?;
-    if key == "cost warnings" {
-        Ok(estimate_rule_cost(alloc, rule, &compiled)?)
+    let warnings = if key == "cost warnings" {
+        estimate_rule_cost(alloc, rule, &compiled)
     } else {
-        Ok(analyze_rule(alloc, rule, &compiled, scope)?)
-    }
+        analyze_rule(alloc, rule, &compiled, scope)
+    };
+    Ok(warnings?)
 }
 
 /// Writes the warnings about the row's rule from the call that a key names.
@@ -57,17 +66,21 @@ fn put_warnings(alloc: Global, given: &[Field], key: &str, out: &mut String) -> 
 /// The greatest length of lists and texts if the row gives no other.
 const USUAL: u64 = 1_000;
 
+/// Returns the estimated cost of an expression.
+fn cost_of(alloc: Global, expression: &str, sizes: Sizes) -> Result<u64, Stop> {
+    match Program::compile(alloc, expression)? {
+        Ok(program) => Ok(estimated_cost(program.expression(), sizes)),
+        Err(_) => Err(Stop::Unfit("expression")),
+    }
+}
+
 /// Writes the estimated cost of the row's expression.
 fn put_cost(alloc: Global, given: &[Field], out: &mut String) -> Result<(), Stop> {
     let items = rows::number_or(given, "list size", USUAL)?;
     let length = rows::number_or(given, "text length", USUAL)?;
-    match Program::compile(alloc, rows::needed(given, "expression")?)? {
-        Ok(program) => {
-            let cost = estimated_cost(program.expression(), Sizes { items, length });
-            Ok(write!(out, "{cost}")?)
-        }
-        Err(_) => Err(Stop::Unfit("expression")),
-    }
+    let expression = rows::needed(given, "expression")?;
+    let cost = cost_of(alloc, expression, Sizes { items, length })?;
+    Ok(write!(out, "{cost}")?)
 }
 
 /// Answers a field about the row's rule or expression. The warnings of `analyze_rule` must be those
@@ -90,9 +103,7 @@ pub(crate) fn find(
         "warnings written" => {
             let rule = rows::needed(given, "rule")?;
             let warnings = warnings_of(alloc, given, rule, "warnings")?;
-            found.expect(field)?;
-            let is_read = put_and_read(alloc, &warnings, field.text.as_str(), &mut found.other)?;
-            found.end_expected(field, is_read)
+            find_written(alloc, Returned::Warnings(&warnings), field, found)
         }
         key => put_warnings(alloc, given, key, &mut found.text),
     }

@@ -1,25 +1,39 @@
-//! The cases that rows give to judge.
+//! The cases to judge: a schema with an object.
 
-use conformance_rows::nested::{object_given, schema_given, value_given};
 use conformance_rows::{Field, Stop, given as rows};
 use kube_cel::RootContext;
 use serde_json::Value;
 use std::alloc::{AllocError, Global};
 
 /// A schema, an object with its old state, and the root context.
-#[derive(Drop)]
-pub(crate) struct Case {
-    pub(crate) schema: Value,
-    pub(crate) object: Value,
-    pub(crate) old: Option<Value>,
-    pub(crate) root: Option<RootContext>,
+#[derive(Clone, Copy)]
+pub(crate) struct Case<'c> {
+    pub(crate) schema: &'c Value,
+    pub(crate) object: &'c Value,
+    pub(crate) old: Option<&'c Value>,
+    pub(crate) root: Option<&'c RootContext>,
+}
+
+impl Case<'_> {
+    /// Returns the case of a JSON list: a schema, an object and an old object.
+    pub(crate) fn from_list(list: &Value) -> Option<Case<'_>> {
+        match list.as_array()?.as_slice() {
+            [.., schema, object, old] => Some(Case {
+                schema,
+                object,
+                old: Some(old),
+                root: None,
+            }),
+            _ => None,
+        }
+    }
 }
 
 /// Appends a member's text to a field, if there is one.
 fn fill(field: &mut String, value: &Value, key: &str) -> Result<(), AllocError> {
-    match value.get(key).and_then(Value::as_str) {
-        Some(text) => field.push_str(text),
-        None => Ok(()),
+    match value.get(key) {
+        Some(Value::String(text)) => field.push_str(text.as_str()),
+        _ => Ok(()),
     }
 }
 
@@ -33,19 +47,9 @@ fn root_of(alloc: Global, reported: &Value) -> Result<RootContext, Stop> {
 }
 
 /// Reads the root context that a row gave last.
-fn root_given(alloc: Global, given: &[Field]) -> Result<Option<RootContext>, Stop> {
+pub(crate) fn root_given(alloc: Global, given: &[Field]) -> Result<Option<RootContext>, Stop> {
     match rows::json(alloc, given, "root context")? {
         Some(reported) => Ok(Some(root_of(alloc, &reported)?)),
         None => Ok(None),
     }
-}
-
-/// Reads the case that a row gives.
-pub(crate) fn given(alloc: Global, given: &[Field]) -> Result<Case, Stop> {
-    Ok(Case {
-        schema: schema_given(alloc, given)?,
-        object: object_given(alloc, given)?,
-        old: value_given(alloc, given, "old object")?,
-        root: root_given(alloc, given)?,
-    })
 }

@@ -1,10 +1,10 @@
 //! Answers rows about the causes of validation errors, and about what serde writes of the errors.
 
-use crate::schemas::errors_given;
-use crate::types::{put_and_read, read};
+use crate::case::Case;
+use crate::types::{Returned, find_written, read};
 use conformance_rows::texts::push_line;
 use conformance_rows::{Field, Found, Stop, given as rows};
-use kube_cel::{ValidationError, ValidationErrors};
+use kube_cel::{ValidationError, ValidationErrors, validate};
 use std::alloc::Global;
 
 /// Writes the text of an error's cause on a line, or `none` if it has none.
@@ -35,38 +35,35 @@ fn find_causes(errors: &[ValidationError], found: &mut Found) -> Result<(), Stop
     Ok(())
 }
 
-/// Answers with the causes in a copy of the errors of the row's object.
-fn find_copied(alloc: Global, given: &[Field], found: &mut Found) -> Result<(), Stop> {
-    let errors = errors_given(alloc, given)?;
+/// Answers with the causes in a copy of errors.
+fn find_copied(errors: &ValidationErrors, found: &mut Found) -> Result<(), Stop> {
     let copy = errors.try_clone()?;
-    if copy != errors {
+    if copy != *errors {
         return Err(Stop::Differs("try_clone"));
     }
     find_causes(copy.as_slice(), found)
 }
 
-/// Answers with the causes of the errors of the row's object, or of errors read from JSON, or with
-/// what serde writes of the errors.
+/// Answers with the causes of the errors in a case, or with what serde writes of them. There must
+/// be some.
 pub(crate) fn find(
     alloc: Global,
-    given: &[Field],
+    case: &Case<'_>,
     field: &Field,
     found: &mut Found,
 ) -> Result<(), Stop> {
-    match field.key.as_str() {
-        "causes" => find_copied(alloc, given, found),
-        "causes read" => {
-            let errors: Option<ValidationErrors> = read(alloc, rows::needed(given, "json")?)?;
-            match errors {
-                Some(errors) => find_causes(errors.as_slice(), found),
-                None => Err(Stop::Unfit("json")),
-            }
-        }
-        _ => {
-            let errors = errors_given(alloc, given)?;
-            found.expect(field)?;
-            let is_read = put_and_read(alloc, &errors, field.text.as_str(), &mut found.other)?;
-            found.end_expected(field, is_read)
-        }
+    match validate(alloc, case.schema, case.object, case.old)? {
+        Ok(()) => Err(Stop::Unfit("object")),
+        Err(errors) if field.key.as_str() == "causes" => find_copied(&errors, found),
+        Err(errors) => find_written(alloc, Returned::Errors(&errors), field, found),
+    }
+}
+
+/// Answers with the causes of the errors that are read from the row's JSON.
+pub(crate) fn find_read(alloc: Global, given: &[Field], found: &mut Found) -> Result<(), Stop> {
+    let errors: Option<ValidationErrors> = read(alloc, rows::needed(given, "json")?)?;
+    match errors {
+        Some(errors) => find_causes(errors.as_slice(), found),
+        None => Err(Stop::Unfit("json")),
     }
 }

@@ -44,22 +44,29 @@ const CHANGES: [&str; 7] = [
     "nothing", "kind", "path", "rule", "reason", "message", "count",
 ];
 
-/// Changes one field of an error.
-fn change(alloc: Global, error: &mut ValidationError, what: &str) -> Result<(), Stop> {
+/// Changes one field of the last error, or removes the error.
+fn change(alloc: Global, errors: &mut Vec<ValidationError>, what: &str) -> Result<(), Stop> {
+    if what == "count" {
+        let _ = errors.pop();
+        return Ok(());
+    }
+    let Some(last) = errors.last_mut() else {
+        return Ok(());
+    };
     match what {
         "kind" => {
-            error.kind = match error.kind {
+            last.kind = match last.kind {
                 ErrorKind::InvalidResult => ErrorKind::EvaluationError,
                 _ => ErrorKind::InvalidResult,
             };
         }
-        "path" => error.field_path.push('a')?,
-        "rule" => error.rule.push('a')?,
-        "reason" => match &mut error.reason {
+        "path" => last.field_path.push('a')?,
+        "rule" => last.rule.push('a')?,
+        "reason" => match &mut last.reason {
             Some(reason) => reason.push('a')?,
-            None => error.reason = Some(String::new(alloc)),
+            None => last.reason = Some(String::new(alloc)),
         },
-        "message" => error.message.push('a')?,
+        "message" => last.message.push('a')?,
         _ => {}
     }
     Ok(())
@@ -69,16 +76,8 @@ fn change(alloc: Global, error: &mut ValidationError, what: &str) -> Result<(), 
 /// changed in one field of the last error or lacks it.
 fn distinguishes(alloc: Global, errors: &ValidationErrors, what: &str) -> Result<bool, Stop> {
     let mut copies = errors.try_clone()?.into_vec();
-    if what == "count" {
-        let _ = copies.pop();
-    }
-    if let Some(last) = copies.last_mut() {
-        change(alloc, last, what)?;
-    }
-    let is_last_equal = match (errors.as_slice().last(), copies.as_slice().last()) {
-        (Some(a), Some(b)) => what != "count" && a == b,
-        _ => false,
-    };
+    change(alloc, &mut copies, what)?;
+    let is_last_equal = what != "count" && errors.as_slice().last() == copies.as_slice().last();
     Ok(*errors != ValidationErrors::from(copies) && !is_last_equal)
 }
 

@@ -1,6 +1,6 @@
 //! Answers rows about the linter.
 
-use crate::schemas::compiled_given;
+use crate::analysis::compiled_given;
 use conformance_rows::texts::push_line;
 use conformance_rows::{Field, Stop};
 use kube_cel::{LintFinding, LintKind, lint_schema};
@@ -22,23 +22,25 @@ pub(crate) fn lint_kind_of(name: &str) -> Result<LintKind, Stop> {
 
 /// The text of a member of an object.
 fn member<'v>(object: &'v Value, key: &'static str) -> Result<&'v str, Stop> {
-    match object.get(key).and_then(Value::as_str) {
-        Some(text) => Ok(text),
-        None => Err(Stop::Unfit(key)),
+    match object.get(key) {
+        Some(Value::String(text)) => Ok(text.as_str()),
+        _ => Err(Stop::Unfit(key)),
     }
+}
+
+/// Returns a copy of the text of a member of an object.
+fn copy_of(alloc: Global, object: &Value, key: &'static str) -> Result<String, Stop> {
+    Ok(String::from_str(alloc, member(object, key)?)?)
 }
 
 /// Reads a finding from a JSON object.
 pub(crate) fn finding_of(alloc: Global, object: &Value) -> Result<LintFinding, Stop> {
     let kind = lint_kind_of(member(object, "kind")?)?;
-    let pointer = member(object, "pointer")?;
-    let rule = member(object, "rule")?;
-    let message = member(object, "message")?;
     Ok(LintFinding {
-        pointer: String::from_str(alloc, pointer)?,
-        rule: String::from_str(alloc, rule)?,
+        pointer: copy_of(alloc, object, "pointer")?,
+        rule: copy_of(alloc, object, "rule")?,
         kind,
-        message: String::from_str(alloc, message)?,
+        message: copy_of(alloc, object, "message")?,
     })
 }
 

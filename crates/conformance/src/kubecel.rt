@@ -33,40 +33,11 @@ fn output(given: &[Field]) -> Result<Output, Stop> {
     }
 }
 
-/// The paths that a row's command names.
-#[derive(Drop)]
-struct Paths<'g> {
-    crds: Vec<&'g str>,
-    olds: Vec<&'g str>,
-    objects: Vec<&'g str>,
-    reviewed: Vec<&'g str>,
-}
-
 /// Reports whether a row gives a command.
 fn names_command(given: &[Field]) -> bool {
     rows::text(given, "check").is_some()
         || rows::text(given, "review").is_some()
         || rows::text(given, "admit").is_some()
-}
-
-/// Returns a row's command with these paths.
-fn command_of<'l, 'g>(given: &'g [Field], paths: &'l Paths<'g>) -> Command<'l, 'g> {
-    match rows::text(given, "admit") {
-        Some(policy) => Command::Admit(Admit {
-            policy,
-            request: rows::text(given, "with request"),
-            object: rows::text(given, "with object"),
-            old: rows::text(given, "with old object"),
-            params: rows::text(given, "with params"),
-            namespace: rows::text(given, "with namespace"),
-        }),
-        None if paths.reviewed.is_empty() => Command::Check(Check {
-            crds: paths.crds.as_slice(),
-            olds: paths.olds.as_slice(),
-            objects: paths.objects.as_slice(),
-        }),
-        None => Command::Review(paths.reviewed.as_slice()),
-    }
 }
 
 /// Runs a command over a row's files, with two writers. The first one accepts `writes` writes.
@@ -98,11 +69,25 @@ pub(crate) fn run_given(alloc: Global, given: &[Field], writes: u64) -> Result<R
         output: output(given)?,
         progress: rows::text(given, "progress").is_some(),
     };
-    let paths = Paths {
-        crds: rows::lines(alloc, given, "by")?,
-        olds: rows::lines(alloc, given, "before")?,
-        objects: rows::lines(alloc, given, "check")?,
-        reviewed: rows::lines(alloc, given, "review")?,
+    let crds = rows::lines(alloc, given, "by")?;
+    let olds = rows::lines(alloc, given, "before")?;
+    let objects = rows::lines(alloc, given, "check")?;
+    let reviewed = rows::lines(alloc, given, "review")?;
+    let command = match rows::text(given, "admit") {
+        Some(policy) => Command::Admit(Admit {
+            policy,
+            request: rows::text(given, "with request"),
+            object: rows::text(given, "with object"),
+            old: rows::text(given, "with old object"),
+            params: rows::text(given, "with params"),
+            namespace: rows::text(given, "with namespace"),
+        }),
+        None if reviewed.is_empty() => Command::Check(Check {
+            crds: crds.as_slice(),
+            olds: olds.as_slice(),
+            objects: objects.as_slice(),
+        }),
+        None => Command::Review(reviewed.as_slice()),
     };
-    Ok(run_command(alloc, command_of(given, &paths), form, given, writes))
+    Ok(run_command(alloc, command, form, given, writes))
 }

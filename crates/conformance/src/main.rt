@@ -6,7 +6,6 @@
 #![tactic(auto)]
 
 mod analysis;
-mod areas;
 mod case;
 mod causes;
 mod commands;
@@ -17,7 +16,6 @@ mod made;
 mod measure;
 mod memory;
 mod policies;
-mod schemas;
 mod subject;
 mod types;
 mod verdicts;

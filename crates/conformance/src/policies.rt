@@ -1,27 +1,28 @@
 //! Answers rows about policies: the results of expressions over an object, an old object,
 //! parameters, a namespace and a request.
 
-use crate::types::{put_and_read, read};
+use crate::types::{Returned, find_written, read};
 use conformance_rows::texts::push_line;
 use conformance_rows::{Field, Found, Stop, given as rows};
 use kube_cel::{
-    AdmissionRequest, CompiledVapExpression, VapError, VapEvaluator, VapEvaluatorBuilder,
+    AdmissionRequest, CompiledVapExpression, Refused, VapError, VapEvaluator, VapEvaluatorBuilder,
     VapExpression, VapResult,
 };
 use serde_json::Value;
 use std::alloc::Global;
 
-/// Reports whether a copy of a request equals it, and copies of its parts equal them.
-fn is_copied(request: &AdmissionRequest, copy: &AdmissionRequest) -> Result<bool, Stop> {
-    let kind = copy.kind.try_clone()?;
-    let resource = copy.resource.try_clone()?;
-    Ok(copy == request && kind == request.kind && resource == request.resource)
+/// Reports whether copies of a request's kind and resource equal them.
+fn are_parts_copied(request: &AdmissionRequest) -> Result<bool, Stop> {
+    Ok(
+        request.kind.try_clone()? == request.kind
+            && request.resource.try_clone()? == request.resource,
+    )
 }
 
-/// Returns a copy of a request, which must be equal.
+/// Returns a copy of a request. It must be equal, and so must copies of the request's parts.
 fn copy_of(request: &AdmissionRequest) -> Result<AdmissionRequest, Stop> {
     let copy = request.try_clone()?;
-    if is_copied(request, &copy)? {
+    if copy == *request && are_parts_copied(request)? {
         Ok(copy)
     } else {
         Err(Stop::Differs("try_clone"))
@@ -33,21 +34,19 @@ fn request_given(alloc: Global, given: &[Field]) -> Result<Option<AdmissionReque
     let Some(text) = rows::text(given, "request") else {
         return Ok(None);
     };
-    let request: Option<AdmissionRequest> = read(alloc, text)?;
-    match request {
-        Some(request) => Ok(Some(copy_of(&request)?)),
-        None => Err(Stop::Unfit("request")),
-    }
+    let Some(request): Option<AdmissionRequest> = read(alloc, text)? else {
+        return Err(Stop::Unfit("request"));
+    };
+    Ok(Some(copy_of(&request)?))
 }
 
-/// Sets the value of a key, if there is one.
-fn set(builder: VapEvaluatorBuilder, key: &str, value: Option<Value>) -> VapEvaluatorBuilder {
-    match (key, value) {
-        ("object", Some(value)) => builder.object(value),
-        ("old object", Some(value)) => builder.old_object(value),
-        ("params", Some(value)) => builder.params(value),
-        ("namespace object", Some(value)) => builder.namespace_object(value),
-        _ => builder,
+/// Sets the value of a key.
+fn set(builder: VapEvaluatorBuilder, key: &str, value: Value) -> VapEvaluatorBuilder {
+    match key {
+        "object" => builder.object(value),
+        "old object" => builder.old_object(value),
+        "params" => builder.params(value),
+        _ => builder.namespace_object(value),
     }
 }
 
@@ -58,8 +57,10 @@ fn with_value(
     builder: VapEvaluatorBuilder,
     key: &'static str,
 ) -> Result<VapEvaluatorBuilder, Stop> {
-    let value = rows::json(alloc, given, key)?;
-    Ok(set(builder, key, value))
+    match rows::json(alloc, given, key)? {
+        Some(value) => Ok(set(builder, key, value)),
+        None => Ok(builder),
+    }
 }
 
 /// Sets the request that the row gives, if any.
@@ -85,8 +86,7 @@ fn built(
     let builder = with_value(alloc, given, builder, "old object")?;
     let builder = with_value(alloc, given, builder, "params")?;
     let builder = with_value(alloc, given, builder, "namespace object")?;
-    let builder = with_request(alloc, given, builder)?;
-    Ok(builder.build())
+    Ok(with_request(alloc, given, builder)?.build())
 }
 
 /// Returns a builder with the values that an unset object, old object and request stand for.
@@ -124,9 +124,7 @@ fn expressions_given(alloc: Global, given: &[Field]) -> Result<Vec<VapExpression
         };
     }
     let expression = expression_given(alloc, given)?;
-    let mut expressions = Vec::new(alloc);
-    expressions.push(expression)?;
-    Ok(expressions)
+    Ok(Vec::from_array(alloc, [expression])?)
 }
 
 /// Writes the result of an expression: `pass` or `fail`, and its message if it has one. Copies of
@@ -162,78 +160,100 @@ fn put_results(
     Ok(())
 }
 
-/// Writes the results of expressions by `evaluate`.
-fn evaluate(
-    alloc: Global,
-    evaluator: &VapEvaluator,
+/// Ends a call that evaluated expressions, with its results.
+fn hold(
+    results: Result<Vec<VapResult>, Refused>,
     expressions: &[VapExpression],
-    out: &mut String,
+    call: &'static str,
+    found: &mut Found,
 ) -> Result<(), Stop> {
-    let results = evaluator.evaluate(alloc, expressions)?;
-    put_results(results.as_slice(), expressions, out)
+    let results = results?;
+    put_results(results.as_slice(), expressions, &mut found.other)?;
+    found.end(call)
 }
 
-/// Writes the results of expressions that one evaluator compiles and another evaluates.
-fn evaluate_compiled(
+/// Expressions, and what an evaluator without values compiles of them.
+#[derive(Clone, Copy)]
+struct Policy<'p> {
+    expressions: &'p [VapExpression],
+    compiled: &'p [Result<CompiledVapExpression, VapError>],
+}
+
+/// Answers with the results of expressions that an evaluator compiles itself.
+fn find_compiled(
     alloc: Global,
-    compiler: &VapEvaluator,
     evaluator: &VapEvaluator,
     expressions: &[VapExpression],
-    out: &mut String,
+    found: &mut Found,
 ) -> Result<(), Stop> {
-    let compiled = compiler.compile_expressions(alloc, expressions)?;
-    let results = evaluator.evaluate_compiled(alloc, compiled.as_slice())?;
-    put_results(results.as_slice(), expressions, out)
+    let compiled = evaluator.compile_expressions(alloc, expressions)?;
+    let results = evaluator.evaluate_compiled(alloc, compiled.as_slice());
+    hold(results, expressions, "evaluate_compiled", found)
 }
 
 /// Answers with the results of expressions by one evaluator: all at once, compiled first, and each
 /// alone.
-fn find_by(
+fn find_in_ways(
     alloc: Global,
     evaluator: &VapEvaluator,
     expressions: &[VapExpression],
     found: &mut Found,
 ) -> Result<(), Stop> {
-    evaluate(alloc, evaluator, expressions, &mut found.other)?;
-    found.end("evaluate")?;
-    evaluate_compiled(alloc, evaluator, evaluator, expressions, &mut found.other)?;
-    found.end("evaluate_compiled")?;
+    let results = evaluator.evaluate(alloc, expressions);
+    hold(results, expressions, "evaluate", found)?;
+    find_compiled(alloc, evaluator, expressions, found)?;
     for one in expressions.chunks(1) {
-        evaluate(alloc, evaluator, one, &mut found.other)?;
+        let results = evaluator.evaluate(alloc, one)?;
+        put_results(results.as_slice(), one, &mut found.other)?;
     }
     found.end("evaluate, each alone")
 }
 
-/// Answers with the results of expressions that an evaluator without values compiles and another
-/// one evaluates.
-fn find_by_other(
-    alloc: Global,
-    evaluator: &VapEvaluator,
-    expressions: &[VapExpression],
-    found: &mut Found,
-) -> Result<(), Stop> {
-    let compiler = VapEvaluator::builder().build();
-    evaluate_compiled(alloc, &compiler, evaluator, expressions, &mut found.other)?;
-    found.end("evaluate_compiled of what another compiled")
-}
-
-/// Answers with the results of the row's expressions from two evaluators: one with the row's
-/// values, and one built on `filled_builder` for which an evaluator without values compiled the
-/// expressions.
-fn find_results(
+/// Answers with the results of expressions by an evaluator with the row's values.
+fn find_by_one(
     alloc: Global,
     given: &[Field],
     expressions: &[VapExpression],
     found: &mut Found,
 ) -> Result<(), Stop> {
-    find_by(
-        alloc,
-        &built(alloc, given, VapEvaluator::builder())?,
-        expressions,
-        found,
-    )?;
-    let other = built(alloc, given, filled_builder(alloc))?;
-    find_by_other(alloc, &other, expressions, found)
+    let evaluator = built(alloc, given, VapEvaluator::builder())?;
+    find_in_ways(alloc, &evaluator, expressions, found)
+}
+
+/// Answers with the results of compiled expressions by an evaluator with the row's values that is
+/// built on `filled_builder`.
+fn find_by_other(
+    alloc: Global,
+    given: &[Field],
+    policy: Policy<'_>,
+    found: &mut Found,
+) -> Result<(), Stop> {
+    let evaluator = built(alloc, given, filled_builder(alloc))?;
+    let results = evaluator.evaluate_compiled(alloc, policy.compiled);
+    let call = "evaluate_compiled of what another compiled";
+    hold(results, policy.expressions, call, found)
+}
+
+/// Returns the results of expressions by an evaluator with the row's values.
+fn results_of(
+    alloc: Global,
+    given: &[Field],
+    expressions: &[VapExpression],
+) -> Result<Vec<VapResult>, Stop> {
+    let evaluator = built(alloc, given, VapEvaluator::builder())?;
+    Ok(evaluator.evaluate(alloc, expressions)?)
+}
+
+/// Answers with what serde writes of the results of expressions.
+fn find_results_written(
+    alloc: Global,
+    given: &[Field],
+    expressions: &[VapExpression],
+    field: &Field,
+    found: &mut Found,
+) -> Result<(), Stop> {
+    let results = results_of(alloc, given, expressions)?;
+    find_written(alloc, Returned::Results(&results), field, found)
 }
 
 /// Writes the result of compiling an expression: `compiled`, or the error with the text that
@@ -255,32 +275,50 @@ fn put_compiled(
 
 /// Writes the results of compiling expressions.
 fn put_all_compiled(
-    alloc: Global,
-    expressions: &[VapExpression],
+    compiled: &[Result<CompiledVapExpression, VapError>],
     out: &mut String,
 ) -> Result<(), Stop> {
-    let evaluator = VapEvaluator::builder().build();
-    let compiled = evaluator.compile_expressions(alloc, expressions)?;
-    for one in compiled.iter() {
+    for one in compiled {
         put_compiled(one, out)?;
     }
     Ok(())
 }
 
-/// Answers with what serde writes of the results of expressions, and checks that it reads that
-/// back.
-fn find_results_written(
+/// Answers a field about a policy.
+fn answer(
+    alloc: Global,
+    given: &[Field],
+    policy: Policy<'_>,
+    field: &Field,
+    found: &mut Found,
+) -> Result<(), Stop> {
+    match field.key.as_str() {
+        "compiled" => put_all_compiled(policy.compiled, &mut found.text),
+        "results written" => {
+            find_results_written(alloc, given, policy.expressions, field, found)
+        }
+        _ => {
+            find_by_one(alloc, given, policy.expressions, found)?;
+            find_by_other(alloc, given, policy, found)
+        }
+    }
+}
+
+/// Answers a field about expressions.
+fn find_of(
     alloc: Global,
     given: &[Field],
     expressions: &[VapExpression],
     field: &Field,
     found: &mut Found,
 ) -> Result<(), Stop> {
-    let evaluator = built(alloc, given, VapEvaluator::builder())?;
-    let results = evaluator.evaluate(alloc, expressions)?;
-    found.expect(field)?;
-    let is_read = put_and_read(alloc, &results, field.text.as_str(), &mut found.other)?;
-    found.end_expected(field, is_read)
+    let compiler = VapEvaluator::builder().build();
+    let compiled = compiler.compile_expressions(alloc, expressions)?;
+    let policy = Policy {
+        expressions,
+        compiled: compiled.as_slice(),
+    };
+    answer(alloc, given, policy, field, found)
 }
 
 /// Answers a field about the row's expressions.
@@ -291,11 +329,5 @@ pub(crate) fn find(
     found: &mut Found,
 ) -> Result<(), Stop> {
     let expressions = expressions_given(alloc, given)?;
-    match field.key.as_str() {
-        "compiled" => put_all_compiled(alloc, expressions.as_slice(), &mut found.text),
-        "results written" => {
-            find_results_written(alloc, given, expressions.as_slice(), field, found)
-        }
-        _ => find_results(alloc, given, expressions.as_slice(), found),
-    }
+    find_of(alloc, given, expressions.as_slice(), field, found)
 }

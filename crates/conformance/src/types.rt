@@ -33,7 +33,7 @@ fn put<T: Serialize>(alloc: Global, value: &T, out: &mut String) -> Result<(), A
 }
 
 /// Writes what serde writes of a value. Returns whether it reads an equal value from `text`.
-pub(crate) fn put_and_read<'t, T: Serialize + Deserialize<'t> + PartialEq + Drop>(
+fn put_and_read<'t, T: Serialize + Deserialize<'t> + PartialEq + Drop>(
     alloc: Global,
     value: &T,
     text: &'t str,
@@ -47,6 +47,41 @@ pub(crate) fn put_and_read<'t, T: Serialize + Deserialize<'t> + PartialEq + Drop
     }
 }
 
+/// What a call returned.
+#[derive(Clone, Copy)]
+pub(crate) enum Returned<'v> {
+    Errors(&'v ValidationErrors),
+    Warnings(&'v Vec<AnalysisWarning>),
+    Results(&'v Vec<VapResult>),
+}
+
+/// Answers with the field's text if that is what serde writes of what a call returned, and what
+/// serde reads an equal value from. White space outside strings isn't compared.
+pub(crate) fn find_written(
+    alloc: Global,
+    returned: Returned<'_>,
+    field: &Field,
+    found: &mut Found,
+) -> Result<(), Stop> {
+    found.expect(field)?;
+    let (text, out) = (field.text.as_str(), &mut found.other);
+    let is_read = match returned {
+        Returned::Errors(errors) => put_and_read(alloc, errors, text, out),
+        Returned::Warnings(warnings) => put_and_read(alloc, warnings, text, out),
+        Returned::Results(results) => put_and_read(alloc, results, text, out),
+    };
+    found.end_expected(field, is_read?)
+}
+
+/// What a row asks about a type.
+#[derive(Clone, Copy)]
+enum Question<'t> {
+    /// What serde writes of the value that it reads from this text.
+    Written(&'t str),
+    /// Whether each value of this list equals itself, read a second time, and no other.
+    Differ(&'t str),
+}
+
 /// Reads a value from a text by serde and writes it again, or writes `unread`.
 fn put_again<'t, T: Deserialize<'t> + Serialize + Drop>(
     alloc: Global,
@@ -58,37 +93,6 @@ fn put_again<'t, T: Deserialize<'t> + Serialize + Drop>(
         Some(value) => put(alloc, &value, out),
         None => out.push_str("unread"),
     }
-}
-
-/// Reads the row's JSON as the row's type and writes it again.
-fn put_as(alloc: Global, of: &str, text: &str, out: &mut String) -> Result<(), AllocError> {
-    match of {
-        "ErrorKind" => put_again::<ErrorKind>(alloc, text, out),
-        "ValidationError" => put_again::<ValidationError>(alloc, text, out),
-        "ValidationErrors" => put_again::<ValidationErrors>(alloc, text, out),
-        "WarningKind" => put_again::<WarningKind>(alloc, text, out),
-        "AnalysisWarning" => put_again::<AnalysisWarning>(alloc, text, out),
-        "GroupVersionKind" => put_again::<GroupVersionKind>(alloc, text, out),
-        "GroupVersionResource" => put_again::<GroupVersionResource>(alloc, text, out),
-        "AdmissionRequest" => put_again::<AdmissionRequest>(alloc, text, out),
-        "VapExpression" => put_again::<VapExpression>(alloc, text, out),
-        "VapResult" => put_again::<VapResult>(alloc, text, out),
-        _ => out.push_str("no type that is read"),
-    }
-}
-
-/// Answers with the field's text if that is what serde writes of the row's JSON, read as the row's
-/// type. White space outside strings isn't compared.
-pub(crate) fn written(
-    alloc: Global,
-    given: &[Field],
-    field: &Field,
-    found: &mut Found,
-) -> Result<(), Stop> {
-    let (of, json) = (rows::needed(given, "type")?, rows::needed(given, "json")?);
-    found.expect(field)?;
-    put_as(alloc, of, json, &mut found.other)?;
-    found.end_expected(field, true)
 }
 
 /// Reports whether two values of a list compare as they should: equal if their indices are, and
@@ -138,6 +142,22 @@ fn differ_of<'t, T: Deserialize<'t> + PartialEq + Drop>(
     }
 }
 
+/// Answers a question about a type that serde reads. Returns whether the values differ if that is
+/// the question.
+fn answer_of<'t, T: Deserialize<'t> + Serialize + PartialEq + Drop>(
+    alloc: Global,
+    question: Question<'t>,
+    out: &mut String,
+) -> Result<bool, AllocError> {
+    match question {
+        Question::Written(text) => {
+            put_again::<T>(alloc, text, out)?;
+            Ok(true)
+        }
+        Question::Differ(text) => differ_of::<T>(alloc, text, out),
+    }
+}
+
 /// Reads the findings in a JSON value, if it is a list.
 fn findings_in(alloc: Global, json: &Value) -> Result<Vec<LintFinding>, Stop> {
     let mut findings = Vec::new(alloc);
@@ -149,16 +169,10 @@ fn findings_in(alloc: Global, json: &Value) -> Result<Vec<LintFinding>, Stop> {
     Ok(findings)
 }
 
-/// Reads the findings of a JSON list.
-fn findings_of(alloc: Global, text: &str) -> Result<Vec<LintFinding>, Stop> {
-    let json = rows::json_of(alloc, "differ", text)?;
-    findings_in(alloc, &json)
-}
-
-/// Like `differ_in`, for a JSON list of findings.
-fn differ_of_findings(alloc: Global, text: &str, out: &mut String) -> Result<bool, Stop> {
-    let values = findings_of(alloc, text)?;
-    let again = findings_of(alloc, text)?;
+/// Like `differ_in`, for the findings in a JSON value.
+fn differ_of_findings(alloc: Global, json: &Value, out: &mut String) -> Result<bool, Stop> {
+    let values = findings_in(alloc, json)?;
+    let again = findings_in(alloc, json)?;
     Ok(differ_in(values.as_slice(), again.as_slice(), out)?)
 }
 
@@ -181,11 +195,8 @@ fn compare_by_name(of: &str, left: &str, right: &str) -> Result<(bool, bool), St
     Ok((left == right, left != right))
 }
 
-/// Like `differ_in`, for a JSON list of the names of scopes, or of the linter's kinds.
-fn differ_of_names(alloc: Global, of: &str, text: &str, out: &mut String) -> Result<bool, Stop> {
-    let Some(names): Option<Vec<String>> = read(alloc, text)? else {
-        return Ok(false);
-    };
+/// Like `differ_in`, for the names of scopes, or of the linter's kinds.
+fn differ_by_name(of: &str, names: &[String], out: &mut String) -> Result<bool, Stop> {
     for i in 0..names.len() {
         for k in 0..names.len() {
             let (left, right) = (names[i].as_str(), names[k].as_str());
@@ -198,46 +209,67 @@ fn differ_of_names(alloc: Global, of: &str, text: &str, out: &mut String) -> Res
     Ok(names.len() > 1)
 }
 
-/// Like `differ_in`, for a JSON list of a type that serde reads, given its name. `None` if there is
-/// no such type.
-fn differ_as(
+/// Like `answer_of`, for a type that serde doesn't read: findings of the linter, or names of scopes
+/// or of the linter's kinds.
+fn answer_unread(
     alloc: Global,
     of: &str,
-    text: &str,
+    question: Question<'_>,
     out: &mut String,
-) -> Result<Option<bool>, AllocError> {
-    let differ = match of {
-        "ErrorKind" => differ_of::<ErrorKind>(alloc, text, out)?,
-        "ValidationError" => differ_of::<ValidationError>(alloc, text, out)?,
-        "ValidationErrors" => differ_of::<ValidationErrors>(alloc, text, out)?,
-        "WarningKind" => differ_of::<WarningKind>(alloc, text, out)?,
-        "AnalysisWarning" => differ_of::<AnalysisWarning>(alloc, text, out)?,
-        "GroupVersionKind" => differ_of::<GroupVersionKind>(alloc, text, out)?,
-        "GroupVersionResource" => differ_of::<GroupVersionResource>(alloc, text, out)?,
-        "AdmissionRequest" => differ_of::<AdmissionRequest>(alloc, text, out)?,
-        "VapExpression" => differ_of::<VapExpression>(alloc, text, out)?,
-        "VapResult" => differ_of::<VapResult>(alloc, text, out)?,
-        _ => return Ok(None),
+) -> Result<bool, Stop> {
+    let Question::Differ(text) = question else {
+        out.push_str("no type that is read")?;
+        return Ok(true);
     };
-    Ok(Some(differ))
+    if of == "LintFinding" {
+        let json = rows::json_of(alloc, "differ", text)?;
+        return differ_of_findings(alloc, &json, out);
+    }
+    let names: Option<Vec<String>> = read(alloc, text)?;
+    match names {
+        Some(names) => differ_by_name(of, names.as_slice(), out),
+        None => Ok(false),
+    }
 }
 
-/// Answers with the field's text, a JSON list of values of the row's type, if each value equals
-/// itself, read a second time, and no other.
-pub(crate) fn differ(
+/// Answers a question about the type with this name.
+fn answer(alloc: Global, of: &str, question: Question<'_>, out: &mut String) -> Result<bool, Stop> {
+    let holds = match of {
+        "ErrorKind" => answer_of::<ErrorKind>(alloc, question, out),
+        "ValidationError" => answer_of::<ValidationError>(alloc, question, out),
+        "ValidationErrors" => answer_of::<ValidationErrors>(alloc, question, out),
+        "WarningKind" => answer_of::<WarningKind>(alloc, question, out),
+        "AnalysisWarning" => answer_of::<AnalysisWarning>(alloc, question, out),
+        "GroupVersionKind" => answer_of::<GroupVersionKind>(alloc, question, out),
+        "GroupVersionResource" => answer_of::<GroupVersionResource>(alloc, question, out),
+        "AdmissionRequest" => answer_of::<AdmissionRequest>(alloc, question, out),
+        "VapExpression" => answer_of::<VapExpression>(alloc, question, out),
+        "VapResult" => answer_of::<VapResult>(alloc, question, out),
+        _ => return answer_unread(alloc, of, question, out),
+    };
+    Ok(holds?)
+}
+
+/// Answers with the field's text if that is what serde writes of the row's JSON, read as the row's
+/// type; or, for `differ`, if it is a list of values of the type that are different. White space
+/// outside strings isn't compared.
+pub(crate) fn find(
     alloc: Global,
     given: &[Field],
     field: &Field,
     found: &mut Found,
 ) -> Result<(), Stop> {
-    let (of, text) = (rows::needed(given, "type")?, field.text.as_str());
-    let differ = match differ_as(alloc, of, text, &mut found.other)? {
-        Some(differ) => differ,
-        None if of == "LintFinding" => differ_of_findings(alloc, text, &mut found.other)?,
-        None => differ_of_names(alloc, of, text, &mut found.other)?,
-    };
-    if !differ {
-        return Err(Stop::Differs("=="));
+    let of = rows::needed(given, "type")?;
+    if field.key.as_str() == "written" {
+        let question = Question::Written(rows::needed(given, "json")?);
+        found.expect(field)?;
+        answer(alloc, of, question, &mut found.other)?;
+        return found.end_expected(field, true);
     }
-    Ok(found.say(text)?)
+    let text = field.text.as_str();
+    if answer(alloc, of, Question::Differ(text), &mut found.other)? {
+        Ok(found.say(text)?)
+    } else {
+        Err(Stop::Differs("=="))
+    }
 }
