@@ -1,2 +1,3 @@
 mod Fresh
 pub mod Unread
+pub mod Bound

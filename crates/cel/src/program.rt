@@ -108,7 +108,7 @@ impl Program {
     /// Patterns are settled by a book of this call alone.
     ///
     /// # Errors
-    /// Only [`Refused::Memory`], if memory is refused.
+    /// [`Refused`] if memory is refused, or the function set refuses a call.
     pub fn execute<F: Functions>(
         &self,
         alloc: Global,
@@ -118,7 +118,6 @@ impl Program {
             × HoldsForExtensions book (outcome_view r)
             (λ b. meaning (F.library (functions_of context.now)) b
             (program_term self.now) (bindings_of context.now))) }
-        ensures memory { IfErr result (λ e. e ≡ Memory) }
     {
         let mut book = PatternBook::new(alloc);
         self.execute_with(alloc, context, &mut book)
@@ -128,7 +127,7 @@ impl Program {
     /// means there: a value or an error. The book keeps its entries, even if memory is refused.
     ///
     /// # Errors
-    /// Only [`Refused::Memory`], if memory is refused.
+    /// [`Refused`] if memory is refused, or the function set refuses a call.
     pub fn execute_with<F: Functions>(
         &self,
         alloc: Global,
@@ -139,7 +138,6 @@ impl Program {
         ensures value { IfOk result (λ r. HoldsForExtensions (entries_of book.new) (outcome_view r)
             (λ b. meaning (F.library (functions_of context.now)) b
             (program_term self.now) (bindings_of context.now))) }
-        ensures memory { IfErr result (λ e. e ≡ Memory) }
     {
         run_code(alloc, self.code.as_slice(), context, book)
     }

@@ -16,16 +16,6 @@ abbrev pub is_int : ℤ → Bool
 is_int (pos n) = nat_lt n (2 ^ 63)
 is_int (negsuc n) = nat_lt n (2 ^ 63)
 
--- the int of a value, or None if it isn't one
-abbrev pub int_in : Data → Option ℤ
-int_in (int n) = Some n
-int_in _ = None
-
--- the uint of a value, or None if it isn't one
-abbrev pub uint_in : Data → Option ℕ
-uint_in (uint n) = Some n
-uint_in _ = None
-
 -- the value of a number, or an overflow if it is None
 abbrev pub or_overflow : {A : Type 0} → (A → Data) → Option A → Outcome
 or_overflow f o = option_map_or (λ n. Ok (f n)) o (Err overflow)

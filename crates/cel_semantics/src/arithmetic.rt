@@ -1,8 +1,8 @@
 //! Sums, differences, products, quotients and remainders of values without doubles.
-ghost use Rattle.std.specs.Prelude.{◌≡◌, ◌+◌, ◌*◌, ◌++◌, ◌+ℤ◌, ◌-ℤ◌, ◌*ℤ◌, neg_ℤ, IfOk, IfErr, Ok, map};
+ghost use Rattle.std.specs.Prelude.{◌≡◌, ◌+◌, ◌*◌, ◌++◌, ◌+ℤ◌, ◌-ℤ◌, ◌*ℤ◌, neg_ℤ, IfOk, Ok, map};
 ghost use Rattle.cel_value.specs.Data.{int, uint, text, bytes, list};
 ghost use Rattle.cel_value.specs.View.{view};
-ghost use Rattle.cel_semantics.specs.Arithmetic.{int_in, uint_in, or_overflow, int_or_overflow, uint_or_overflow, opposite, items_joined, sum_of, difference_of, product_of, quotient_of, remainder_of};
+ghost use Rattle.cel_semantics.specs.Arithmetic.{or_overflow, int_or_overflow, uint_or_overflow, opposite, items_joined, sum_of, difference_of, product_of, quotient_of, remainder_of};
 ghost use Rattle.cel_semantics.specs.Outcome.{outcome_view};
 
 use crate::operators::{Answer, no_such_overload};
@@ -13,24 +13,6 @@ use crate::times::{
 use cel_value::{ExecutionError, List, Refused, Value};
 use std::alloc::Global;
 use std::rc::Rc;
-
-fn as_int(value: &Value) -> Option<i64>
-    ensures { result ≡ int_in (view value.now) }
-{
-    match value {
-        Value::Int(n) => Some(*n),
-        _ => None,
-    }
-}
-
-fn as_uint(value: &Value) -> Option<u64>
-    ensures { result ≡ uint_in (view value.now) }
-{
-    match value {
-        Value::UInt(n) => Some(*n),
-        _ => None,
-    }
-}
 
 fn checked_int(number: Option<i64>) -> Answer
     ensures { outcome_view result ≡ or_overflow int number }
@@ -53,7 +35,6 @@ fn checked_uint(number: Option<u64>) -> Answer
 /// Returns the arithmetic negation of a value.
 pub(crate) fn negate(alloc: Global, value: &Value) -> Result<Answer, Refused>
     ensures value { IfOk result (λ r. outcome_view r ≡ opposite (view value.now)) }
-    ensures memory { IfErr result (λ e. e ≡ Refused.Memory) }
 {
     match value {
         Value::Int(n) => Ok(negate_int(*n)),
@@ -145,7 +126,6 @@ fn remainder_of_uints(m: u64, n: u64) -> Answer
 
 pub(crate) fn join_texts(alloc: Global, left: &str, right: &str) -> Result<Answer, Refused>
     ensures value { IfOk result (λ r. outcome_view r ≡ Ok (text (left.now ++ right.now))) }
-    ensures memory { IfErr result (λ e. e ≡ Refused.Memory) }
 {
     let mut joined = String::with_capacity(alloc, left.len().saturating_add(right.len()))?;
     joined.push_str(left)?;
@@ -155,7 +135,6 @@ pub(crate) fn join_texts(alloc: Global, left: &str, right: &str) -> Result<Answe
 
 fn join_bytes(alloc: Global, left: &[u8], right: &[u8]) -> Result<Answer, Refused>
     ensures value { IfOk result (λ r. outcome_view r ≡ Ok (bytes (left.now ++ right.now))) }
-    ensures memory { IfErr result (λ e. e ≡ Refused.Memory) }
 {
     let mut joined = Vec::with_capacity(alloc, left.len().saturating_add(right.len()))?;
     joined.extend_from_slice(left)?;
@@ -165,7 +144,6 @@ fn join_bytes(alloc: Global, left: &[u8], right: &[u8]) -> Result<Answer, Refuse
 
 fn copies_of_both(alloc: Global, left: &[Value], right: &[Value]) -> Result<Vec<Value>, Refused>
     ensures value { IfOk result (λ v. map view v.items ≡ map view left.now ++ map view right.now) }
-    ensures memory { IfErr result (λ e. e ≡ Refused.Memory) }
 {
     let mut joined = Vec::with_capacity(alloc, left.len().saturating_add(right.len()))?;
     push_copies(&mut joined, left)?;
@@ -176,7 +154,6 @@ fn copies_of_both(alloc: Global, left: &[Value], right: &[Value]) -> Result<Vec<
 #[tactic(auto, using(crate::proofs::Items::joined_items))]
 fn join_lists(alloc: Global, left: &List, right: &List) -> Result<Answer, Refused>
     ensures value { IfOk result (λ r. outcome_view r ≡ Ok (list (items_joined left.now right.now))) }
-    ensures memory { IfErr result (λ e. e ≡ Refused.Memory) }
 {
     let joined = copies_of_both(alloc, left.as_slice(), right.as_slice())?;
     Ok(Ok(Value::from_items(alloc, joined)?))
@@ -185,14 +162,13 @@ fn join_lists(alloc: Global, left: &List, right: &List) -> Result<Answer, Refuse
 /// Adds two values.
 pub(crate) fn add(alloc: Global, left: &Value, right: &Value) -> Result<Answer, Refused>
     ensures value { IfOk result (λ r. outcome_view r ≡ sum_of (view left.now) (view right.now)) }
-    ensures memory { IfErr result (λ e. e ≡ Refused.Memory) }
 {
     match left {
-        Value::Int(m) => match as_int(right) {
+        Value::Int(m) => match right.as_int() {
             Some(n) => Ok(add_ints(*m, n)),
             None => Ok(Err(no_such_overload(alloc, "+")?)),
         },
-        Value::UInt(m) => match as_uint(right) {
+        Value::UInt(m) => match right.as_uint() {
             Some(n) => Ok(add_uints(*m, n)),
             None => Ok(Err(no_such_overload(alloc, "+")?)),
         },
@@ -217,14 +193,13 @@ pub(crate) fn add(alloc: Global, left: &Value, right: &Value) -> Result<Answer, 
 /// Subtracts the right value from the left one.
 pub(crate) fn subtract(alloc: Global, left: &Value, right: &Value) -> Result<Answer, Refused>
     ensures value { IfOk result (λ r. outcome_view r ≡ difference_of (view left.now) (view right.now)) }
-    ensures memory { IfErr result (λ e. e ≡ Refused.Memory) }
 {
     match left {
-        Value::Int(m) => match as_int(right) {
+        Value::Int(m) => match right.as_int() {
             Some(n) => Ok(subtract_ints(*m, n)),
             None => Ok(Err(no_such_overload(alloc, "-")?)),
         },
-        Value::UInt(m) => match as_uint(right) {
+        Value::UInt(m) => match right.as_uint() {
             Some(n) => Ok(subtract_uints(*m, n)),
             None => Ok(Err(no_such_overload(alloc, "-")?)),
         },
@@ -237,14 +212,13 @@ pub(crate) fn subtract(alloc: Global, left: &Value, right: &Value) -> Result<Ans
 /// Multiplies two values.
 pub(crate) fn multiply(alloc: Global, left: &Value, right: &Value) -> Result<Answer, Refused>
     ensures value { IfOk result (λ r. outcome_view r ≡ product_of (view left.now) (view right.now)) }
-    ensures memory { IfErr result (λ e. e ≡ Refused.Memory) }
 {
     match left {
-        Value::Int(m) => match as_int(right) {
+        Value::Int(m) => match right.as_int() {
             Some(n) => Ok(multiply_ints(*m, n)),
             None => Ok(Err(no_such_overload(alloc, "*")?)),
         },
-        Value::UInt(m) => match as_uint(right) {
+        Value::UInt(m) => match right.as_uint() {
             Some(n) => Ok(multiply_uints(*m, n)),
             None => Ok(Err(no_such_overload(alloc, "*")?)),
         },
@@ -255,14 +229,13 @@ pub(crate) fn multiply(alloc: Global, left: &Value, right: &Value) -> Result<Ans
 /// Divides the left value by the right one.
 pub(crate) fn divide(alloc: Global, left: &Value, right: &Value) -> Result<Answer, Refused>
     ensures value { IfOk result (λ r. outcome_view r ≡ quotient_of (view left.now) (view right.now)) }
-    ensures memory { IfErr result (λ e. e ≡ Refused.Memory) }
 {
     match left {
-        Value::Int(m) => match as_int(right) {
+        Value::Int(m) => match right.as_int() {
             Some(n) => Ok(divide_ints(*m, n)),
             None => Ok(Err(no_such_overload(alloc, "/")?)),
         },
-        Value::UInt(m) => match as_uint(right) {
+        Value::UInt(m) => match right.as_uint() {
             Some(n) => Ok(divide_uints(*m, n)),
             None => Ok(Err(no_such_overload(alloc, "/")?)),
         },
@@ -273,14 +246,13 @@ pub(crate) fn divide(alloc: Global, left: &Value, right: &Value) -> Result<Answe
 /// Returns the remainder of dividing the left value by the right one.
 pub(crate) fn remainder(alloc: Global, left: &Value, right: &Value) -> Result<Answer, Refused>
     ensures value { IfOk result (λ r. outcome_view r ≡ remainder_of (view left.now) (view right.now)) }
-    ensures memory { IfErr result (λ e. e ≡ Refused.Memory) }
 {
     match left {
-        Value::Int(m) => match as_int(right) {
+        Value::Int(m) => match right.as_int() {
             Some(n) => Ok(remainder_of_ints(*m, n)),
             None => Ok(Err(no_such_overload(alloc, "%")?)),
         },
-        Value::UInt(m) => match as_uint(right) {
+        Value::UInt(m) => match right.as_uint() {
             Some(n) => Ok(remainder_of_uints(*m, n)),
             None => Ok(Err(no_such_overload(alloc, "%")?)),
         },

@@ -1,5 +1,5 @@
 //! Calls of functions.
-ghost use Rattle.std.specs.Prelude.{◌≡◌, false, length, map, option_map, is_some, IfOk, IfErr};
+ghost use Rattle.std.specs.Prelude.{◌≡◌, false, length, map, option_map, is_some, IfOk};
 ghost use Rattle.std.specs.List.{list_any};
 ghost use Rattle.std.specs.Option.{option_map_or};
 ghost use Rattle.cel_patterns.specs.Book.{Extends};
@@ -40,7 +40,8 @@ fn any_holds_double(args: &[Value]) -> bool
 /// argument is an error. The book keeps its entries in any case.
 ///
 /// # Errors
-/// Only [`Refused::Memory`], if memory is refused.
+/// [`Refused`] if the function set refuses the call, or memory is refused.
+#[inline(always)]
 pub fn call<F: Functions>(
     alloc: Global,
     functions: &F,
@@ -54,7 +55,6 @@ pub fn call<F: Functions>(
     ensures value { IfOk result (λ r. HoldsForExtensions (entries_of book.new) (outcome_view r)
         (λ b. call_outcome (F.library functions.now) b name.now
         (option_map (λ v. view v.now) receiver.entry) (map view args.now))) }
-    ensures memory { IfErr result (λ e. e ≡ Refused.Memory) }
 {
     if receiver_holds_double(receiver) || any_holds_double(args) {
         return Ok(Err(double_fault(alloc)?));

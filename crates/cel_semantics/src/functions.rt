@@ -1,5 +1,5 @@
 //! The functions that an expression may call.
-ghost use Rattle.std.specs.Prelude.{◌≡◌, length, map, option_map, is_some, IfOk, IfErr};
+ghost use Rattle.std.specs.Prelude.{◌≡◌, length, map, option_map, is_some, IfOk};
 ghost use Rattle.cel_patterns.specs.Book.{Extends};
 ghost use Rattle.cel_patterns.specs.Entries.{entries_of};
 ghost use Rattle.cel_patterns.specs.Extensions.{HoldsForExtensions};
@@ -44,7 +44,7 @@ pub trait Functions: Copy {
     /// keeps its entries, even if memory is refused.
     ///
     /// # Errors
-    /// Only [`Refused::Memory`], if memory is refused.
+    /// [`Refused`] if memory is refused, or a text is too large to be read.
     fn call(
         &self,
         alloc: Global,
@@ -58,6 +58,5 @@ pub trait Functions: Copy {
         ensures keeps { Extends (entries_of book.new) (entries_of book.old) }
         ensures value { IfOk result (λ r. HoldsForExtensions (entries_of book.new) (outcome_view r)
             ((library self.now).answer_of name.now
-            (option_map (λ v. view v.now) receiver.entry) (map view args.now))) }
-        ensures memory { IfErr result (λ e. e ≡ Refused.Memory) };
+            (option_map (λ v. view v.now) receiver.entry) (map view args.now))) };
 }

@@ -1,5 +1,5 @@
 //! The results of macros.
-ghost use Rattle.std.specs.Prelude.{◌≡◌, [], Ok, Err, Result, Option, IfOk, IfErr, map};
+ghost use Rattle.std.specs.Prelude.{◌≡◌, [], Ok, Err, Result, Option, IfOk, map};
 ghost use Rattle.cel_value.specs.View.{view};
 ghost use Rattle.cel_semantics.specs.Decisions.{truth};
 ghost use Rattle.cel_semantics.specs.Macros.{item_if, iteration_result_of, made_of, macro_name, iteration_result_view};
@@ -33,7 +33,6 @@ fn keep(
 ) -> Result<Result<Option<Value>, ExecutionError>, Refused>
     ensures value { IfOk result (λ g. iteration_result_view g
         ≡ and_then (truth name.now (outcome_view answer)) (λ b. Ok (item_if (view item.now) b))) }
-    ensures memory { IfErr result (λ e. e ≡ Refused.Memory) }
 {
     match answer {
         Ok(Value::Bool(true)) => Ok(Ok(Some(item.try_clone()?))),
@@ -56,7 +55,6 @@ pub fn iteration_result(
 ) -> Result<Result<Option<Value>, ExecutionError>, Refused>
     ensures value { IfOk result (λ g. iteration_result_view g
         ≡ iteration_result_of kind (view item.now) [] (outcome_view answer)) }
-    ensures memory { IfErr result (λ e. e ≡ Refused.Memory) }
 {
     match kind {
         MacroKind::All => keep(alloc, "all", item, answer),
@@ -76,7 +74,6 @@ pub fn iteration_result(
 /// Only [`Refused::Memory`], if memory is refused.
 pub fn finish(alloc: Global, kind: MacroKind, given: Vec<Value>) -> Result<Answer, Refused>
     ensures value { IfOk result (λ r. outcome_view r ≡ made_of kind (map view given.items)) }
-    ensures memory { IfErr result (λ e. e ≡ Refused.Memory) }
 {
     match kind {
         MacroKind::ExistsOne => Ok(Ok(Value::Bool(given.len() == 1))),

@@ -1,5 +1,5 @@
 //! Map literals, built entry by entry.
-ghost use Rattle.std.specs.Prelude.{◌≡◌, IfOk, IfErr, OnOk};
+ghost use Rattle.std.specs.Prelude.{◌≡◌, IfOk, OnOk};
 ghost use Rattle.cel_value.specs.Data.{map_of};
 ghost use Rattle.cel_value.specs.Find.{find};
 ghost use Rattle.cel_value.specs.Keys.{key_view, put as with_entry};
@@ -17,7 +17,6 @@ use std::rc::Rc;
 fn insert_copy(copy: &mut Entries, key: &Key, value: &Value) -> Result<(), Refused>
     ensures written { OnOk result (entries_view copy.new.entries
         ≡ with_entry (key_view key.now) (view value.now) (entries_view copy.old.entries)) }
-    ensures memory { IfErr result (λ e. e ≡ Refused.Memory) }
 {
     let same_key = key.try_clone()?;
     let same_value = value.try_clone()?;
@@ -27,7 +26,6 @@ fn insert_copy(copy: &mut Entries, key: &Key, value: &Value) -> Result<(), Refus
 
 fn copy_of(alloc: Global, entries: &Map) -> Result<Map, Refused>
     ensures value { IfOk result (λ m. m ≡ entries.now) }
-    ensures memory { IfErr result (λ e. e ≡ Refused.Memory) }
 {
     let mut copy = Entries::new(alloc);
     for (key, value) in entries.iter() {
@@ -39,7 +37,6 @@ fn copy_of(alloc: Global, entries: &Map) -> Result<Map, Refused>
 /// Returns the map itself if nothing else holds it, and otherwise a copy.
 fn owned(alloc: Global, shared: Rc<Map>) -> Result<Map, Refused>
     ensures value { IfOk result (λ m. m ≡ shared.value) }
-    ensures memory { IfErr result (λ e. e ≡ Refused.Memory) }
 {
     match Rc::try_unwrap(shared) {
         Ok(entries) => Ok(entries),
@@ -51,7 +48,6 @@ fn owned(alloc: Global, shared: Rc<Map>) -> Result<Map, Refused>
 fn add(alloc: Global, shared: Rc<Map>, key: Key, value: &Value) -> Result<Answer, Refused>
     ensures value { IfOk result (λ r. outcome_view r
         ≡ new_entry shared.value (view value.now) (find (key_view key) shared.value) (key_view key)) }
-    ensures memory { IfErr result (λ e. e ≡ Refused.Memory) }
 {
     let mut entries = owned(alloc, shared)?;
     match add_entry(&mut entries, key, value.try_clone()?)? {
@@ -64,7 +60,6 @@ fn add(alloc: Global, shared: Rc<Map>, key: Key, value: &Value) -> Result<Answer
 fn add_at(alloc: Global, shared: Rc<Map>, key: &Value, value: &Value) -> Result<Answer, Refused>
     ensures value { IfOk result
         (λ r. outcome_view r ≡ put_in (map_of shared.value) (view key.now) (view value.now)) }
-    ensures memory { IfErr result (λ e. e ≡ Refused.Memory) }
 {
     match key_from(key)? {
         Some(key) => add(alloc, shared, key, value),
@@ -79,7 +74,6 @@ fn add_at(alloc: Global, shared: Rc<Map>, key: &Value, value: &Value) -> Result<
 /// Only [`Refused::Memory`], if memory is refused.
 pub fn put(alloc: Global, map: Value, key: &Value, value: &Value) -> Result<Answer, Refused>
     ensures value { IfOk result (λ r. outcome_view r ≡ put_in (view map) (view key.now) (view value.now)) }
-    ensures memory { IfErr result (λ e. e ≡ Refused.Memory) }
 {
     match map {
         Value::Map(entries) => add_at(alloc, entries, key, value),

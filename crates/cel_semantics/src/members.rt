@@ -1,5 +1,5 @@
 //! Members of maps and items of lists.
-ghost use Rattle.std.specs.Prelude.{◌≡◌, IfOk, IfErr, Ok, Err, option_map, is_some};
+ghost use Rattle.std.specs.Prelude.{◌≡◌, IfOk, Ok, Err, option_map, is_some};
 ghost use Rattle.std.specs.Option.{option_map_or};
 ghost use Rattle.cel_value.specs.Faults.{fault_view, no_key, out_of_bounds};
 ghost use Rattle.cel_value.specs.Find.{find};
@@ -17,7 +17,6 @@ use std::alloc::Global;
 fn member(entries: &Map, key: &Key) -> Result<Answer, Refused>
     ensures value { IfOk result (λ r. outcome_view r
         ≡ option_map_or Ok (find (key_view key.now) entries.now) (Err (no_key (key_view key.now)))) }
-    ensures memory { IfErr result (λ e. e ≡ Refused.Memory) }
 {
     match find_entry(entries, key) {
         Some(value) => Ok(Ok(value.try_clone()?)),
@@ -37,7 +36,6 @@ fn has_entry(entries: &Map, key: &Key) -> bool
 /// Only [`Refused::Memory`], if memory is refused.
 pub fn select(alloc: Global, key: &Key, value: &Value) -> Result<Answer, Refused>
     ensures value { IfOk result (λ r. outcome_view r ≡ selection (key_view key.now) (view value.now)) }
-    ensures memory { IfErr result (λ e. e ≡ Refused.Memory) }
 {
     match value {
         Value::Map(entries) => member(entries.as_ref(), key),
@@ -51,7 +49,6 @@ pub fn select(alloc: Global, key: &Key, value: &Value) -> Result<Answer, Refused
 /// Only [`Refused::Memory`], if memory is refused.
 pub fn has(alloc: Global, key: &Key, value: &Value) -> Result<Answer, Refused>
     ensures value { IfOk result (λ r. outcome_view r ≡ has_member (key_view key.now) (view value.now)) }
-    ensures memory { IfErr result (λ e. e ≡ Refused.Memory) }
 {
     match value {
         Value::Map(entries) => Ok(Ok(Value::Bool(has_entry(entries.as_ref(), key)))),
@@ -62,7 +59,6 @@ pub fn has(alloc: Global, key: &Key, value: &Value) -> Result<Answer, Refused>
 /// Returns the value as a key, or None if its kind can't be one.
 pub(crate) fn key_from(value: &Value) -> Result<Option<Key>, Refused>
     ensures value { IfOk result (λ k. option_map key_view k ≡ key_of (view value.now)) }
-    ensures memory { IfErr result (λ e. e ≡ Refused.Memory) }
 {
     match value {
         Value::Bool(b) => Ok(Some(Key::Bool(*b))),
@@ -82,7 +78,6 @@ fn nth(items: &List, position: u64) -> Option<&Value>
 fn item(items: &List, position: u64) -> Result<Answer, Refused>
     ensures value { IfOk result (λ r. outcome_view r
         ≡ option_map_or Ok (nth_item position items.now) (Err out_of_bounds)) }
-    ensures memory { IfErr result (λ e. e ≡ Refused.Memory) }
 {
     match nth(items, position) {
         Some(value) => Ok(Ok(value.try_clone()?)),
@@ -92,7 +87,6 @@ fn item(items: &List, position: u64) -> Result<Answer, Refused>
 
 fn index_list(alloc: Global, items: &List, index: &Value) -> Result<Answer, Refused>
     ensures value { IfOk result (λ r. outcome_view r ≡ list_indexed items.now (view index.now)) }
-    ensures memory { IfErr result (λ e. e ≡ Refused.Memory) }
 {
     match index {
         Value::Int(n) => {
@@ -111,7 +105,6 @@ fn index_list(alloc: Global, items: &List, index: &Value) -> Result<Answer, Refu
 /// Returns the error for a value that can't be a key.
 pub(crate) fn refuse_key(alloc: Global, value: &Value) -> Result<ExecutionError, Refused>
     ensures value { IfOk result (λ e. fault_view e ≡ not_key (view value.now)) }
-    ensures memory { IfErr result (λ e. e ≡ Refused.Memory) }
 {
     match value {
         Value::Float => double_fault(alloc),
@@ -122,7 +115,6 @@ pub(crate) fn refuse_key(alloc: Global, value: &Value) -> Result<ExecutionError,
 #[tactic(auto, using(crate::proofs::MapCopies::indexed_at_none))]
 fn index_map(alloc: Global, entries: &Map, index: &Value) -> Result<Answer, Refused>
     ensures value { IfOk result (λ r. outcome_view r ≡ map_indexed entries.now (view index.now)) }
-    ensures memory { IfErr result (λ e. e ≡ Refused.Memory) }
 {
     match key_from(index)? {
         Some(key) => member(entries, &key),
@@ -132,7 +124,6 @@ fn index_map(alloc: Global, entries: &Map, index: &Value) -> Result<Answer, Refu
 
 fn refuse_index(alloc: Global, index: &Value) -> Result<Answer, Refused>
     ensures value { IfOk result (λ r. outcome_view r ≡ not_indexed (view index.now)) }
-    ensures memory { IfErr result (λ e. e ≡ Refused.Memory) }
 {
     match index {
         Value::Float => Ok(Err(double_fault(alloc)?)),
@@ -146,7 +137,6 @@ fn refuse_index(alloc: Global, index: &Value) -> Result<Answer, Refused>
 /// Only [`Refused::Memory`], if memory is refused.
 pub fn index(alloc: Global, value: &Value, index: &Value) -> Result<Answer, Refused>
     ensures value { IfOk result (λ r. outcome_view r ≡ index_outcome (view value.now) (view index.now)) }
-    ensures memory { IfErr result (λ e. e ≡ Refused.Memory) }
 {
     match value {
         Value::List(items) => index_list(alloc, items.as_ref(), index),
@@ -168,7 +158,6 @@ fn is_among(value: &Value, items: &List) -> bool
 
 fn is_key_of(value: &Value, entries: &Map) -> Result<bool, Refused>
     ensures value { IfOk result (λ b. b ≡ is_key entries.now (key_of (view value.now))) }
-    ensures memory { IfErr result (λ e. e ≡ Refused.Memory) }
 {
     match key_from(value)? {
         Some(key) => Ok(has_entry(entries, &key)),
@@ -180,7 +169,6 @@ fn is_key_of(value: &Value, entries: &Map) -> Result<bool, Refused>
 #[inline(always)]
 pub(crate) fn is_in(alloc: Global, value: &Value, range: &Value) -> Result<Answer, Refused>
     ensures value { IfOk result (λ r. outcome_view r ≡ membership (view value.now) (view range.now)) }
-    ensures memory { IfErr result (λ e. e ≡ Refused.Memory) }
 {
     match range {
         Value::List(items) => Ok(Ok(Value::Bool(is_among(value, items.as_ref())))),

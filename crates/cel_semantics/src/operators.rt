@@ -1,5 +1,5 @@
 //! The operators on values.
-ghost use Rattle.std.specs.Prelude.{◌≡◌, IfOk, IfErr, Ok, Err, option_map, not};
+ghost use Rattle.std.specs.Prelude.{◌≡◌, IfOk, Ok, Err, option_map, not};
 ghost use Rattle.std.specs.Option.{option_map_or};
 ghost use Rattle.std.specs.Cmp.Lexicographic.{slice_cmp};
 ghost use Rattle.std.specs.Ordering.{nat_cmp};
@@ -29,7 +29,6 @@ pub type Answer = Result<Value, ExecutionError>;
 /// Only [`Refused::Memory`], if memory is refused.
 pub fn no_such_overload(alloc: Global, name: &str) -> Result<ExecutionError, Refused>
     ensures value { IfOk result (λ e. fault_view e ≡ no_overload name.now) }
-    ensures memory { IfErr result (λ e. e ≡ Refused.Memory) }
 {
     Ok(ExecutionError::NoSuchOverload(String::from_str(alloc, name)?))
 }
@@ -37,7 +36,6 @@ pub fn no_such_overload(alloc: Global, name: &str) -> Result<ExecutionError, Ref
 /// Returns the error of an operator or a function whose operand holds a double.
 pub(crate) fn double_fault(alloc: Global) -> Result<ExecutionError, Refused>
     ensures value { IfOk result (λ e. fault_view e ≡ no_doubles) }
-    ensures memory { IfErr result (λ e. e ≡ Refused.Memory) }
 {
     Ok(ExecutionError::UndeclaredReference(String::from_str(alloc, "double")?))
 }
@@ -65,7 +63,6 @@ pub fn absorb(
 ) -> Result<Progress, Refused>
     ensures value { IfOk result
         (λ p. Absorbs stop name.now (option_map fault_view fault) (outcome_view answer) p) }
-    ensures memory { IfErr result (λ e. e ≡ Refused.Memory) }
 {
     match answer {
         Ok(value) => absorb_value(alloc, stop, name, fault, &value),
@@ -85,7 +82,6 @@ fn absorb_value(
 ) -> Result<Progress, Refused>
     ensures value { IfOk result
         (λ p. Absorbs stop name.now (option_map fault_view fault) (Ok (view value.now)) p) }
-    ensures memory { IfErr result (λ e. e ≡ Refused.Memory) }
 {
     match value {
         Value::Bool(b) => {
@@ -115,7 +111,6 @@ pub fn undecided_answer(stop: bool, fault: Option<ExecutionError>) -> Answer
 
 fn invert(alloc: Global, value: &Value) -> Result<Answer, Refused>
     ensures value { IfOk result (λ r. outcome_view r ≡ negation (view value.now)) }
-    ensures memory { IfErr result (λ e. e ≡ Refused.Memory) }
 {
     match value {
         Value::Bool(b) => Ok(Ok(Value::Bool(!*b))),
@@ -133,7 +128,6 @@ pub fn operate_on_one(
     value: &Value,
 ) -> Result<Answer, Refused>
     ensures value { IfOk result (λ r. outcome_view r ≡ unary_outcome operator (view value.now)) }
-    ensures memory { IfErr result (λ e. e ≡ Refused.Memory) }
 {
     if value.holds_double() {
         return Ok(Err(double_fault(alloc)?));
@@ -185,7 +179,6 @@ fn order(
     right: &Value,
 ) -> Result<Answer, Refused>
     ensures value { IfOk result (λ r. outcome_view r ≡ order_test operator (view left.now) (view right.now)) }
-    ensures memory { IfErr result (λ e. e ≡ Refused.Memory) }
 {
     match left.compare(right) {
         Some(order) => Ok(Ok(Value::Bool(holds(operator, order)))),
@@ -201,7 +194,6 @@ fn relate(
 ) -> Result<Answer, Refused>
     ensures value { IfOk result (λ r. outcome_view r
         ≡ relation_outcome operator (view left.now) (view right.now)) }
-    ensures memory { IfErr result (λ e. e ≡ Refused.Memory) }
 {
     match operator {
         BinaryOperator::Or => Ok(Err(no_such_overload(alloc, "||")?)),
@@ -224,7 +216,6 @@ fn relate(
 /// Applies an operator to two ints.
 fn relate_ints(alloc: Global, operator: BinaryOperator, m: i64, n: i64) -> Result<Answer, Refused>
     ensures value { IfOk result (λ r. outcome_view r ≡ relation_outcome operator (int m) (int n)) }
-    ensures memory { IfErr result (λ e. e ≡ Refused.Memory) }
 {
     match operator {
         BinaryOperator::Less => Ok(Ok(Value::Bool(m < n))),
@@ -259,7 +250,6 @@ fn relate_texts(
     t: &str,
 ) -> Result<Answer, Refused>
     ensures value { IfOk result (λ r. outcome_view r ≡ relation_outcome operator (text s.now) (text t.now)) }
-    ensures memory { IfErr result (λ e. e ≡ Refused.Memory) }
 {
     match operator {
         BinaryOperator::Equal => Ok(Ok(Value::Bool(s == t))),
@@ -281,7 +271,7 @@ fn relate_texts(
 
 /// Applies an operator to two values that may hold doubles. Membership comes
 /// first, since its operands are mostly of two kinds.
-#[inline(always)]
+#[inline(never)]
 fn operate_on_any(
     alloc: Global,
     operator: BinaryOperator,
@@ -290,7 +280,6 @@ fn operate_on_any(
 ) -> Result<Answer, Refused>
     ensures value { IfOk result (λ r. outcome_view r
         ≡ binary_outcome operator (view left.now) (view right.now)) }
-    ensures memory { IfErr result (λ e. e ≡ Refused.Memory) }
 {
     if left.holds_double() || right.holds_double() {
         return Ok(Err(double_fault(alloc)?));
@@ -305,6 +294,7 @@ fn operate_on_any(
 ///
 /// # Errors
 /// Only [`Refused::Memory`], if memory is refused.
+#[inline(always)]
 pub fn operate(
     alloc: Global,
     operator: BinaryOperator,
@@ -313,7 +303,6 @@ pub fn operate(
 ) -> Result<Answer, Refused>
     ensures value { IfOk result (λ r. outcome_view r
         ≡ binary_outcome operator (view left.now) (view right.now)) }
-    ensures memory { IfErr result (λ e. e ≡ Refused.Memory) }
 {
     match (left, right) {
         (Value::Int(m), Value::Int(n)) => relate_ints(alloc, operator, *m, *n),

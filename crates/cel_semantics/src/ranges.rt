@@ -1,5 +1,5 @@
 //! The ranges of macros.
-ghost use Rattle.std.specs.Prelude.{◌≡◌, ◌++◌, IfOk, IfErr, OnOk, map};
+ghost use Rattle.std.specs.Prelude.{◌≡◌, ◌++◌, IfOk, OnOk, map};
 ghost use Rattle.cel_value.specs.Keys.{key_view};
 ghost use Rattle.cel_value.specs.View.{view};
 ghost use Rattle.cel_semantics.specs.Ranges.{key_data, keys_list, range_of, range_list, range_view};
@@ -13,7 +13,6 @@ use std::rc::Rc;
 pub(crate) fn push_copies(values: &mut Vec<Value>, items: &[Value]) -> Result<(), Refused>
     ensures pushed { OnOk result (map view values.new.items
         ≡ map view values.old.items ++ map view items.now) }
-    ensures memory { IfErr result (λ e. e ≡ Refused.Memory) }
 {
     for item in items {
         values.push(item.try_clone()?)?;
@@ -23,7 +22,6 @@ pub(crate) fn push_copies(values: &mut Vec<Value>, items: &[Value]) -> Result<()
 
 fn key_value(key: &Key) -> Result<Value, Refused>
     ensures value { IfOk result (λ v. view v ≡ key_data (key_view key.now)) }
-    ensures memory { IfErr result (λ e. e ≡ Refused.Memory) }
 {
     match key {
         Key::Bool(b) => Ok(Value::Bool(*b)),
@@ -35,7 +33,6 @@ fn key_value(key: &Key) -> Result<Value, Refused>
 
 fn key_values(alloc: Global, entries: &Map) -> Result<Vec<Value>, Refused>
     ensures value { IfOk result (λ v. map view v.items ≡ keys_list entries.now) }
-    ensures memory { IfErr result (λ e. e ≡ Refused.Memory) }
 {
     let mut values = Vec::with_capacity(alloc, entries.len())?;
     for (key, _) in entries.iter() {
@@ -76,7 +73,6 @@ pub fn range_in(
     value: Value,
 ) -> Result<Result<Range, ExecutionError>, Refused>
     ensures value { IfOk result (λ r. range_view r ≡ range_of name.now (view value)) }
-    ensures memory { IfErr result (λ e. e ≡ Refused.Memory) }
 {
     match value {
         Value::List(items) => Ok(Ok(Range::Items(items))),

@@ -1,5 +1,5 @@
 //! Sums and differences of timestamps and durations.
-ghost use Rattle.std.specs.Prelude.{◌≡◌, ◌+ℤ◌, ◌-ℤ◌, IfOk, IfErr};
+ghost use Rattle.std.specs.Prelude.{◌≡◌, ◌+ℤ◌, ◌-ℤ◌, IfOk};
 ghost use Rattle.cel_value.specs.Data.{timestamp, duration};
 ghost use Rattle.cel_value.specs.View.{view};
 ghost use Rattle.cel_value_times.specs.Instants.{instant};
@@ -73,7 +73,6 @@ pub(crate) fn add_to_timestamp(
 ) -> Result<Answer, Refused>
     ensures value { IfOk result
         (λ r. outcome_view r ≡ sum_of (timestamp (instant start) start.offset_minutes) (view right.now)) }
-    ensures memory { IfErr result (λ e. e ≡ Refused.Memory) }
 {
     match right {
         Value::Duration(length) => Ok(later(start, *length)),
@@ -89,7 +88,6 @@ pub(crate) fn add_to_duration(
 ) -> Result<Answer, Refused>
     ensures value { IfOk result
         (λ r. outcome_view r ≡ sum_of (duration length.nanoseconds) (view right.now)) }
-    ensures memory { IfErr result (λ e. e ≡ Refused.Memory) }
 {
     match right {
         Value::Timestamp(start) => Ok(later(*start, length)),
@@ -106,7 +104,6 @@ pub(crate) fn subtract_from_timestamp(
 ) -> Result<Answer, Refused>
     ensures value { IfOk result
         (λ r. outcome_view r ≡ difference_of (timestamp (instant end) end.offset_minutes) (view right.now)) }
-    ensures memory { IfErr result (λ e. e ≡ Refused.Memory) }
 {
     match right {
         Value::Timestamp(start) => Ok(between(end, *start)),
@@ -123,7 +120,6 @@ pub(crate) fn subtract_from_duration(
 ) -> Result<Answer, Refused>
     ensures value { IfOk result
         (λ r. outcome_view r ≡ difference_of (duration length.nanoseconds) (view right.now)) }
-    ensures memory { IfErr result (λ e. e ≡ Refused.Memory) }
 {
     match right {
         Value::Duration(less) => Ok(subtract_durations(length, *less)),

@@ -1,6 +1,6 @@
 //! The conversions `int`, `uint`, `string` and `bytes`.
 ghost use Rattle.std.specs.Fmt.{decimal, signed_decimal};
-ghost use Rattle.std.specs.Prelude.{◌≡◌, Ok, pos, IfOk, IfErr, string_bytes};
+ghost use Rattle.std.specs.Prelude.{◌≡◌, Ok, pos, IfOk, string_bytes};
 ghost use Rattle.cel_value.specs.Data as plain;
 ghost use Rattle.cel_value.specs.View.{view};
 ghost use Rattle.cel_semantics.specs.Arithmetic.{int_or_overflow};
@@ -46,7 +46,6 @@ fn unsigned(number: i64) -> Answer
 
 fn int_from_text(alloc: Global, text: &str) -> Result<Answer, Refused>
     ensures value { IfOk result (λ r. outcome_view r ≡ spec.int_of (plain.text text.now)) }
-    ensures memory { IfErr result (λ e. e ≡ Refused.Memory) }
 {
     match read_int(text) {
         Some(n) => Ok(Ok(Value::Int(n))),
@@ -56,7 +55,6 @@ fn int_from_text(alloc: Global, text: &str) -> Result<Answer, Refused>
 
 fn uint_from_text(alloc: Global, text: &str) -> Result<Answer, Refused>
     ensures value { IfOk result (λ r. outcome_view r ≡ spec.uint_of (plain.text text.now)) }
-    ensures memory { IfErr result (λ e. e ≡ Refused.Memory) }
 {
     match read_uint(text) {
         Some(n) => Ok(Ok(Value::UInt(n))),
@@ -67,7 +65,6 @@ fn uint_from_text(alloc: Global, text: &str) -> Result<Answer, Refused>
 /// Converts an int, a uint or a string to an int.
 pub(crate) fn int(alloc: Global, value: &Value) -> Result<Answer, Refused>
     ensures value { IfOk result (λ r. outcome_view r ≡ spec.int_of (view value.now)) }
-    ensures memory { IfErr result (λ e. e ≡ Refused.Memory) }
 {
     match value {
         Value::Int(n) => Ok(Ok(Value::Int(*n))),
@@ -80,7 +77,6 @@ pub(crate) fn int(alloc: Global, value: &Value) -> Result<Answer, Refused>
 /// Converts a uint, an int or a string to a uint.
 pub(crate) fn uint(alloc: Global, value: &Value) -> Result<Answer, Refused>
     ensures value { IfOk result (λ r. outcome_view r ≡ spec.uint_of (view value.now)) }
-    ensures memory { IfErr result (λ e. e ≡ Refused.Memory) }
 {
     match value {
         Value::UInt(n) => Ok(Ok(Value::UInt(*n))),
@@ -92,7 +88,6 @@ pub(crate) fn uint(alloc: Global, value: &Value) -> Result<Answer, Refused>
 
 fn text_answer(alloc: Global, text: String) -> Result<Answer, Refused>
     ensures value { IfOk result (λ r. outcome_view r ≡ Ok (plain.text (string_bytes text))) }
-    ensures memory { IfErr result (λ e. e ≡ Refused.Memory) }
 {
     Ok(Ok(Value::from_text(alloc, text)?))
 }
@@ -118,7 +113,6 @@ fn uint_text(alloc: Global, number: u64) -> Result<String, AllocError>
 /// Converts a string, an int, a uint, bytes, a timestamp or a duration to a string.
 pub(crate) fn string(alloc: Global, value: &Value) -> Result<Answer, Refused>
     ensures value { IfOk result (λ r. outcome_view r ≡ spec.string_of (view value.now)) }
-    ensures memory { IfErr result (λ e. e ≡ Refused.Memory) }
 {
     match value {
         Value::String(text) => Ok(Ok(Value::String(text.clone()?))),
@@ -136,7 +130,6 @@ pub(crate) fn string(alloc: Global, value: &Value) -> Result<Answer, Refused>
 
 fn bytes_answer(alloc: Global, bytes: &[u8]) -> Result<Answer, Refused>
     ensures value { IfOk result (λ r. outcome_view r ≡ Ok (plain.bytes bytes.now)) }
-    ensures memory { IfErr result (λ e. e ≡ Refused.Memory) }
 {
     let copy = Vec::from_slice(alloc, bytes)?;
     Ok(Ok(Value::Bytes(Rc::new(alloc, copy)?)))
@@ -145,7 +138,6 @@ fn bytes_answer(alloc: Global, bytes: &[u8]) -> Result<Answer, Refused>
 /// Converts bytes or a string to bytes, the string as UTF-8.
 pub(crate) fn bytes(alloc: Global, value: &Value) -> Result<Answer, Refused>
     ensures value { IfOk result (λ r. outcome_view r ≡ spec.bytes_of (view value.now)) }
-    ensures memory { IfErr result (λ e. e ≡ Refused.Memory) }
 {
     match value {
         Value::Bytes(bytes) => Ok(Ok(Value::Bytes(bytes.clone()?))),

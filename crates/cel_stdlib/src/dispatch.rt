@@ -1,5 +1,5 @@
 //! The set of standard functions.
-ghost use Rattle.std.specs.Prelude.{◌≡◌, Some, Err, IfOk, IfErr, map, option_map};
+ghost use Rattle.std.specs.Prelude.{◌≡◌, Some, Err, IfOk, map, option_map};
 ghost use Rattle.std.specs.Option.{option_map_or};
 ghost use Rattle.cel_patterns.specs.Book.{Extends};
 ghost use Rattle.cel_patterns.specs.Entries.{entries_of};
@@ -26,7 +26,6 @@ pub struct StandardFunctions;
 
 fn answer_of_one(alloc: Global, function: OfOne, value: &Value) -> Result<Answer, Refused>
     ensures value { IfOk result (λ r. outcome_view r ≡ spec.answer_of_one function (view value.now)) }
-    ensures memory { IfErr result (λ e. e ≡ Refused.Memory) }
 {
     match function {
         OfOne::Size => sizes::size(alloc, value),
@@ -51,7 +50,6 @@ fn answer_of_two(
     ensures keeps { Extends (entries_of book.new) (entries_of book.old) }
     ensures value { IfOk result (λ r. HoldsForExtensions (entries_of book.new) (outcome_view r)
         (λ b. spec.answer_of_two function (view value.now) (view other.now) b)) }
-    ensures memory { IfErr result (λ e. e ≡ Refused.Memory) }
 {
     match function {
         OfTwo::Contains => strings::contains(alloc, value, other),
@@ -106,7 +104,6 @@ fn answer_of_both(
     ensures value { IfOk result (λ r. HoldsForExtensions (entries_of book.new) (outcome_view r)
         (λ b. spec.answer_of_both function name.now (option_map (λ v. view v.now) value.entry)
         (option_map (λ v. view v.now) other.entry) b)) }
-    ensures memory { IfErr result (λ e. e ≡ Refused.Memory) }
 {
     match value {
         Some(value) => match other {
@@ -127,7 +124,6 @@ fn answer_of_first(
     ensures value { IfOk result (λ r. outcome_view r
         ≡ option_map_or (spec.answer_of_one function)
         (option_map (λ v. view v.now) value.entry) (Err (no_overload name.now))) }
-    ensures memory { IfErr result (λ e. e ≡ Refused.Memory) }
 {
     match value {
         Some(value) => answer_of_one(alloc, function, value),
@@ -148,7 +144,6 @@ fn answer_of(
     ensures value { IfOk result (λ r. HoldsForExtensions (entries_of book.new) (outcome_view r)
         (λ b. spec.answer_of function name.now
         (option_map (λ v. view v.now) receiver.entry) (map view args.now) b)) }
-    ensures memory { IfErr result (λ e. e ≡ Refused.Memory) }
 {
     let first = first_operand(receiver, args);
     match function {
@@ -180,7 +175,6 @@ pub fn answer_of_function(
     ensures value { IfOk result (λ r. HoldsForExtensions (entries_of book.new) (outcome_view r)
         (λ b. spec.standard_answer name.now
         (option_map (λ v. view v.now) receiver.entry) (map view args.now) b)) }
-    ensures memory { IfErr result (λ e. e ≡ Refused.Memory) }
 {
     answer_of(alloc, function, name, receiver, args, book)
 }

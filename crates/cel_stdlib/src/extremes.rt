@@ -1,5 +1,5 @@
 //! `min` and `max`: the first of several least or greatest values.
-ghost use Rattle.std.specs.Prelude.{◌≡◌, ◌∷◌, IfOk, IfErr, map, option_map};
+ghost use Rattle.std.specs.Prelude.{◌≡◌, ◌∷◌, IfOk, map, option_map};
 ghost use Rattle.cel_value.specs.Faults.{fault_view};
 ghost use Rattle.cel_value.specs.Parts.{items_in};
 ghost use Rattle.cel_value.specs.View.{view};
@@ -33,14 +33,12 @@ fn goes_before(end: Extreme, order: Ordering) -> bool
 
 fn different_types(alloc: Global) -> Result<ExecutionError, Refused>
     ensures value { IfOk result (λ e. fault_view e ≡ spec.different_types) }
-    ensures memory { IfErr result (λ e. e ≡ Refused.Memory) }
 {
     function_error(alloc, "compare", "cannot compare values of different types")
 }
 
 fn no_items(alloc: Global, end: Extreme) -> Result<ExecutionError, Refused>
     ensures value { IfOk result (λ e. fault_view e ≡ spec.no_items end) }
-    ensures memory { IfErr result (λ e. e ≡ Refused.Memory) }
 {
     match end {
         Extreme::Least => function_error(alloc, "min", "cannot call min on empty list"),
@@ -88,7 +86,6 @@ fn least_or_greatest(
 ) -> Result<Answer, Refused>
     ensures value { IfOk result
         (λ r. outcome_view r ≡ spec.extreme_of end (view first.now ∷ map view rest.now)) }
-    ensures memory { IfErr result (λ e. e ≡ Refused.Memory) }
 {
     match choose(end, first, rest) {
         Some(value) => Ok(Ok(value.try_clone()?)),
@@ -103,7 +100,6 @@ fn least_or_greatest(
 /// Only [`Refused::Memory`], if memory is refused.
 pub fn extreme_of(alloc: Global, end: Extreme, values: &[Value]) -> Result<Answer, Refused>
     ensures value { IfOk result (λ r. outcome_view r ≡ spec.extreme_of end (map view values.now)) }
-    ensures memory { IfErr result (λ e. e ≡ Refused.Memory) }
 {
     match values {
         [] => Ok(Err(no_items(alloc, end)?)),
@@ -129,7 +125,6 @@ fn extreme_from(
 ) -> Result<Answer, Refused>
     ensures value { IfOk result (λ r. outcome_view r
         ≡ spec.extreme_of end (spec.values_among (view first.now ∷ map view rest.now))) }
-    ensures memory { IfErr result (λ e. e ≡ Refused.Memory) }
 {
     match rest {
         [] => match items_of(first) {
@@ -148,7 +143,6 @@ fn extreme_from(
 pub fn extreme_among(alloc: Global, end: Extreme, args: &[Value]) -> Result<Answer, Refused>
     ensures value { IfOk result
         (λ r. outcome_view r ≡ spec.extreme_of end (spec.values_among (map view args.now))) }
-    ensures memory { IfErr result (λ e. e ≡ Refused.Memory) }
 {
     match args {
         [] => Ok(Err(no_items(alloc, end)?)),

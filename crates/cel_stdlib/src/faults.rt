@@ -1,5 +1,5 @@
 //! The error by which a function rejects its arguments.
-ghost use Rattle.std.specs.Prelude.{◌≡◌, IfOk, IfErr};
+ghost use Rattle.std.specs.Prelude.{◌≡◌, IfOk};
 ghost use Rattle.cel_value.specs.Faults as fault;
 
 use cel_value::{ExecutionError, Refused};
@@ -15,7 +15,6 @@ pub fn function_error(
     message: &str,
 ) -> Result<ExecutionError, Refused>
     ensures value { IfOk result (λ e. fault.fault_view e ≡ fault.function_error function.now message.now) }
-    ensures memory { IfErr result (λ e. e ≡ Refused.Memory) }
 {
     Ok(ExecutionError::FunctionError {
         function: String::from_str(alloc, function)?,

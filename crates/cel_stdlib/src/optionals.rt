@@ -1,5 +1,5 @@
 //! `hasValue` and `value` of optionals.
-ghost use Rattle.std.specs.Prelude.{◌≡◌, IfOk, IfErr, is_some};
+ghost use Rattle.std.specs.Prelude.{◌≡◌, IfOk, is_some};
 ghost use Rattle.cel_value.specs.Find.{first_item};
 ghost use Rattle.cel_value.specs.View.{view};
 ghost use Rattle.cel_semantics.specs.Outcome.{outcome_view};
@@ -19,7 +19,6 @@ fn is_there(optional: &OptionalValue) -> bool
 /// Reports whether an optional holds a value.
 pub(crate) fn has_value(alloc: Global, value: &Value) -> Result<Answer, Refused>
     ensures value { IfOk result (λ r. outcome_view r ≡ spec.has_value (view value.now)) }
-    ensures memory { IfErr result (λ e. e ≡ Refused.Memory) }
 {
     match value {
         Value::Optional(optional) => Ok(Ok(Value::Bool(is_there(optional)))),
@@ -29,7 +28,6 @@ pub(crate) fn has_value(alloc: Global, value: &Value) -> Result<Answer, Refused>
 
 fn value_held(alloc: Global, optional: &OptionalValue) -> Result<Answer, Refused>
     ensures value { IfOk result (λ r. outcome_view r ≡ spec.value_held optional.now) }
-    ensures memory { IfErr result (λ e. e ≡ Refused.Memory) }
 {
     match optional.value() {
         Some(value) => Ok(Ok(value.try_clone()?)),
@@ -40,7 +38,6 @@ fn value_held(alloc: Global, optional: &OptionalValue) -> Result<Answer, Refused
 /// Returns the value that an optional holds. An empty optional is an error.
 pub(crate) fn value(alloc: Global, value: &Value) -> Result<Answer, Refused>
     ensures value { IfOk result (λ r. outcome_view r ≡ spec.value_of (view value.now)) }
-    ensures memory { IfErr result (λ e. e ≡ Refused.Memory) }
 {
     match value {
         Value::Optional(optional) => value_held(alloc, optional),

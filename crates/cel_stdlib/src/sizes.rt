@@ -1,5 +1,5 @@
 //! `size` of strings, bytes, lists and maps.
-ghost use Rattle.std.specs.Prelude.{◌≡◌, IfOk, IfErr, length, pos};
+ghost use Rattle.std.specs.Prelude.{◌≡◌, IfOk, length, pos};
 ghost use Rattle.std.specs.Str.{chars};
 ghost use Rattle.cel_value.specs.View.{view};
 ghost use Rattle.cel_semantics.specs.Arithmetic.{int_or_overflow};
@@ -52,7 +52,6 @@ fn counted(count: usize) -> Answer
 /// Returns the size of a string (in characters), of bytes, of a list or of a map.
 pub(crate) fn size(alloc: Global, value: &Value) -> Result<Answer, Refused>
     ensures value { IfOk result (λ r. outcome_view r ≡ size_outcome (view value.now)) }
-    ensures memory { IfErr result (λ e. e ≡ Refused.Memory) }
 {
     match value {
         Value::String(text) => Ok(counted(character_count(text.as_str()))),

@@ -1,5 +1,5 @@
 //! The string tests `contains`, `startsWith`, `endsWith` and `matches`.
-ghost use Rattle.std.specs.Prelude.{◌≡◌, nat_eq, IfOk, IfErr, option_map};
+ghost use Rattle.std.specs.Prelude.{◌≡◌, nat_eq, IfOk, option_map};
 ghost use Rattle.std.specs.List.{starts_with, ends_with};
 ghost use Rattle.cel_patterns.specs.Book.{Extends, matched_by};
 ghost use Rattle.cel_patterns.specs.Entries.{entries_of};
@@ -47,7 +47,6 @@ fn has_end(text: &str, part: &str) -> bool
 /// Reports whether a string contains another one.
 pub(crate) fn contains(alloc: Global, value: &Value, part: &Value) -> Result<Answer, Refused>
     ensures value { IfOk result (λ r. outcome_view r ≡ spec.contains (view value.now) (view part.now)) }
-    ensures memory { IfErr result (λ e. e ≡ Refused.Memory) }
 {
     match both_texts(value, part) {
         Some((text, part)) => Ok(Ok(Value::Bool(has_part(text, part)))),
@@ -58,7 +57,6 @@ pub(crate) fn contains(alloc: Global, value: &Value, part: &Value) -> Result<Ans
 /// Reports whether a string starts with another one.
 pub(crate) fn starts_with(alloc: Global, value: &Value, part: &Value) -> Result<Answer, Refused>
     ensures value { IfOk result (λ r. outcome_view r ≡ spec.begins (view value.now) (view part.now)) }
-    ensures memory { IfErr result (λ e. e ≡ Refused.Memory) }
 {
     match both_texts(value, part) {
         Some((text, part)) => Ok(Ok(Value::Bool(has_start(text, part)))),
@@ -69,7 +67,6 @@ pub(crate) fn starts_with(alloc: Global, value: &Value, part: &Value) -> Result<
 /// Reports whether a string ends with another one.
 pub(crate) fn ends_with(alloc: Global, value: &Value, part: &Value) -> Result<Answer, Refused>
     ensures value { IfOk result (λ r. outcome_view r ≡ spec.ends (view value.now) (view part.now)) }
-    ensures memory { IfErr result (λ e. e ≡ Refused.Memory) }
 {
     match both_texts(value, part) {
         Some((text, part)) => Ok(Ok(Value::Bool(has_end(text, part)))),
@@ -79,14 +76,12 @@ pub(crate) fn ends_with(alloc: Global, value: &Value, part: &Value) -> Result<An
 
 fn invalid_pattern(alloc: Global) -> Result<ExecutionError, Refused>
     ensures value { IfOk result (λ e. fault.fault_view e ≡ spec.refused_pattern) }
-    ensures memory { IfErr result (λ e. e ≡ Refused.Memory) }
 {
     Ok(ExecutionError::InvalidPattern(String::from_str(alloc, "matches")?))
 }
 
 fn found(alloc: Global, answer: Option<bool>) -> Result<Answer, Refused>
     ensures value { IfOk result (λ r. outcome_view r ≡ spec.pattern_found answer) }
-    ensures memory { IfErr result (λ e. e ≡ Refused.Memory) }
 {
     match answer {
         Some(found) => Ok(Ok(Value::Bool(found))),
@@ -98,7 +93,6 @@ fn find(alloc: Global, text: &str, pattern: &str, book: &mut PatternBook) -> Res
     ensures keeps { Extends (entries_of book.new) (entries_of book.old) }
     ensures value { IfOk result (λ r. HoldsForExtensions (entries_of book.new) (outcome_view r)
         (λ b. spec.pattern_found (matched_by b pattern.now text.now))) }
-    ensures memory { IfErr result (λ e. e ≡ Refused.Memory) }
 {
     let answer = book.matches(pattern, text)?;
     found(alloc, answer)
@@ -114,7 +108,6 @@ pub(crate) fn matches(
     ensures keeps { Extends (entries_of book.new) (entries_of book.old) }
     ensures value { IfOk result (λ r. HoldsForExtensions (entries_of book.new) (outcome_view r)
         (λ b. spec.matches (view value.now) (view pattern.now) b)) }
-    ensures memory { IfErr result (λ e. e ≡ Refused.Memory) }
 {
     match both_texts(value, pattern) {
         Some((text, pattern)) => find(alloc, text, pattern, book),

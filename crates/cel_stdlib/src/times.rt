@@ -1,5 +1,5 @@
 //! The conversions `timestamp` and `duration`.
-ghost use Rattle.std.specs.Prelude.{◌≡◌, IfOk, IfErr};
+ghost use Rattle.std.specs.Prelude.{◌≡◌, IfOk};
 ghost use Rattle.cel_value.specs.Data as plain;
 ghost use Rattle.cel_value.specs.View.{view};
 ghost use Rattle.cel_semantics.specs.Outcome.{outcome_view};
@@ -12,7 +12,6 @@ use std::alloc::Global;
 
 fn timestamp_from_text(alloc: Global, text: &str) -> Result<Answer, Refused>
     ensures value { IfOk result (λ r. outcome_view r ≡ spec.timestamp_of (plain.text text.now)) }
-    ensures memory { IfErr result (λ e. e ≡ Refused.Memory) }
 {
     match Timestamp::read(text) {
         Some(moment) => Ok(Ok(Value::Timestamp(moment))),
@@ -22,7 +21,6 @@ fn timestamp_from_text(alloc: Global, text: &str) -> Result<Answer, Refused>
 
 fn duration_from_text(alloc: Global, text: &str) -> Result<Answer, Refused>
     ensures value { IfOk result (λ r. outcome_view r ≡ spec.duration_of (plain.text text.now)) }
-    ensures memory { IfErr result (λ e. e ≡ Refused.Memory) }
 {
     match Duration::read(text) {
         Some(length) => Ok(Ok(Value::Duration(length))),
@@ -33,7 +31,6 @@ fn duration_from_text(alloc: Global, text: &str) -> Result<Answer, Refused>
 /// Converts a timestamp or a string to a timestamp.
 pub(crate) fn timestamp(alloc: Global, value: &Value) -> Result<Answer, Refused>
     ensures value { IfOk result (λ r. outcome_view r ≡ spec.timestamp_of (view value.now)) }
-    ensures memory { IfErr result (λ e. e ≡ Refused.Memory) }
 {
     match value {
         Value::Timestamp(moment) => Ok(Ok(Value::Timestamp(*moment))),
@@ -45,7 +42,6 @@ pub(crate) fn timestamp(alloc: Global, value: &Value) -> Result<Answer, Refused>
 /// Converts a duration or a string to a duration.
 pub(crate) fn duration(alloc: Global, value: &Value) -> Result<Answer, Refused>
     ensures value { IfOk result (λ r. outcome_view r ≡ spec.duration_of (view value.now)) }
-    ensures memory { IfErr result (λ e. e ≡ Refused.Memory) }
 {
     match value {
         Value::Duration(length) => Ok(Ok(Value::Duration(*length))),

@@ -15,6 +15,16 @@ number_in (int n) = Some n
 number_in (uint n) = Some (pos n)
 number_in _ = None
 
+-- the int of a value, or None if it isn't one
+abbrev pub int_in : Data → Option ℤ
+int_in (int n) = Some n
+int_in _ = None
+
+-- the uint of a value, or None if it isn't one
+abbrev pub uint_in : Data → Option ℕ
+uint_in (uint n) = Some n
+uint_in _ = None
+
 abbrev pub bool_in : Data → Option Bool
 bool_in (bool b) = Some b
 bool_in _ = None

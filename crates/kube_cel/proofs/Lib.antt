@@ -11,3 +11,4 @@ pub mod Parts
 pub mod RawNodes
 pub mod Reports
 pub mod UnderBooks
+pub mod NoRules

@@ -1,16 +1,8 @@
 -- Trusted by the clauses of other library calls.
 -- The steps of the walk through the tree of a schema: the same as through the schema itself.
 use Rattle.std.specs.Prelude.{if◌then◌else◌, None}
-use Rattle.kube_schema_rules.specs.declared.branches.BranchKind.{BranchKind}
-use Rattle.kube_schema_rules.specs.declared.branches.BranchKind.TheVariants.{AllOf, OneOf, AnyOf}
 use Rattle.kube_schema_rules.specs.StepAccessors.{StepAccessors}
-use Rattle.kube_schema.specs.Tree.{Node, Nodes, own, items_of, additional_of, property_of, all_of, one_of, any_of, nth_node, nodes_length}
-
--- the branches under a keyword
-abbrev pub branches_of : BranchKind → Node → Nodes
-branches_of AllOf n = all_of n
-branches_of OneOf n = one_of n
-branches_of AnyOf n = any_of n
+use Rattle.kube_schema.specs.Tree.{Node, own, items_of, additional_of, property_of, branches_of, nth_node, nodes_length}
 
 unfoldable pub compiled_steps : StepAccessors Node
 compiled_steps = record {

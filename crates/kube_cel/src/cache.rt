@@ -3,7 +3,7 @@ ghost use Rattle.kube_cel.specs.RuleSets.{same_compiled-prop};
 ghost use Rattle.kube_schema_rules.specs.Compilation.{compile_result, compiled_rule, compiled_seen};
 ghost use Rattle.kube_schema_rules.specs.Rules.{rule_view};
 ghost use Rattle.serde_json.specs.View.{view};
-ghost use Rattle.std.specs.Prelude.{◌≡◌, IfErr, IfOk, IfSome, IsTrue, option_map, string_bytes};
+ghost use Rattle.std.specs.Prelude.{◌≡◌, IfOk, IfSome, IsTrue, option_map, string_bytes};
 
 use kube_schema::{CompilationError, CompilationResult, Rule, compile_rule};
 use kube_types::Refused;
@@ -122,7 +122,6 @@ impl RuleCache {
         value: &Value,
     ) -> Result<Rc<Result<CompilationResult, CompilationError>>, Refused>
         ensures rule { IfOk result (λ r. compiled_seen r.value ≡ compiled_rule (view value.now)) }
-        ensures memory { IfErr result (λ e. e ≡ Refused.Memory) }
     {
         let rule = match Rule::from_json(self.alloc, value)? {
             Ok(rule) => rule,

@@ -10,9 +10,8 @@ ghost use Rattle.kube_schema.specs.Shown.{node_tree};
 ghost use Rattle.kube_schema.specs.Tree.{Node as Tree};
 ghost use Rattle.serde_json.specs.View.{view};
 ghost use Rattle.std.specs.List.{flat_map};
-ghost use Rattle.std.specs.Prelude.{◌≡◌, IfErr, OnOk, Option, option_map, Some};
+ghost use Rattle.std.specs.Prelude.{◌≡◌, OnOk, Option, option_map, Some};
 
-use crate::branches::{branch_count, branch_of};
 use cel::PatternBook;
 use cel_demand::Demand;
 use cel_value::Value as CelValue;
@@ -55,7 +54,6 @@ fn add_verdicts(
         (λ b. flat_map (λ r. list_of_option
         (verdict b (bindings_of context.now)
         (option_map (λ v. view v.now) old.entry) path.now (compiled_seen r))) rules.now)) }
-    ensures memory { IfErr result (λ e. e ≡ Refused.Memory) }
 {
     for rule in rules {
         add_verdict(rule, context, old, path, book, errors)?;
@@ -94,12 +92,12 @@ impl Node for CompiledNode<'_> {
 
     #[tactic(auto, unfolding(crate::specs::Compiled::compiled_accessors, crate::specs::CompiledSteps::compiled_steps))]
     fn branch_count(&self, kind: BranchKind) -> usize {
-        branch_count(&self.node, kind)
+        self.node.branch_count(kind)
     }
 
     #[tactic(auto, unfolding(crate::specs::Compiled::compiled_accessors, crate::specs::CompiledSteps::compiled_steps))]
     fn branch(&self, kind: BranchKind, index: usize) -> Option<Self> {
-        let node = branch_of(&self.node, kind, index)?;
+        let node = self.node.branch(kind, index)?;
         Some(CompiledNode { node })
     }
 
@@ -123,6 +121,10 @@ impl Node for CompiledNode<'_> {
     #[tactic(auto, unfolding(crate::specs::Compiled::compiled_accessors))]
     fn is_without_rules(&self) -> bool {
         self.node.validations().is_empty()
+    }
+
+    fn has_no_rules_below(&self, levels: usize) -> bool {
+        self.node.has_no_rules_below(levels)
     }
 
     #[tactic(auto, unfolding(crate::specs::Compiled::compiled_accessors))]

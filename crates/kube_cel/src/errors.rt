@@ -4,7 +4,7 @@ ghost use Rattle.cel_patterns.specs.Entries.{entries_of};
 ghost use Rattle.kube_cel.specs.Answers.{report_of, answer_view};
 ghost use Rattle.kube_cel.specs.Starts.{start_without_defaults};
 ghost use Rattle.kube_cel_walk.specs.Answers.{answer};
-ghost use Rattle.std.specs.Prelude.{◌≡◌, IfErr, IfOk};
+ghost use Rattle.std.specs.Prelude.{◌≡◌, IfOk};
 
 use cel::PatternBook;
 use kube_cel_walk::{Node, RootContext, ValidationErrors, WalkState, walk_node};
@@ -23,7 +23,6 @@ pub(crate) fn validation_of<N: Node>(
     book: &mut PatternBook,
 ) -> Result<Result<(), ValidationErrors>, Refused>
     ensures kept { Extends (entries_of book.new) (entries_of book.old) }
-    ensures memory { IfErr result (λ e. e ≡ Refused.Memory) }
     ensures answer { IfOk result (λ r. (b : Book) → Extends b (entries_of book.new)
         → answer_view r ≡ report_of
         (answer N.form b 65 (start_without_defaults (N.seen node) object.now old.entry root.entry))) }

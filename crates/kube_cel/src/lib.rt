@@ -30,7 +30,6 @@
 //! empty. The clause is `answer`, whose definition begins in `specs/Answers.antt`.
 #![tactic(auto)]
 
-mod branches;
 mod cache;
 mod compiled;
 mod errors;

@@ -14,7 +14,7 @@ ghost use Rattle.serde_json.specs.Data.{Data};
 ghost use Rattle.serde_json.specs.Find.{get, as_array};
 ghost use Rattle.serde_json.specs.View.{items_view, view};
 ghost use Rattle.std.specs.List.{flat_map};
-ghost use Rattle.std.specs.Prelude.{◌≡◌, codes, IfErr, IfOk, OnOk, Option, option_and_then, option_map, Some};
+ghost use Rattle.std.specs.Prelude.{◌≡◌, codes, IfOk, OnOk, Option, option_and_then, option_map, Some};
 
 use crate::cache::RuleCache;
 use cel::PatternBook;
@@ -85,7 +85,6 @@ fn with_demands(
     ensures old { IfOk result (λ d. option_map part_of d.old
         ≡ both_read (rule_read (codes "oldSelf") (compiled_rule (view rule.now)))
         (option_map part_of demands.old)) }
-    ensures memory { IfErr result (λ e. e ≡ Refused.Memory) }
 {
     let compiled = cache.compiled(rule)?;
     let more = with_rule(alloc, &compiled, demands)?;
@@ -96,7 +95,6 @@ fn with_demands(
 fn demands_of(alloc: Global, rules: &[Value], cache: &RuleCache) -> Result<Demands, Refused>
     ensures demands { IfOk result
         (λ d. AreDemands d (λ x. rules_read x (compiled_rules (items_view rules.now)))) }
-    ensures memory { IfErr result (λ e. e ≡ Refused.Memory) }
 {
     let mut demands = no_demands();
     let mut left = rules.len();
@@ -121,7 +119,6 @@ fn add_raw_verdict(
     ensures found { OnOk result (AreAdded (entries_of book.new) errors.old.items errors.new.items
         (λ b. list_of_option (verdict b (bindings_of context.now)
         (option_map (λ v. view v.now) old.entry) path.now (compiled_rule (view rule.now))))) }
-    ensures memory { IfErr result (λ e. e ≡ Refused.Memory) }
 {
     let compiled = cache.compiled(rule)?;
     add_verdict(&compiled, context, old, path, book, errors)
@@ -142,7 +139,6 @@ fn add_verdicts(
         (λ b. flat_map (λ r. list_of_option
         (verdict b (bindings_of context.now) (option_map (λ v. view v.now) old.entry) path.now r))
         (compiled_rules (items_view rules.now)))) }
-    ensures memory { IfErr result (λ e. e ≡ Refused.Memory) }
 {
     for rule in rules {
         add_raw_verdict(rule, cache, context, old, path, book, errors)?;
@@ -226,6 +222,11 @@ impl Node for JsonNode<'_> {
     #[tactic(auto, unfolding(crate::specs::Raw::raw_accessors, kube_schema_rules::specs::Raw::raw_steps))]
     fn is_without_rules(&self) -> bool {
         rule_values(self.schema).is_empty()
+    }
+
+    /// Nothing is known of a schema as JSON.
+    fn has_no_rules_below(&self, _levels: usize) -> bool {
+        false
     }
 
     #[tactic(auto, unfolding(crate::specs::Raw::raw_accessors))]

@@ -9,7 +9,7 @@ ghost use Rattle.kube_cel_walk.specs.Answers.{answer, IsAnswer};
 ghost use Rattle.kube_schema.specs.Shown.{whole};
 ghost use Rattle.kube_schema.specs.View.{view_of};
 ghost use Rattle.serde_json.specs.Data.{Data};
-ghost use Rattle.std.specs.Prelude.{◌≡◌, IfErr, IfOk, None};
+ghost use Rattle.std.specs.Prelude.{◌≡◌, IfOk, None};
 
 use crate::cache::RuleCache;
 use crate::compiled::CompiledNode;
@@ -39,7 +39,7 @@ impl Validator {
     ///
     /// # Errors
     ///
-    /// [`Refused`] if memory is refused.
+    /// [`Refused`] if memory is refused, or a URL that a rule reads is too large.
     pub fn validate(
         &self,
         alloc: Global,
@@ -49,7 +49,6 @@ impl Validator {
     ) -> Result<Result<(), ValidationErrors>, Refused>
         ensures answer { IfOk result
             (IsReportOf raw_accessors (call_start schema.now object.now old.entry None)) }
-        ensures memory { IfErr result (λ e. e ≡ Refused.Memory) }
     {
         self.validate_with_context(alloc, schema, object, old, None)
     }
@@ -58,7 +57,7 @@ impl Validator {
     ///
     /// # Errors
     ///
-    /// [`Refused`] if memory is refused.
+    /// [`Refused`] if memory is refused, or a URL that a rule reads is too large.
     pub fn validate_with_context(
         &self,
         alloc: Global,
@@ -69,7 +68,6 @@ impl Validator {
     ) -> Result<Result<(), ValidationErrors>, Refused>
         ensures answer { IfOk result
             (IsReportOf raw_accessors (call_start schema.now object.now old.entry root.entry)) }
-        ensures memory { IfErr result (λ e. e ≡ Refused.Memory) }
     {
         let mut book = PatternBook::new(alloc);
         self.validate_in(alloc, schema, object, old, root, &mut book)
@@ -80,7 +78,7 @@ impl Validator {
     ///
     /// # Errors
     ///
-    /// [`Refused`] if memory is refused.
+    /// [`Refused`] if memory is refused, or a URL that a rule reads is too large.
     pub fn validate_in(
         &self,
         alloc: Global,
@@ -91,7 +89,6 @@ impl Validator {
         book: &mut PatternBook,
     ) -> Result<Result<(), ValidationErrors>, Refused>
         ensures kept { Extends (entries_of book.new) (entries_of book.old) }
-        ensures memory { IfErr result (λ e. e ≡ Refused.Memory) }
         ensures answer { IfOk result (λ r. (b : Book) → Extends b (entries_of book.new)
             → answer_view r ≡ report_of
             (answer raw_accessors b 65 (call_start schema.now object.now old.entry root.entry))) }
@@ -117,7 +114,7 @@ impl Validator {
     ///
     /// # Errors
     ///
-    /// [`Refused`] if memory is refused.
+    /// [`Refused`] if memory is refused, or a URL that a rule reads is too large.
     pub fn validate_compiled(
         &self,
         alloc: Global,
@@ -127,7 +124,6 @@ impl Validator {
     ) -> Result<Result<(), ValidationErrors>, Refused>
         ensures answer { IfOk result (λ r. (s : Data) → whole compiled.now ≡ view_of 65 s
             → IsReportOf raw_accessors (source_start s object.now old.entry None) r) }
-        ensures memory { IfErr result (λ e. e ≡ Refused.Memory) }
     {
         self.validate_compiled_with_context(alloc, compiled, object, old, None)
     }
@@ -137,7 +133,7 @@ impl Validator {
     ///
     /// # Errors
     ///
-    /// [`Refused`] if memory is refused.
+    /// [`Refused`] if memory is refused, or a URL that a rule reads is too large.
     pub fn validate_compiled_with_context(
         &self,
         alloc: Global,
@@ -148,7 +144,6 @@ impl Validator {
     ) -> Result<Result<(), ValidationErrors>, Refused>
         ensures answer { IfOk result (λ r. (s : Data) → whole compiled.now ≡ view_of 65 s
             → IsReportOf raw_accessors (source_start s object.now old.entry root.entry) r) }
-        ensures memory { IfErr result (λ e. e ≡ Refused.Memory) }
     {
         let mut book = PatternBook::new(alloc);
         self.validate_compiled_in(alloc, compiled, object, old, root, &mut book)
@@ -159,7 +154,7 @@ impl Validator {
     ///
     /// # Errors
     ///
-    /// [`Refused`] if memory is refused.
+    /// [`Refused`] if memory is refused, or a URL that a rule reads is too large.
     pub fn validate_compiled_in(
         &self,
         alloc: Global,
@@ -170,7 +165,6 @@ impl Validator {
         book: &mut PatternBook,
     ) -> Result<Result<(), ValidationErrors>, Refused>
         ensures kept { Extends (entries_of book.new) (entries_of book.old) }
-        ensures memory { IfErr result (λ e. e ≡ Refused.Memory) }
         ensures tree { IfOk result (λ r. (b : Book) → Extends b (entries_of book.new)
             → answer_view r ≡ report_of
             (answer compiled_accessors b 65 (compiled_start compiled.now object.now old.entry root.entry))) }
@@ -198,7 +192,7 @@ impl Validator {
     ///
     /// # Errors
     ///
-    /// [`Refused`] if memory is refused.
+    /// [`Refused`] if memory is refused, or a URL that a rule reads is too large.
     pub fn validate_with_defaults(
         &self,
         alloc: Global,
@@ -208,7 +202,6 @@ impl Validator {
     ) -> Result<Result<(), ValidationErrors>, Refused>
         ensures answer { IfOk result
             (IsReportOf raw_accessors (call_start schema.now object.now old.entry None)) }
-        ensures memory { IfErr result (λ e. e ≡ Refused.Memory) }
     {
         self.validate(alloc, schema, object, old)
     }
@@ -217,7 +210,7 @@ impl Validator {
     ///
     /// # Errors
     ///
-    /// [`Refused`] if memory is refused.
+    /// [`Refused`] if memory is refused, or a URL that a rule reads is too large.
     pub fn validate_with_defaults_and_context(
         &self,
         alloc: Global,
@@ -228,7 +221,6 @@ impl Validator {
     ) -> Result<Result<(), ValidationErrors>, Refused>
         ensures answer { IfOk result
             (IsReportOf raw_accessors (call_start schema.now object.now old.entry root.entry)) }
-        ensures memory { IfErr result (λ e. e ≡ Refused.Memory) }
     {
         self.validate_with_context(alloc, schema, object, old, root)
     }
@@ -238,14 +230,13 @@ impl Validator {
 ///
 /// # Errors
 ///
-/// [`Refused`] if memory is refused.
+/// [`Refused`] if memory is refused, or a URL that a rule reads is too large.
 pub fn validate(
     alloc: Global,
     schema: &Value,
     object: &Value,
     old: Option<&Value>,
 ) -> Result<Result<(), ValidationErrors>, Refused>
-    ensures memory { IfErr result (λ e. e ≡ Refused.Memory) }
     ensures answer { IfOk result
         (IsReportOf raw_accessors (call_start schema.now object.now old.entry None)) }
 {
@@ -256,14 +247,13 @@ pub fn validate(
 ///
 /// # Errors
 ///
-/// [`Refused`] if memory is refused.
+/// [`Refused`] if memory is refused, or a URL that a rule reads is too large.
 pub fn validate_compiled(
     alloc: Global,
     compiled: &CompiledSchema,
     object: &Value,
     old: Option<&Value>,
 ) -> Result<Result<(), ValidationErrors>, Refused>
-    ensures memory { IfErr result (λ e. e ≡ Refused.Memory) }
     ensures answer { IfOk result (λ r. (s : Data) → whole compiled.now ≡ view_of 65 s
         → IsReportOf raw_accessors (source_start s object.now old.entry None) r) }
 {

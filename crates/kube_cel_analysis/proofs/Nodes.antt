@@ -1,6 +1,6 @@
 -- The findings of a schema are those at all of its nodes.
 use Rattle.kube_cel_analysis.specs.Findings.{Finding, Naming, rules_findings}
-use Rattle.kube_cel_analysis.specs.Lint.{branch_findings, branches_of, findings, maybe_findings, named_findings}
+use Rattle.kube_cel_analysis.specs.Lint.{branch_findings, findings, maybe_findings, named_findings}
 use Rattle.kube_cel_analysis.specs.Nodes.{AreFoundAtNodes, found_at, goes, pointer_after, pointer_behind}
 use Rattle.kube_cel_analysis.specs.Pointers.{additional_pointer, branch_pointer, items_pointer, property_pointer}
 use Rattle.kube_schema_rules.proofs.ByKind.{branches_in_order, extras_in_order, items_in_order, kind_before, last_kind, properties_in_order}
@@ -18,7 +18,7 @@ use Rattle.kube_schema.specs.declared.nodes.PropertyLink.{PropertyLink}
 use Rattle.kube_schema.specs.declared.nodes.TableNode.{TableNode}
 use Rattle.kube_schema.specs.Raw.{AllOrdered, assemble, assemble_some, link_names, maybe_at, named_at, nodes_at, tree, tree_in, with_children}
 use Rattle.kube_schema.specs.Shown.{whole}
-use Rattle.kube_schema.specs.Tree.{Node, node, Maybe, nothing, just, Named, no_named, named, Nodes, no_nodes, more, all_of, any_of, as_option, count, find, maybe_count, named_count, named_of, names, nodes_count, nodes_length, nth_node, one_of, own}
+use Rattle.kube_schema.specs.Tree.{branches_of, Node, node, Maybe, nothing, just, Named, no_named, named, Nodes, no_nodes, more, all_of, any_of, as_option, count, find, maybe_count, named_count, named_of, names, nodes_count, nodes_length, nth_node, one_of, own}
 use Rattle.std.proofs.Common.{◌≡◌, ◌<◌, ◌≤◌, ◌+◌, ℕ, zero, suc, List, [], ◌∷◌, ◌++◌, map, length, Option, Some, None, option_map, option_and_then, IsSome, Ordering, Less, Equal, Greater, refl, sym, ap, ◌∙◌, subst, inl, inr, append-nil, arith, string_bytes, slice_get}
 use Rattle.std.proofs.lemmas.Cmp.{nat_list_cmp_total, tied_itself}
 use Rattle.std.proofs.lemmas.List.Concat.{flat_map-append}

@@ -3,11 +3,11 @@
 use Rattle.std.proofs.Common.{◌≡◌, ◌<◌, ◌≤◌, ◌+◌, ℕ, zero, suc, List, ◌++◌, length, Option, Some, None, refl, sym, ap, ◌∙◌, add-one, append_assoc, append-nil, arith}
 use Rattle.kube_cel_analysis.proofs.Rest.{rest, rest_at, rest_none, rest_past}
 use Rattle.kube_cel_analysis.specs.Findings.{Finding, Naming, rules_findings}
-use Rattle.kube_cel_analysis.specs.Lint.{branch_findings, branches_of, findings, findings_at, maybe_findings, named_findings}
+use Rattle.kube_cel_analysis.specs.Lint.{branch_findings, findings, findings_at, maybe_findings, named_findings}
 use Rattle.kube_cel_analysis.specs.Pointers.{additional_pointer, branch_pointer, items_pointer, property_pointer}
 use Rattle.kube_schema_rules.specs.declared.branches.BranchKind.{BranchKind}
 use Rattle.kube_schema_rules.specs.declared.branches.BranchKind.TheVariants.{AllOf, OneOf, AnyOf}
-use Rattle.kube_schema.specs.Tree.{Node, node, Maybe, nothing, just, Named, no_named, named, Nodes, no_nodes, more, additional_of, all_of, any_of, as_option, count, items_of, maybe_count, named_count, named_of, nodes_count, nodes_length, nth_named, nth_node, one_of, own}
+use Rattle.kube_schema.specs.Tree.{branches_of, Node, node, Maybe, nothing, just, Named, no_named, named, Nodes, no_nodes, more, additional_of, all_of, any_of, as_option, count, items_of, maybe_count, named_count, named_of, nodes_count, nodes_length, nth_named, nth_node, one_of, own}
 use Rattle.kube_schema.specs.Tree as tree
 
 -- ---- fewer nodes
@@ -53,19 +53,19 @@ rest_nodes (suc i) (more n ns) = rest_nodes i ns
 same_first : (m n : Node) (ns : Nodes) → Some m ≡ Some n → more n ns ≡ more m ns
 same_first m n ns e = let same : m ≡ n = cc in ap (λ (x : Node). more x ns) (sym same)
 
-nodes_next : (i : ℕ) (ns : Nodes) (n : Node) → Some n ≡ nth_node i ns → rest_nodes i ns ≡ more n (rest_nodes (suc i) ns)
+pub nodes_next : (i : ℕ) (ns : Nodes) (n : Node) → Some n ≡ nth_node i ns → rest_nodes i ns ≡ more n (rest_nodes (suc i) ns)
 nodes_next zero no_nodes n e = cc
 nodes_next zero (more m ns) n e = same_first n m ns e
 nodes_next (suc i) no_nodes n e = cc
 nodes_next (suc i) (more m ns) n e = nodes_next i ns n e
 
-nodes_none : (i : ℕ) (ns : Nodes) → ◌≡◌ {A = Option Node} None (nth_node i ns) → rest_nodes i ns ≡ no_nodes
+pub nodes_none : (i : ℕ) (ns : Nodes) → ◌≡◌ {A = Option Node} None (nth_node i ns) → rest_nodes i ns ≡ no_nodes
 nodes_none zero no_nodes e = refl
 nodes_none zero (more m ns) e = cc
 nodes_none (suc i) no_nodes e = refl
 nodes_none (suc i) (more m ns) e = nodes_none i ns e
 
-nodes_past : (i : ℕ) (ns : Nodes) → nodes_length ns ≤ i → rest_nodes i ns ≡ no_nodes
+pub nodes_past : (i : ℕ) (ns : Nodes) → nodes_length ns ≤ i → rest_nodes i ns ≡ no_nodes
 nodes_past zero no_nodes h = refl
 nodes_past zero (more m ns) h = let no : ⊥ = omega (arith, h) in absurd no
 nodes_past (suc i) no_nodes h = refl

@@ -7,7 +7,7 @@ use Rattle.kube_cel_analysis.specs.Findings.{Finding, Naming, rules_findings}
 use Rattle.kube_cel_analysis.specs.Pointers.{property_pointer, items_pointer, additional_pointer, branch_pointer}
 use Rattle.kube_schema_rules.specs.declared.branches.BranchKind.{BranchKind}
 use Rattle.kube_schema_rules.specs.declared.branches.BranchKind.TheVariants.{AllOf, OneOf, AnyOf}
-use Rattle.kube_schema.specs.Tree.{Node, node, Maybe, nothing, just, Named, no_named, named, Nodes, no_nodes, more, all_of, one_of, any_of}
+use Rattle.kube_schema.specs.Tree.{Node, node, Maybe, nothing, just, Named, no_named, named, Nodes, no_nodes, more}
 
 unfoldable mutual
   -- the findings of a node at this pointer
@@ -40,8 +40,3 @@ unfoldable mutual
 abbrev pub findings_at : Naming → List ℕ → Option Node → List Finding
 findings_at names p None = []
 findings_at names p (Some n) = findings names p n
-
-abbrev pub branches_of : BranchKind → Node → Nodes
-branches_of AllOf n = all_of n
-branches_of OneOf n = one_of n
-branches_of AnyOf n = any_of n

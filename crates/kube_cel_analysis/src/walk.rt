@@ -1,11 +1,11 @@
 //! The walk over the nodes of a schema.
 ghost use Rattle.std.specs.Prelude.{◌≡◌, ◌++◌, [], IfErr, IfOk, OnOk, map, option_map};
 ghost use Rattle.kube_cel_analysis.specs.Findings.{Naming, finding_view};
-ghost use Rattle.kube_cel_analysis.specs.Lint.{branch_findings, branches_of, findings, named_findings, findings_at};
+ghost use Rattle.kube_cel_analysis.specs.Lint.{branch_findings, findings, named_findings, findings_at};
 ghost use Rattle.kube_cel_analysis.specs.Nodes.{AreFoundAtNodes};
 ghost use Rattle.kube_cel_analysis.specs.Pointers.{additional_pointer, items_pointer};
 ghost use Rattle.kube_schema.specs.Shown.{node_tree, whole};
-ghost use Rattle.kube_schema.specs.Tree.{additional_of, items_of, named_of, nodes_length, nth_node};
+ghost use Rattle.kube_schema.specs.Tree.{branches_of, additional_of, items_of, named_of, nodes_length, nth_node};
 
 use crate::finding::LintFinding;
 use crate::pointer::{additional_pointer, branch_pointer, items_pointer, property_pointer};
@@ -140,34 +140,12 @@ fn lint_branches(
         ++ branch_findings names kind pointer.now 0 (branches_of kind (node_tree node.now))) }
     ensures memory { IfErr result (λ e. e ≡ Refused.Memory) }
 {
-    for index in 0..branch_count(kind, node) {
-        let Some(branch) = branch(kind, node, index) else {
+    for index in 0..node.branch_count(kind) {
+        let Some(branch) = node.branch(kind, index) else {
             return Ok(());
         };
         let inner = branch_pointer(alloc, kind, pointer, index)?;
         lint_node(alloc, inner.as_str(), &branch, found)?;
     }
     Ok(())
-}
-
-/// Returns the number of branches under a keyword.
-fn branch_count(kind: BranchKind, node: &SchemaNode<'_>) -> usize
-    ensures { result ≡ nodes_length (branches_of kind (node_tree node.now)) }
-{
-    match kind {
-        BranchKind::AllOf => node.all_of_count(),
-        BranchKind::OneOf => node.one_of_count(),
-        BranchKind::AnyOf => node.any_of_count(),
-    }
-}
-
-/// Returns the branch at an index under a keyword, if any.
-fn branch<'a>(kind: BranchKind, node: &SchemaNode<'a>, index: usize) -> Option<SchemaNode<'a>>
-    ensures { option_map node_tree result ≡ nth_node index (branches_of kind (node_tree node.now)) }
-{
-    match kind {
-        BranchKind::AllOf => node.all_of(index),
-        BranchKind::OneOf => node.one_of(index),
-        BranchKind::AnyOf => node.any_of(index),
-    }
 }

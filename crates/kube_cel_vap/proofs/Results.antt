@@ -5,7 +5,7 @@ use Rattle.cel_semantics.specs.Outcome.{Outcome}
 use Rattle.cel_syntax.specs.Reading.{tree_of}
 use Rattle.cel_syntax_ast.specs.Term.{Term}
 use Rattle.kube_cel_vap.specs.Validations.{ExpressionData}
-use Rattle.kube_cel_vap.proofs.Bound.{meaning_same}
+use Rattle.cel.proofs.Bound.{meaning_same}
 use Rattle.kube_cel_vap.specs.Expressions.{Compiled, Unread, compile_result, message_tree_in, required_tree, with_tree, with_trees, ◌>>=◌}
 use Rattle.kube_cel_vap.specs.Results.{compiled_result, compiled_results, false_message, message_in, outcome_in, own_message, outcome_message, policy_library, policy_results, result_in, result_with}
 use Rattle.kube_cel_vap.specs.Variables.{Variables, policy_bindings}

@@ -10,7 +10,7 @@ ghost use Rattle.kube_cel_vap.specs.Requests.{request_value, request_view, empty
 ghost use Rattle.kube_cel_vap.specs.Results.{outcome_in};
 ghost use Rattle.kube_cel_vap.specs.Variables.{bindings_always, given_view, policy_bindings, value_or_null, with_given};
 ghost use Rattle.serde_json.specs.View.{view as json_view};
-ghost use Rattle.std.specs.Prelude.{◌≡◌, [], ℕ, IfErr, IfOk, List, OnOk, option_map, unwrap_or};
+ghost use Rattle.std.specs.Prelude.{◌≡◌, [], ℕ, IfOk, List, OnOk, option_map, unwrap_or};
 
 use crate::request::AdmissionRequest;
 use crate::value::request_value;
@@ -44,7 +44,6 @@ pub(crate) fn outcome_of(
     ensures keeps { Extends (entries_of book.new) (entries_of book.old) }
     ensures value { IfOk result (λ r. HoldsForExtensions (entries_of book.new) (outcome_view r)
         (λ b. outcome_in b (bindings_of context.now) (program_term program.now))) }
-    ensures memory { IfErr result (λ e. e ≡ Refused.Memory) }
 {
     program.execute_with(alloc, context, book)
 }
@@ -52,7 +51,6 @@ pub(crate) fn outcome_of(
 /// Returns the value that was set, or null.
 fn value_or_null(alloc: Global, value: &Option<Json>) -> Result<Value, Refused>
     ensures value { IfOk result (λ v. view v ≡ value_or_null (option_map json_view value.now)) }
-    ensures memory { IfErr result (λ e. e ≡ Refused.Memory) }
 {
     match value {
         Some(value) => bind_plain(alloc, value),
@@ -64,7 +62,6 @@ fn value_or_null(alloc: Global, value: &Option<Json>) -> Result<Value, Refused>
 fn request_or_empty(alloc: Global, request: &Option<AdmissionRequest>) -> Result<Value, Refused>
     ensures value { IfOk result (λ v. view v
         ≡ request_value (unwrap_or (option_map request_view request.now) empty_request)) }
-    ensures memory { IfErr result (λ e. e ≡ Refused.Memory) }
 {
     match request {
         Some(request) => request_value(alloc, request),
@@ -81,7 +78,6 @@ fn bind_given(
 ) -> Result<(), Refused>
     ensures bound { OnOk result ((x : List ℕ) → binding x (bindings_of context.new)
         ≡ binding x (with_given name.now (option_map json_view value.now) (bindings_of context.old))) }
-    ensures memory { IfErr result (λ e. e ≡ Refused.Memory) }
 {
     let Some(value) = value else {
         return Ok(());
@@ -94,7 +90,6 @@ fn bind_always(alloc: Global, context: &mut PolicyContext<'_>, given: &Given) ->
     requires { bindings_of context.old ≡ [] }
     ensures bound { OnOk result ((x : List ℕ) → binding x (bindings_of context.new)
         ≡ binding x (bindings_always (given_view given.now))) }
-    ensures memory { IfErr result (λ e. e ≡ Refused.Memory) }
 {
     context.add_variable("object", value_or_null(alloc, &given.object)?)?;
     context.add_variable("oldObject", value_or_null(alloc, &given.old_object)?)?;
@@ -107,7 +102,6 @@ fn bind_all(alloc: Global, context: &mut PolicyContext<'_>, given: &Given) -> Re
     requires { bindings_of context.old ≡ [] }
     ensures bound { OnOk result ((x : List ℕ) → binding x (bindings_of context.new)
         ≡ binding x (policy_bindings (given_view given.now))) }
-    ensures memory { IfErr result (λ e. e ≡ Refused.Memory) }
 {
     bind_always(alloc, context, given)?;
     bind_given(alloc, context, "params", &given.params)?;
@@ -119,7 +113,6 @@ fn bind_all(alloc: Global, context: &mut PolicyContext<'_>, given: &Given) -> Re
 pub(crate) fn context_of<'a>(alloc: Global, given: &Given) -> Result<PolicyContext<'a>, Refused>
     ensures bound { IfOk result (λ c. (x : List ℕ) → binding x (bindings_of c)
         ≡ binding x (policy_bindings (given_view given.now))) }
-    ensures memory { IfErr result (λ e. e ≡ Refused.Memory) }
 {
     let mut context = empty_context(alloc);
     bind_all(alloc, &mut context, given)?;

@@ -132,7 +132,7 @@ impl VapEvaluator {
     ///
     /// # Errors
     ///
-    /// [`Refused`] if memory is refused.
+    /// [`Refused`] if memory is refused, or a URL that an expression reads is too large.
     pub fn evaluate_compiled(
         &self,
         alloc: Global,
@@ -140,7 +140,6 @@ impl VapEvaluator {
     ) -> Result<Vec<VapResult>, Refused>
         ensures results { IfOk result
             (λ v. AreResultsOfCompiled (evaluator_view self.now) (map compiled_seen compiled.now) v.items) }
-        ensures memory { IfErr result (λ e. e ≡ Refused.Memory) }
     {
         let context = context_of(alloc, &self.given)?;
         let mut book = PatternBook::new(alloc);
@@ -153,7 +152,7 @@ impl VapEvaluator {
     ///
     /// # Errors
     ///
-    /// [`Refused`] if memory is refused.
+    /// [`Refused`] if memory is refused, or a URL that an expression reads is too large.
     pub fn evaluate(
         &self,
         alloc: Global,
@@ -161,7 +160,6 @@ impl VapEvaluator {
     ) -> Result<Vec<VapResult>, Refused>
         ensures results { IfOk result
             (λ v. AreResultsOf (evaluator_view self.now) (map expression_view expressions.now) v.items) }
-        ensures memory { IfErr result (λ e. e ≡ Refused.Memory) }
     {
         let compiled = self.compile_expressions(alloc, expressions)?;
         let results = self.evaluate_compiled(alloc, compiled.as_slice())?;

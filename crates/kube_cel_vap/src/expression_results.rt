@@ -10,7 +10,7 @@ ghost use Rattle.kube_cel_vap.specs.Validations.{result_view};
 ghost use Rattle.kube_cel_vap.specs.Expressions.{compiled_seen, compiled_view, error_view, unread_text};
 ghost use Rattle.kube_cel_vap.specs.Results.{compiled_result, false_message, message_in, outcome_in, outcome_message, own_message, result_with, message_text, value_message};
 ghost use Rattle.kube_cel_vap.specs.CallResults.{AreResultsUnder};
-ghost use Rattle.std.specs.Prelude.{◌≡◌, IfErr, IfOk, map, option_map, Some, string_bytes};
+ghost use Rattle.std.specs.Prelude.{◌≡◌, IfOk, map, option_map, Some, string_bytes};
 
 use crate::compilation::{CompiledVapExpression, VapError};
 use crate::context::{PolicyContext, outcome_of};
@@ -72,7 +72,6 @@ fn false_message(
         (λ s. HoldsForExtensions (entries_of book.new) (string_bytes s)
         (λ b. false_message (compiled_view compiled.now)
         (option_map (outcome_in b (bindings_of context.now)) (compiled_view compiled.now).message_tree))) }
-    ensures memory { IfErr result (λ e. e ≡ Refused.Memory) }
 {
     let Some(program) = &compiled.message_program else {
         return Ok(own_message(alloc, compiled)?);
@@ -111,7 +110,6 @@ fn value_message(
         (false_message (compiled_view compiled.now)
         (option_map (outcome_in b (bindings_of context.now)) (compiled_view compiled.now).message_tree))
         (view value.now) (bool_in (view value.now)))) }
-    ensures memory { IfErr result (λ e. e ≡ Refused.Memory) }
 {
     match value.as_bool() {
         Some(true) => Ok(None),
@@ -142,7 +140,6 @@ fn outcome_message(
         (false_message (compiled_view compiled.now)
         (option_map (outcome_in b (bindings_of context.now)) (compiled_view compiled.now).message_tree))
         (outcome_view outcome.now))) }
-    ensures memory { IfErr result (λ e. e ≡ Refused.Memory) }
 {
     match outcome {
         Ok(value) => value_message(alloc, compiled, value, context, book),
@@ -163,7 +160,6 @@ fn message_of(
     ensures keeps { Extends (entries_of book.new) (entries_of book.old) }
     ensures reported { IfOk result (λ o. HoldsForExtensions (entries_of book.new) (option_map string_bytes o)
         (λ b. message_in b (bindings_of context.now) (compiled_view compiled.now))) }
-    ensures memory { IfErr result (λ e. e ≡ Refused.Memory) }
 {
     let outcome = outcome_of(alloc, &compiled.program, context, book)?;
     let message = outcome_message(alloc, compiled, &outcome, context, book)?;
@@ -189,7 +185,6 @@ fn result_of(
     ensures keeps { Extends (entries_of book.new) (entries_of book.old) }
     ensures reported { IfOk result (λ r. HoldsForExtensions (entries_of book.new) (result_view r)
         (λ b. compiled_result b (bindings_of context.now) (compiled_seen compiled.now))) }
-    ensures memory { IfErr result (λ e. e ≡ Refused.Memory) }
 {
     match compiled {
         Err(error) => Ok(unread_result(alloc, error)?),
@@ -211,7 +206,6 @@ pub(crate) fn results_of(
     ensures keeps { Extends (entries_of book.new) (entries_of book.old) }
     ensures reported { IfOk result (λ v. AreResultsUnder (entries_of book.new) (bindings_of context.now)
         (map compiled_seen compiled.now) v.items) }
-    ensures memory { IfErr result (λ e. e ≡ Refused.Memory) }
 {
     let mut results = Vec::with_capacity(alloc, compiled.len())?;
     for one in compiled {

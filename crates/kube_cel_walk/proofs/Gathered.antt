@@ -160,7 +160,7 @@ module _ {S : Type 0} (form : WalkAccessors S) where
   unfolding answer
   answer_last b m s e = ap (λ m. answers (goes form.steps) (candidates form.steps) (verdicts form b) m s) e ∙ answers_end (goes form.steps) (candidates form.steps) (verdicts form b) s
 
-  answer_more : (b : Book) (n : ℕ) (s : Visit S) → answer form b (suc n) s ≡ verdicts form b s ++ found_through form b n s (candidates form.steps s)
+  pub answer_more : (b : Book) (n : ℕ) (s : Visit S) → answer form b (suc n) s ≡ verdicts form b s ++ found_through form b n s (candidates form.steps s)
   unfolding answer answer_if_reached found_through
   answer_more b n s = answers_more (goes form.steps) (candidates form.steps) (verdicts form b) n s
 

@@ -7,3 +7,4 @@ pub mod Cut
 pub mod Entries
 pub mod Gathered
 pub mod Judged
+pub mod NoRules

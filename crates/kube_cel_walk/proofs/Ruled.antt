@@ -9,7 +9,7 @@ use Rattle.cel_value.specs.Faults.{Fault}
 use Rattle.cel_value.specs.Parts.{bool_in}
 use Rattle.kube_cel_walk.specs.Errors.{ErrorData}
 use Rattle.kube_cel_walk.specs.RuleErrors.{fault_error, malformed_error, undeclared_name}
-use Rattle.kube_cel_walk.proofs.Bound.{meaning_same, under}
+use Rattle.cel.proofs.Bound.{meaning_same, under}
 use Rattle.kube_cel_walk.specs.Verdicts.{is_applicable, is_old_null, outcome_in, message_text, own_message, failed_message, value_error, outcome_error, bound_verdict, rule_bindings, compiled_verdict, verdict}
 use Rattle.kube_schema_rules.specs.Compilation.{Compiled, Malformed}
 use Rattle.kube_schema_rules.specs.Rules.{Fields}

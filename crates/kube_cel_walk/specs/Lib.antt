@@ -9,3 +9,4 @@ pub mod Answers
 pub mod WalkAccessors
 pub mod Visits
 pub mod Demands
+pub mod NoRules

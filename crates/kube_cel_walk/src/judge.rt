@@ -12,7 +12,7 @@ ghost use Rattle.kube_cel_walk.specs.Visits.{visit_at};
 ghost use Rattle.kube_schema_values.specs.Conversion.{to_cel, levels};
 ghost use Rattle.kube_schema_rules.specs.Demands.{rules_read};
 ghost use Rattle.serde_json.specs.View.{view};
-ghost use Rattle.std.specs.Prelude.{◌≡◌, ◌∷◌, codes, IfErr, IfOk, List, OnOk, Option, option_map, ℕ};
+ghost use Rattle.std.specs.Prelude.{◌≡◌, ◌∷◌, codes, IfOk, List, OnOk, Option, option_map, ℕ};
 
 use crate::error::ValidationError;
 use crate::node::Node;
@@ -42,7 +42,6 @@ fn bind_name<N: Node>(
         → option_map part_of demand.now ≡ read name.now
         → NamesAlike read (bindings_of context.old) f → NamesAlike read (bindings_of context.new)
         ((name.now, to_cel N.form.conversion (levels depth) (N.seen node.now) (view value.now)) ∷ f)) }
-    ensures memory { IfErr result (λ e. e ≡ Refused.Memory) }
 {
     let Some(demand) = demand else {
         return Ok(());
@@ -64,7 +63,6 @@ fn bind_old<N: Node>(
         → NamesAlike read (bindings_of context.new)
         (with_old (option_map (bound_at N.form (visit_at N.seen state.now path))
         (option_map (λ v. view v.now) state.now.old)) f)) }
-    ensures memory { IfErr result (λ e. e ≡ Refused.Memory) }
 {
     let Some(old) = state.old else {
         return Ok(());
@@ -81,7 +79,6 @@ fn context_at<'c, N: Node>(alloc: Global, state: &WalkState<'_, N>) -> Result<Co
     ensures bound { IfOk result (λ c. (path : List ℕ)
         → NamesAlike (λ x. rules_read x (N.form.rules (N.seen state.now.node)))
         (bindings_of c) (place_bindings N.form (visit_at N.seen state.now path))) }
-    ensures memory { IfErr result (λ e. e ≡ Refused.Memory) }
 {
     let known = state.node.demands(alloc)?;
     let demands = known.get();
@@ -112,7 +109,6 @@ pub(crate) fn validate_at<N: Node>(
     ensures keeps { (b : Book) → Extends b (entries_of book.new) → Extends b (entries_of book.old) }
     ensures found { OnOk result (AreAdded (entries_of book.new) errors.old.items errors.new.items
         (λ b. verdicts N.form b (visit_at N.seen state.now path.now))) }
-    ensures memory { IfErr result (λ e. e ≡ Refused.Memory) }
 {
     if state.depth == TOO_DEEP {
         let error = deep_error(*errors.allocator(), path)?;

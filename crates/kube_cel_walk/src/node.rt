@@ -9,11 +9,12 @@ ghost use Rattle.kube_cel_walk.specs.AddedErrors.{AreAdded};
 ghost use Rattle.kube_cel_walk.specs.Verdicts.{list_of_option, verdict};
 ghost use Rattle.kube_cel_walk.specs.WalkAccessors.{WalkAccessors, is_none_of};
 ghost use Rattle.kube_cel_walk.specs.Demands.{demands_in};
+ghost use Rattle.kube_cel_walk.specs.NoRules.{HasNoRulesBelow};
 ghost use Rattle.kube_schema_values.specs.Conversion.{to_cel, levels};
 ghost use Rattle.kube_schema_rules.specs.Demands.{AreDemands, rules_read};
 ghost use Rattle.serde_json.specs.View.{view};
 ghost use Rattle.std.specs.List.{flat_map};
-ghost use Rattle.std.specs.Prelude.{◌≡◌, IfErr, IfOk, OnOk, Option, option_map};
+ghost use Rattle.std.specs.Prelude.{◌≡◌, IfOk, IsTrue, OnOk, Option, option_map};
 
 use crate::demands::NodeDemands;
 use crate::error::ValidationError;
@@ -59,8 +60,7 @@ pub trait Node: Copy {
     /// Returns how much of the values at a place the rules of the node read.
     fn demands(&self, alloc: Global) -> Result<NodeDemands<'_>, Refused>
         ensures demands { IfOk result
-            (λ d. AreDemands (demands_in d) (λ x. rules_read x (form.rules (seen self.now)))) }
-        ensures memory { IfErr result (λ e. e ≡ Refused.Memory) };
+            (λ d. AreDemands (demands_in d) (λ x. rules_read x (form.rules (seen self.now)))) };
 
     /// Converts the demanded part of a JSON value to CEL,
     /// at this node and `depth` steps from the root.
@@ -72,8 +72,12 @@ pub trait Node: Copy {
         demand: &Demand,
     ) -> Result<CelValue, Refused>
         ensures value { IfOk result (λ v. Alike (part_of demand.now) (cel_view v)
-            (to_cel form.conversion (levels depth) (seen self.now) (view value.now))) }
-        ensures memory { IfErr result (λ e. e ≡ Refused.Memory) };
+            (to_cel form.conversion (levels depth) (seen self.now) (view value.now))) };
+
+    /// Reports whether it is known that no node below this one has rules, and that there are
+    /// at most `levels` levels of them. The contract only covers true.
+    fn has_no_rules_below(&self, levels: usize) -> bool
+        ensures { IsTrue result → HasNoRulesBelow form levels (seen self.now) };
 
     /// Reports whether the node has no rules.
     fn is_without_rules(&self) -> bool
@@ -92,6 +96,5 @@ pub trait Node: Copy {
         ensures found { OnOk result (AreAdded (entries_of book.new) errors.old.items errors.new.items
             (λ b. flat_map (λ r. list_of_option
             (verdict b (bindings_of context.now) (option_map (λ v. view v.now) old.entry) path.now r))
-            (form.rules (seen self.now)))) }
-        ensures memory { IfErr result (λ e. e ≡ Refused.Memory) };
+            (form.rules (seen self.now)))) };
 }

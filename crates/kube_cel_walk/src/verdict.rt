@@ -118,7 +118,6 @@ fn failed_message(
         (λ s. HoldsForExtensions (entries_of book.new) (string_bytes s)
         (λ b. failed_message (rule_view rule.now.rule)
         (option_map (outcome_in b (bindings_of context.now)) (result_view rule.now).message_tree))) }
-    ensures memory { IfErr result (λ e. e ≡ Refused.Memory) }
 {
     let Some(program) = &rule.message_program else {
         return Ok(own_message(alloc, &rule.rule)?);
@@ -145,7 +144,6 @@ fn verdict_of_value(
         (failed_message (rule_view rule.now.rule)
         (option_map (outcome_in b (bindings_of context.now)) (result_view rule.now).message_tree))
         (bool_in (cel_view value.now)))) }
-    ensures memory { IfErr result (λ e. e ≡ Refused.Memory) }
 {
     match value.as_bool() {
         Some(true) => Ok(None),
@@ -169,7 +167,6 @@ fn verdict_where_bound(
     ensures keeps { (b : Book) → Extends b (entries_of book.new) → Extends b (entries_of book.old) }
     ensures found { IfOk result (λ o. IsVerdict (entries_of book.new) o
         (λ b. bound_verdict b (bindings_of context.now) path.now (result_view rule.now))) }
-    ensures memory { IfErr result (λ e. e ≡ Refused.Memory) }
 {
     match rule.program.execute_with(alloc, context, book)? {
         Err(fault) => Ok(Some(fault_error(alloc, &rule.rule, fault, path)?)),
@@ -194,7 +191,6 @@ fn verdict_of_compiled(
     ensures found { IfOk result (λ o. IsVerdict (entries_of book.new) o
         (λ b. compiled_verdict b (bindings_of context.now)
         (option_map (λ v. view v.now) old.entry) path.now (result_view rule.now))) }
-    ensures memory { IfErr result (λ e. e ≡ Refused.Memory) }
 {
     if !is_applicable(rule, old) {
         return Ok(None);
@@ -222,7 +218,6 @@ fn verdict_of_rule(
     ensures found { IfOk result (λ o. IsVerdict (entries_of book.new) o
         (λ b. verdict b (bindings_of context.now)
         (option_map (λ v. view v.now) old.entry) path.now (compiled_seen rule.now))) }
-    ensures memory { IfErr result (λ e. e ≡ Refused.Memory) }
 {
     match rule {
         Err(error) => Ok(Some(malformed_error(alloc, error, path)?)),
@@ -253,7 +248,7 @@ fn push_listed(
 ///
 /// # Errors
 ///
-/// [`Refused`] if memory is refused.
+/// [`Refused`] if memory is refused, or a URL that a rule reads is too large.
 pub fn add_verdict(
     rule: &Result<CompilationResult, CompilationError>,
     context: &Context<'_>,
@@ -266,7 +261,6 @@ pub fn add_verdict(
     ensures found { OnOk result (AreAdded (entries_of book.new) errors.old.items errors.new.items
         (λ b. list_of_option (verdict b (bindings_of context.now)
         (option_map (λ v. view v.now) old.entry) path.now (compiled_seen rule.now)))) }
-    ensures memory { IfErr result (λ e. e ≡ Refused.Memory) }
 {
     let error = verdict_of_rule(*errors.allocator(), rule, context, old, path, book)?;
     push_listed(error, errors)?;

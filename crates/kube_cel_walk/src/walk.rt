@@ -8,7 +8,7 @@ ghost use Rattle.kube_schema_rules.specs.Visit.{branch_steps, additional_steps, 
 ghost use Rattle.kube_schema_rules.specs.Step.{branch};
 ghost use Rattle.serde_json.specs.Find.{at, get};
 ghost use Rattle.serde_json.specs.View.{view};
-ghost use Rattle.std.specs.Prelude.{◌≡◌, ◌≤◌, ◌-◌, IfErr, None, OnOk, option_and_then, option_map, Some, string_bytes};
+ghost use Rattle.std.specs.Prelude.{◌≡◌, ◌≤◌, ◌-◌, None, OnOk, option_and_then, option_map, Some, string_bytes};
 
 use crate::error::ValidationError;
 use crate::judge::{TOO_DEEP, validate_at};
@@ -33,10 +33,12 @@ pub fn walk_node<N: Node>(
         (λ b. answer N.form b (65 - state.now.depth) (visit_at N.seen state.now (string_bytes path.old)))) }
     ensures path { OnOk result (string_bytes path.new ≡ string_bytes path.old) }
     ensures keeps { (b : Book) → Extends b (entries_of book.new) → Extends b (entries_of book.old) }
-    ensures memory { IfErr result (λ e. e ≡ Refused.Memory) }
 {
     validate_at(state, path.as_str(), book, errors)?;
     if state.depth == TOO_DEEP {
+        return Ok(());
+    }
+    if state.node.has_no_rules_below(TOO_DEEP - 1 - state.depth) {
         return Ok(());
     }
     walk_properties(state, path, book, errors)?;
@@ -62,7 +64,6 @@ fn walk_properties<N: Node>(
         (visit_at N.seen state.now (string_bytes path.old)))) }
     ensures path { OnOk result (string_bytes path.new ≡ string_bytes path.old) }
     ensures keeps { (b : Book) → Extends b (entries_of book.new) → Extends b (entries_of book.old) }
-    ensures memory { IfErr result (λ e. e ≡ Refused.Memory) }
 {
     let Some(members) = state.value.as_object() else {
         return Ok(());
@@ -89,7 +90,6 @@ fn walk_extras<N: Node>(
         (visit_at N.seen state.now (string_bytes path.old)))) }
     ensures path { OnOk result (string_bytes path.new ≡ string_bytes path.old) }
     ensures keeps { (b : Book) → Extends b (entries_of book.new) → Extends b (entries_of book.old) }
-    ensures memory { IfErr result (λ e. e ≡ Refused.Memory) }
 {
     let Some(other) = state.node.additional_property() else {
         return Ok(());
@@ -123,7 +123,6 @@ fn walk_member<N: Node>(
         (option_and_then (get key.now) (option_map (λ v. view v.now) state.now.old))))) }
     ensures path { OnOk result (string_bytes path.new ≡ string_bytes path.old) }
     ensures keeps { (b : Book) → Extends b (entries_of book.new) → Extends b (entries_of book.old) }
-    ensures memory { IfErr result (λ e. e ≡ Refused.Memory) }
 {
     let Some(node) = node else {
         return Ok(());
@@ -159,7 +158,6 @@ fn walk_items<N: Node>(
         (visit_at N.seen state.now (string_bytes path.old)))) }
     ensures path { OnOk result (string_bytes path.new ≡ string_bytes path.old) }
     ensures keeps { (b : Book) → Extends b (entries_of book.new) → Extends b (entries_of book.old) }
-    ensures memory { IfErr result (λ e. e ≡ Refused.Memory) }
 {
     let Some(node) = state.node.items() else {
         return Ok(());
@@ -192,7 +190,6 @@ fn walk_item<'a, N: Node>(
         (option_and_then (at index) (option_map (λ v. view v.now) state.now.old))))) }
     ensures path { OnOk result (string_bytes path.new ≡ string_bytes path.old) }
     ensures keeps { (b : Book) → Extends b (entries_of book.new) → Extends b (entries_of book.old) }
-    ensures memory { IfErr result (λ e. e ≡ Refused.Memory) }
 {
     let item = WalkState {
         node,
@@ -224,7 +221,6 @@ fn walk_branches<N: Node>(
         (64 - state.now.depth) (visit_at N.seen state.now (string_bytes path.old)))) }
     ensures path { OnOk result (string_bytes path.new ≡ string_bytes path.old) }
     ensures keeps { (b : Book) → Extends b (entries_of book.new) → Extends b (entries_of book.old) }
-    ensures memory { IfErr result (λ e. e ≡ Refused.Memory) }
 {
     for index in 0..state.node.branch_count(kind) {
         walk_branch(kind, state, index, path, book, errors)?;
@@ -248,7 +244,6 @@ fn walk_branch<N: Node>(
         (goes N.form.steps (branch kind index) (visit_at N.seen state.now (string_bytes path.old))))) }
     ensures path { OnOk result (string_bytes path.new ≡ string_bytes path.old) }
     ensures keeps { (b : Book) → Extends b (entries_of book.new) → Extends b (entries_of book.old) }
-    ensures memory { IfErr result (λ e. e ≡ Refused.Memory) }
 {
     let Some(node) = state.node.branch(kind, index) else {
         return Ok(());

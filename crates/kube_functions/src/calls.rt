@@ -1,5 +1,5 @@
 //! Calls of the functions that Kubernetes adds.
-ghost use Rattle.std.specs.Prelude.{◌≡◌, IfOk, IfErr, map, option_map};
+ghost use Rattle.std.specs.Prelude.{◌≡◌, IfOk, map, option_map};
 ghost use Rattle.cel_patterns.specs.Book.{Extends};
 ghost use Rattle.cel_patterns.specs.Entries.{entries_of};
 ghost use Rattle.cel_patterns.specs.Extensions.{HoldsForExtensions};
@@ -18,7 +18,7 @@ use std::alloc::Global;
 /// is the function's name in errors. The book keeps its entries in any case.
 ///
 /// # Errors
-/// Only [`Refused::Memory`], if memory is refused.
+/// [`Refused::Memory`] if memory is refused, [`Refused::TooLarge`] if a URL is too large.
 pub(crate) fn answer_of(
     alloc: Global,
     function: Function,
@@ -31,7 +31,6 @@ pub(crate) fn answer_of(
     ensures value { IfOk result (λ r. HoldsForExtensions (entries_of book.new) (outcome_view r)
         (λ b. spec.answer_of function name.now
         (option_map (λ v. view v.now) receiver.entry) (map view args.now) b)) }
-    ensures memory { IfErr result (λ e. e ≡ Refused.Memory) }
 {
     let first = first_operand(receiver, args);
     let second = second_operand(receiver, args);

@@ -1,6 +1,6 @@
 //! Functions that take operands of different kinds under one name: `reverse`,
 //! `indexOf` and `lastIndexOf` of strings and lists, and `string` of addresses.
-ghost use Rattle.std.specs.Prelude.{◌≡◌, IfOk, IfErr, Some, map, option_map};
+ghost use Rattle.std.specs.Prelude.{◌≡◌, IfOk, Some, map, option_map};
 ghost use Rattle.cel_value.specs.View.{view};
 ghost use Rattle.cel_semantics.specs.Outcome.{outcome_view};
 ghost use Rattle.kube_functions.specs.Overloads as spec;
@@ -21,7 +21,6 @@ fn is_list(value: &Value) -> bool
 /// `reverse`: returns the characters of a string, or the items of a list, in reverse order.
 pub(crate) fn reverse(alloc: Global, value: &Value) -> Result<Answer, Refused>
     ensures value { IfOk result (λ r. outcome_view r ≡ spec.reverse_overload (view value.now)) }
-    ensures memory { IfErr result (λ e. e ≡ Refused.Memory) }
 {
     if is_list(value) {
         lists::reverse(alloc, value)
@@ -40,7 +39,6 @@ pub(crate) fn index_of(
 ) -> Result<Answer, Refused>
     ensures value { IfOk result (λ r. outcome_view r
         ≡ spec.index_of (view value.now) (view item.now) (option_map (λ v. view v.now) start.entry)) }
-    ensures memory { IfErr result (λ e. e ≡ Refused.Memory) }
 {
     if !is_list(value) {
         return strings::index_of(alloc, value, item, start);
@@ -61,7 +59,6 @@ pub(crate) fn last_index_of(
 ) -> Result<Answer, Refused>
     ensures value { IfOk result (λ r. outcome_view r
         ≡ spec.last_index_of (view value.now) (view item.now) (option_map (λ v. view v.now) start.entry)) }
-    ensures memory { IfErr result (λ e. e ≡ Refused.Memory) }
 {
     if !is_list(value) {
         return strings::last_index_of(alloc, value, item, start);

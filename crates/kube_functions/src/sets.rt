@@ -1,5 +1,5 @@
 //! The sets of functions: which calls each of them knows, and what it answers.
-ghost use Rattle.std.specs.Prelude.{◌≡◌, Some, map, option_map, IfOk, IfErr};
+ghost use Rattle.std.specs.Prelude.{◌≡◌, Some, map, option_map, IfOk};
 ghost use Rattle.cel_patterns.specs.Book.{Extends};
 ghost use Rattle.cel_patterns.specs.Entries.{entries_of};
 ghost use Rattle.cel_patterns.specs.Extensions.{HoldsForExtensions};
@@ -89,7 +89,6 @@ fn added_answer(
     ensures value { IfOk result (λ r. HoldsForExtensions (entries_of book.new) (outcome_view r)
         (λ b. spec.added_answer name.now
         (option_map (λ v. view v.now) receiver.entry) (map view args.now) b)) }
-    ensures memory { IfErr result (λ e. e ≡ Refused.Memory) }
 {
     match function_named(name, receiver.is_some()) {
         Some(declaration) => answer_of(alloc, declaration.function, name, receiver, args, book),
@@ -98,7 +97,9 @@ fn added_answer(
 }
 
 // Answers a call that the standard knows as the standard does, except for
-// `string` of an IP address or a CIDR.
+// `string` of an IP address or a CIDR. Of the layers of a call only this
+// one and `added_answer` are calls: each call copies the whole answer.
+#[inline(never)]
 fn kept_answer(
     alloc: Global,
     function: Function,
@@ -112,7 +113,6 @@ fn kept_answer(
     ensures value { IfOk result (λ r. HoldsForExtensions (entries_of book.new) (outcome_view r)
         (λ b. spec.kept_answer name.now
         (option_map (λ v. view v.now) receiver.entry) (map view args.now) b)) }
-    ensures memory { IfErr result (λ e. e ≡ Refused.Memory) }
 {
     match address_operand(name, receiver, args) {
         Some(address) => strings::string(alloc, address),
@@ -137,6 +137,7 @@ impl Functions for AllFunctions {
         }
     }
 
+    #[inline(always)]
     fn call(
         &self,
         alloc: Global,

@@ -1,5 +1,5 @@
 //! Fills the verbs of a format string with items.
-ghost use Rattle.std.specs.Prelude.{◌≡◌, ◌≤◌, ◌<◌, [], ◌∷◌, List, ℕ, length, map, option_map, IfOk, IfErr, string_bytes};
+ghost use Rattle.std.specs.Prelude.{◌≡◌, ◌≤◌, ◌<◌, [], ◌∷◌, List, ℕ, length, map, option_map, IfOk, string_bytes};
 ghost use Rattle.cel_value.specs.Data.{Data};
 ghost use Rattle.cel_value.specs.Faults.{fault_view};
 ghost use Rattle.cel_value.specs.View.{view};
@@ -26,7 +26,6 @@ struct Writing {
 
 fn not_enough(alloc: Global, wanted: usize, count: usize) -> Result<ExecutionError, Refused>
     ensures value { IfOk result (λ e. fault_view e ≡ spec.not_enough wanted count) }
-    ensures memory { IfErr result (λ e. e ≡ Refused.Memory) }
 {
     let message = format!(in alloc;
         "not enough arguments: format requires at least {wanted} but got {count}"
@@ -36,7 +35,6 @@ fn not_enough(alloc: Global, wanted: usize, count: usize) -> Result<ExecutionErr
 
 fn text_fault(alloc: Global, message: &str) -> Result<ExecutionError, Refused>
     ensures value { IfOk result (λ e. fault_view e ≡ verbs.format_fault message.now) }
-    ensures memory { IfErr result (λ e. e ≡ Refused.Memory) }
 {
     format_fault(alloc, String::from_str(alloc, message)?)
 }
@@ -51,7 +49,6 @@ fn verb_at(
     requires { taken ≤ length items.now }
     ensures value { IfOk result (λ r. shown_view r ≡ spec.verb_at (map view items.now) taken letter) }
     ensures within { IfOk result (λ r. IfOk r (λ _. taken < length items.now)) }
-    ensures memory { IfErr result (λ e. e ≡ Refused.Memory) }
 {
     match items.get(taken) {
         Some(item) => shown_by_letter(alloc, letter, item),
@@ -72,7 +69,6 @@ fn write_verb(
         ≡ unless_fault (option_map fault_view r) (written_on (map view items.now)
         (string_bytes writing.new.out) writing.new.taken writing.new.mark cs)) }
     ensures taken { IfOk result (λ _. writing.new.taken ≤ length items.now) }
-    ensures memory { IfErr result (λ e. e ≡ Refused.Memory) }
 {
     match verb_at(alloc, items, writing.taken, letter)? {
         Ok(text) => {
@@ -98,7 +94,6 @@ fn advance(
         ≡ unless_fault (option_map fault_view r) (written_on (map view items.now)
         (string_bytes writing.new.out) writing.new.taken writing.new.mark cs)) }
     ensures taken { IfOk result (λ _. writing.new.taken ≤ length items.now) }
-    ensures memory { IfErr result (λ e. e ≡ Refused.Memory) }
 {
     match read(writing.mark, character) {
         Step::Literal(literal) => {
@@ -119,7 +114,6 @@ fn advance(
 fn finished(alloc: Global, writing: Writing) -> Result<Result<String, ExecutionError>, Refused>
     ensures value { IfOk result (λ r. (items : List Data)
         → shown_view r ≡ written_on items (string_bytes writing.out) writing.taken writing.mark []) }
-    ensures memory { IfErr result (λ e. e ≡ Refused.Memory) }
 {
     let Writing {
         out,
@@ -139,7 +133,6 @@ pub(crate) fn filled_text(
     items: &[Value],
 ) -> Result<Result<String, ExecutionError>, Refused>
     ensures value { IfOk result (λ r. shown_view r ≡ spec.filled_text text.now (map view items.now)) }
-    ensures memory { IfErr result (λ e. e ≡ Refused.Memory) }
 {
     let mut writing = Writing {
         out: String::new(alloc),

@@ -1,5 +1,5 @@
 //! `format`, and the text of a value under `%s`.
-ghost use Rattle.std.specs.Prelude.{◌≡◌, IfOk, IfErr, map, option_map};
+ghost use Rattle.std.specs.Prelude.{◌≡◌, IfOk, map, option_map};
 ghost use Rattle.cel_value.specs.Texts as texts;
 ghost use Rattle.cel_value.specs.View.{view};
 ghost use Rattle.cel_semantics.specs.Outcome.{outcome_view};
@@ -24,7 +24,6 @@ fn items_of(value: &Value) -> Option<&[Value]>
 
 fn string_answer(alloc: Global, text: Result<String, ExecutionError>) -> Result<Answer, Refused>
     ensures value { IfOk result (λ r. outcome_view r ≡ spec.as_string (shown_view text)) }
-    ensures memory { IfErr result (λ e. e ≡ Refused.Memory) }
 {
     match text {
         Ok(text) => Ok(Ok(Value::from_text(alloc, text)?)),
@@ -43,7 +42,6 @@ fn string_answer(alloc: Global, text: Result<String, ExecutionError>) -> Result<
 /// [`Refused::Memory`] if memory is refused.
 pub fn format(alloc: Global, text: &Value, list: &Value) -> Result<Answer, Refused>
     ensures value { IfOk result (λ r. outcome_view r ≡ spec.format_of (view text.now) (view list.now)) }
-    ensures memory { IfErr result (λ e. e ≡ Refused.Memory) }
 {
     match text.as_str() {
         Some(text) => match items_of(list) {
@@ -60,7 +58,6 @@ pub fn format(alloc: Global, text: &Value, list: &Value) -> Result<Answer, Refus
 /// [`Refused::Memory`] if memory is refused.
 pub fn printed(alloc: Global, value: &Value) -> Result<Result<String, Kind>, Refused>
     ensures value { IfOk result (λ r. texts.printed_view r ≡ texts.printed_text (view value.now)) }
-    ensures memory { IfErr result (λ e. e ≡ Refused.Memory) }
 {
     value.text(alloc)
 }

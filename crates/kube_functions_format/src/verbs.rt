@@ -1,5 +1,5 @@
 //! The verbs of format strings.
-ghost use Rattle.std.specs.Prelude.{◌≡◌, ◌++◌, IfOk, IfErr, OnOk, string_bytes};
+ghost use Rattle.std.specs.Prelude.{◌≡◌, ◌++◌, IfOk, OnOk, string_bytes};
 ghost use Rattle.std.specs.Fmt.{digits};
 ghost use Rattle.cel_value.specs.Faults.{fault_view};
 ghost use Rattle.cel_value.specs.Texts.{printed_view};
@@ -51,7 +51,6 @@ impl Verb {
 /// The error of `format` with a message.
 pub(crate) fn format_fault(alloc: Global, message: String) -> Result<ExecutionError, Refused>
     ensures value { IfOk result (λ e. fault_view e ≡ spec.format_fault (string_bytes message)) }
-    ensures memory { IfErr result (λ e. e ≡ Refused.Memory) }
 {
     Ok(ExecutionError::FunctionError {
         function: String::from_str(alloc, "format")?,
@@ -61,14 +60,12 @@ pub(crate) fn format_fault(alloc: Global, message: String) -> Result<ExecutionEr
 
 fn double_fault(alloc: Global) -> Result<ExecutionError, Refused>
     ensures value { IfOk result (λ e. fault_view e ≡ no_doubles) }
-    ensures memory { IfErr result (λ e. e ≡ Refused.Memory) }
 {
     Ok(ExecutionError::UndeclaredReference(String::from_str(alloc, "double")?))
 }
 
 fn unknown_verb(alloc: Global, letter: char) -> Result<ExecutionError, Refused>
     ensures value { IfOk result (λ e. fault_view e ≡ spec.unknown_verb letter) }
-    ensures memory { IfErr result (λ e. e ≡ Refused.Memory) }
 {
     let message = format!(in alloc; "unknown format verb '%{letter}'")?;
     format_fault(alloc, message)
@@ -160,7 +157,6 @@ fn or_refused(
     form: Result<String, Kind>,
 ) -> Result<Result<String, ExecutionError>, Refused>
     ensures value { IfOk result (λ r. shown_view r ≡ spec.or_refused refusal.now (printed_view form)) }
-    ensures memory { IfErr result (λ e. e ≡ Refused.Memory) }
 {
     match form {
         Ok(text) => Ok(Ok(text)),
@@ -177,7 +173,6 @@ fn shown_by(
     item: &Value,
 ) -> Result<Result<String, ExecutionError>, Refused>
     ensures value { IfOk result (λ r. shown_view r ≡ spec.shown_by verb (view item.now)) }
-    ensures memory { IfErr result (λ e. e ≡ Refused.Memory) }
 {
     match verb {
         Verb::Text => or_refused(alloc, "%s does not support ", item.text(alloc)?),
@@ -217,7 +212,6 @@ pub(crate) fn shown_by_letter(
     item: &Value,
 ) -> Result<Result<String, ExecutionError>, Refused>
     ensures value { IfOk result (λ r. shown_view r ≡ spec.shown_by_letter letter (view item.now)) }
-    ensures memory { IfErr result (λ e. e ≡ Refused.Memory) }
 {
     match Verb::of(letter) {
         Some(verb) => shown_by(alloc, verb, item),

@@ -7,8 +7,8 @@ use Rattle.std.specs.Prelude.{ℕ, ℤ, pos, negsuc, List, codes, nat_lt, Option
 use Rattle.std.specs.Int.{w64, int_bit_and, int_bit_or, int_bit_xor, int_bit_not, int_shl, int_shr}
 use Rattle.std.specs.Option.{option_map_or}
 use Rattle.cel_value.specs.Data.{Data, int}
+use Rattle.cel_value.specs.Parts.{int_in}
 use Rattle.cel_value.specs.Faults.{Fault, no_overload, function_error}
-use Rattle.cel_semantics.specs.Arithmetic.{int_in}
 use Rattle.cel_semantics.specs.Outcome.{Outcome}
 use Rattle.kube_functions_lists.specs.Lists.{ints_in}
 

@@ -8,10 +8,9 @@ use Rattle.std.specs.List.{filter, list_any, range_with_len}
 use Rattle.std.specs.Option.{option_map_or}
 use Rattle.cel_value.specs.Data.{Data, int, list, optional, Items, no_items, item}
 use Rattle.cel_value.specs.Faults.{Fault, no_overload, function_error}
-use Rattle.cel_value.specs.Parts.{items_in}
+use Rattle.cel_value.specs.Parts.{int_in, items_in}
 use Rattle.cel_value.specs.Same.{same}
 use Rattle.cel_value.specs.View.{items_of}
-use Rattle.cel_semantics.specs.Arithmetic.{int_in}
 use Rattle.cel_semantics.specs.Outcome.{Outcome}
 use Rattle.cel_semantics.specs.Ranges.{items_list}
 

@@ -1,11 +1,11 @@
 //! `math.bitAnd` and the other functions on the bits of ints, in two's complement.
-ghost use Rattle.std.specs.Prelude.{◌≡◌, IfOk, IfErr};
+ghost use Rattle.std.specs.Prelude.{◌≡◌, IfOk};
 ghost use Rattle.cel_value.specs.Faults as fault;
 ghost use Rattle.cel_value.specs.View.{view};
 ghost use Rattle.cel_semantics.specs.Outcome.{outcome_view};
 ghost use Rattle.kube_functions_lists.specs.Bits as spec;
 
-use crate::items::{as_int, as_ints};
+use crate::items::as_ints;
 use cel_semantics::operators::{Answer, no_such_overload};
 use cel_stdlib::faults::function_error;
 use cel_value::{ExecutionError, Refused, Value};
@@ -17,7 +17,6 @@ use std::alloc::Global;
 /// [`Refused::Memory`] if memory is refused.
 pub fn bit_and(alloc: Global, value: &Value, other: &Value) -> Result<Answer, Refused>
     ensures value { IfOk result (λ r. outcome_view r ≡ spec.bit_and (view value.now) (view other.now)) }
-    ensures memory { IfErr result (λ e. e ≡ Refused.Memory) }
 {
     match as_ints(value, other) {
         Some((m, n)) => Ok(Ok(Value::Int(m & n))),
@@ -31,7 +30,6 @@ pub fn bit_and(alloc: Global, value: &Value, other: &Value) -> Result<Answer, Re
 /// [`Refused::Memory`] if memory is refused.
 pub fn bit_or(alloc: Global, value: &Value, other: &Value) -> Result<Answer, Refused>
     ensures value { IfOk result (λ r. outcome_view r ≡ spec.bit_or (view value.now) (view other.now)) }
-    ensures memory { IfErr result (λ e. e ≡ Refused.Memory) }
 {
     match as_ints(value, other) {
         Some((m, n)) => Ok(Ok(Value::Int(m | n))),
@@ -45,7 +43,6 @@ pub fn bit_or(alloc: Global, value: &Value, other: &Value) -> Result<Answer, Ref
 /// [`Refused::Memory`] if memory is refused.
 pub fn bit_xor(alloc: Global, value: &Value, other: &Value) -> Result<Answer, Refused>
     ensures value { IfOk result (λ r. outcome_view r ≡ spec.bit_xor (view value.now) (view other.now)) }
-    ensures memory { IfErr result (λ e. e ≡ Refused.Memory) }
 {
     match as_ints(value, other) {
         Some((m, n)) => Ok(Ok(Value::Int(m ^ n))),
@@ -59,9 +56,8 @@ pub fn bit_xor(alloc: Global, value: &Value, other: &Value) -> Result<Answer, Re
 /// [`Refused::Memory`] if memory is refused.
 pub fn bit_not(alloc: Global, value: &Value) -> Result<Answer, Refused>
     ensures value { IfOk result (λ r. outcome_view r ≡ spec.bit_not (view value.now)) }
-    ensures memory { IfErr result (λ e. e ≡ Refused.Memory) }
 {
-    match as_int(value) {
+    match value.as_int() {
         Some(n) => Ok(Ok(Value::Int(!n))),
         None => Ok(Err(no_such_overload(alloc, "math.bitNot")?)),
     }
@@ -69,7 +65,6 @@ pub fn bit_not(alloc: Global, value: &Value) -> Result<Answer, Refused>
 
 fn shift_fault(alloc: Global, name: &str) -> Result<ExecutionError, Refused>
     ensures value { IfOk result (λ e. fault.fault_view e ≡ spec.shift_fault name.now) }
-    ensures memory { IfErr result (λ e. e ≡ Refused.Memory) }
 {
     function_error(alloc, name, "shift amount must be between 0 and 63")
 }
@@ -93,7 +88,6 @@ fn places(amount: i64) -> Option<u32>
 pub fn bit_shift_left(alloc: Global, value: &Value, amount: &Value) -> Result<Answer, Refused>
     ensures value { IfOk result
         (λ r. outcome_view r ≡ spec.bit_shift_left (view value.now) (view amount.now)) }
-    ensures memory { IfErr result (λ e. e ≡ Refused.Memory) }
 {
     match as_ints(value, amount) {
         Some((n, amount)) => match places(amount) {
@@ -112,7 +106,6 @@ pub fn bit_shift_left(alloc: Global, value: &Value, amount: &Value) -> Result<An
 pub fn bit_shift_right(alloc: Global, value: &Value, amount: &Value) -> Result<Answer, Refused>
     ensures value { IfOk result
         (λ r. outcome_view r ≡ spec.bit_shift_right (view value.now) (view amount.now)) }
-    ensures memory { IfErr result (λ e. e ≡ Refused.Memory) }
 {
     match as_ints(value, amount) {
         Some((n, amount)) => match places(amount) {

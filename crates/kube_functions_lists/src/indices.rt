@@ -1,5 +1,5 @@
 //! `indexOf` and `lastIndexOf`: the index of a value in a list.
-ghost use Rattle.std.specs.Prelude.{◌≡◌, IfOk, IfErr, map};
+ghost use Rattle.std.specs.Prelude.{◌≡◌, IfOk, map};
 ghost use Rattle.std.specs.List.{position_from};
 ghost use Rattle.cel_value.specs.Same.{same};
 ghost use Rattle.cel_value.specs.View.{view};
@@ -56,7 +56,6 @@ fn index_or_none(index: Option<usize>) -> Answer
 /// [`Refused::Memory`] if memory is refused.
 pub fn index_of(alloc: Global, value: &Value, item: &Value) -> Result<Answer, Refused>
     ensures value { IfOk result (λ r. outcome_view r ≡ spec.index_of (view value.now) (view item.now)) }
-    ensures memory { IfErr result (λ e. e ≡ Refused.Memory) }
 {
     match items_of(value) {
         Some(items) => Ok(index_or_none(first_index_of(items, item))),
@@ -70,7 +69,6 @@ pub fn index_of(alloc: Global, value: &Value, item: &Value) -> Result<Answer, Re
 /// [`Refused::Memory`] if memory is refused.
 pub fn last_index_of(alloc: Global, value: &Value, item: &Value) -> Result<Answer, Refused>
     ensures value { IfOk result (λ r. outcome_view r ≡ spec.last_index_of (view value.now) (view item.now)) }
-    ensures memory { IfErr result (λ e. e ≡ Refused.Memory) }
 {
     match items_of(value) {
         Some(items) => Ok(index_or_none(last_index_of_value(items, item))),

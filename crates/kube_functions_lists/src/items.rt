@@ -1,7 +1,6 @@
 //! Items of lists, and lists made of items.
-ghost use Rattle.std.specs.Prelude.{◌≡◌, ◌∷◌, ◌++◌, [], IfOk, IfErr, OnOk, Ok, map, option_map};
+ghost use Rattle.std.specs.Prelude.{◌≡◌, ◌∷◌, ◌++◌, [], IfOk, OnOk, Ok, map, option_map};
 ghost use Rattle.cel_value.specs.View.{view};
-ghost use Rattle.cel_semantics.specs.Arithmetic.{int_in};
 ghost use Rattle.cel_semantics.specs.Outcome.{outcome_view};
 ghost use Rattle.kube_functions_lists.specs.Lists.{items_if_list, as_list, ints_in};
 
@@ -35,7 +34,6 @@ pub(crate) fn push_item(items: &mut Vec<Value>, item: Value) -> Result<(), Alloc
 /// Returns a copy of the items. Large values are shared, not copied.
 pub(crate) fn copies(alloc: Global, items: &[Value]) -> Result<Vec<Value>, Refused>
     ensures value { IfOk result (λ v. map view v.items ≡ map view items.now) }
-    ensures memory { IfErr result (λ e. e ≡ Refused.Memory) }
 {
     let mut copied = Vec::with_capacity(alloc, items.len())?;
     for item in items {
@@ -47,27 +45,16 @@ pub(crate) fn copies(alloc: Global, items: &[Value]) -> Result<Vec<Value>, Refus
 /// The list of these items, as an answer.
 pub(crate) fn list_of(alloc: Global, items: Vec<Value>) -> Result<Answer, Refused>
     ensures value { IfOk result (λ r. outcome_view r ≡ Ok (as_list (map view items.items))) }
-    ensures memory { IfErr result (λ e. e ≡ Refused.Memory) }
 {
     Ok(Ok(Value::from_items(alloc, items)?))
-}
-
-/// The value's int, or None if it is of another kind.
-pub(crate) fn as_int(value: &Value) -> Option<i64>
-    ensures { result ≡ int_in (view value.now) }
-{
-    match value {
-        Value::Int(n) => Some(*n),
-        _ => None,
-    }
 }
 
 /// The ints of two values, or None if either isn't an int.
 pub(crate) fn as_ints(value: &Value, other: &Value) -> Option<(i64, i64)>
     ensures { result ≡ ints_in (view value.now) (view other.now) }
 {
-    match as_int(value) {
-        Some(m) => match as_int(other) {
+    match value.as_int() {
+        Some(m) => match other.as_int() {
             Some(n) => Some((m, n)),
             None => None,
         },

@@ -1,6 +1,6 @@
 //! Sets of the keys among items, with which bools, numbers
 //! and strings are found without reading all items.
-ghost use Rattle.std.specs.Prelude.{◌≡◌, IfOk, IfErr, OnOk, map, not, option_map};
+ghost use Rattle.std.specs.Prelude.{◌≡◌, IfOk, OnOk, map, not, option_map};
 ghost use Rattle.cel_value.specs.Keys.{key_view};
 ghost use Rattle.cel_value.specs.View.{view};
 ghost use Rattle.cel_semantics.specs.Members.{key_of};
@@ -16,7 +16,6 @@ use std::collections::BTreeSet;
 /// The value as a map key, or None if it is of a kind that can't be one.
 fn key_from(value: &Value) -> Result<Option<Key>, Refused>
     ensures value { IfOk result (λ k. option_map key_view k ≡ key_of (view value.now)) }
-    ensures memory { IfErr result (λ e. e ≡ Refused.Memory) }
 {
     match value {
         Value::Bool(b) => Ok(Some(Key::Bool(*b))),
@@ -40,7 +39,6 @@ pub(crate) fn add_new(
     requires { HasKeysOf keys.old (map view items.now) }
     ensures value { IfOk result (λ fresh. fresh ≡ not (spec.is_in (map view items.now) (view value.now))) }
     ensures keys { OnOk result (HasKeysOf keys.new (with_new (map view items.now) (view value.now))) }
-    ensures memory { IfErr result (λ e. e ≡ Refused.Memory) }
 {
     match key_from(value)? {
         Some(key) => Ok(keys.insert(key)?),
@@ -50,7 +48,6 @@ pub(crate) fn add_new(
 
 fn add_key(keys: &mut BTreeSet<Key>, value: &Value) -> Result<(), Refused>
     ensures keys { OnOk result (AddsKeyOf keys.old keys.new (view value.now)) }
-    ensures memory { IfErr result (λ e. e ≡ Refused.Memory) }
 {
     match key_from(value)? {
         Some(key) => {
@@ -67,7 +64,6 @@ fn add_key(keys: &mut BTreeSet<Key>, value: &Value) -> Result<(), Refused>
 /// [`Refused::Memory`] if memory is refused.
 pub(crate) fn keys_of(alloc: Global, items: &[Value]) -> Result<BTreeSet<Key>, Refused>
     ensures keys { IfOk result (λ s. HasKeysOf s (map view items.now)) }
-    ensures memory { IfErr result (λ e. e ≡ Refused.Memory) }
 {
     let mut keys = BTreeSet::new(alloc);
     for item in items {
@@ -87,7 +83,6 @@ pub(crate) fn is_among(
 ) -> Result<bool, Refused>
     requires { HasKeysOf keys.now (map view items.now) }
     ensures value { IfOk result (λ found. found ≡ spec.is_in (map view items.now) (view value.now)) }
-    ensures memory { IfErr result (λ e. e ≡ Refused.Memory) }
 {
     match key_from(value)? {
         Some(key) => Ok(keys.contains(&key)),

@@ -1,10 +1,10 @@
 //! `flatten`: replaces lists inside a list by their items.
-ghost use Rattle.std.specs.Prelude.{◌≡◌, ◌++◌, ◌∷◌, [], IfOk, IfErr, OnOk, Ok, map, option_map};
+ghost use Rattle.std.specs.Prelude.{◌≡◌, ◌++◌, ◌∷◌, [], IfOk, OnOk, Ok, map, option_map};
 ghost use Rattle.cel_value.specs.View.{view};
 ghost use Rattle.cel_semantics.specs.Outcome.{outcome_view};
 ghost use Rattle.kube_functions_lists.specs.Lists as spec;
 
-use crate::items::{as_int, list_of};
+use crate::items::list_of;
 use cel_semantics::operators::{Answer, no_such_overload};
 use cel_stdlib::faults::function_error;
 use cel_value::{List, Refused, Value};
@@ -15,7 +15,6 @@ use std::alloc::Global;
 fn push_item(item: &Value, depth: u64, out: &mut Vec<Value>) -> Result<(), Refused>
     ensures pushed { OnOk result (map view out.new.items
         ≡ map view out.old.items ++ spec.flat_item (view item.now) depth) }
-    ensures memory { IfErr result (λ e. e ≡ Refused.Memory) }
 {
     match item {
         Value::List(items) => {
@@ -33,7 +32,6 @@ fn push_item(item: &Value, depth: u64, out: &mut Vec<Value>) -> Result<(), Refus
 fn push_items(items: &List, depth: u64, out: &mut Vec<Value>) -> Result<(), Refused>
     ensures pushed { OnOk result (map view out.new.items
         ≡ map view out.old.items ++ spec.flat_items items.now depth) }
-    ensures memory { IfErr result (λ e. e ≡ Refused.Memory) }
 {
     for item in items.as_slice() {
         push_item(item, depth, out)?;
@@ -43,7 +41,6 @@ fn push_items(items: &List, depth: u64, out: &mut Vec<Value>) -> Result<(), Refu
 
 fn push_copy(item: &Value, out: &mut Vec<Value>) -> Result<(), Refused>
     ensures pushed { OnOk result (map view out.new.items ≡ map view out.old.items ++ view item.now ∷ []) }
-    ensures memory { IfErr result (λ e. e ≡ Refused.Memory) }
 {
     out.push(item.try_clone()?)?;
     Ok(())
@@ -51,7 +48,6 @@ fn push_copy(item: &Value, out: &mut Vec<Value>) -> Result<(), Refused>
 
 fn flat_items(alloc: Global, items: &List, depth: u64) -> Result<Vec<Value>, Refused>
     ensures value { IfOk result (λ v. map view v.items ≡ spec.flat_items items.now depth) }
-    ensures memory { IfErr result (λ e. e ≡ Refused.Memory) }
 {
     let mut flat = Vec::new(alloc);
     push_items(items, depth, &mut flat)?;
@@ -60,7 +56,6 @@ fn flat_items(alloc: Global, items: &List, depth: u64) -> Result<Vec<Value>, Ref
 
 fn flatten_outcome(alloc: Global, items: &List, depth: i64) -> Result<Answer, Refused>
     ensures value { IfOk result (λ r. outcome_view r ≡ spec.flatten_outcome items.now depth) }
-    ensures memory { IfErr result (λ e. e ≡ Refused.Memory) }
 {
     if depth < 0 {
         Ok(Err(function_error(alloc, "flatten", "depth must be non-negative")?))
@@ -74,7 +69,7 @@ fn depth_of(depth: Option<&Value>) -> Option<i64>
     ensures { result ≡ spec.depth_in (option_map (λ v. view v.now) depth.entry) }
 {
     match depth {
-        Some(value) => as_int(value),
+        Some(value) => value.as_int(),
         None => Some(1),
     }
 }
@@ -87,7 +82,6 @@ fn depth_of(depth: Option<&Value>) -> Option<i64>
 pub fn flatten(alloc: Global, value: &Value, depth: Option<&Value>) -> Result<Answer, Refused>
     ensures value { IfOk result (λ r. outcome_view r
         ≡ spec.flatten (view value.now) (option_map (λ v. view v.now) depth.entry)) }
-    ensures memory { IfErr result (λ e. e ≡ Refused.Memory) }
 {
     match value.as_list() {
         Some(items) => match depth_of(depth) {

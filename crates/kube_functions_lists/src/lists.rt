@@ -1,5 +1,5 @@
 //! `slice`, `first`, `last`, `reverse` and `distinct`.
-ghost use Rattle.std.specs.Prelude.{◌≡◌, pos, length, IfOk, IfErr, OnOk, Ok, Err, Some, None, map, reverse, option_map, string_bytes};
+ghost use Rattle.std.specs.Prelude.{◌≡◌, pos, length, IfOk, OnOk, Ok, Err, Some, None, map, reverse, option_map, string_bytes};
 ghost use Rattle.cel_value.specs.Faults.{fault_view};
 ghost use Rattle.cel_value.specs.View.{view};
 ghost use Rattle.cel_semantics.specs.Outcome.{outcome_view};
@@ -27,7 +27,6 @@ fn slice_fault(
     length: usize,
 ) -> Result<ExecutionError, Refused>
     ensures value { IfOk result (λ e. fault_view e ≡ spec.slice_fault start end length) }
-    ensures memory { IfErr result (λ e. e ≡ Refused.Memory) }
 {
     let message = slice_message(alloc, start, end, length)?;
     function_error(alloc, "slice", message.as_str())
@@ -59,7 +58,6 @@ fn part(items: &[Value], start: i64, end: i64) -> Option<&[Value]>
 
 fn slice_outcome(alloc: Global, items: &[Value], start: i64, end: i64) -> Result<Answer, Refused>
     ensures value { IfOk result (λ r. outcome_view r ≡ spec.slice_outcome (map view items.now) start end) }
-    ensures memory { IfErr result (λ e. e ≡ Refused.Memory) }
 {
     match part(items, start, end) {
         Some(part) => list_of(alloc, copies(alloc, part)?),
@@ -75,7 +73,6 @@ fn slice_outcome(alloc: Global, items: &[Value], start: i64, end: i64) -> Result
 pub fn slice(alloc: Global, value: &Value, start: &Value, end: &Value) -> Result<Answer, Refused>
     ensures value { IfOk result
         (λ r. outcome_view r ≡ spec.slice (view value.now) (view start.now) (view end.now)) }
-    ensures memory { IfErr result (λ e. e ≡ Refused.Memory) }
 {
     match items_of(value) {
         Some(items) => match as_ints(start, end) {
@@ -89,7 +86,6 @@ pub fn slice(alloc: Global, value: &Value, start: &Value, end: &Value) -> Result
 fn optional_of(alloc: Global, item: Option<&Value>) -> Result<Answer, Refused>
     ensures value { IfOk result
         (λ r. outcome_view r ≡ Ok (spec.as_optional (option_map (λ v. view v.now) item.entry))) }
-    ensures memory { IfErr result (λ e. e ≡ Refused.Memory) }
 {
     match item {
         Some(value) => Ok(Ok(Value::Optional(OptionalValue::of(alloc, value.try_clone()?)?))),
@@ -118,7 +114,6 @@ fn last_of(items: &[Value]) -> Option<&Value>
 /// [`Refused::Memory`] if memory is refused.
 pub fn first(alloc: Global, value: &Value) -> Result<Answer, Refused>
     ensures value { IfOk result (λ r. outcome_view r ≡ spec.first (view value.now)) }
-    ensures memory { IfErr result (λ e. e ≡ Refused.Memory) }
 {
     match items_of(value) {
         Some(items) => optional_of(alloc, first_of(items)),
@@ -132,7 +127,6 @@ pub fn first(alloc: Global, value: &Value) -> Result<Answer, Refused>
 /// [`Refused::Memory`] if memory is refused.
 pub fn last(alloc: Global, value: &Value) -> Result<Answer, Refused>
     ensures value { IfOk result (λ r. outcome_view r ≡ spec.last (view value.now)) }
-    ensures memory { IfErr result (λ e. e ≡ Refused.Memory) }
 {
     match items_of(value) {
         Some(items) => optional_of(alloc, last_of(items)),
@@ -142,7 +136,6 @@ pub fn last(alloc: Global, value: &Value) -> Result<Answer, Refused>
 
 fn reversed(alloc: Global, items: &[Value]) -> Result<Vec<Value>, Refused>
     ensures value { IfOk result (λ v. map view v.items ≡ reverse (map view items.now)) }
-    ensures memory { IfErr result (λ e. e ≡ Refused.Memory) }
 {
     let mut values = copies(alloc, items)?;
     values.as_mut_slice().reverse();
@@ -155,7 +148,6 @@ fn reversed(alloc: Global, items: &[Value]) -> Result<Vec<Value>, Refused>
 /// [`Refused::Memory`] if memory is refused.
 pub fn reverse(alloc: Global, value: &Value) -> Result<Answer, Refused>
     ensures value { IfOk result (λ r. outcome_view r ≡ spec.reverse (view value.now)) }
-    ensures memory { IfErr result (λ e. e ≡ Refused.Memory) }
 {
     match items_of(value) {
         Some(items) => list_of(alloc, reversed(alloc, items)?),
@@ -168,7 +160,6 @@ fn push_new(kept: &mut Vec<Value>, keys: &mut BTreeSet<Key>, item: &Value) -> Re
     ensures pushed { OnOk result (map view kept.new.items
         ≡ spec.with_new (map view kept.old.items) (view item.now)) }
     ensures keys { OnOk result (HasKeysOf keys.new (map view kept.new.items)) }
-    ensures memory { IfErr result (λ e. e ≡ Refused.Memory) }
 {
     if add_new(keys, kept.as_slice(), item)? {
         kept.push(item.try_clone()?)?;
@@ -178,7 +169,6 @@ fn push_new(kept: &mut Vec<Value>, keys: &mut BTreeSet<Key>, item: &Value) -> Re
 
 fn distinct_items(alloc: Global, items: &[Value]) -> Result<Vec<Value>, Refused>
     ensures value { IfOk result (λ v. map view v.items ≡ spec.distinct_items (map view items.now)) }
-    ensures memory { IfErr result (λ e. e ≡ Refused.Memory) }
 {
     let mut kept = Vec::new(alloc);
     let mut keys = BTreeSet::new(alloc);
@@ -194,7 +184,6 @@ fn distinct_items(alloc: Global, items: &[Value]) -> Result<Vec<Value>, Refused>
 /// [`Refused::Memory`] if memory is refused.
 pub fn distinct(alloc: Global, value: &Value) -> Result<Answer, Refused>
     ensures value { IfOk result (λ r. outcome_view r ≡ spec.distinct (view value.now)) }
-    ensures memory { IfErr result (λ e. e ≡ Refused.Memory) }
 {
     match items_of(value) {
         Some(items) => list_of(alloc, distinct_items(alloc, items)?),

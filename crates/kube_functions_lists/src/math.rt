@@ -1,5 +1,5 @@
 //! `math.abs`, `math.sign`, `math.greatest` and `math.least`.
-ghost use Rattle.std.specs.Prelude.{◌≡◌, is_some, IfOk, IfErr, map};
+ghost use Rattle.std.specs.Prelude.{◌≡◌, is_some, IfOk, map};
 ghost use Rattle.std.specs.List.{list_all};
 ghost use Rattle.cel_value.specs.Faults.{fault_view};
 ghost use Rattle.cel_value.specs.Parts.{number_in};
@@ -17,7 +17,6 @@ use std::alloc::Global;
 
 fn size_of_int(alloc: Global, n: i64) -> Result<Answer, Refused>
     ensures value { IfOk result (λ r. outcome_view r ≡ spec.size_of n) }
-    ensures memory { IfErr result (λ e. e ≡ Refused.Memory) }
 {
     match i64::try_from(n.unsigned_abs()) {
         Ok(size) => Ok(Ok(Value::Int(size))),
@@ -31,7 +30,6 @@ fn size_of_int(alloc: Global, n: i64) -> Result<Answer, Refused>
 /// [`Refused::Memory`] if memory is refused.
 pub fn abs(alloc: Global, value: &Value) -> Result<Answer, Refused>
     ensures value { IfOk result (λ r. outcome_view r ≡ spec.abs (view value.now)) }
-    ensures memory { IfErr result (λ e. e ≡ Refused.Memory) }
 {
     match value {
         Value::Int(n) => size_of_int(alloc, *n),
@@ -58,7 +56,6 @@ fn uint_sign(n: u64) -> u64
 /// [`Refused::Memory`] if memory is refused.
 pub fn sign(alloc: Global, value: &Value) -> Result<Answer, Refused>
     ensures value { IfOk result (λ r. outcome_view r ≡ spec.sign (view value.now)) }
-    ensures memory { IfErr result (λ e. e ≡ Refused.Memory) }
 {
     match value {
         Value::Int(n) => Ok(Ok(Value::Int(int_sign(*n)))),
@@ -69,7 +66,6 @@ pub fn sign(alloc: Global, value: &Value) -> Result<Answer, Refused>
 
 fn none_given(alloc: Global, end: Extreme) -> Result<ExecutionError, Refused>
     ensures value { IfOk result (λ e. fault_view e ≡ spec.none_given end) }
-    ensures memory { IfErr result (λ e. e ≡ Refused.Memory) }
 {
     match end {
         Extreme::Least => function_error(alloc, "math.least", "at least one argument required"),
@@ -81,7 +77,6 @@ fn none_given(alloc: Global, end: Extreme) -> Result<ExecutionError, Refused>
 
 fn not_numeric(alloc: Global) -> Result<ExecutionError, Refused>
     ensures value { IfOk result (λ e. fault_view e ≡ spec.not_numeric) }
-    ensures memory { IfErr result (λ e. e ≡ Refused.Memory) }
 {
     function_error(alloc, "math.greatest/least", "expected numeric argument")
 }
@@ -99,7 +94,6 @@ fn are_numbers(values: &[Value]) -> bool
 
 fn extreme_number(alloc: Global, end: Extreme, values: &[Value]) -> Result<Answer, Refused>
     ensures value { IfOk result (λ r. outcome_view r ≡ spec.extreme_number end (map view values.now)) }
-    ensures memory { IfErr result (λ e. e ≡ Refused.Memory) }
 {
     match values {
         [] => Ok(Err(none_given(alloc, end)?)),
@@ -134,7 +128,6 @@ fn values_among(args: &[Value]) -> &[Value]
 /// [`Refused::Memory`] if memory is refused.
 pub fn greatest(alloc: Global, args: &[Value]) -> Result<Answer, Refused>
     ensures value { IfOk result (λ r. outcome_view r ≡ spec.greatest (map view args.now)) }
-    ensures memory { IfErr result (λ e. e ≡ Refused.Memory) }
 {
     extreme_number(alloc, Extreme::Greatest, values_among(args))
 }
@@ -146,7 +139,6 @@ pub fn greatest(alloc: Global, args: &[Value]) -> Result<Answer, Refused>
 /// [`Refused::Memory`] if memory is refused.
 pub fn least(alloc: Global, args: &[Value]) -> Result<Answer, Refused>
     ensures value { IfOk result (λ r. outcome_view r ≡ spec.least (map view args.now)) }
-    ensures memory { IfErr result (λ e. e ≡ Refused.Memory) }
 {
     extreme_number(alloc, Extreme::Least, values_among(args))
 }

@@ -1,5 +1,5 @@
 //! A list of items, prepared for many look-ups.
-ghost use Rattle.std.specs.Prelude.{◌≡◌, IfOk, IfErr, map};
+ghost use Rattle.std.specs.Prelude.{◌≡◌, IfOk, map};
 ghost use Rattle.std.specs.Option.{ForSome};
 ghost use Rattle.cel_value.specs.View.{view};
 ghost use Rattle.kube_functions_lists.specs.Keyed.{HasKeysOf};
@@ -33,7 +33,6 @@ impl<'a> Members<'a> {
         lookups: usize,
     ) -> Result<Members<'a>, Refused>
         ensures items { IfOk result (λ m. m.items.now ≡ items.now) }
-        ensures memory { IfErr result (λ e. e ≡ Refused.Memory) }
     {
         if lookups < MANY_LOOKUPS {
             return Ok(Members { items, keys: None });
@@ -52,7 +51,6 @@ impl<'a> Members<'a> {
     pub(crate) fn has(&self, value: &Value) -> Result<bool, Refused>
         ensures value { IfOk result (λ found. found
             ≡ spec.is_in (map view self.now.items.now) (view value.now)) }
-        ensures memory { IfErr result (λ e. e ≡ Refused.Memory) }
     {
         match &self.keys {
             Some(keys) => is_among(keys, self.items, value),

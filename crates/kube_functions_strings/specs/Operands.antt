@@ -4,8 +4,7 @@ use Rattle.std.specs.Prelude.{ℕ, ℤ, List, Option, Some, None, Err, option_ma
 use Rattle.std.specs.Option.{option_map_or, option_zip}
 use Rattle.cel_value.specs.Data.{Data}
 use Rattle.cel_value.specs.Faults.{no_overload}
-use Rattle.cel_value.specs.Parts.{text_in}
-use Rattle.cel_semantics.specs.Arithmetic.{int_in}
+use Rattle.cel_value.specs.Parts.{int_in, text_in}
 use Rattle.cel_semantics.specs.Outcome.{Outcome}
 
 -- the texts of two strings, or none if either value isn't a string

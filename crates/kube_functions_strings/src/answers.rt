@@ -1,5 +1,5 @@
 //! Answers that several functions return.
-ghost use Rattle.std.specs.Prelude.{◌≡◌, IfOk, IfErr, Ok, Err, string_bytes};
+ghost use Rattle.std.specs.Prelude.{◌≡◌, IfOk, Ok, Err, string_bytes};
 ghost use Rattle.std.specs.Str.{chars};
 ghost use Rattle.cel_value.specs.Data as plain;
 ghost use Rattle.cel_value.specs.Faults as fault;
@@ -19,7 +19,6 @@ pub(crate) fn characters(alloc: Global, text: &str) -> Result<Vec<char>, AllocEr
 /// A string as an answer.
 pub(crate) fn text_answer(alloc: Global, text: String) -> Result<Answer, Refused>
     ensures value { IfOk result (λ r. outcome_view r ≡ Ok (plain.text (string_bytes text))) }
-    ensures memory { IfErr result (λ e. e ≡ Refused.Memory) }
 {
     Ok(Ok(Value::from_text(alloc, text)?))
 }
@@ -32,7 +31,6 @@ pub(crate) fn function_fault(
 ) -> Result<Answer, Refused>
     ensures value { IfOk result
         (λ r. outcome_view r ≡ Err (fault.function_error function.now (string_bytes message))) }
-    ensures memory { IfErr result (λ e. e ≡ Refused.Memory) }
 {
     Ok(Err(ExecutionError::FunctionError {
         function: String::from_str(alloc, function)?,

@@ -1,5 +1,5 @@
 //! `base64.encode` and `base64.decode`: bytes as Base64 text.
-ghost use Rattle.std.specs.Prelude.{◌≡◌, IfOk, IfErr, Ok, option_map, string_bytes};
+ghost use Rattle.std.specs.Prelude.{◌≡◌, IfOk, Ok, option_map, string_bytes};
 ghost use Rattle.cel_value.specs.Data as plain;
 ghost use Rattle.cel_value.specs.View.{view};
 ghost use Rattle.cel_semantics.specs.Outcome.{outcome_view};
@@ -55,7 +55,6 @@ fn with_padding(alloc: Global, text: &str) -> Result<String, AllocError>
 /// [`Refused::Memory`] if memory is refused.
 pub fn base64_encode(alloc: Global, value: &Value) -> Result<Answer, Refused>
     ensures value { IfOk result (λ r. outcome_view r ≡ spec.base64_encode (view value.now)) }
-    ensures memory { IfErr result (λ e. e ≡ Refused.Memory) }
 {
     match value.as_bytes() {
         Some(bytes) => text_answer(alloc, encoded_text(alloc, bytes)?),
@@ -66,7 +65,6 @@ pub fn base64_encode(alloc: Global, value: &Value) -> Result<Answer, Refused>
 fn bytes_answer(alloc: Global, bytes: Option<Vec<u8>>) -> Result<Answer, Refused>
     ensures value { IfOk result
         (λ r. outcome_view r ≡ spec.bytes_or_fault (option_map (λ v. v.items) bytes)) }
-    ensures memory { IfErr result (λ e. e ≡ Refused.Memory) }
 {
     match bytes {
         Some(bytes) => Ok(Ok(Value::Bytes(Rc::new(alloc, bytes)?))),
@@ -84,7 +82,6 @@ fn bytes_answer(alloc: Global, bytes: Option<Vec<u8>>) -> Result<Answer, Refused
 /// [`Refused::Memory`] if memory is refused.
 pub fn base64_decode(alloc: Global, value: &Value) -> Result<Answer, Refused>
     ensures value { IfOk result (λ r. outcome_view r ≡ spec.base64_decode (view value.now)) }
-    ensures memory { IfErr result (λ e. e ≡ Refused.Memory) }
 {
     match value.as_str() {
         Some(text) => {

@@ -1,5 +1,5 @@
 //! `join`: the strings of a list joined into one.
-ghost use Rattle.std.specs.Prelude.{◌≡◌, IfOk, IfErr, map, option_map, string_bytes};
+ghost use Rattle.std.specs.Prelude.{◌≡◌, IfOk, map, option_map, string_bytes};
 ghost use Rattle.cel_value.specs.View.{view};
 ghost use Rattle.cel_semantics.specs.Outcome.{outcome_view};
 ghost use Rattle.kube_functions_strings.specs.Joins as spec;
@@ -36,7 +36,6 @@ pub(crate) fn joined(alloc: Global, texts: &[&str], between: &str) -> Result<Str
 fn joined_items(alloc: Global, items: &[Value], between: &str) -> Result<Answer, Refused>
     ensures value { IfOk result
         (λ r. outcome_view r ≡ spec.joined_or_fault between.now (spec.texts_of (map view items.now))) }
-    ensures memory { IfErr result (λ e. e ≡ Refused.Memory) }
 {
     match texts_of(alloc, items)? {
         Ok(texts) => text_answer(alloc, joined(alloc, texts.as_slice(), between)?),
@@ -74,7 +73,6 @@ fn separator_of(separator: Option<&Value>) -> Option<&str>
 pub fn join(alloc: Global, value: &Value, separator: Option<&Value>) -> Result<Answer, Refused>
     ensures value { IfOk result (λ r. outcome_view r
         ≡ spec.join (view value.now) (option_map (λ v. view v.now) separator.entry)) }
-    ensures memory { IfErr result (λ e. e ≡ Refused.Memory) }
 {
     match items_of(value) {
         Some(items) => match separator_of(separator) {

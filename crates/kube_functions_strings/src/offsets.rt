@@ -1,6 +1,6 @@
 //! `charAt`, `substring`, `indexOf` and `lastIndexOf`: characters
 //! at offsets, and offsets of parts. All offsets count characters.
-ghost use Rattle.std.specs.Prelude.{◌≡◌, ◌≤◌, ◌<◌, ◌^◌, ℕ, suc, min, pos, List, length, take, drop, slice_get, slice_range, IfOk, IfErr, IfSome, option_map, string_bytes};
+ghost use Rattle.std.specs.Prelude.{◌≡◌, ◌≤◌, ◌<◌, ◌^◌, ℕ, suc, min, pos, List, length, take, drop, slice_get, slice_range, IfOk, IfSome, option_map, string_bytes};
 ghost use Rattle.std.specs.Option.{unwrap_or};
 ghost use Rattle.std.specs.Str.{chars};
 ghost use Rattle.cel_value.specs.View.{view};
@@ -62,7 +62,6 @@ fn past_length(alloc: Global, what: &str, index: i64, length: usize) -> Result<S
 
 fn character_at(alloc: Global, text: &str, index: i64) -> Result<Answer, Refused>
     ensures value { IfOk result (λ r. outcome_view r ≡ spec.character_at (chars text.now) index) }
-    ensures memory { IfErr result (λ e. e ≡ Refused.Memory) }
 {
     match from_index(text, index) {
         Some((_, rest)) => text_answer(alloc, first_character(alloc, rest)?),
@@ -80,7 +79,6 @@ fn character_at(alloc: Global, text: &str, index: i64) -> Result<Answer, Refused
 /// [`Refused::Memory`] if memory is refused.
 pub fn char_at(alloc: Global, value: &Value, index: &Value) -> Result<Answer, Refused>
     ensures value { IfOk result (λ r. outcome_view r ≡ spec.char_at (view value.now) (view index.now)) }
-    ensures memory { IfErr result (λ e. e ≡ Refused.Memory) }
 {
     match text_and_int(value, index) {
         Some((text, index)) => character_at(alloc, text, index),
@@ -107,7 +105,6 @@ fn up_to(rest: &str, offset: usize, end: i64) -> Option<&str>
 fn characters_up_to(alloc: Global, rest: &str, offset: usize, end: i64) -> Result<Answer, Refused>
     ensures value { IfOk result (λ r. (cs : List ℕ) → offset ≤ length cs → chars rest.now ≡ drop offset cs
         → outcome_view r ≡ spec.characters_up_to cs offset end) }
-    ensures memory { IfErr result (λ e. e ≡ Refused.Memory) }
 {
     match up_to(rest, offset, end) {
         Some(part) => text_answer(alloc, copied(alloc, part)?),
@@ -125,7 +122,6 @@ fn characters_between(
     end: Option<i64>,
 ) -> Result<Answer, Refused>
     ensures value { IfOk result (λ r. outcome_view r ≡ spec.characters_between (chars text.now) start end) }
-    ensures memory { IfErr result (λ e. e ≡ Refused.Memory) }
 {
     match from_index(text, start) {
         Some((offset, rest)) => match end {
@@ -152,7 +148,6 @@ pub fn substring(
 ) -> Result<Answer, Refused>
     ensures value { IfOk result (λ r. outcome_view r
         ≡ spec.substring (view value.now) (view start.now) (option_map (λ v. view v.now) end.entry)) }
-    ensures memory { IfErr result (λ e. e ≡ Refused.Memory) }
 {
     match text_and_int(value, start) {
         Some((text, start)) => match optional_int(end) {
@@ -268,7 +263,6 @@ pub fn index_of(
 ) -> Result<Answer, Refused>
     ensures value { IfOk result (λ r. outcome_view r
         ≡ spec.index_of (view value.now) (view part.now) (option_map (λ v. view v.now) start.entry)) }
-    ensures memory { IfErr result (λ e. e ≡ Refused.Memory) }
 {
     match both_texts(value, part) {
         Some((text, part)) => match optional_int(start) {
@@ -306,7 +300,6 @@ pub fn last_index_of(
 ) -> Result<Answer, Refused>
     ensures value { IfOk result (λ r. outcome_view r
         ≡ spec.last_index_of (view value.now) (view part.now) (option_map (λ v. view v.now) start.entry)) }
-    ensures memory { IfErr result (λ e. e ≡ Refused.Memory) }
 {
     match both_texts(value, part) {
         Some((text, part)) => match optional_int(start) {

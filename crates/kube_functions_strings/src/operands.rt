@@ -1,20 +1,9 @@
 //! Reads the operands of a function by their kinds.
 ghost use Rattle.std.specs.Prelude.{◌≡◌, option_map};
 ghost use Rattle.cel_value.specs.View.{view};
-ghost use Rattle.cel_semantics.specs.Arithmetic.{int_in};
 ghost use Rattle.kube_functions_strings.specs.Operands as spec;
 
 use cel_value::Value;
-
-/// The value's int, or None if it is of another kind.
-pub(crate) fn as_int(value: &Value) -> Option<i64>
-    ensures { result ≡ int_in (view value.now) }
-{
-    match value {
-        Value::Int(n) => Some(*n),
-        _ => None,
-    }
-}
 
 /// The texts of two strings, or None if either value isn't a string.
 pub(crate) fn both_texts<'a>(value: &'a Value, other: &'a Value) -> Option<(&'a str, &'a str)>
@@ -35,7 +24,7 @@ pub(crate) fn text_and_int<'a>(value: &'a Value, number: &Value) -> Option<(&'a 
         ≡ spec.text_and_int_in (view value.now) (view number.now) }
 {
     match value.as_str() {
-        Some(text) => match as_int(number) {
+        Some(text) => match number.as_int() {
             Some(n) => Some((text, n)),
             None => None,
         },
@@ -50,7 +39,7 @@ pub(crate) fn optional_int(value: Option<&Value>) -> Option<Option<i64>>
 {
     match value {
         None => Some(None),
-        Some(value) => match as_int(value) {
+        Some(value) => match value.as_int() {
             Some(n) => Some(Some(n)),
             None => None,
         },

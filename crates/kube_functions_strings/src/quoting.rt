@@ -1,5 +1,5 @@
 //! `jsonpatch.escapeKey` and `strings.quote`: strings with certain characters escaped.
-ghost use Rattle.std.specs.Prelude.{◌≡◌, ◌++◌, IfOk, IfErr, OnOk, option_map, string_bytes};
+ghost use Rattle.std.specs.Prelude.{◌≡◌, ◌++◌, IfOk, OnOk, option_map, string_bytes};
 ghost use Rattle.cel_value.specs.View.{view};
 ghost use Rattle.cel_semantics.specs.Outcome.{outcome_view};
 ghost use Rattle.kube_functions_strings.specs.Escapes as spec;
@@ -87,7 +87,6 @@ fn quoted_text(alloc: Global, text: &str) -> Result<String, AllocError>
 /// [`Refused::Memory`] if memory is refused.
 pub fn escape_key(alloc: Global, value: &Value) -> Result<Answer, Refused>
     ensures value { IfOk result (λ r. outcome_view r ≡ spec.escaped_key (view value.now)) }
-    ensures memory { IfErr result (λ e. e ≡ Refused.Memory) }
 {
     match value.as_str() {
         Some(text) => text_answer(alloc, escaped_text(alloc, Escaping::Pointer, text)?),
@@ -102,7 +101,6 @@ pub fn escape_key(alloc: Global, value: &Value) -> Result<Answer, Refused>
 /// [`Refused::Memory`] if memory is refused.
 pub fn quote(alloc: Global, value: &Value) -> Result<Answer, Refused>
     ensures value { IfOk result (λ r. outcome_view r ≡ spec.quote (view value.now)) }
-    ensures memory { IfErr result (λ e. e ≡ Refused.Memory) }
 {
     match value.as_str() {
         Some(text) => text_answer(alloc, quoted_text(alloc, text)?),

@@ -1,5 +1,5 @@
 //! `find` and `findAll`: the matches of a pattern in a string.
-ghost use Rattle.std.specs.Prelude.{◌≡◌, All, IfOk, IfErr, Some, option_map};
+ghost use Rattle.std.specs.Prelude.{◌≡◌, All, IfOk, Some, option_map};
 ghost use Rattle.cel_patterns.specs.Book.{Extends, IsSpanIn};
 ghost use Rattle.cel_patterns.specs.Entries.{entries_of};
 ghost use Rattle.cel_patterns.specs.Extensions.{HoldsForExtensions};
@@ -17,7 +17,6 @@ use std::alloc::Global;
 
 fn invalid_pattern(alloc: Global, function: &str) -> Result<ExecutionError, Refused>
     ensures value { IfOk result (λ e. fault.fault_view e ≡ fault.invalid_pattern function.now) }
-    ensures memory { IfErr result (λ e. e ≡ Refused.Memory) }
 {
     Ok(ExecutionError::InvalidPattern(String::from_str(alloc, function)?))
 }
@@ -25,7 +24,6 @@ fn invalid_pattern(alloc: Global, function: &str) -> Result<ExecutionError, Refu
 fn match_text(alloc: Global, text: &str, span: (usize, usize)) -> Result<Value, Refused>
     requires { IsSpanIn text.now span }
     ensures value { IfOk result (λ v. view v ≡ plain.text (spec.match_text text.now span)) }
-    ensures memory { IfErr result (λ e. e ≡ Refused.Memory) }
 {
     Value::from_text(alloc, String::from_str(alloc, &text[span.0..span.1])?)
 }
@@ -33,7 +31,6 @@ fn match_text(alloc: Global, text: &str, span: (usize, usize)) -> Result<Value, 
 fn first_match(alloc: Global, text: &str, spans: &[(usize, usize)]) -> Result<Value, Refused>
     requires { All (IsSpanIn text.now) spans.now }
     ensures value { IfOk result (λ v. view v ≡ spec.first_match text.now spans.now) }
-    ensures memory { IfErr result (λ e. e ≡ Refused.Memory) }
 {
     match spans {
         [first, ..] => match_text(alloc, text, *first),
@@ -44,7 +41,6 @@ fn first_match(alloc: Global, text: &str, spans: &[(usize, usize)]) -> Result<Va
 fn match_texts(alloc: Global, text: &str, spans: &[(usize, usize)]) -> Result<Value, Refused>
     requires { All (IsSpanIn text.now) spans.now }
     ensures value { IfOk result (λ v. view v ≡ spec.match_texts text.now spans.now) }
-    ensures memory { IfErr result (λ e. e ≡ Refused.Memory) }
 {
     let mut texts = Vec::with_capacity(alloc, spans.len())?;
     for span in spans {
@@ -72,7 +68,6 @@ fn find_first(
     ensures keeps { Extends (entries_of book.new) (entries_of book.old) }
     ensures value { IfOk result (λ r. HoldsForExtensions (entries_of book.new) (outcome_view r)
         (λ b. spec.first_found text.now pattern.now b)) }
-    ensures memory { IfErr result (λ e. e ≡ Refused.Memory) }
 {
     match book.find_all(pattern, text, Some(1))? {
         Some(spans) => Ok(Ok(first_match(alloc, text, spans.as_slice())?)),
@@ -90,7 +85,6 @@ fn find_each(
     ensures keeps { Extends (entries_of book.new) (entries_of book.old) }
     ensures value { IfOk result (λ r. HoldsForExtensions (entries_of book.new) (outcome_view r)
         (λ b. spec.each_found text.now pattern.now limit b)) }
-    ensures memory { IfErr result (λ e. e ≡ Refused.Memory) }
 {
     match book.find_all(pattern, text, limit)? {
         Some(spans) => Ok(Ok(match_texts(alloc, text, spans.as_slice())?)),
@@ -112,7 +106,6 @@ pub fn find(
     ensures keeps { Extends (entries_of book.new) (entries_of book.old) }
     ensures value { IfOk result (λ r. HoldsForExtensions (entries_of book.new) (outcome_view r)
         (λ b. spec.find_outcome (view value.now) (view pattern.now) b)) }
-    ensures memory { IfErr result (λ e. e ≡ Refused.Memory) }
 {
     match both_texts(value, pattern) {
         Some((text, pattern)) => find_first(alloc, text, pattern, book),
@@ -137,7 +130,6 @@ pub fn find_all(
     ensures value { IfOk result (λ r. HoldsForExtensions (entries_of book.new) (outcome_view r)
         (λ b. spec.find_all_outcome (view value.now) (view pattern.now)
         (option_map (λ v. view v.now) count.entry) b)) }
-    ensures memory { IfErr result (λ e. e ≡ Refused.Memory) }
 {
     match both_texts(value, pattern) {
         Some((text, pattern)) => match optional_int(count) {

@@ -1,5 +1,5 @@
 //! `split` and `replace`: strings cut at a separator.
-ghost use Rattle.std.specs.Prelude.{◌≡◌, ◌≤◌, [], ◌∷◌, ◌++◌, ◌+◌, min, length, map, IfOk, IfErr, IfSome, MatchOption, option_map, string_bytes};
+ghost use Rattle.std.specs.Prelude.{◌≡◌, ◌≤◌, [], ◌∷◌, ◌++◌, ◌+◌, min, length, map, IfOk, IfSome, MatchOption, option_map, string_bytes};
 ghost use Rattle.std.specs.Str.{chars, IsUtf8};
 ghost use Rattle.cel_value.specs.Data as plain;
 ghost use Rattle.cel_value.specs.View.{view};
@@ -124,7 +124,6 @@ fn split_pieces<'a>(
 
 fn text_values(alloc: Global, texts: &[&str]) -> Result<Vec<Value>, Refused>
     ensures value { IfOk result (λ v. map view v.items ≡ map plain.text (map (λ s. s.now) texts.now)) }
-    ensures memory { IfErr result (λ e. e ≡ Refused.Memory) }
 {
     let mut values = Vec::with_capacity(alloc, texts.len())?;
     for text in texts {
@@ -135,7 +134,6 @@ fn text_values(alloc: Global, texts: &[&str]) -> Result<Vec<Value>, Refused>
 
 fn text_list(alloc: Global, texts: &[&str]) -> Result<Value, Refused>
     ensures value { IfOk result (λ v. view v ≡ spec.text_list (map (λ s. s.now) texts.now)) }
-    ensures memory { IfErr result (λ e. e ≡ Refused.Memory) }
 {
     let values = text_values(alloc, texts)?;
     Value::from_items(alloc, values)
@@ -149,7 +147,6 @@ fn split_text(
 ) -> Result<Value, Refused>
     ensures value { IfOk result
         (λ v. view v ≡ spec.text_list (spec.split_pieces (chars text.now) (chars separator.now) count)) }
-    ensures memory { IfErr result (λ e. e ≡ Refused.Memory) }
 {
     let texts = split_pieces(alloc, text, separator, count)?;
     text_list(alloc, texts.as_slice())
@@ -169,7 +166,6 @@ pub fn split(
     ensures value { IfOk result (λ r. outcome_view r
         ≡ spec.split_outcome (view value.now) (view separator.now)
         (option_map (λ v. view v.now) count.entry)) }
-    ensures memory { IfErr result (λ e. e ≡ Refused.Memory) }
 {
     match both_texts(value, separator) {
         Some((text, separator)) => match optional_int(count) {
@@ -235,7 +231,6 @@ pub fn replace(
     ensures value { IfOk result (λ r. outcome_view r
         ≡ spec.replace_outcome (view value.now) (view part.now)
         (view new.now) (option_map (λ v. view v.now) count.entry)) }
-    ensures memory { IfErr result (λ e. e ≡ Refused.Memory) }
 {
     match both_texts(value, part) {
         Some((text, part)) => match new_and_count(new, count) {

@@ -1,5 +1,5 @@
 //! Answers that several functions return.
-ghost use Rattle.std.specs.Prelude.{◌≡◌, IfOk, IfErr, Ok, map, string_bytes};
+ghost use Rattle.std.specs.Prelude.{◌≡◌, IfOk, Ok, map, string_bytes};
 ghost use Rattle.cel_value.specs.Data as plain;
 ghost use Rattle.cel_value.specs.Faults as fault;
 ghost use Rattle.cel_value.specs.View.{items_view};
@@ -14,7 +14,6 @@ use std::alloc::Global;
 
 fn function_error(alloc: Global, function: &str, message: &str) -> Result<ExecutionError, Refused>
     ensures value { IfOk result (λ e. fault.fault_view e ≡ fault.function_error function.now message.now) }
-    ensures memory { IfErr result (λ e. e ≡ Refused.Memory) }
 {
     Ok(ExecutionError::FunctionError {
         function: String::from_str(alloc, function)?,
@@ -25,7 +24,6 @@ fn function_error(alloc: Global, function: &str, message: &str) -> Result<Execut
 /// The error of a function that rejects its arguments, with its message.
 pub(crate) fn refusal(alloc: Global, function: &str, message: &str) -> Result<Answer, Refused>
     ensures value { IfOk result (λ r. outcome_view r ≡ spec.refusal function.now message.now) }
-    ensures memory { IfErr result (λ e. e ≡ Refused.Memory) }
 {
     Ok(Err(function_error(alloc, function, message)?))
 }
@@ -33,7 +31,6 @@ pub(crate) fn refusal(alloc: Global, function: &str, message: &str) -> Result<An
 /// The error of a function that doesn't take values of these kinds.
 pub(crate) fn wrong_kind(alloc: Global, function: &str) -> Result<Answer, Refused>
     ensures value { IfOk result (λ r. outcome_view r ≡ spec.wrong_kind function.now) }
-    ensures memory { IfErr result (λ e. e ≡ Refused.Memory) }
 {
     Ok(Err(no_such_overload(alloc, function)?))
 }
@@ -41,7 +38,6 @@ pub(crate) fn wrong_kind(alloc: Global, function: &str) -> Result<Answer, Refuse
 /// A string as an answer.
 pub(crate) fn text_answer(alloc: Global, text: String) -> Result<Answer, Refused>
     ensures value { IfOk result (λ r. outcome_view r ≡ Ok (plain.text (string_bytes text))) }
-    ensures memory { IfErr result (λ e. e ≡ Refused.Memory) }
 {
     Ok(Ok(Value::from_text(alloc, text)?))
 }
@@ -49,7 +45,6 @@ pub(crate) fn text_answer(alloc: Global, text: String) -> Result<Answer, Refused
 /// Converts strings to values.
 pub(crate) fn text_values(alloc: Global, texts: Vec<String>) -> Result<Vec<Value>, Refused>
     ensures value { IfOk result (λ v. items_view v.items ≡ text_items (map string_bytes texts.items)) }
-    ensures memory { IfErr result (λ e. e ≡ Refused.Memory) }
 {
     let mut values = Vec::new(alloc);
     for text in texts {

@@ -1,5 +1,5 @@
 //! Functions on CIDRs.
-ghost use Rattle.std.specs.Prelude.{◌≡◌, IfOk, IfErr};
+ghost use Rattle.std.specs.Prelude.{◌≡◌, IfOk};
 ghost use Rattle.cel_value.specs.Data as plain;
 ghost use Rattle.cel_value.specs.View.{view};
 ghost use Rattle.cel_semantics.specs.Outcome.{outcome_view};
@@ -20,7 +20,6 @@ use std::rc::Rc;
 /// [`Refused::Memory`] if memory is refused.
 pub fn cidr(alloc: Global, value: &Value) -> Result<Answer, Refused>
     ensures value { IfOk result (λ r. outcome_view r ≡ spec.cidr_of (view value.now)) }
-    ensures memory { IfErr result (λ e. e ≡ Refused.Memory) }
 {
     match value {
         Value::String(text) => match KubeCIDR::read(text.as_str()) {
@@ -37,7 +36,6 @@ pub fn cidr(alloc: Global, value: &Value) -> Result<Answer, Refused>
 /// [`Refused::Memory`] if memory is refused.
 pub fn is_cidr(alloc: Global, value: &Value) -> Result<Answer, Refused>
     ensures value { IfOk result (λ r. outcome_view r ≡ spec.is_cidr (view value.now)) }
-    ensures memory { IfErr result (λ e. e ≡ Refused.Memory) }
 {
     match value {
         Value::String(text) => Ok(Ok(Value::Bool(KubeCIDR::read(text.as_str()).is_ok()))),
@@ -61,7 +59,6 @@ fn is_of_family(text: &str, family: u8) -> bool
 /// [`Refused::Memory`] if memory is refused.
 pub fn is_cidr_v4(alloc: Global, value: &Value) -> Result<Answer, Refused>
     ensures value { IfOk result (λ r. outcome_view r ≡ spec.is_cidr_v4 (view value.now)) }
-    ensures memory { IfErr result (λ e. e ≡ Refused.Memory) }
 {
     match value {
         Value::String(text) => Ok(Ok(Value::Bool(is_of_family(text.as_str(), 4)))),
@@ -75,7 +72,6 @@ pub fn is_cidr_v4(alloc: Global, value: &Value) -> Result<Answer, Refused>
 /// [`Refused::Memory`] if memory is refused.
 pub fn is_cidr_v6(alloc: Global, value: &Value) -> Result<Answer, Refused>
     ensures value { IfOk result (λ r. outcome_view r ≡ spec.is_cidr_v6 (view value.now)) }
-    ensures memory { IfErr result (λ e. e ≡ Refused.Memory) }
 {
     match value {
         Value::String(text) => Ok(Ok(Value::Bool(is_of_family(text.as_str(), 6)))),
@@ -86,7 +82,6 @@ pub fn is_cidr_v6(alloc: Global, value: &Value) -> Result<Answer, Refused>
 fn contains_address(alloc: Global, cidr: &KubeCIDR, other: &Value) -> Result<Answer, Refused>
     ensures value { IfOk result
         (λ r. outcome_view r ≡ spec.contains_ip (plain.cidr (network cidr.now)) (view other.now)) }
-    ensures memory { IfErr result (λ e. e ≡ Refused.Memory) }
 {
     match other {
         Value::Ip(ip) => Ok(Ok(Value::Bool(cidr.contains_ip(*ip.as_ref())))),
@@ -105,7 +100,6 @@ fn contains_address(alloc: Global, cidr: &KubeCIDR, other: &Value) -> Result<Ans
 /// [`Refused::Memory`] if memory is refused.
 pub fn contains_ip(alloc: Global, value: &Value, other: &Value) -> Result<Answer, Refused>
     ensures value { IfOk result (λ r. outcome_view r ≡ spec.contains_ip (view value.now) (view other.now)) }
-    ensures memory { IfErr result (λ e. e ≡ Refused.Memory) }
 {
     match value {
         Value::Cidr(cidr) => contains_address(alloc, cidr.as_ref(), other),
@@ -116,7 +110,6 @@ pub fn contains_ip(alloc: Global, value: &Value, other: &Value) -> Result<Answer
 fn contains_set(alloc: Global, cidr: &KubeCIDR, other: &Value) -> Result<Answer, Refused>
     ensures value { IfOk result
         (λ r. outcome_view r ≡ spec.contains_cidr (plain.cidr (network cidr.now)) (view other.now)) }
-    ensures memory { IfErr result (λ e. e ≡ Refused.Memory) }
 {
     match other {
         Value::Cidr(inner) => Ok(Ok(Value::Bool(cidr.contains_cidr(*inner.as_ref())))),
@@ -135,7 +128,6 @@ fn contains_set(alloc: Global, cidr: &KubeCIDR, other: &Value) -> Result<Answer,
 /// [`Refused::Memory`] if memory is refused.
 pub fn contains_cidr(alloc: Global, value: &Value, other: &Value) -> Result<Answer, Refused>
     ensures value { IfOk result (λ r. outcome_view r ≡ spec.contains_cidr (view value.now) (view other.now)) }
-    ensures memory { IfErr result (λ e. e ≡ Refused.Memory) }
 {
     match value {
         Value::Cidr(cidr) => contains_set(alloc, cidr.as_ref(), other),
@@ -149,7 +141,6 @@ pub fn contains_cidr(alloc: Global, value: &Value, other: &Value) -> Result<Answ
 /// [`Refused::Memory`] if memory is refused.
 pub fn prefix_length(alloc: Global, value: &Value) -> Result<Answer, Refused>
     ensures value { IfOk result (λ r. outcome_view r ≡ spec.prefix_length (view value.now)) }
-    ensures memory { IfErr result (λ e. e ≡ Refused.Memory) }
 {
     match value {
         Value::Cidr(cidr) => Ok(Ok(Value::Int(i64::from(cidr.as_ref().prefix_length())))),
@@ -163,7 +154,6 @@ pub fn prefix_length(alloc: Global, value: &Value) -> Result<Answer, Refused>
 /// [`Refused::Memory`] if memory is refused.
 pub fn masked(alloc: Global, value: &Value) -> Result<Answer, Refused>
     ensures value { IfOk result (λ r. outcome_view r ≡ spec.masked_cidr (view value.now)) }
-    ensures memory { IfErr result (λ e. e ≡ Refused.Memory) }
 {
     match value {
         Value::Cidr(cidr) => {
@@ -180,7 +170,6 @@ pub fn masked(alloc: Global, value: &Value) -> Result<Answer, Refused>
 /// [`Refused::Memory`] if memory is refused.
 pub fn written_ip(alloc: Global, value: &Value) -> Result<Answer, Refused>
     ensures value { IfOk result (λ r. outcome_view r ≡ spec.written_ip (view value.now)) }
-    ensures memory { IfErr result (λ e. e ≡ Refused.Memory) }
 {
     match value {
         Value::Cidr(cidr) => {

@@ -1,5 +1,5 @@
 //! Functions on IP addresses.
-ghost use Rattle.std.specs.Prelude.{◌≡◌, IfOk, IfErr};
+ghost use Rattle.std.specs.Prelude.{◌≡◌, IfOk};
 ghost use Rattle.cel_value.specs.View.{view};
 ghost use Rattle.cel_semantics.specs.Outcome.{outcome_view};
 ghost use Rattle.kube_types_address.specs.Texts.{ip_of};
@@ -18,7 +18,6 @@ use std::rc::Rc;
 /// [`Refused::Memory`] if memory is refused.
 pub fn ip(alloc: Global, value: &Value) -> Result<Answer, Refused>
     ensures value { IfOk result (λ r. outcome_view r ≡ spec.ip_of (view value.now)) }
-    ensures memory { IfErr result (λ e. e ≡ Refused.Memory) }
 {
     match value {
         Value::String(text) => match KubeIP::read(text.as_str()) {
@@ -35,7 +34,6 @@ pub fn ip(alloc: Global, value: &Value) -> Result<Answer, Refused>
 /// [`Refused::Memory`] if memory is refused.
 pub fn is_ip(alloc: Global, value: &Value) -> Result<Answer, Refused>
     ensures value { IfOk result (λ r. outcome_view r ≡ spec.is_ip (view value.now)) }
-    ensures memory { IfErr result (λ e. e ≡ Refused.Memory) }
 {
     match value {
         Value::String(text) => Ok(Ok(Value::Bool(KubeIP::read(text.as_str()).is_ok()))),
@@ -59,7 +57,6 @@ fn is_of_family(text: &str, family: u8) -> bool
 /// [`Refused::Memory`] if memory is refused.
 pub fn is_ipv4(alloc: Global, value: &Value) -> Result<Answer, Refused>
     ensures value { IfOk result (λ r. outcome_view r ≡ spec.is_ipv4 (view value.now)) }
-    ensures memory { IfErr result (λ e. e ≡ Refused.Memory) }
 {
     match value {
         Value::String(text) => Ok(Ok(Value::Bool(is_of_family(text.as_str(), 4)))),
@@ -73,7 +70,6 @@ pub fn is_ipv4(alloc: Global, value: &Value) -> Result<Answer, Refused>
 /// [`Refused::Memory`] if memory is refused.
 pub fn is_ipv6(alloc: Global, value: &Value) -> Result<Answer, Refused>
     ensures value { IfOk result (λ r. outcome_view r ≡ spec.is_ipv6 (view value.now)) }
-    ensures memory { IfErr result (λ e. e ≡ Refused.Memory) }
 {
     match value {
         Value::String(text) => Ok(Ok(Value::Bool(is_of_family(text.as_str(), 6)))),
@@ -88,7 +84,6 @@ pub fn is_ipv6(alloc: Global, value: &Value) -> Result<Answer, Refused>
 /// [`Refused::Memory`] if memory is refused.
 pub fn is_canonical(alloc: Global, value: &Value) -> Result<Answer, Refused>
     ensures value { IfOk result (λ r. outcome_view r ≡ spec.is_canonical (view value.now)) }
-    ensures memory { IfErr result (λ e. e ≡ Refused.Memory) }
 {
     match value {
         Value::String(text) => match KubeIP::is_canonical(text.as_str()) {
@@ -105,7 +100,6 @@ pub fn is_canonical(alloc: Global, value: &Value) -> Result<Answer, Refused>
 /// [`Refused::Memory`] if memory is refused.
 pub fn family(alloc: Global, value: &Value) -> Result<Answer, Refused>
     ensures value { IfOk result (λ r. outcome_view r ≡ spec.family_of (view value.now)) }
-    ensures memory { IfErr result (λ e. e ≡ Refused.Memory) }
 {
     match value {
         Value::Ip(ip) => Ok(Ok(Value::Int(i64::from(ip.as_ref().family())))),
@@ -119,7 +113,6 @@ pub fn family(alloc: Global, value: &Value) -> Result<Answer, Refused>
 /// [`Refused::Memory`] if memory is refused.
 pub fn is_loopback(alloc: Global, value: &Value) -> Result<Answer, Refused>
     ensures value { IfOk result (λ r. outcome_view r ≡ spec.is_loopback (view value.now)) }
-    ensures memory { IfErr result (λ e. e ≡ Refused.Memory) }
 {
     match value {
         Value::Ip(ip) => Ok(Ok(Value::Bool(ip.as_ref().is_loopback()))),
@@ -133,7 +126,6 @@ pub fn is_loopback(alloc: Global, value: &Value) -> Result<Answer, Refused>
 /// [`Refused::Memory`] if memory is refused.
 pub fn is_unspecified(alloc: Global, value: &Value) -> Result<Answer, Refused>
     ensures value { IfOk result (λ r. outcome_view r ≡ spec.is_unspecified (view value.now)) }
-    ensures memory { IfErr result (λ e. e ≡ Refused.Memory) }
 {
     match value {
         Value::Ip(ip) => Ok(Ok(Value::Bool(ip.as_ref().is_unspecified()))),
@@ -148,7 +140,6 @@ pub fn is_unspecified(alloc: Global, value: &Value) -> Result<Answer, Refused>
 /// [`Refused::Memory`] if memory is refused.
 pub fn is_link_local_multicast(alloc: Global, value: &Value) -> Result<Answer, Refused>
     ensures value { IfOk result (λ r. outcome_view r ≡ spec.is_link_local_multicast (view value.now)) }
-    ensures memory { IfErr result (λ e. e ≡ Refused.Memory) }
 {
     match value {
         Value::Ip(ip) => Ok(Ok(Value::Bool(ip.as_ref().is_link_local_multicast()))),
@@ -162,7 +153,6 @@ pub fn is_link_local_multicast(alloc: Global, value: &Value) -> Result<Answer, R
 /// [`Refused::Memory`] if memory is refused.
 pub fn is_link_local_unicast(alloc: Global, value: &Value) -> Result<Answer, Refused>
     ensures value { IfOk result (λ r. outcome_view r ≡ spec.is_link_local_unicast (view value.now)) }
-    ensures memory { IfErr result (λ e. e ≡ Refused.Memory) }
 {
     match value {
         Value::Ip(ip) => Ok(Ok(Value::Bool(ip.as_ref().is_link_local_unicast()))),
@@ -177,7 +167,6 @@ pub fn is_link_local_unicast(alloc: Global, value: &Value) -> Result<Answer, Ref
 /// [`Refused::Memory`] if memory is refused.
 pub fn is_global_unicast(alloc: Global, value: &Value) -> Result<Answer, Refused>
     ensures value { IfOk result (λ r. outcome_view r ≡ spec.is_global_unicast (view value.now)) }
-    ensures memory { IfErr result (λ e. e ≡ Refused.Memory) }
 {
     match value {
         Value::Ip(ip) => Ok(Ok(Value::Bool(ip.as_ref().is_global_unicast()))),

@@ -1,5 +1,5 @@
 //! Functions on named formats.
-ghost use Rattle.std.specs.Prelude.{◌≡◌, Ok, map, option_map, string_bytes, IfOk, IfErr};
+ghost use Rattle.std.specs.Prelude.{◌≡◌, Ok, map, option_map, string_bytes, IfOk};
 ghost use Rattle.cel_value.specs.Data as plain;
 ghost use Rattle.cel_value.specs.View.{view};
 ghost use Rattle.cel_semantics.specs.Outcome.{outcome_view};
@@ -31,7 +31,6 @@ fn format_named(name: &str) -> Option<KubeFormat>
 /// [`Refused::Memory`] if memory is refused.
 pub fn named(alloc: Global, value: &Value) -> Result<Answer, Refused>
     ensures value { IfOk result (λ r. outcome_view r ≡ spec.named_format (view value.now)) }
-    ensures memory { IfErr result (λ e. e ≡ Refused.Memory) }
 {
     match value {
         Value::String(name) => match format_named(name.as_str()) {
@@ -44,7 +43,6 @@ pub fn named(alloc: Global, value: &Value) -> Result<Answer, Refused>
 
 fn held_faults(alloc: Global, faults: Vec<String>) -> Result<OptionalValue, Refused>
     ensures value { IfOk result (λ o. o ≡ spec.held_faults (map string_bytes faults.items)) }
-    ensures memory { IfErr result (λ e. e ≡ Refused.Memory) }
 {
     if faults.is_empty() {
         return Ok(OptionalValue::none());
@@ -56,7 +54,6 @@ fn held_faults(alloc: Global, faults: Vec<String>) -> Result<OptionalValue, Refu
 fn validated(alloc: Global, format: KubeFormat, value: &Value) -> Result<Answer, Refused>
     ensures value { IfOk result
         (λ r. outcome_view r ≡ spec.validate (plain.format (kind_of format)) (view value.now)) }
-    ensures memory { IfErr result (λ e. e ≡ Refused.Memory) }
 {
     match value {
         Value::String(text) => {
@@ -74,7 +71,6 @@ fn validated(alloc: Global, format: KubeFormat, value: &Value) -> Result<Answer,
 /// [`Refused::Memory`] if memory is refused.
 pub fn validate(alloc: Global, value: &Value, text: &Value) -> Result<Answer, Refused>
     ensures value { IfOk result (λ r. outcome_view r ≡ spec.validate (view value.now) (view text.now)) }
-    ensures memory { IfErr result (λ e. e ≡ Refused.Memory) }
 {
     match value {
         Value::Format(format) => validated(alloc, *format, text),

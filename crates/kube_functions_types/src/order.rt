@@ -1,5 +1,5 @@
 //! The order of quantities and the order of versions.
-ghost use Rattle.std.specs.Prelude.{◌≡◌, IfOk, IfErr};
+ghost use Rattle.std.specs.Prelude.{◌≡◌, IfOk};
 ghost use Rattle.cel_value.specs.Data as plain;
 ghost use Rattle.cel_value.specs.View.{view};
 ghost use Rattle.cel_semantics.specs.Outcome.{outcome_view};
@@ -52,7 +52,6 @@ fn order(value: &Value, other: &Value) -> Option<Ordering>
 pub fn is_greater_than(alloc: Global, value: &Value, other: &Value) -> Result<Answer, Refused>
     ensures value { IfOk result
         (λ r. outcome_view r ≡ spec.is_greater_than (view value.now) (view other.now)) }
-    ensures memory { IfErr result (λ e. e ≡ Refused.Memory) }
 {
     match order(value, other) {
         Some(order) => Ok(Ok(Value::Bool(order.is_gt()))),
@@ -66,7 +65,6 @@ pub fn is_greater_than(alloc: Global, value: &Value, other: &Value) -> Result<An
 /// [`Refused::Memory`] if memory is refused.
 pub fn is_less_than(alloc: Global, value: &Value, other: &Value) -> Result<Answer, Refused>
     ensures value { IfOk result (λ r. outcome_view r ≡ spec.is_less_than (view value.now) (view other.now)) }
-    ensures memory { IfErr result (λ e. e ≡ Refused.Memory) }
 {
     match order(value, other) {
         Some(order) => Ok(Ok(Value::Bool(order.is_lt()))),
@@ -91,7 +89,6 @@ fn order_number(order: Ordering) -> i64
 /// [`Refused::Memory`] if memory is refused.
 pub fn compare_to(alloc: Global, value: &Value, other: &Value) -> Result<Answer, Refused>
     ensures value { IfOk result (λ r. outcome_view r ≡ spec.compare_to (view value.now) (view other.now)) }
-    ensures memory { IfErr result (λ e. e ≡ Refused.Memory) }
 {
     match order(value, other) {
         Some(order) => Ok(Ok(Value::Int(order_number(order)))),

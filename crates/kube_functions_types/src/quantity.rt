@@ -1,5 +1,5 @@
 //! Functions on quantities.
-ghost use Rattle.std.specs.Prelude.{◌≡◌, pos, IfOk, IfErr, option_map};
+ghost use Rattle.std.specs.Prelude.{◌≡◌, pos, IfOk, option_map};
 ghost use Rattle.cel_value.specs.Data as plain;
 ghost use Rattle.cel_value.specs.View.{view};
 ghost use Rattle.cel_semantics.specs.Outcome.{outcome_view};
@@ -25,7 +25,6 @@ fn quantity_or(
 ) -> Result<Answer, Refused>
     ensures value { IfOk result (λ r. outcome_view r
         ≡ value_or (refusal function.now message.now) plain.quantity (option_map number quantity)) }
-    ensures memory { IfErr result (λ e. e ≡ Refused.Memory) }
 {
     match quantity {
         Some(quantity) => Ok(Ok(Value::Quantity(Rc::new(alloc, quantity)?))),
@@ -39,7 +38,6 @@ fn quantity_or(
 /// [`Refused::Memory`] if memory is refused.
 pub fn quantity(alloc: Global, value: &Value) -> Result<Answer, Refused>
     ensures value { IfOk result (λ r. outcome_view r ≡ spec.quantity_of (view value.now)) }
-    ensures memory { IfErr result (λ e. e ≡ Refused.Memory) }
 {
     match value {
         Value::String(text) => {
@@ -56,7 +54,6 @@ pub fn quantity(alloc: Global, value: &Value) -> Result<Answer, Refused>
 /// [`Refused::Memory`] if memory is refused.
 pub fn is_quantity(alloc: Global, value: &Value) -> Result<Answer, Refused>
     ensures value { IfOk result (λ r. outcome_view r ≡ spec.is_quantity (view value.now)) }
-    ensures memory { IfErr result (λ e. e ≡ Refused.Memory) }
 {
     match value {
         Value::String(text) => {
@@ -73,7 +70,6 @@ pub fn is_quantity(alloc: Global, value: &Value) -> Result<Answer, Refused>
 /// [`Refused::Memory`] if memory is refused.
 pub fn is_integer(alloc: Global, value: &Value) -> Result<Answer, Refused>
     ensures value { IfOk result (λ r. outcome_view r ≡ spec.is_integer (view value.now)) }
-    ensures memory { IfErr result (λ e. e ≡ Refused.Memory) }
 {
     match value {
         Value::Quantity(quantity) => Ok(Ok(Value::Bool(quantity.as_ref().is_integer()))),
@@ -83,7 +79,6 @@ pub fn is_integer(alloc: Global, value: &Value) -> Result<Answer, Refused>
 
 fn integer_or(alloc: Global, integer: Result<i64, IntegerError>) -> Result<Answer, Refused>
     ensures value { IfOk result (λ r. outcome_view r ≡ spec.int_or_why integer) }
-    ensures memory { IfErr result (λ e. e ≡ Refused.Memory) }
 {
     match integer {
         Ok(integer) => Ok(Ok(Value::Int(integer))),
@@ -101,7 +96,6 @@ fn integer_or(alloc: Global, integer: Result<i64, IntegerError>) -> Result<Answe
 /// [`Refused::Memory`] if memory is refused.
 pub fn as_integer(alloc: Global, value: &Value) -> Result<Answer, Refused>
     ensures value { IfOk result (λ r. outcome_view r ≡ spec.as_integer (view value.now)) }
-    ensures memory { IfErr result (λ e. e ≡ Refused.Memory) }
 {
     match value {
         Value::Quantity(quantity) => integer_or(alloc, quantity.as_ref().as_integer()),
@@ -115,7 +109,6 @@ pub fn as_integer(alloc: Global, value: &Value) -> Result<Answer, Refused>
 /// [`Refused::Memory`] if memory is refused.
 pub fn sign(alloc: Global, value: &Value) -> Result<Answer, Refused>
     ensures value { IfOk result (λ r. outcome_view r ≡ spec.sign_of (view value.now)) }
-    ensures memory { IfErr result (λ e. e ≡ Refused.Memory) }
 {
     match value {
         Value::Quantity(quantity) => Ok(Ok(Value::Int(quantity.as_ref().sign()))),
@@ -163,7 +156,6 @@ fn amounts<'a>(value: &'a Value, other: &Value) -> Option<(&'a KubeQuantity, Kub
 /// [`Refused::Memory`] if memory is refused.
 pub fn add(alloc: Global, value: &Value, other: &Value) -> Result<Answer, Refused>
     ensures value { IfOk result (λ r. outcome_view r ≡ spec.quantity_sum (view value.now) (view other.now)) }
-    ensures memory { IfErr result (λ e. e ≡ Refused.Memory) }
 {
     match amounts(value, other) {
         Some((quantity, amount)) => {
@@ -181,7 +173,6 @@ pub fn add(alloc: Global, value: &Value, other: &Value) -> Result<Answer, Refuse
 pub fn sub(alloc: Global, value: &Value, other: &Value) -> Result<Answer, Refused>
     ensures value { IfOk result (λ r. outcome_view r
         ≡ spec.quantity_difference (view value.now) (view other.now)) }
-    ensures memory { IfErr result (λ e. e ≡ Refused.Memory) }
 {
     match amounts(value, other) {
         Some((quantity, amount)) => {

@@ -1,5 +1,5 @@
 //! Functions on versions.
-ghost use Rattle.std.specs.Prelude.{◌≡◌, IfOk, IfErr, option_map, is_some, codes};
+ghost use Rattle.std.specs.Prelude.{◌≡◌, IfOk, option_map, is_some, codes};
 ghost use Rattle.cel_value.specs.Data as plain;
 ghost use Rattle.cel_value.specs.View.{view};
 ghost use Rattle.cel_semantics.specs.Outcome.{outcome_view};
@@ -29,7 +29,6 @@ fn read(alloc: Global, text: &str, lenient: bool) -> Result<Answer, Refused>
     ensures value { IfOk result (λ r. outcome_view r
         ≡ value_or (refusal (codes "semver") (spec.not_version text.now))
         plain.semver (version_of lenient text.now)) }
-    ensures memory { IfErr result (λ e. e ≡ Refused.Memory) }
 {
     match KubeSemver::read(alloc, text, lenient)? {
         Some(version) => Ok(Ok(Value::Semver(Rc::new(alloc, version)?))),
@@ -48,7 +47,6 @@ fn read(alloc: Global, text: &str, lenient: bool) -> Result<Answer, Refused>
 pub fn semver(alloc: Global, value: &Value, argument: Option<&Value>) -> Result<Answer, Refused>
     ensures value { IfOk result (λ r. outcome_view r
         ≡ spec.version_from (view value.now) (option_map (λ v. view v.now) argument.entry)) }
-    ensures memory { IfErr result (λ e. e ≡ Refused.Memory) }
 {
     match value {
         Value::String(text) => match lenience(argument) {
@@ -61,7 +59,6 @@ pub fn semver(alloc: Global, value: &Value, argument: Option<&Value>) -> Result<
 
 fn is_read(alloc: Global, text: &str, lenient: bool) -> Result<Answer, Refused>
     ensures value { IfOk result (λ r. outcome_view r ≡ bool_answer (is_some (version_of lenient text.now))) }
-    ensures memory { IfErr result (λ e. e ≡ Refused.Memory) }
 {
     let version = KubeSemver::read(alloc, text, lenient)?;
     Ok(Ok(Value::Bool(version.is_some())))
@@ -74,7 +71,6 @@ fn is_read(alloc: Global, text: &str, lenient: bool) -> Result<Answer, Refused>
 pub fn is_semver(alloc: Global, value: &Value, argument: Option<&Value>) -> Result<Answer, Refused>
     ensures value { IfOk result (λ r. outcome_view r
         ≡ spec.is_version (view value.now) (option_map (λ v. view v.now) argument.entry)) }
-    ensures memory { IfErr result (λ e. e ≡ Refused.Memory) }
 {
     match value {
         Value::String(text) => match lenience(argument) {
@@ -90,7 +86,6 @@ pub fn is_semver(alloc: Global, value: &Value, argument: Option<&Value>) -> Resu
 fn part(alloc: Global, number: Option<i64>, function: &str) -> Result<Answer, Refused>
     ensures value { IfOk result (λ r. outcome_view r
         ≡ value_or (refusal function.now (codes "version part too large")) plain.int number) }
-    ensures memory { IfErr result (λ e. e ≡ Refused.Memory) }
 {
     match number {
         Some(number) => Ok(Ok(Value::Int(number))),
@@ -105,7 +100,6 @@ fn part(alloc: Global, number: Option<i64>, function: &str) -> Result<Answer, Re
 /// [`Refused::Memory`] if memory is refused.
 pub fn major(alloc: Global, value: &Value) -> Result<Answer, Refused>
     ensures value { IfOk result (λ r. outcome_view r ≡ spec.major_of (view value.now)) }
-    ensures memory { IfErr result (λ e. e ≡ Refused.Memory) }
 {
     match value {
         Value::Semver(version) => part(alloc, version.as_ref().major(), "major"),
@@ -120,7 +114,6 @@ pub fn major(alloc: Global, value: &Value) -> Result<Answer, Refused>
 /// [`Refused::Memory`] if memory is refused.
 pub fn minor(alloc: Global, value: &Value) -> Result<Answer, Refused>
     ensures value { IfOk result (λ r. outcome_view r ≡ spec.minor_of (view value.now)) }
-    ensures memory { IfErr result (λ e. e ≡ Refused.Memory) }
 {
     match value {
         Value::Semver(version) => part(alloc, version.as_ref().minor(), "minor"),
@@ -135,7 +128,6 @@ pub fn minor(alloc: Global, value: &Value) -> Result<Answer, Refused>
 /// [`Refused::Memory`] if memory is refused.
 pub fn patch(alloc: Global, value: &Value) -> Result<Answer, Refused>
     ensures value { IfOk result (λ r. outcome_view r ≡ spec.patch_of (view value.now)) }
-    ensures memory { IfErr result (λ e. e ≡ Refused.Memory) }
 {
     match value {
         Value::Semver(version) => part(alloc, version.as_ref().patch(), "patch"),

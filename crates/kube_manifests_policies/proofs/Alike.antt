@@ -5,7 +5,7 @@ use Rattle.cel_semantics.specs.Members.{put_in}
 use Rattle.cel_semantics.specs.Outcome.{Outcome, and_then}
 use Rattle.cel_value.specs.Data.{Data, map_of, no_entries, text}
 use Rattle.cel_value.specs.Texts.{fault_text}
-use Rattle.kube_cel_vap.proofs.Bound.{bound, meaning_same}
+use Rattle.cel.proofs.Bound.{bound, meaning_same}
 use Rattle.kube_cel_vap.specs.Results.{outcome_in, policy_library}
 use Rattle.kube_cel_vap.specs.Variables.{Variables, bindings_always, policy_bindings, with_given}
 use Rattle.kube_manifests_policies.specs.Inputs.{first_missing, without_namespace}

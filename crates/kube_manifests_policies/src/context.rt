@@ -9,7 +9,7 @@ ghost use Rattle.kube_manifests_policies.specs.Inputs.{without_namespace};
 ghost use Rattle.kube_manifests_admission.specs.Policies.{item_view};
 ghost use Rattle.kube_manifests_policies.specs.Scopes.{Alike, first_scope, scope_for, scope_view, with_no_values};
 ghost use Rattle.serde_json.specs.View.{view as json_view};
-ghost use Rattle.std.specs.Prelude.{◌≡◌, [], ℕ, IfErr, IfOk, List, map, OnOk, option_map, unwrap_or};
+ghost use Rattle.std.specs.Prelude.{◌≡◌, [], ℕ, IfOk, List, map, OnOk, option_map, unwrap_or};
 
 use crate::inputs::absent_inputs;
 use crate::scope::{PolicyContext, Scope};
@@ -31,7 +31,6 @@ fn empty_context<'a>(alloc: Global) -> PolicyContext<'a>
 /// Returns the value bound plainly, or null if it isn't given.
 fn value_or_null(alloc: Global, value: &Option<Json>) -> Result<Value, Refused>
     ensures value { IfOk result (λ v. view v ≡ value_or_null (option_map json_view value.now)) }
-    ensures memory { IfErr result (λ e. e ≡ Refused.Memory) }
 {
     match value {
         Some(value) => bind_plain(alloc, value),
@@ -43,7 +42,6 @@ fn value_or_null(alloc: Global, value: &Option<Json>) -> Result<Value, Refused>
 fn request_or_empty(alloc: Global, request: &Option<AdmissionRequest>) -> Result<Value, Refused>
     ensures value { IfOk result (λ v. view v
         ≡ request_value (unwrap_or (option_map request_view request.now) empty_request)) }
-    ensures memory { IfErr result (λ e. e ≡ Refused.Memory) }
 {
     match request {
         Some(request) => request_value(alloc, request),
@@ -60,7 +58,6 @@ fn bind_given(
 ) -> Result<(), Refused>
     ensures bound { OnOk result ((x : List ℕ) → binding x (bindings_of context.new)
         ≡ binding x (with_given name.now (option_map json_view value.now) (bindings_of context.old))) }
-    ensures memory { IfErr result (λ e. e ≡ Refused.Memory) }
 {
     let Some(value) = value else {
         return Ok(());
@@ -72,7 +69,6 @@ fn bind_given(
 fn context_always<'a>(alloc: Global, inputs: &PolicyInputs) -> Result<PolicyContext<'a>, Refused>
     ensures bound { IfOk result (λ c. (x : List ℕ) → binding x (bindings_of c)
         ≡ binding x (bindings_always (inputs_view inputs.now))) }
-    ensures memory { IfErr result (λ e. e ≡ Refused.Memory) }
 {
     let mut context = empty_context(alloc);
     context.add_variable("object", value_or_null(alloc, &inputs.object)?)?;
@@ -84,7 +80,6 @@ fn context_always<'a>(alloc: Global, inputs: &PolicyInputs) -> Result<PolicyCont
 /// Returns an empty map of variables.
 fn no_values(alloc: Global) -> Result<Value, Refused>
     ensures value { IfOk result (λ v. view v ≡ map_of no_entries) }
-    ensures memory { IfErr result (λ e. e ≡ Refused.Memory) }
 {
     Value::from_entries(alloc, Entries::new(alloc))
 }
@@ -96,7 +91,6 @@ pub(crate) fn condition_scope<'a>(
 ) -> Result<Scope<'a>, Refused>
     ensures scope { IfOk result (λ s. Alike (scope_view s)
         (first_scope (without_namespace (inputs_view inputs.now)))) }
-    ensures memory { IfErr result (λ e. e ≡ Refused.Memory) }
 {
     let mut context = context_always(alloc, inputs)?;
     bind_given(alloc, &mut context, "params", &inputs.params)?;
@@ -118,7 +112,6 @@ fn bind_no_values(
 ) -> Result<(), Refused>
     ensures bound { OnOk result ((x : List ℕ) → binding x (bindings_of context.new)
         ≡ binding x (with_no_values (map item_view variables.now) (bindings_of context.old))) }
-    ensures memory { IfErr result (λ e. e ≡ Refused.Memory) }
 {
     if variables.is_empty() {
         return Ok(());
@@ -139,7 +132,6 @@ pub(crate) fn policy_scope<'a>(
     requires { Alike (scope_view scope) (first_scope (without_namespace (inputs_view inputs.now))) }
     ensures scope { IfOk result (λ s. Alike (scope_view s)
         (scope_for (inputs_view inputs.now) (map item_view variables.now))) }
-    ensures memory { IfErr result (λ e. e ≡ Refused.Memory) }
 {
     let Scope {
         mut context,

@@ -8,7 +8,7 @@ ghost use Rattle.kube_manifests_admission.specs.Policies.{policy_view};
 ghost use Rattle.kube_manifests_policies.specs.Scopes.{outcome_or_reason, scope_view};
 ghost use Rattle.kube_manifests_policies.specs.Verdicts.{result_view, verdict_view};
 ghost use Rattle.serde_json.specs.View.{view};
-ghost use Rattle.std.specs.Prelude.{◌≡◌, IfErr, IfOk, map};
+ghost use Rattle.std.specs.Prelude.{◌≡◌, IfOk, map};
 
 use crate::context::{condition_scope, policy_scope};
 use crate::reports::{Subject, results_as};
@@ -52,7 +52,6 @@ fn verdict_in(
     ensures verdict { IfOk result (λ v. HoldsForExtensions (entries_of book.new) (verdict_view v)
         (λ b. verdict_in (outcome_or_reason b (scope_view scope.entry)) (scope_view scope.entry).missing
         (policy_view policy.now) (map result_view conditions.items))) }
-    ensures memory { IfErr result (λ e. e ≡ Refused.Memory) }
 {
     let items = policy.validations.as_slice();
     let validations = results_as(alloc, Subject::Validation, items, &scope, book)?;
@@ -81,7 +80,6 @@ fn policy_verdict(
 ) -> Result<PolicyVerdict, Refused>
     ensures verdict { IfOk result (λ v. HoldsForExtensions (entries_of book.new) (verdict_view v)
         (λ b. policy_verdict b (inputs_view inputs.now) (policy_view policy.now))) }
-    ensures memory { IfErr result (λ e. e ≡ Refused.Memory) }
 {
     let scope = condition_scope(alloc, inputs)?;
     let items = policy.conditions.as_slice();
@@ -115,14 +113,13 @@ fn policy_verdict(
 ///
 /// # Errors
 ///
-/// [`Refused`] if memory is refused.
+/// [`Refused`] if memory is refused, or a URL that an expression reads is too large.
 pub fn evaluate_policy(
     alloc: Global,
     policy: &Value,
     inputs: &PolicyInputs,
 ) -> Result<Result<PolicyVerdict, PolicyFault>, Refused>
     ensures verdict { IfOk result (λ r. IsVerdictOf (inputs_view inputs.now) (view policy.now) r) }
-    ensures memory { IfErr result (λ e. e ≡ Refused.Memory) }
 {
     let policy = match policy_of(alloc, policy)? {
         Ok(policy) => policy,

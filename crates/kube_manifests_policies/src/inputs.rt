@@ -3,7 +3,7 @@ ghost use Rattle.cel_syntax_ast.specs.Term.{term};
 ghost use Rattle.kube_manifests_admission.specs.Inputs.{inputs_view};
 ghost use Rattle.kube_manifests_policies.specs.Inputs.{absent_in, asks_for, first_asked, first_missing, input_name, member_of, never_given, unless};
 ghost use Rattle.serde_json.specs.View.{view as json_view};
-ghost use Rattle.std.specs.Prelude.{◌≡◌, ◌++◌, IfErr, IfOk, OnOk, option_map, Some};
+ghost use Rattle.std.specs.Prelude.{◌≡◌, ◌++◌, IfOk, OnOk, option_map, Some};
 
 use crate::uses::asks;
 use cel::Expr;
@@ -156,7 +156,6 @@ pub(crate) fn absent_inputs(
     ensures absent { IfOk result (λ v. v.items
         ≡ absent_in
         (record (inputs_view inputs.now) { namespace_object = option_map json_view namespace.now })) }
-    ensures memory { IfErr result (λ e. e ≡ Refused.Memory) }
 {
     let mut absent = Vec::new(alloc);
     push_unless(&mut absent, Input::Object, inputs.object.is_some())?;

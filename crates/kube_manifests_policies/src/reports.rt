@@ -11,7 +11,7 @@ ghost use Rattle.kube_manifests_policies.specs.Reports.{annotation_outcome, anno
 ghost use Rattle.kube_manifests_admission.specs.Policies.{item_view};
 ghost use Rattle.kube_manifests_policies.specs.Scopes.{outcome_or_reason, outcome_seen, scope_view};
 ghost use Rattle.kube_manifests_policies.specs.Verdicts.{result_view, report_view};
-ghost use Rattle.std.specs.Prelude.{◌≡◌, IfErr, IfOk, map, option_map, Some, string_bytes};
+ghost use Rattle.std.specs.Prelude.{◌≡◌, IfOk, map, option_map, Some, string_bytes};
 
 use crate::scope::{Scope, evaluate, reach, read};
 use crate::verdict::{ItemReport, PolicyResult, Problem, with_report};
@@ -115,7 +115,6 @@ fn annotation_report(
     ensures keeps { Extends (entries_of book.new) (entries_of book.old) }
     ensures reported { IfOk result (λ t. HoldsForExtensions (entries_of book.new) (report_view t)
         (λ b. annotation_report (outcome_or_reason b (scope_view scope.now)) (item_view item.now))) }
-    ensures memory { IfErr result (λ e. e ≡ Refused.Memory) }
 {
     match evaluate(alloc, item.expression, scope, book)? {
         Err(reported) => Ok(reported),
@@ -150,7 +149,6 @@ fn condition_report(
     ensures keeps { Extends (entries_of book.new) (entries_of book.old) }
     ensures reported { IfOk result (λ t. HoldsForExtensions (entries_of book.new) (report_view t)
         (λ b. condition_report (outcome_or_reason b (scope_view scope.now)) (item_view item.now))) }
-    ensures memory { IfErr result (λ e. e ≡ Refused.Memory) }
 {
     match evaluate(alloc, item.expression, scope, book)? {
         Err(reported) => Ok(reported),
@@ -222,7 +220,6 @@ fn false_message(
     ensures reported { IfOk result (λ s. HoldsForExtensions (entries_of book.new) (string_bytes s)
         (λ b. false_message (item_view item.now)
         (option_map (outcome_or_reason b (scope_view scope.now)) (option_map program_term message.now)))) }
-    ensures memory { IfErr result (λ e. e ≡ Refused.Memory) }
 {
     let Some(program) = message else {
         return Ok(own_message(alloc, item)?);
@@ -245,7 +242,6 @@ fn with_message(
         (λ b. with_message (false_message (item_view item.now)
         (option_map (outcome_or_reason b (scope_view scope.now)) (option_map program_term message.now)))
         (report_view reported))) }
-    ensures memory { IfErr result (λ e. e ≡ Refused.Memory) }
 {
     if !Problem::False.is_of(&reported) {
         return Ok(reported);
@@ -268,7 +264,6 @@ fn validation_with(
     ensures reported { IfOk result (λ t. HoldsForExtensions (entries_of book.new) (report_view t)
         (λ b. validation_with (outcome_or_reason b (scope_view scope.now))
         (item_view item.now) (program_term program.now) (option_map program_term message.now))) }
-    ensures memory { IfErr result (λ e. e ≡ Refused.Memory) }
 {
     match reach(alloc, program, scope, book)? {
         Err(reported) => Ok(reported),
@@ -287,7 +282,6 @@ fn read_message(
 ) -> Result<Result<Option<Program>, ItemReport>, Refused>
     ensures read { IfOk result (λ r. message_tree_seen r
         ≡ message_tree_report (option_map (λ s. s.now) text.entry)) }
-    ensures memory { IfErr result (λ e. e ≡ Refused.Memory) }
 {
     let Some(text) = text else {
         return Ok(Ok(None));
@@ -309,7 +303,6 @@ fn validation_report(
     ensures keeps { Extends (entries_of book.new) (entries_of book.old) }
     ensures reported { IfOk result (λ t. HoldsForExtensions (entries_of book.new) (report_view t)
         (λ b. validation_report (outcome_or_reason b (scope_view scope.now)) (item_view item.now))) }
-    ensures memory { IfErr result (λ e. e ≡ Refused.Memory) }
 {
     let program = match read(alloc, item.expression)? {
         Ok(program) => program,
@@ -334,7 +327,6 @@ fn report_as(
     ensures keeps { Extends (entries_of book.new) (entries_of book.old) }
     ensures reported { IfOk result (λ t. HoldsForExtensions (entries_of book.new) (report_view t)
         (λ b. report_as subject (outcome_or_reason b (scope_view scope.now)) (item_view item.now))) }
-    ensures memory { IfErr result (λ e. e ≡ Refused.Memory) }
 {
     match subject {
         Subject::Condition => condition_report(alloc, item, scope, book),
@@ -355,7 +347,6 @@ fn result_as(
     ensures keeps { Extends (entries_of book.new) (entries_of book.old) }
     ensures reported { IfOk result (λ r. HoldsForExtensions (entries_of book.new) (result_view r)
         (λ b. result_as subject (outcome_or_reason b (scope_view scope.now)) (item_view item.now))) }
-    ensures memory { IfErr result (λ e. e ≡ Refused.Memory) }
 {
     let reported = report_as(alloc, subject, item, scope, book)?;
     let judged = with_report(alloc, item.label, reported)?;
@@ -373,7 +364,6 @@ pub(crate) fn results_as(
     ensures keeps { Extends (entries_of book.new) (entries_of book.old) }
     ensures reported { IfOk result (λ v. HoldsForExtensions (entries_of book.new) (map result_view v.items)
         (λ b. results_as subject (outcome_or_reason b (scope_view scope.now)) (map item_view items.now))) }
-    ensures memory { IfErr result (λ e. e ≡ Refused.Memory) }
 {
     let mut results = Vec::with_capacity(alloc, items.len())?;
     for item in items {

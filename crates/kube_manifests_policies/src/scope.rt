@@ -9,7 +9,7 @@ ghost use Rattle.kube_cel_vap.specs.Results.{outcome_in};
 ghost use Rattle.cel_semantics.specs.Bindings.{bindings_of};
 ghost use Rattle.kube_manifests_policies.specs.Scopes.{evaluation, first_stop, is_not_given, outcome_or_reason, outcome_seen, scope_view, stops, tree_seen, tree_report, why_not};
 ghost use Rattle.kube_manifests_policies.specs.Verdicts.{result_view, report_view};
-ghost use Rattle.std.specs.Prelude.{◌≡◌, IfErr, IfOk, map, option_map};
+ghost use Rattle.std.specs.Prelude.{◌≡◌, IfOk, map, option_map};
 
 use crate::inputs::{Input, first_missing};
 use crate::uses::asks;
@@ -77,7 +77,6 @@ fn first_stop<'m>(missing: &'m [PolicyResult], expr: &Expr) -> Option<&'m ItemRe
 fn why_not(scope: &Scope<'_>, expr: &Expr) -> Result<Option<ItemReport>, Refused>
     ensures reported { IfOk result (λ o. option_map report_view o
         ≡ why_not (scope_view scope.now) (term expr.now)) }
-    ensures memory { IfErr result (λ e. e ≡ Refused.Memory) }
 {
     if let Some(input) = first_missing(scope.absent.as_slice(), expr) {
         return Ok(Some(ItemReport::NotGiven(input)));
@@ -99,7 +98,6 @@ fn outcome_of(
     ensures keeps { Extends (entries_of book.new) (entries_of book.old) }
     ensures value { IfOk result (λ r. HoldsForExtensions (entries_of book.new) (outcome_view r)
         (λ b. outcome_in b (bindings_of scope.now.context) (program_term program.now))) }
-    ensures memory { IfErr result (λ e. e ≡ Refused.Memory) }
 {
     program.execute_with(alloc, &scope.context, book)
 }
@@ -115,7 +113,6 @@ pub(crate) fn reach(
     ensures keeps { Extends (entries_of book.new) (entries_of book.old) }
     ensures reached { IfOk result (λ r. HoldsForExtensions (entries_of book.new) (outcome_seen r)
         (λ b. outcome_or_reason b (scope_view scope.now) (program_term program.now))) }
-    ensures memory { IfErr result (λ e. e ≡ Refused.Memory) }
 {
     match why_not(scope, program.expression())? {
         Some(reported) => Ok(Err(reported)),
@@ -129,7 +126,6 @@ pub(crate) fn reach(
 /// Compiles an expression. If it doesn't parse, the inner error is its report.
 pub(crate) fn read(alloc: Global, text: &str) -> Result<Result<Program, ItemReport>, Refused>
     ensures read { IfOk result (λ r. tree_seen r ≡ tree_report text.now) }
-    ensures memory { IfErr result (λ e. e ≡ Refused.Memory) }
 {
     match Program::compile(alloc, text)? {
         Ok(program) => Ok(Ok(program)),
@@ -153,7 +149,6 @@ pub(crate) fn evaluate(
     ensures keeps { Extends (entries_of book.new) (entries_of book.old) }
     ensures reached { IfOk result (λ r. HoldsForExtensions (entries_of book.new) (outcome_seen r)
         (λ b. evaluation (outcome_or_reason b (scope_view scope.now)) text.now)) }
-    ensures memory { IfErr result (λ e. e ≡ Refused.Memory) }
 {
     match read(alloc, text)? {
         Err(reported) => Ok(Err(reported)),

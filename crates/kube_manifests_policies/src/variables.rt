@@ -8,7 +8,7 @@ ghost use Rattle.cel_value.specs.View.{view};
 ghost use Rattle.kube_manifests_admission.specs.Policies.{item_view};
 ghost use Rattle.kube_manifests_policies.specs.Scopes.{Alike, outcome_seen, scope_view, variable_step, variables_after, with_stored, with_values, with_variable, without_value};
 ghost use Rattle.kube_manifests_policies.specs.Verdicts.{report_view};
-ghost use Rattle.std.specs.Prelude.{◌≡◌, IfErr, IfOk, map};
+ghost use Rattle.std.specs.Prelude.{◌≡◌, IfOk, map};
 
 use crate::scope::{Scope, evaluate};
 use crate::verdict::{ItemReport, with_report};
@@ -23,7 +23,6 @@ use std::alloc::Global;
 fn stored(alloc: Global, values: &Value, name: &str, answer: Answer) -> Result<Answer, Refused>
     ensures value { IfOk result (λ r. outcome_view r
         ≡ and_then (outcome_view answer) (λ v. put_in (view values.now) (text name.now) v)) }
-    ensures memory { IfErr result (λ e. e ≡ Refused.Memory) }
 {
     match answer {
         Err(fault) => Ok(Err(fault)),
@@ -43,7 +42,6 @@ fn without_value<'a>(
 ) -> Result<Scope<'a>, Refused>
     ensures scope { IfOk result (λ s. Alike (scope_view s)
         (without_value (scope_view scope.entry) name.now (report_view reported))) }
-    ensures memory { IfErr result (λ e. e ≡ Refused.Memory) }
 {
     let Scope {
         context,
@@ -64,7 +62,6 @@ fn without_value<'a>(
 fn with_values<'a>(scope: Scope<'a>, map: Value) -> Result<Scope<'a>, Refused>
     ensures scope { IfOk result (λ s. Alike (scope_view s)
         (with_values (scope_view scope.entry) (view map))) }
-    ensures memory { IfErr result (λ e. e ≡ Refused.Memory) }
 {
     let Scope {
         mut context,
@@ -91,7 +88,6 @@ fn with_stored<'a>(
 ) -> Result<Scope<'a>, Refused>
     ensures scope { IfOk result (λ s. Alike (scope_view s)
         (with_stored (scope_view scope.entry) name.now (outcome_view answer))) }
-    ensures memory { IfErr result (λ e. e ≡ Refused.Memory) }
 {
     match answer {
         Ok(map) => with_values(scope, map),
@@ -112,7 +108,6 @@ fn with_variable<'a>(
 ) -> Result<Scope<'a>, Refused>
     ensures scope { IfOk result (λ s. Alike (scope_view s)
         (with_variable (scope_view scope.entry) name.now (outcome_seen reached))) }
-    ensures memory { IfErr result (λ e. e ≡ Refused.Memory) }
 {
     match reached {
         Err(reported) => without_value(alloc, scope, name, reported),
@@ -134,7 +129,6 @@ fn variable_step<'a>(
     ensures keeps { Extends (entries_of book.new) (entries_of book.old) }
     ensures scope { IfOk result (λ s. (b : Book) → Extends b (entries_of book.new)
         → Alike (scope_view s) (variable_step b (scope_view scope.entry) (item_view item.now))) }
-    ensures memory { IfErr result (λ e. e ≡ Refused.Memory) }
 {
     let reached = evaluate(alloc, item.expression, &scope, book)?;
     with_variable(alloc, scope, item.label, reached)
@@ -150,7 +144,6 @@ pub(crate) fn with_variables<'a>(
     ensures keeps { Extends (entries_of book.new) (entries_of book.old) }
     ensures scope { IfOk result (λ s. (b : Book) → Extends b (entries_of book.new)
         → Alike (scope_view s) (variables_after b (scope_view scope.entry) (map item_view items.now))) }
-    ensures memory { IfErr result (λ e. e ≡ Refused.Memory) }
 {
     let mut so_far = scope;
     for item in items {

@@ -1,5 +1,5 @@
 //! Collects the candidate findings of a document.
-ghost use Rattle.std.specs.Prelude.{◌≡◌, IfErr, IfOk, OnOk, map, option_map, string_bytes};
+ghost use Rattle.std.specs.Prelude.{◌≡◌, IfOk, OnOk, map, option_map, string_bytes};
 ghost use Rattle.kube_cel_analysis.specs.Findings.{Naming};
 ghost use Rattle.kube_manifests_review.specs.Candidates.{AddsCandidates, candidate_view};
 ghost use Rattle.kube_manifests_review.specs.Reviewed as spec;
@@ -60,7 +60,6 @@ fn add_version(
     ensures candidates { OnOk result ((names : Naming)
         → AddsCandidates candidates.old.items candidates.new.items
         (spec.version_candidates names base.now (option_map (λ s. view s.now) schema.entry))) }
-    ensures memory { IfErr result (λ e. e ≡ Refused.Memory) }
 {
     match schema {
         Some(schema) => add_schema(alloc, base, schema, candidates)?,
@@ -84,7 +83,6 @@ fn add_versions(
     ensures candidates { OnOk result ((names : Naming)
         → AddsCandidates candidates.old.items candidates.new.items
         (spec.versions_candidates names 0 (items_view versions.now))) }
-    ensures memory { IfErr result (λ e. e ≡ Refused.Memory) }
 {
     for (index, version) in versions.iter().enumerate() {
         let base = version_pointer(alloc, index)?;
@@ -118,7 +116,6 @@ fn add_no_version(
 pub(crate) fn candidates_of(alloc: Global, crd: &Value) -> Result<Vec<Candidate>, Refused>
     ensures candidates { IfOk result (λ v. (names : Naming) → map candidate_view v.items
         ≡ spec.crd_candidates names (view crd.now)) }
-    ensures memory { IfErr result (λ e. e ≡ Refused.Memory) }
 {
     let versions = versions_of(crd);
     let mut candidates = Vec::new(alloc);

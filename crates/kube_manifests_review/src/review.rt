@@ -1,5 +1,5 @@
 //! Reviews a document.
-ghost use Rattle.std.specs.Prelude.{◌≡◌, ◌++◌, IfErr, IfOk, OnOk, map};
+ghost use Rattle.std.specs.Prelude.{◌≡◌, ◌++◌, IfOk, OnOk, map};
 ghost use Rattle.cel_patterns.specs.Book.{Extends, Book, IsBook};
 ghost use Rattle.cel_patterns.specs.Entries.{entries_of};
 ghost use Rattle.cel_patterns.specs.Extensions.{HoldsForExtensions};
@@ -26,7 +26,6 @@ fn fails_at(alloc: Global, name: &str, text: &str, book: &mut PatternBook) -> Re
     ensures keeps { Extends (entries_of book.new) (entries_of book.old) }
     ensures value { IfOk result (λ r. HoldsForExtensions (entries_of book.new) r
         (spec.fails_at name.now text.now)) }
-    ensures memory { IfErr result (λ e. e ≡ Refused.Memory) }
 {
     match AllFunctions.form(name, false, 1) {
         Form::Unknown => Ok(false),
@@ -46,7 +45,6 @@ fn is_refused(pattern: &str, book: &mut PatternBook) -> Result<bool, Refused>
     ensures keeps { Extends (entries_of book.new) (entries_of book.old) }
     ensures value { IfOk result (λ r. HoldsForExtensions (entries_of book.new) r
         (spec.is_refused pattern.now)) }
-    ensures memory { IfErr result (λ e. e ≡ Refused.Memory) }
 {
     let found = book.matches(pattern, "")?;
     Ok(found.is_none())
@@ -57,7 +55,6 @@ fn is_due(alloc: Global, condition: Condition, book: &mut PatternBook) -> Result
     ensures keeps { Extends (entries_of book.new) (entries_of book.old) }
     ensures value { IfOk result (λ r. HoldsForExtensions (entries_of book.new) r
         (λ b. spec.is_due b (when_view condition))) }
-    ensures memory { IfErr result (λ e. e ≡ Refused.Memory) }
 {
     match condition {
         Condition::Always => Ok(true),
@@ -76,7 +73,6 @@ fn add_due(
     ensures keeps { Extends (entries_of book.new) (entries_of book.old) }
     ensures value { OnOk result (HoldsForExtensions (entries_of book.new) (map finding_view found.new.items)
         (λ b. map finding_view found.old.items ++ spec.due_finding b (candidate_view candidate))) }
-    ensures memory { IfErr result (λ e. e ≡ Refused.Memory) }
 {
     let Candidate { finding, condition } = candidate;
     if !is_due(alloc, condition, book)? {
@@ -95,7 +91,6 @@ fn due(
     ensures keeps { Extends (entries_of book.new) (entries_of book.old) }
     ensures value { IfOk result (λ v. HoldsForExtensions (entries_of book.new) (map finding_view v.items)
         (spec.due (map candidate_view candidates.items))) }
-    ensures memory { IfErr result (λ e. e ≡ Refused.Memory) }
 {
     let mut found = Vec::new(alloc);
     for candidate in candidates {
@@ -112,7 +107,7 @@ fn due(
 ///
 /// # Errors
 ///
-/// [`Refused`] if memory is refused.
+/// [`Refused`] if memory is refused, or a URL that a rule reads is too large.
 pub fn review_crd_with(
     alloc: Global,
     crd: &Value,
@@ -121,7 +116,6 @@ pub fn review_crd_with(
     ensures keeps { Extends (entries_of book.new) (entries_of book.old) }
     ensures findings { IfOk result (λ v. (names : Naming) → HoldsForExtensions (entries_of book.new)
         (map finding_view v.items) (crd_findings names (view crd.now))) }
-    ensures memory { IfErr result (λ e. e ≡ Refused.Memory) }
 {
     let candidates = candidates_of(alloc, crd)?;
     let found = due(alloc, candidates, book)?;
@@ -132,11 +126,10 @@ pub fn review_crd_with(
 ///
 /// # Errors
 ///
-/// [`Refused`] if memory is refused.
+/// [`Refused`] if memory is refused, or a URL that a rule reads is too large.
 pub fn review_crd(alloc: Global, crd: &Value) -> Result<Vec<ReviewFinding>, Refused>
     ensures findings { IfOk result (λ v. (b : Book) × IsBook b
         × ((names : Naming) → map finding_view v.items ≡ crd_findings names (view crd.now) b)) }
-    ensures memory { IfErr result (λ e. e ≡ Refused.Memory) }
 {
     let mut book = PatternBook::new(alloc);
     let found = review_crd_with(alloc, crd, &mut book)?;

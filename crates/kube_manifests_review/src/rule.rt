@@ -1,5 +1,5 @@
 //! Adds the candidate findings of the rules of a schema.
-ghost use Rattle.std.specs.Prelude.{◌≡◌, IfErr, OnOk, map, option_map};
+ghost use Rattle.std.specs.Prelude.{◌≡◌, OnOk, map, option_map};
 ghost use Rattle.cel.specs.Program.{program_term};
 ghost use Rattle.cel_syntax_ast.specs.Term.{term};
 ghost use Rattle.kube_manifests_review.specs.Calls.{text_view};
@@ -187,7 +187,6 @@ fn add_rule(
 ) -> Result<(), Refused>
     ensures candidates { OnOk result (AddsCandidates candidates.old.items candidates.new.items
         (spec.rule_candidates pointer.now (view rule.now))) }
-    ensures memory { IfErr result (λ e. e ≡ Refused.Memory) }
 {
     add_keys_of(
         alloc,
@@ -211,7 +210,6 @@ fn add_rules(
 ) -> Result<(), Refused>
     ensures candidates { OnOk result (AddsCandidates candidates.old.items candidates.new.items
         (spec.rules_candidates pointer.now 0 (items_view rules.now))) }
-    ensures memory { IfErr result (λ e. e ≡ Refused.Memory) }
 {
     for (index, rule) in rules.iter().enumerate() {
         let inner = index_pointer(alloc, pointer, index)?;
@@ -229,7 +227,6 @@ pub(crate) fn add_validations(
 ) -> Result<(), Refused>
     ensures candidates { OnOk result (AddsCandidates candidates.old.items candidates.new.items
         (spec.validations_candidates pointer.now (option_map (λ v. view v.now) rules.entry))) }
-    ensures memory { IfErr result (λ e. e ≡ Refused.Memory) }
 {
     let Some(rules) = rules else {
         return Ok(());

@@ -1,5 +1,5 @@
 //! Adds the candidate findings of a schema.
-ghost use Rattle.std.specs.Prelude.{◌≡◌, [], IfErr, IfOk, OnOk, map};
+ghost use Rattle.std.specs.Prelude.{◌≡◌, [], IfOk, OnOk, map};
 ghost use Rattle.std.specs.List.{flat_map, list_any};
 ghost use Rattle.kube_cel_analysis.specs.Findings.{Naming};
 ghost use Rattle.kube_cel_analysis.specs.Findings as linter;
@@ -115,7 +115,6 @@ fn add_location(
 ) -> Result<(), Refused>
     ensures candidates { OnOk result (AddsCandidates candidates.old.items candidates.new.items
         (location_candidates (location_view location.now))) }
-    ensures memory { IfErr result (λ e. e ≡ Refused.Memory) }
 {
     let pointer = location.pointer.as_str();
     add_keys_of(alloc, &KEYWORDS, pointer, "", location.schema, candidates)?;
@@ -133,7 +132,6 @@ fn add_each(
 ) -> Result<(), Refused>
     ensures candidates { OnOk result (AddsCandidates candidates.old.items candidates.new.items
         (flat_map location_candidates (map location_view locations.now))) }
-    ensures memory { IfErr result (λ e. e ≡ Refused.Memory) }
 {
     for location in locations {
         add_location(alloc, location, candidates)?;
@@ -151,7 +149,6 @@ fn add_own(
 ) -> Result<(), Refused>
     ensures candidates { OnOk result (AddsCandidates candidates.old.items candidates.new.items
         (spec.own_candidates base.now (map location_view locations.now))) }
-    ensures memory { IfErr result (λ e. e ≡ Refused.Memory) }
 {
     add_no_rule(alloc, base, locations, candidates)?;
     add_each(alloc, locations, candidates)?;
@@ -168,7 +165,6 @@ pub(crate) fn add_schema(
     ensures candidates { OnOk result ((names : Naming)
         → AddsCandidates candidates.old.items candidates.new.items
         (spec.schema_candidates names base.now (view schema.now))) }
-    ensures memory { IfErr result (λ e. e ≡ Refused.Memory) }
 {
     let compiled = compile_schema(alloc, schema)?;
     let findings = lint_schema(alloc, &compiled)?;

@@ -4,4 +4,5 @@ pub mod SameDefaults
 pub mod Names
 pub mod Search
 pub mod Without
+pub mod Levels
 pub mod SameBinding

@@ -7,6 +7,8 @@ use Rattle.std.specs.Cmp.Lexicographic.{slice_cmp}
 use Rattle.serde_json.specs.Data.{Data}
 use Rattle.kube_schema_values.specs.declared.format.SchemaFormat.{SchemaFormat}
 use Rattle.kube_schema_rules.specs.Compilation.{Compiled, Malformed}
+use Rattle.kube_schema_rules.specs.declared.branches.BranchKind.{BranchKind}
+use Rattle.kube_schema_rules.specs.declared.branches.BranchKind.TheVariants.{AllOf, OneOf, AnyOf}
 
 -- the keywords of a node
 pub record Own : Type 0 where
@@ -54,6 +56,12 @@ one_of (node o ps it ad xs ys zs) = ys
 
 abbrev pub any_of : Node → Nodes
 any_of (node o ps it ad xs ys zs) = zs
+
+-- the branches under a keyword
+abbrev pub branches_of : BranchKind → Node → Nodes
+branches_of AllOf n = all_of n
+branches_of OneOf n = one_of n
+branches_of AnyOf n = any_of n
 
 abbrev pub as_option : Maybe → Option Node
 as_option nothing = None

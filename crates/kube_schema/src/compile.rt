@@ -7,6 +7,7 @@ ghost use Rattle.kube_schema.specs.Raw.{Adds, AddsChildren, AddsProperties, Adds
 ghost use Rattle.kube_schema.specs.Shown.{whole};
 
 use crate::keywords::{additional, branches, declared, keywords_of, marker_of, no_keywords};
+use crate::no_rules::levels_below;
 use crate::node::CompiledSchema;
 use crate::nodes::{Children, NodeId, PropertyLink, TableNode};
 use crate::table::{Table, has_defaults, new_table, push_leaf, replace_node};
@@ -30,7 +31,12 @@ pub fn compile_schema(alloc: Global, schema: &Value) -> Result<CompiledSchema, R
     let mut table = new_table(alloc);
     let _root = add_node(&mut table, alloc, schema, LEVELS)?;
     let defaults = has_defaults(&table);
-    Ok(CompiledSchema { table, defaults })
+    let below = levels_below(alloc, &table)?;
+    Ok(CompiledSchema {
+        table,
+        defaults,
+        below,
+    })
 }
 
 // Appends the node of a schema with this number of

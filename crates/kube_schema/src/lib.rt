@@ -29,6 +29,7 @@ mod compile;
 mod defaults;
 mod keywords;
 pub mod laws;
+mod no_rules;
 mod node;
 mod nodes;
 mod sharing;
@@ -39,8 +40,8 @@ pub use binding::{bind_node, bind_node_part};
 pub use compile::compile_schema;
 pub use defaults::fill_node;
 pub use kube_schema_rules::{
-    CompilationError, CompilationResult, Demands, Rule, RuleFault, compile_rule, laws as rule_laws,
-    rule_values, rules_of,
+    BranchKind, CompilationError, CompilationResult, Demands, Rule, RuleFault, compile_rule,
+    laws as rule_laws, rule_values, rules_of,
 };
 pub use kube_schema_values::{
     SchemaFormat, apply_defaults, bind, bind_plain, bind_text, bound_laws, escape_field_name,

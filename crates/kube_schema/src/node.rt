@@ -1,11 +1,12 @@
 //! Compiled schemas and their nodes, as callers see them.
 ghost use Rattle.std.specs.Prelude.{◌≡◌, ◌<◌, ℕ, length, option_map, slice_get, IfSome, Some};
+ghost use Rattle.kube_schema.specs.NoRules.{AreKnown, known_prop};
 ghost use Rattle.kube_schema.specs.Raw.{tree, any_default, named_at, LinksOrdered};
 ghost use Rattle.kube_schema.specs.Tree.{Node, count, find};
 
 use crate::nodes::{NodeId, PropertyLink, TableNode};
 use crate::table::Table;
-use kube_schema_rules::{CompilationError, CompilationResult, Demands};
+use kube_schema_rules::{BranchKind, CompilationError, CompilationResult, Demands};
 use kube_schema_values::SchemaFormat;
 use kube_types_refused::Refused;
 use serde_json::Value;
@@ -17,8 +18,11 @@ pub struct CompiledSchema {
     pub(crate) table: Table,
     // Whether any node has a default.
     pub(crate) defaults: bool,
+    // Of each node: how many levels are below it at most, if it is known that none has a rule.
+    pub(crate) below: Vec<Option<u8>>,
     ghost known: { defaults ≡ any_default table.nodes.items },
     ghost rooted: { 0 < length table.nodes.items },
+    ghost without_rules: { AreKnown table.nodes.items below.items } by { known_prop table.nodes.items below.items },
     ghost counted: { length table.nodes.items ≡ count (tree table.nodes.items 0) },
 }
 
@@ -198,6 +202,7 @@ impl CompiledSchema {
 }
 
 impl<'a> SchemaNode<'a> {
+    ghost use Rattle.std.specs.Bool.{IsTrue};
     ghost use Rattle.std.specs.Cmp.Lexicographic.{slice_cmp};
     ghost use Rattle.std.specs.List.Sorted.{IsStrictlySortedBy};
     ghost use Rattle.std.specs.Ordering.{nat_cmp};
@@ -209,8 +214,9 @@ impl<'a> SchemaNode<'a> {
     ghost use Rattle.kube_schema_values.specs.Without.{HasNoDefaults};
     ghost use Rattle.kube_schema.specs.CompiledDefaults.{tree_accessors};
     ghost use Rattle.kube_schema.specs.Shown.{node_tree};
+    ghost use Rattle.kube_schema.specs.NoRules.{HasNoRulesBelow};
     ghost use Rattle.kube_schema.specs.Raw.{tree, assemble, nodes_at, IsWithin, LinksOrdered, NumbersWithin};
-    ghost use Rattle.kube_schema.specs.Tree.{items_of, additional_of, property_of, default_of, nth_named, nth_node, named_of, names, all_of, one_of, any_of, own, malformed_in, nodes_length};
+    ghost use Rattle.kube_schema.specs.Tree.{items_of, additional_of, property_of, default_of, nth_named, nth_node, named_of, names, all_of, one_of, any_of, own, malformed_in, nodes_length, branches_of};
 
     // The node as stored in the table.
     fn raw(&self) -> &'a TableNode
@@ -289,25 +295,27 @@ impl<'a> SchemaNode<'a> {
         self.nth(&raw.children.any_of, i)
     }
 
-    /// The number of branches of `allOf`.
-    pub fn all_of_count(&self) -> usize
-        ensures { result ≡ nodes_length (all_of (node_tree self.now)) }
+    /// The number of branches under a keyword.
+    pub fn branch_count(&self, kind: BranchKind) -> usize
+        ensures { result ≡ nodes_length (branches_of kind (node_tree self.now)) }
     {
-        self.raw().children.all_of.len()
+        let raw = self.raw();
+        match kind {
+            BranchKind::AllOf => raw.children.all_of.len(),
+            BranchKind::OneOf => raw.children.one_of.len(),
+            BranchKind::AnyOf => raw.children.any_of.len(),
+        }
     }
 
-    /// The number of branches of `oneOf`.
-    pub fn one_of_count(&self) -> usize
-        ensures { result ≡ nodes_length (one_of (node_tree self.now)) }
+    /// The branch under a keyword at an index, if any.
+    pub fn branch(&self, kind: BranchKind, i: usize) -> Option<SchemaNode<'a>>
+        ensures { option_map node_tree result ≡ nth_node i (branches_of kind (node_tree self.now)) }
     {
-        self.raw().children.one_of.len()
-    }
-
-    /// The number of branches of `anyOf`.
-    pub fn any_of_count(&self) -> usize
-        ensures { result ≡ nodes_length (any_of (node_tree self.now)) }
-    {
-        self.raw().children.any_of.len()
+        match kind {
+            BranchKind::AllOf => self.all_of(i),
+            BranchKind::OneOf => self.one_of(i),
+            BranchKind::AnyOf => self.any_of(i),
+        }
     }
 
     /// The number of properties. Their names are sorted.
@@ -451,6 +459,17 @@ impl<'a> SchemaNode<'a> {
         ensures { result ≡ false → (levels : ℕ) → HasNoDefaults tree_accessors levels (node_tree self.now) }
     {
         self.schema.defaults
+    }
+
+    /// Reports whether it is known that no node below this one has rules, and that there
+    /// are at most `levels` levels of them. The contract only covers true.
+    pub fn has_no_rules_below(&self, levels: usize) -> bool
+        ensures { IsTrue result → HasNoRulesBelow levels (node_tree self.now) }
+    {
+        let Some(Some(below)) = self.schema.below.get(self.number.0) else {
+            return false;
+        };
+        usize::from(*below) <= levels
     }
 }
 

@@ -1,5 +1,5 @@
 //! The functions of CEL-Go's encoders library, and `jsonpatch.escapeKey` of Kubernetes.
-ghost use Rattle.std.specs.Prelude.{◌≡◌, IfOk, IfErr, option_map};
+ghost use Rattle.std.specs.Prelude.{◌≡◌, IfOk, option_map};
 ghost use Rattle.cel_value.specs.View.{view};
 ghost use Rattle.cel_semantics.specs.Outcome.{outcome_view};
 ghost use Rattle.kube_functions.specs.Encoders as spec;
@@ -22,7 +22,7 @@ impl EncodersFunction {
     /// there is one, followed by the arguments. `name` is the function's name in errors.
     ///
     /// # Errors
-    /// Only [`Refused::Memory`], if memory is refused.
+    /// [`Refused::Memory`] if memory is refused.
     pub(crate) fn answer(
         self,
         alloc: Global,
@@ -31,7 +31,6 @@ impl EncodersFunction {
     ) -> Result<Answer, Refused>
         ensures value { IfOk result (λ r. outcome_view r ≡ spec.answer self name.now
             (option_map (λ v. view v.now) first.entry)) }
-        ensures memory { IfErr result (λ e. e ≡ Refused.Memory) }
     {
         match (self, first) {
             (Self::Decode, Some(value)) => strings::base64_decode(alloc, value),

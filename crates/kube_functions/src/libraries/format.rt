@@ -1,5 +1,5 @@
 //! The functions of Kubernetes' format library, on named formats.
-ghost use Rattle.std.specs.Prelude.{◌≡◌, IfOk, IfErr, option_map};
+ghost use Rattle.std.specs.Prelude.{◌≡◌, IfOk, option_map};
 ghost use Rattle.cel_value.specs.View.{view};
 ghost use Rattle.cel_semantics.specs.Outcome.{outcome_view};
 ghost use Rattle.kube_functions.specs.Format as spec;
@@ -24,7 +24,7 @@ impl FormatFunction {
     /// there is one, followed by the arguments. `name` is the function's name in errors.
     ///
     /// # Errors
-    /// Only [`Refused::Memory`], if memory is refused.
+    /// [`Refused::Memory`] if memory is refused.
     pub(crate) fn answer(
         self,
         alloc: Global,
@@ -34,7 +34,6 @@ impl FormatFunction {
     ) -> Result<Answer, Refused>
         ensures value { IfOk result (λ r. outcome_view r ≡ spec.answer self name.now
             (option_map (λ v. view v.now) first.entry) (option_map (λ v. view v.now) second.entry)) }
-        ensures memory { IfErr result (λ e. e ≡ Refused.Memory) }
     {
         match (self, first, second) {
             (Self::Kind(kind), _, _) => Ok(named_format::format(kind)),

@@ -1,5 +1,5 @@
 //! The functions of the lists libraries of CEL-Go and Kubernetes.
-ghost use Rattle.std.specs.Prelude.{◌≡◌, IfOk, IfErr, option_map};
+ghost use Rattle.std.specs.Prelude.{◌≡◌, IfOk, option_map};
 ghost use Rattle.cel_value.specs.View.{view};
 ghost use Rattle.cel_semantics.specs.Outcome.{outcome_view};
 ghost use Rattle.kube_functions.specs.Lists as spec;
@@ -30,7 +30,7 @@ impl ListsFunction {
     /// there is one, followed by the arguments. `name` is the function's name in errors.
     ///
     /// # Errors
-    /// Only [`Refused::Memory`], if memory is refused.
+    /// [`Refused::Memory`] if memory is refused.
     pub(crate) fn answer(
         self,
         alloc: Global,
@@ -42,7 +42,6 @@ impl ListsFunction {
         ensures value { IfOk result (λ r. outcome_view r ≡ spec.answer self name.now
             (option_map (λ v. view v.now) first.entry) (option_map (λ v. view v.now) second.entry)
             (option_map (λ v. view v.now) third.entry)) }
-        ensures memory { IfErr result (λ e. e ≡ Refused.Memory) }
     {
         match (self, first, second, third) {
             (Self::Distinct, Some(value), _, _) => lists::distinct(alloc, value),

@@ -1,5 +1,5 @@
 //! The functions of CEL-Go's math library.
-ghost use Rattle.std.specs.Prelude.{◌≡◌, IfOk, IfErr, map, option_map};
+ghost use Rattle.std.specs.Prelude.{◌≡◌, IfOk, map, option_map};
 ghost use Rattle.cel_value.specs.View.{view};
 ghost use Rattle.cel_semantics.specs.Outcome.{outcome_view};
 ghost use Rattle.kube_functions.specs.Math as spec;
@@ -30,7 +30,7 @@ impl MathFunction {
     /// function's name in errors. `args` are all arguments of the call.
     ///
     /// # Errors
-    /// Only [`Refused::Memory`], if memory is refused.
+    /// [`Refused::Memory`] if memory is refused.
     pub(crate) fn answer(
         self,
         alloc: Global,
@@ -42,7 +42,6 @@ impl MathFunction {
         ensures value { IfOk result (λ r. outcome_view r ≡ spec.answer self name.now
             (option_map (λ v. view v.now) first.entry) (option_map (λ v. view v.now) second.entry)
             (map view args.now)) }
-        ensures memory { IfErr result (λ e. e ≡ Refused.Memory) }
     {
         match (self, first, second) {
             (Self::Abs, Some(value), _) => math::abs(alloc, value),

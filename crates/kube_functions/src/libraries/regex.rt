@@ -1,5 +1,5 @@
 //! The functions of Kubernetes' regex library.
-ghost use Rattle.std.specs.Prelude.{◌≡◌, IfOk, IfErr, option_map};
+ghost use Rattle.std.specs.Prelude.{◌≡◌, IfOk, option_map};
 ghost use Rattle.cel_patterns.specs.Book.{Extends};
 ghost use Rattle.cel_patterns.specs.Entries.{entries_of};
 ghost use Rattle.cel_patterns.specs.Extensions.{HoldsForExtensions};
@@ -26,7 +26,7 @@ impl RegexFunction {
     /// function's name in errors. The book keeps its entries in any case.
     ///
     /// # Errors
-    /// Only [`Refused::Memory`], if memory is refused.
+    /// [`Refused::Memory`] if memory is refused.
     pub(crate) fn answer(
         self,
         alloc: Global,
@@ -40,7 +40,6 @@ impl RegexFunction {
         ensures value { IfOk result (λ r. HoldsForExtensions (entries_of book.new) (outcome_view r)
             (λ b. spec.answer self name.now (option_map (λ v. view v.now) first.entry)
             (option_map (λ v. view v.now) second.entry) (option_map (λ v. view v.now) third.entry) b)) }
-        ensures memory { IfErr result (λ e. e ≡ Refused.Memory) }
     {
         match (self, first, second) {
             (Self::Find, Some(value), Some(pattern)) => strings::find(alloc, value, pattern, book),

@@ -1,6 +1,6 @@
 //! The functions of Kubernetes' semver library, without those that quantities
 //! also have: `quantity.rt` has `compareTo`, `isGreaterThan` and `isLessThan`.
-ghost use Rattle.std.specs.Prelude.{◌≡◌, IfOk, IfErr, option_map};
+ghost use Rattle.std.specs.Prelude.{◌≡◌, IfOk, option_map};
 ghost use Rattle.cel_value.specs.View.{view};
 ghost use Rattle.cel_semantics.specs.Outcome.{outcome_view};
 ghost use Rattle.kube_functions.specs.Semver as spec;
@@ -25,7 +25,7 @@ impl SemverFunction {
     /// there is one, followed by the arguments. `name` is the function's name in errors.
     ///
     /// # Errors
-    /// Only [`Refused::Memory`], if memory is refused.
+    /// [`Refused::Memory`] if memory is refused.
     pub(crate) fn answer(
         self,
         alloc: Global,
@@ -35,7 +35,6 @@ impl SemverFunction {
     ) -> Result<Answer, Refused>
         ensures value { IfOk result (λ r. outcome_view r ≡ spec.answer self name.now
             (option_map (λ v. view v.now) first.entry) (option_map (λ v. view v.now) second.entry)) }
-        ensures memory { IfErr result (λ e. e ≡ Refused.Memory) }
     {
         match (self, first) {
             (Self::Semver, Some(value)) => semver_functions::semver(alloc, value, second),

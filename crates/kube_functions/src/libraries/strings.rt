@@ -1,6 +1,6 @@
 //! The functions of CEL-Go's strings library. `indexOf`,
 //! `lastIndexOf` and `reverse` also take lists.
-ghost use Rattle.std.specs.Prelude.{◌≡◌, IfOk, IfErr, option_map};
+ghost use Rattle.std.specs.Prelude.{◌≡◌, IfOk, option_map};
 ghost use Rattle.cel_value.specs.View.{view};
 ghost use Rattle.cel_semantics.specs.Outcome.{outcome_view};
 ghost use Rattle.kube_functions.specs.Strings as spec;
@@ -37,7 +37,7 @@ impl StringsFunction {
     /// there is one, followed by the arguments. `name` is the function's name in errors.
     ///
     /// # Errors
-    /// Only [`Refused::Memory`], if memory is refused.
+    /// [`Refused::Memory`] if memory is refused.
     pub(crate) fn answer(
         self,
         alloc: Global,
@@ -50,7 +50,6 @@ impl StringsFunction {
         ensures value { IfOk result (λ r. outcome_view r ≡ spec.answer self name.now
             (option_map (λ v. view v.now) first.entry) (option_map (λ v. view v.now) second.entry)
             (option_map (λ v. view v.now) third.entry) (option_map (λ v. view v.now) fourth.entry)) }
-        ensures memory { IfErr result (λ e. e ≡ Refused.Memory) }
     {
         match (self, first, second, third) {
             (Self::CharAt, Some(value), Some(index), _) => char_at(alloc, value, index),

@@ -1,5 +1,5 @@
 //! The functions of Kubernetes' URL library.
-ghost use Rattle.std.specs.Prelude.{◌≡◌, IfOk, IfErr, option_map};
+ghost use Rattle.std.specs.Prelude.{◌≡◌, IfOk, option_map};
 ghost use Rattle.cel_value.specs.View.{view};
 ghost use Rattle.cel_semantics.specs.Outcome.{outcome_view};
 ghost use Rattle.kube_functions.specs.Url as spec;
@@ -27,7 +27,7 @@ impl UrlFunction {
     /// there is one, followed by the arguments. `name` is the function's name in errors.
     ///
     /// # Errors
-    /// Only [`Refused::Memory`], if memory is refused.
+    /// [`Refused::Memory`] if memory is refused, [`Refused::TooLarge`] if a URL is too large.
     pub(crate) fn answer(
         self,
         alloc: Global,
@@ -36,7 +36,6 @@ impl UrlFunction {
     ) -> Result<Answer, Refused>
         ensures value { IfOk result (λ r. outcome_view r ≡ spec.answer self name.now
             (option_map (λ v. view v.now) first.entry)) }
-        ensures memory { IfErr result (λ e. e ≡ Refused.Memory) }
     {
         match (self, first) {
             (Self::Url, Some(value)) => url_functions::url(alloc, value),

@@ -7,8 +7,10 @@ use Rattle.cel_semantics.specs.Outcome.{outcome_view}
 use Rattle.cel_semantics.proofs.MapCopies.{indexed_at_key}
 use Rattle.cel_semantics.proofs.members.index_map.Goals as goal
 
-pub returns-in-Some-clause-value : goal.returns-in-Some-clause-value
-returns-in-Some-clause-value c =
-    let is_key : Some (key_view c.in-Some.key) ≡ key_of (view c.args.index.now) = grind (arith, common_steps) in
-    let same = indexed_at_key c.args.entries.now (view c.args.index.now) (key_view c.in-Some.key) is_key in
-    subst (λ o. IfOk c.member.result (λ r. outcome_view r ≡ o)) same c.member.ensures.value
+pub returns-in-Some : goal.returns-in-Some
+returns-in-Some c = record {
+  value =
+      let is_key : Some (key_view c.in-Some.key) ≡ key_of (view c.args.index.now) = grind (arith, common_steps) in
+      let same = indexed_at_key c.args.entries.now (view c.args.index.now) (key_view c.in-Some.key) is_key in
+      subst (λ o. IfOk c.member.result (λ r. outcome_view r ≡ o)) same c.member.ensures.value;
+}

@@ -11,6 +11,8 @@ loop-item-preserved c =
 pub loop-item-init : goal.loop-item-init
 loop-item-init c = sym (append-nil (map view c.args.values.now.items))
 
-pub returns-clause-pushed : goal.returns-clause-pushed
-returns-clause-pushed c =
-    c.loop-item.invariant ∙ ap (λ xs. map view c.args.values.now.items ++ map view xs) (take_all c.loop-item.item-index c.args.items.now c.loop-item-test.false)
+pub returns : goal.returns
+returns c = record {
+  pushed =
+      c.loop-item.invariant ∙ ap (λ xs. map view c.args.values.now.items ++ map view xs) (take_all c.loop-item.item-index c.args.items.now c.loop-item-test.false);
+}

@@ -2,9 +2,9 @@ use Rattle.std.proofs.Common.{◌<◌, ◌≤◌, ◌++◌, map, length, ap, ◌
 use Rattle.kube_cel_analysis.proofs.Walks.{branches_more, branches_none, branches_past, fewer_in_branch, fewer_in_property, gathered, named_more, named_none, named_past}
 use Rattle.kube_cel_analysis.proofs.walk.+walk.Goals as goal
 use Rattle.kube_cel_analysis.specs.Findings.{finding_view}
-use Rattle.kube_cel_analysis.specs.Lint.{branches_of, findings}
+use Rattle.kube_cel_analysis.specs.Lint.{findings}
 use Rattle.kube_schema.specs.Shown.{node_tree}
-use Rattle.kube_schema.specs.Tree.{count, named_of, names, nodes_length}
+use Rattle.kube_schema.specs.Tree.{branches_of, count, named_of, names, nodes_length}
 
 pub lint_node-returns-clause-found : goal.lint_node-returns-clause-found
 lint_node-returns-clause-found t c = λ naming.

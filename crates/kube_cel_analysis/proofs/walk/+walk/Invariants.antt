@@ -3,9 +3,9 @@ use Rattle.kube_cel_analysis.proofs.Rest.{rest}
 use Rattle.kube_cel_analysis.proofs.Walks.{rest_nodes}
 use Rattle.kube_cel_analysis.proofs.walk.+walk.Given as goal
 use Rattle.kube_cel_analysis.specs.Findings.{Naming, finding_view}
-use Rattle.kube_cel_analysis.specs.Lint.{branch_findings, branches_of, named_findings}
+use Rattle.kube_cel_analysis.specs.Lint.{branch_findings, named_findings}
 use Rattle.kube_schema.specs.Shown.{node_tree}
-use Rattle.kube_schema.specs.Tree.{count, named_of}
+use Rattle.kube_schema.specs.Tree.{branches_of, count, named_of}
 
 abbrev pub decreases-lint_node : goal.decreases-lint_node
 decreases-lint_node l = 2 * count (node_tree l.node.now) + 1

@@ -2,7 +2,7 @@ use Rattle.cel_semantics.specs.Bindings.{binding, bindings_of}
 use Rattle.cel_value.specs.Data.{null}
 use Rattle.cel_value.specs.View.{view as cel_view}
 use Rattle.kube_cel_walk.specs.Errors.{error_view}
-use Rattle.kube_cel_walk.proofs.Bound.{bound}
+use Rattle.cel.proofs.Bound.{bound}
 use Rattle.kube_cel_walk.proofs.Ruled.{verdict_found, null_found}
 use Rattle.kube_cel_walk.proofs.verdict.verdict_of_compiled.Goals as goal
 use Rattle.kube_schema_rules.specs.Compilation.{result_view}

@@ -7,6 +7,7 @@ use Rattle.kube_cel_walk.specs.Roots.{root_view}
 use Rattle.kube_cel_walk.proofs.Cut.{member_path_cut, member_path_splits, item_path_cut, item_path_splits}
 use Rattle.kube_cel_walk.proofs.Entries.{names_of, names_more}
 use Rattle.kube_cel_walk.proofs.Gathered.{answer_last, gathered, through_none, no_item, no_additional_property, one_more, none_up, one_more_up, property_steps_none, property_steps_are, additional_steps_none, additional_steps_are, item_steps_none, item_steps_are, branch_steps_are, property_goes, additional_goes, item_goes, branch_goes}
+use Rattle.kube_cel_walk.proofs.NoRules.{no_rules_below}
 use Rattle.kube_cel_walk.proofs.walk.+walk.Goals as goal
 use Rattle.kube_cel_walk.specs.Answers.{answer, answer_if_reached, verdicts, found_through, found_by}
 use Rattle.kube_cel_walk.specs.Visits.{visit_at}
@@ -26,6 +27,17 @@ walk_node-returns-then-state-eq-TOO_DEEP-clause-found g t c = λ b h.
     c.in_ok-validate_at.ensures.found b h
     ∙ ap (λ p. old ++ verdicts g.N.Node.form b (visit_at g.N.Node.seen c.args.state.now p)) c.as_str.ensures.value
     ∙ sym (ap (λ r. old ++ r) (answer_last g.N.Node.form b (65 - c.args.state.now.depth) (visit_at g.N.Node.seen c.args.state.now (string_bytes c.args.path.now)) full))
+
+pub walk_node-returns-then-has_no_rules_below-clause-found : goal.walk_node-returns-then-has_no_rules_below-clause-found
+walk_node-returns-then-has_no_rules_below-clause-found g t c = λ b h.
+    let full : 65 - c.args.state.now.depth ≡ suc (64 - c.args.state.now.depth) = omega arith in
+    let last : c.args.state.now.depth + (64 - c.args.state.now.depth) ≡ 64 = omega arith in
+    let old = map error_view c.args.errors.now.items in
+    let s = visit_at g.N.Node.seen c.args.state.now (string_bytes c.args.path.now) in
+    c.in_ok-validate_at.ensures.found b h
+    ∙ ap (λ p. old ++ verdicts g.N.Node.form b (visit_at g.N.Node.seen c.args.state.now p)) c.as_str.ensures.value
+    ∙ sym (ap (λ r. old ++ r)
+    (no_rules_below g.N.Node.form b (65 - c.args.state.now.depth) (64 - c.args.state.now.depth) s full last (c.has_no_rules_below.ensures c.if-has_no_rules_below.true)))
 
 pub walk_node-returns-clause-found : goal.walk_node-returns-clause-found
 walk_node-returns-clause-found g t c = λ b h.

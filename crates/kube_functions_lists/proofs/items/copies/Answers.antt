@@ -8,5 +8,7 @@ pub loop-item-preserved : goal.loop-item-preserved
 loop-item-preserved c =
     copied_more [] c.args.items.now c.loop-item.item-index c.item-item.result c.in_ok-try_clone.field-0 c.loop-item.copied.items c.push.new.self.items c.loop-item-test.true c.item-item.is c.in_ok-try_clone.ensures.value c.loop-item.invariant c.in_ok-push.ensures.items
 
-pub returns-clause-value : goal.returns-clause-value
-returns-clause-value c = c.loop-item.invariant ∙ ap (map view) (take_all c.loop-item.item-index c.args.items.now c.loop-item-test.false)
+pub returns : goal.returns
+returns c = record {
+  value = c.loop-item.invariant ∙ ap (map view) (take_all c.loop-item.item-index c.args.items.now c.loop-item-test.false);
+}

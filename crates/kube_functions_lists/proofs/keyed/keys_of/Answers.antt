@@ -11,5 +11,7 @@ loop-item-preserved c =
     one_taken c.loop-item.keys c.add_key.new.keys (map view c.args.items.now) c.args.items.now c.loop-item.item-index c.item-item.result
     c.loop-item-test.true c.item-item.is c.in_ok-add_key.ensures.keys c.loop-item.invariant
 
-pub returns-clause-keys : goal.returns-clause-keys
-returns-clause-keys c = all_taken c.loop-item.keys (map view c.args.items.now) c.args.items.now c.loop-item.item-index c.loop-item-test.false c.loop-item.invariant
+pub returns : goal.returns
+returns c = record {
+  keys = all_taken c.loop-item.keys (map view c.args.items.now) c.args.items.now c.loop-item.item-index c.loop-item-test.false c.loop-item.invariant;
+}

@@ -16,8 +16,10 @@ loop-item-preserved c = (
   c.in_ok-push_new.ensures.keys,
 )
 
-pub returns-clause-value : goal.returns-clause-value
-returns-clause-value c = finished (distinct_items (map view c.args.items.now)) (map view c.loop-item.kept.items) c.args.items.now c.loop-item.item-index c.loop-item-test.false c.loop-item.invariant.0
+pub returns : goal.returns
+returns c = record {
+  value = finished (distinct_items (map view c.args.items.now)) (map view c.loop-item.kept.items) c.args.items.now c.loop-item.item-index c.loop-item-test.false c.loop-item.invariant.0;
+}
 
 pub push_new-requires : goal.push_new-requires
 push_new-requires c = c.loop-item.invariant.1

@@ -6,7 +6,9 @@ use Rattle.kube_functions_types.specs.Lists.{text_list}
 use Rattle.kube_functions_types.proofs.Pushed.{inserted}
 use Rattle.kube_functions_types.proofs.url_functions.add_values.Goals as goal
 
-pub returns-clause-written : goal.returns-clause-written
-returns-clause-written c =
-    inserted c.args.entries.now.entries c.insert.new.self.entries (key.String c.in_ok-name.name) c.in_ok-list.list (text_key (string_bytes c.args.name)) (text_list (texts c.args.values))
-    c.in_ok-insert.ensures.entries (ap (λ s. text_key (string_bytes s)) c.in_ok-name.ensures.ok) (c.in_ok-list.ensures.value ∙ ap list c.in_ok-items.ensures.value)
+pub returns : goal.returns
+returns c = record {
+  written =
+      inserted c.args.entries.now.entries c.insert.new.self.entries (key.String c.in_ok-name.name) c.in_ok-list.list (text_key (string_bytes c.args.name)) (text_list (texts c.args.values))
+      c.in_ok-insert.ensures.entries (ap (λ s. text_key (string_bytes s)) c.in_ok-name.ensures.ok) (c.in_ok-list.ensures.value ∙ ap list c.in_ok-items.ensures.value);
+}

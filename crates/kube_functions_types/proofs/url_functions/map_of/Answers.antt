@@ -18,8 +18,10 @@ loop-name-preserved c =
           c.into_iter-name-iterator.ensures.into_iter_gives.5 is l.invariant.2 c.in_ok-add_values.ensures.written,
     )
 
-pub returns-clause-value : goal.returns-clause-value
-returns-clause-value c = λ pairs h.
-    let done = c.loop-name.invariant.0 in
-    let all = c.loop-name.invariant.1 ∙ ap (λ es. done ++ es) c.in-None.ensures.steps.0 ∙ append-nil done in
-    c.loop-name.invariant.2 ∙ ap (λ es. entries_of (named_all es)) (sym all) ∙ whole_query c.args.query pairs c.into_iter-name-iterator.ensures.into_iter_gives.5 h
+pub returns : goal.returns
+returns c = record {
+  value = λ pairs h.
+      let done = c.loop-name.invariant.0 in
+      let all = c.loop-name.invariant.1 ∙ ap (λ es. done ++ es) c.in-None.ensures.steps.0 ∙ append-nil done in
+      c.loop-name.invariant.2 ∙ ap (λ es. entries_of (named_all es)) (sym all) ∙ whole_query c.args.query pairs c.into_iter-name-iterator.ensures.into_iter_gives.5 h;
+}

@@ -2,5 +2,7 @@ use Rattle.kube_functions_types.specs.Url.{query_pairs}
 use Rattle.kube_types_url.specs.Shown.{url_view}
 use Rattle.kube_functions_types.proofs.url_functions.query_map.Goals as goal
 
-pub returns-clause-value : goal.returns-clause-value
-returns-clause-value c = c.in_ok-entries.ensures.value (query_pairs (url_view c.args.url.now)) c.in_ok-query.ensures.answer
+pub returns : goal.returns
+returns c = record {
+  value = c.in_ok-entries.ensures.value (query_pairs (url_view c.args.url.now)) c.in_ok-query.ensures.answer;
+}

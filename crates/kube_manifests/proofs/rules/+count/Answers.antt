@@ -1,13 +1,12 @@
 use Rattle.std.proofs.Common.{◌<◌, ◌≤◌, ◌+◌, ◌^◌, length, subst, sym, ap, ◌∙◌, arith}
 use Rattle.kube_cel_analysis.proofs.Rest.{rest}
-use Rattle.kube_cel_analysis.proofs.Walks.{fewer_in_branch, fewer_in_property}
-use Rattle.kube_cel_analysis.specs.Lint.{branches_of}
-use Rattle.kube_manifests.proofs.Counted.{all_counted, branches_more, branches_none, branches_past, counted_fits, properties_more, properties_none, properties_past, rest_nodes, same_length}
+use Rattle.kube_cel_analysis.proofs.Walks.{fewer_in_branch, fewer_in_property, rest_nodes}
+use Rattle.kube_manifests.proofs.Counted.{all_counted, branches_more, branches_none, branches_past, counted_fits, properties_more, properties_none, properties_past, same_length}
 use Rattle.kube_manifests.proofs.rules.+count.Goals as goal
 use Rattle.kube_manifests.specs.Rules.{saturated_count, rules_in, rules_in_named, rules_in_nodes}
 use Rattle.kube_schema_rules.specs.Compilation.{compiled_seen}
 use Rattle.kube_schema.specs.Shown.{node_tree}
-use Rattle.kube_schema.specs.Tree.{count, named_of, names, nodes_length, own}
+use Rattle.kube_schema.specs.Tree.{branches_of, count, named_of, names, nodes_length, own}
 
 pub with_branches-returns-in_default-branch : goal.with_branches-returns-in_default-branch
 with_branches-returns-in_default-branch t c =

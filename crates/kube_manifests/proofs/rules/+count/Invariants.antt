@@ -1,11 +1,10 @@
 use Rattle.std.proofs.Common.{◌≡◌, ◌<◌, ◌+◌, ◌*◌, ◌^◌}
 use Rattle.kube_cel_analysis.proofs.Rest.{rest}
-use Rattle.kube_cel_analysis.specs.Lint.{branches_of}
-use Rattle.kube_manifests.proofs.Counted.{rest_nodes}
+use Rattle.kube_cel_analysis.proofs.Walks.{rest_nodes}
 use Rattle.kube_manifests.proofs.rules.+count.Given as goal
 use Rattle.kube_manifests.specs.Rules.{saturated_count, rules_in_named, rules_in_nodes}
 use Rattle.kube_schema.specs.Shown.{node_tree}
-use Rattle.kube_schema.specs.Tree.{count, named_of}
+use Rattle.kube_schema.specs.Tree.{branches_of, count, named_of}
 
 abbrev pub decreases-with_node : goal.decreases-with_node
 decreases-with_node l = 2 * count (node_tree l.node.now) + 1

@@ -6,14 +6,16 @@ use Rattle.kube_manifests_admission.specs.Inputs.{inputs_view}
 use Rattle.kube_manifests_admission.specs.Policies.{item_view}
 use Rattle.std.proofs.Common.{◌∙◌, map}
 
-pub returns-clause-scope : goal.returns-clause-scope
-returns-clause-scope c =
-    let v = inputs_view c.args.inputs.now in
-    let e = bindings_of c.bind_given.new.context in
-    record {
-      bindings = λ x. c.in_ok-bind_no_values.ensures.bound x
-          ∙ under_no_values (map item_view c.args.variables.now) e (policy_bindings v) (policy_names v (bindings_of c.args.scope.context) e c.requires.bindings c.in_ok-bind_given.ensures.bound) x;
-      absent = c.in_ok-absent.ensures.absent;
-      values = c.requires.values;
-      missing = c.requires.missing;
-    }
+pub returns : goal.returns
+returns c = record {
+  scope =
+      let v = inputs_view c.args.inputs.now in
+      let e = bindings_of c.bind_given.new.context in
+      record {
+        bindings = λ x. c.in_ok-bind_no_values.ensures.bound x
+            ∙ under_no_values (map item_view c.args.variables.now) e (policy_bindings v) (policy_names v (bindings_of c.args.scope.context) e c.requires.bindings c.in_ok-bind_given.ensures.bound) x;
+        absent = c.in_ok-absent.ensures.absent;
+        values = c.requires.values;
+        missing = c.requires.missing;
+      };
+}

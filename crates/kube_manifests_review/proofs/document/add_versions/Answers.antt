@@ -14,8 +14,10 @@ loop-index-preserved c = λ names.
     (c.in_ok-add_version.ensures.candidates names ∙ ap (λ b. had ++ version_candidates names b (option_map (λ s. view s.now) c.version_schema.result)) (c.as_str.ensures.value ∙ c.in_ok-base.ensures)
     ∙ ap (λ o. had ++ version_candidates names (version_pointer l.index) o) c.version_schema.ensures) (l.invariant names)
 
-pub returns-clause-candidates : goal.returns-clause-candidates
-returns-clause-candidates c = λ names.
-    let l = c.loop-index in
-    last_item (versions_candidates names) (λ i d. version_candidates names (version_pointer i) (version_schema d)) (λ i. refl) c.args.versions.now l.index (map candidate_view l.candidates.items) _
-    c.loop-index-test.false (l.invariant names)
+pub returns : goal.returns
+returns c = record {
+  candidates = λ names.
+      let l = c.loop-index in
+      last_item (versions_candidates names) (λ i d. version_candidates names (version_pointer i) (version_schema d)) (λ i. refl) c.args.versions.now l.index (map candidate_view l.candidates.items) _
+      c.loop-index-test.false (l.invariant names);
+}

@@ -14,8 +14,10 @@ loop-index-preserved c =
     next_item (rules_candidates p) (λ i d. rule_candidates (index_pointer p i) d) (λ i d ds. refl) c.args.rules.now l.index c.index-rules-index.result _ had _ c.loop-index-test.true c.index-rules-index.is
     (c.in_ok-add_rule.ensures.candidates ∙ ap (λ r. had ++ rule_candidates r (view c.index-rules-index.result)) (c.as_str.ensures.value ∙ c.in_ok-inner.ensures)) l.invariant
 
-pub returns-clause-candidates : goal.returns-clause-candidates
-returns-clause-candidates c =
-    let l = c.loop-index in
-    let p = c.args.pointer.now in
-    last_item (rules_candidates p) (λ i d. rule_candidates (index_pointer p i) d) (λ i. refl) c.args.rules.now l.index (map candidate_view l.candidates.items) _ c.loop-index-test.false l.invariant
+pub returns : goal.returns
+returns c = record {
+  candidates =
+      let l = c.loop-index in
+      let p = c.args.pointer.now in
+      last_item (rules_candidates p) (λ i d. rule_candidates (index_pointer p i) d) (λ i. refl) c.args.rules.now l.index (map candidate_view l.candidates.items) _ c.loop-index-test.false l.invariant;
+}

@@ -7,16 +7,18 @@ use Rattle.kube_manifests_review.specs.Pointers.{keyword_pointer}
 use Rattle.kube_manifests_review.specs.Rules.{members_of, location_candidates, validations_candidates}
 use Rattle.serde_json.specs.View.{view}
 
-pub returns-clause-candidates : goal.returns-clause-candidates
+pub returns : goal.returns
 unfolding location_candidates keywords
-returns-clause-candidates c =
-    let old = map candidate_view c.args.candidates.now.items in
-    let mid = map candidate_view c.add_keys_of.new.candidates.items in
-    let s = view c.args.location.now.schema.now in
-    let rules = option_map (λ v. view v.now) c.get-rules.result in
-    let q = keyword_pointer (string_bytes c.args.location.now.pointer) (codes "x-kubernetes-validations") in
-    two_steps old mid _ _ _
-    (c.in_ok-add_keys_of.ensures ∙ ap (λ p. old ++ keys_candidates keywords p [] (members_of s)) c.as_str-pointer.ensures.value)
-    (c.in_ok-add_validations.ensures.candidates
-    ∙ ap (λ p. mid ++ validations_candidates p rules) (c.as_str.ensures.value ∙ c.in_ok-inner.ensures ∙ ap (λ r. keyword_pointer r (codes "x-kubernetes-validations")) c.as_str-pointer.ensures.value)
-    ∙ ap (λ o. mid ++ validations_candidates q o) c.get-rules.ensures)
+returns c = record {
+  candidates =
+      let old = map candidate_view c.args.candidates.now.items in
+      let mid = map candidate_view c.add_keys_of.new.candidates.items in
+      let s = view c.args.location.now.schema.now in
+      let rules = option_map (λ v. view v.now) c.get-rules.result in
+      let q = keyword_pointer (string_bytes c.args.location.now.pointer) (codes "x-kubernetes-validations") in
+      two_steps old mid _ _ _
+      (c.in_ok-add_keys_of.ensures ∙ ap (λ p. old ++ keys_candidates keywords p [] (members_of s)) c.as_str-pointer.ensures.value)
+      (c.in_ok-add_validations.ensures.candidates
+      ∙ ap (λ p. mid ++ validations_candidates p rules) (c.as_str.ensures.value ∙ c.in_ok-inner.ensures ∙ ap (λ r. keyword_pointer r (codes "x-kubernetes-validations")) c.as_str-pointer.ensures.value)
+      ∙ ap (λ o. mid ++ validations_candidates q o) c.get-rules.ensures);
+}

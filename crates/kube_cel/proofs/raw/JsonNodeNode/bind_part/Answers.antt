@@ -6,7 +6,9 @@ use Rattle.kube_cel.specs.Raw.{raw_accessors}
 use Rattle.kube_schema_values.specs.Conversion.{levels, raw, to_cel}
 use Rattle.serde_json.specs.View.{view}
 
-pub returns-clause-value : goal.returns-clause-value
+pub returns : goal.returns
 unfolding raw_accessors
-returns-clause-value c =
-    alike_equal (part_of c.args._demand.now) (cel_view c.in_ok-whole.whole) (to_cel raw (levels c.args.depth) (view c.args.self.now.schema.now) (view c.args.value.now)) c.in_ok-whole.ensures.value
+returns c = record {
+  value =
+      alike_equal (part_of c.args._demand.now) (cel_view c.in_ok-whole.whole) (to_cel raw (levels c.args.depth) (view c.args.self.now.schema.now) (view c.args.value.now)) c.in_ok-whole.ensures.value;
+}

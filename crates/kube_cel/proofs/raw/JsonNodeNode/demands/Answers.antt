@@ -4,7 +4,9 @@ use Rattle.kube_schema_rules.specs.Compilation.{compiled_rules}
 use Rattle.kube_schema_rules.specs.Demands.{rules_read}
 use Rattle.std.proofs.Common.{codes, ap, ◌∙◌}
 
-pub returns-clause-demands : goal.returns-clause-demands
+pub returns : goal.returns
 unfolding raw_accessors
-returns-clause-demands c =
-    (c.in_ok-demands.ensures.demands.0 ∙ ap (λ ds. rules_read (codes "self") (compiled_rules ds)) c.rule_values.ensures, c.in_ok-demands.ensures.demands.1 ∙ ap (λ ds. rules_read (codes "oldSelf") (compiled_rules ds)) c.rule_values.ensures)
+returns c = record {
+  demands =
+      (c.in_ok-demands.ensures.demands.0 ∙ ap (λ ds. rules_read (codes "self") (compiled_rules ds)) c.rule_values.ensures, c.in_ok-demands.ensures.demands.1 ∙ ap (λ ds. rules_read (codes "oldSelf") (compiled_rules ds)) c.rule_values.ensures);
+}

@@ -8,11 +8,13 @@ use Rattle.kube_cel_vap.specs.Expressions.{compiled_seen}
 use Rattle.kube_cel_vap.specs.Variables.{evaluator_view}
 use Rattle.std.proofs.Common.{map, ◌∙◌}
 
-pub returns-clause-results : goal.returns-clause-results
-returns-clause-results c =
-    let b = entries_of c.results_of.new.book in (
-      b,
-      entries-IsBook c.results_of.new.book,
-      c.in_ok-results.ensures.reported b (Extends-refl b)
-          ∙ results_same b (evaluator_view c.args.self.now) (map compiled_seen c.args.compiled.now) (bindings_of c.in_ok-context.context) c.in_ok-context.ensures.bound,
-    )
+pub returns : goal.returns
+returns c = record {
+  results =
+      let b = entries_of c.results_of.new.book in (
+        b,
+        entries-IsBook c.results_of.new.book,
+        c.in_ok-results.ensures.reported b (Extends-refl b)
+            ∙ results_same b (evaluator_view c.args.self.now) (map compiled_seen c.args.compiled.now) (bindings_of c.in_ok-context.context) c.in_ok-context.ensures.bound,
+      );
+}
