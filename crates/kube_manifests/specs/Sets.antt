@@ -3,9 +3,11 @@
 -- in CustomResourceDefinitions", "Validation rules".
 use Rattle.std.specs.Prelude.{◌≡◌, ℕ, List, map, Option, Some, None, Result, Ok, Err, string_bytes}
 use Rattle.serde_json.specs.Data.{Data, Items}
-use Rattle.kube_cel.specs.Answers.{IsReportOf}
+use Rattle.cel_patterns.specs.Book.{Book}
+use Rattle.kube_cel.specs.Answers.{IsReportOf, answer_view, found_in, report_of}
 use Rattle.kube_cel.specs.Raw.{raw_accessors}
 use Rattle.kube_cel.specs.Starts.{defaulted_start}
+use Rattle.kube_cel_walk.specs.Answers.{answer as answer_at, IsAnswer}
 use Rattle.kube_schema.specs.Shown.{whole}
 use Rattle.kube_schema.specs.Tree.{Node}
 use Rattle.kube_schema.specs.View.{view_of}
@@ -77,6 +79,15 @@ IsJudgement versions value old (Judged answer) =
     (v : Version Data) × (chosen_version versions value ≡ Ok v)
     × IsReportOf raw_accessors (defaulted_start v.schema value old (Some (root_of v))) answer
 IsJudgement versions value old (NotJudged r) = chosen_version versions value ≡ Err r
+
+-- the same under a given book of patterns
+abbrev pub IsJudgementUnder : Book → List (Version Data) → Data → Option Data → Judgement → Type 0
+IsJudgementUnder b versions value old (Judged answer) =
+    (v : Version Data) × (chosen_version versions value ≡ Ok v)
+    × (answer_view answer
+    ≡ report_of (answer_at raw_accessors b 65 (defaulted_start v.schema value old (Some (root_of v)))))
+    × IsAnswer raw_accessors b (defaulted_start v.schema value old (Some (root_of v))) (found_in answer)
+IsJudgementUnder b versions value old (NotJudged r) = chosen_version versions value ≡ Err r
 
 -- the reason why an object isn't judged, if it isn't
 abbrev pub reason_of : Judgement → Option reason.NotJudged

@@ -39,6 +39,7 @@ mod version;
 pub use definition::is_crd;
 pub use fault::{CrdError, CrdFault};
 pub use judgement::{Judgement, NotJudged};
+pub use kube_cel::cel::PatternBook;
 pub use kube_cel::{Refused, ValidationError, ValidationErrors};
 pub use rules::rule_count;
 pub use set::CrdSet;

@@ -1,5 +1,7 @@
 //! Sets of definitions, and the judging of objects by them.
-ghost use Rattle.kube_manifests.specs.Sets.{all_compiled, with_tree, outcome_view, reason_of, rules_of, set_view, versions_of, why_not, IsJudgement};
+ghost use Rattle.cel_patterns.specs.Book.{Book, Extends};
+ghost use Rattle.cel_patterns.specs.Entries.{entries_of};
+ghost use Rattle.kube_manifests.specs.Sets.{all_compiled, with_tree, outcome_view, reason_of, rules_of, set_view, versions_of, why_not, IsJudgement, IsJudgementUnder};
 ghost use Rattle.kube_manifests.specs.Versions.{Version, chosen_version};
 ghost use Rattle.serde_json.specs.Data.{Data};
 ghost use Rattle.serde_json.specs.View.{items_view, view};
@@ -10,6 +12,7 @@ use crate::documents::add_document;
 use crate::fault::CrdError;
 use crate::judgement::{Judgement, NotJudged};
 use crate::version::CrdVersion;
+use kube_cel::cel::PatternBook;
 use kube_cel::{Refused, Validator};
 use serde_json::Value;
 use std::alloc::Global;
@@ -65,17 +68,48 @@ impl CrdSet {
             → set_view self.now ≡ map with_tree versions
             → IsJudgement versions (view object.now) (option_map (λ v. view v.now) old.entry) j) }
     {
+        let mut book = PatternBook::new(alloc);
+        let judgement = self.validate_in(alloc, object, old, &mut book)?;
+        Ok(judgement)
+    }
+
+    /// Judges an object like `validate`, with a lent book of patterns: a pattern that several
+    /// objects are matched with is built once. Afterwards the book has all the entries that it had,
+    /// and perhaps more.
+    ///
+    /// # Errors
+    ///
+    /// [`Refused`] if memory is refused, or a URL that a rule reads is too large.
+    pub fn validate_in(
+        &self,
+        alloc: Global,
+        object: &Value,
+        old: Option<&Value>,
+        book: &mut PatternBook,
+    ) -> Result<Judgement, Refused>
+        ensures kept { Extends (entries_of book.new) (entries_of book.old) }
+        ensures reason { IfOk result (λ j. reason_of j
+            ≡ why_not (chosen_version (set_view self.now) (view object.now))) }
+        ensures judgement { IfOk result (λ j. (versions : List (Version Data))
+            → set_view self.now ≡ map with_tree versions
+            → IsJudgement versions (view object.now) (option_map (λ v. view v.now) old.entry) j) }
+        ensures books { IfOk result (λ j. (versions : List (Version Data))
+            → set_view self.now ≡ map with_tree versions
+            → (b : Book) → Extends b (entries_of book.new)
+            → IsJudgementUnder b versions (view object.now) (option_map (λ v. view v.now) old.entry) j) }
+    {
         let version = match chosen(&self.versions, object) {
             Ok(version) => version,
             Err(reason) => return Ok(Judgement::NotJudged(reason)),
         };
         let root = Some(&version.root);
-        let answer = Validator::new().validate_compiled_with_context(
+        let answer = Validator::new().validate_compiled_in(
             alloc,
             &version.schema,
             object,
             old,
             root,
+            book,
         )?;
         Ok(Judgement::Judged(answer))
     }

@@ -40,18 +40,22 @@ files name = record (file name) { action = Some Append }
 abbrev pub required : Rule → Rule
 required a = record a { required = true }
 
+-- an option that takes one value or more
+abbrev pub one_or_more : Rule → Rule
+one_or_more a = record a {
+  range = Some (record { start_inclusive = 1; end_inclusive = usize_max });
+}
+
 -- the option for the form of output: one of these, text by default
 abbrev pub output : Texts → Rule
 output forms = record (file (codes "output")) { parser = Some (Names forms); defaults = codes "text" ∷ [] }
 
 -- the paths of objects, one or more
 abbrev pub objects : Rule
-objects = record (new_rule (codes "objects")) {
+objects = one_or_more (required (record (new_rule (codes "objects")) {
   action = Some Append;
   value_names = 1;
-  range = Some (record { start_inclusive = 1; end_inclusive = usize_max });
-  required = true;
-}
+}))
 
 -- the path of a policy
 abbrev pub policy : Rule
@@ -67,7 +71,8 @@ check_words forms =
     (files (codes "old"))) objects
 
 unfoldable pub review_words : Texts → App
-review_words forms = with_rule (command forms (codes "review")) (required (files (codes "crds")))
+review_words forms =
+    with_rule (command forms (codes "review")) (one_or_more (required (files (codes "crds"))))
 
 unfoldable pub admit_words : Texts → App
 admit_words forms =

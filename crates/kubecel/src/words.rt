@@ -1,6 +1,6 @@
 //! Defines and reads the command line.
 ghost use Rattle.clap.specs.Matches.{found_of};
-ghost use Rattle.kubecel.specs.Words.{IsOption, Texts, Understands, admit_words, all_of, check_words, command, command_of, file, files, form_named, form_names, objects, output, output_of, policy, program_words, required, review_words, text_form, words};
+ghost use Rattle.kubecel.specs.Words.{IsOption, Texts, Understands, admit_words, all_of, check_words, command, command_of, file, files, form_named, form_names, objects, one_or_more, output, output_of, policy, program_words, required, review_words, text_form, words};
 ghost use Rattle.kubecel_cli.specs.Commands.{command_view};
 ghost use Rattle.std.specs.Prelude.{◌≡◌, IfOk, codes, map};
 
@@ -66,6 +66,15 @@ fn crds<'a>(alloc: Global) -> Arg<'a>
     .required(true)
 }
 
+/// The same option, where nothing follows that could be taken for one of its files.
+fn all_crds<'a>(alloc: Global) -> Arg<'a>
+    ensures { IsOption (one_or_more (required (files (codes "crds")))) result }
+{
+    crds(alloc).num_args(1..).help(
+        "Files with CustomResourceDefinitions; may be given several times",
+    )
+}
+
 /// The arguments for files of objects.
 fn objects<'a>(alloc: Global) -> Arg<'a>
     ensures { IsOption objects result }
@@ -129,7 +138,7 @@ fn review_words<'a>(alloc: Global, forms: &'a [&'a str]) -> Result<Words<'a>, Al
         "review",
         "Reviews CustomResourceDefinitions for mistakes",
     )?
-    .arg(crds(alloc))
+    .arg(all_crds(alloc))
 }
 
 /// The command line of `admit`.

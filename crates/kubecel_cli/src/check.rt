@@ -17,7 +17,7 @@ use crate::command::Check;
 use crate::item::{item_of, remark};
 use crate::report::{Report, ReportFormat};
 use crate::unread::unread_items;
-use kube_manifests::{CrdSet, Judgement, NotJudged, ValidationError, is_crd};
+use kube_manifests::{CrdSet, Judgement, NotJudged, PatternBook, ValidationError, is_crd};
 use kubecel_io::{
     Document, Finding, Item, Refused, Sources, Stop, Subject, Verdict, objects_of, old_of,
     read_documents,
@@ -128,7 +128,7 @@ fn judge_unless_any<E: Write>(
     }
 }
 
-/// Judges each object by a set.
+/// Judges each object by a set, all with one book of patterns.
 fn judge_all<E: Write>(
     alloc: Global,
     set: &CrdSet,
@@ -143,9 +143,10 @@ fn judge_all<E: Write>(
 {
     let mut items = Vec::with_capacity(alloc, subjects.len())?;
     let (mut rules, mut compared) = (0u64, 0u64);
+    let mut book = PatternBook::new(alloc);
     for subject in subjects {
         let old = old_of(olds, subject);
-        items.push(judge(alloc, set, subject, old)?)?;
+        items.push(judge(alloc, set, subject, old, &mut book)?)?;
         rules = rules.saturating_add(set.rule_count(subject.value).unwrap_or(0));
         compared = compared.saturating_add(u64::from(old.is_some()));
         if form.progress {
@@ -174,19 +175,20 @@ fn report_progress<E: Write>(judged: usize, all: usize, err: &mut E) {
     }
 }
 
-/// Judges an object by a set.
+/// Judges an object by a set, with a lent book of patterns.
 fn judge(
     alloc: Global,
     set: &CrdSet,
     subject: &Subject<'_>,
     old: Option<&Value>,
+    book: &mut PatternBook,
 ) -> Result<Item, Refused>
     ensures { IfOk result (λ i. (j : spec.Judgement)
         × ((versions : List (Version Data)) → set_view set.now ≡ map with_tree versions
         → IsJudgement versions (view subject.now.value.now) (option_map (λ v. view v.now) old.entry) j)
         × (item_view i ≡ judged_item (subject_view subject.now) j)) }
 {
-    let judgement = set.validate(alloc, subject.value, old)?;
+    let judgement = set.validate_in(alloc, subject.value, old, book)?;
     Ok(judged_item(alloc, subject, &judgement)?)
 }
 

@@ -8,8 +8,8 @@ use Rattle.kubecel_io.specs.declared.fault.Fault.{Fault}
 use Rattle.serde_json.specs.Data.{Data}
 use Rattle.serde_json.specs.Read.{read}
 use Rattle.serde_json.specs.View.{view}
-use Rattle.std.proofs.Common.{◌≡◌, ℕ, suc, ◌+◌, ◌<◌, ◌≤◌, List, [], ◌∷◌, ◌++◌, append-nil, append_assoc, drop, drop-cons, get_or, length, length-append, length-drop, map, take, Bool, true, false, if◌then◌else◌, Option, Some, None, option_and_then, Result, Ok, Err, IfOk, OnErr, OnOk, refl, sym, ap, subst, arith, ◌∙◌}
-use Rattle.std.proofs.lemmas.List.{drop_at, get_or_at, take_at}
+use Rattle.std.proofs.Common.{◌≡◌, ℕ, suc, ◌+◌, ◌-◌, ◌<◌, ◌≤◌, ◌⊎◌, inl, inr, List, [], ◌∷◌, ◌++◌, append-nil, append_assoc, drop, drop-cons, get_or, length, length-append, length-drop, map, take, Bool, true, false, if◌then◌else◌, Option, Some, None, option_and_then, Result, Ok, Err, IfOk, OnErr, OnOk, refl, sym, ap, subst, arith, ◌∙◌}
+use Rattle.std.proofs.lemmas.List.{drop_at, get_or_at, length-take-le, take_at}
 use Rattle.std.proofs.lemmas.Str.{IsCharBoundary-after_ascii, IsUtf8-drop, IsUtf8-take}
 use Rattle.std.specs.List.{list_all}
 use Rattle.std.specs.Str.{IsCharBoundary, IsUtf8}
@@ -126,7 +126,7 @@ whole_behind p x xs ascii whole =
 
 -- ---- a reader's place
 
-pub at_begin : (text : List ℕ) (r : Reading) → r.mode ≡ Outside → r.depth ≡ 0 → r.piece.items ≡ [] → r.found.items ≡ [] → IsUtf8 text → IsAt text r text
+pub at_begin : (text : List ℕ) (r : Reading) → r.mode ≡ Outside → r.depth ≡ 0 → r.piece.now ≡ [] → r.found.items ≡ [] → IsUtf8 text → IsAt text r text
 at_begin text r mode depth piece found whole = record {
   before = [];
   whole = sym (ap (λ p. p ++ text) piece);
@@ -137,39 +137,39 @@ at_begin text r mode depth piece found whole = record {
 
 -- the document continues after this byte
 pub at_goes : (text : List ℕ) (r s : Reading) (x : ℕ) (rest : List ℕ) → ends r.mode r.depth x ≡ false → s.mode ≡ mode_after r.mode x → s.depth ≡ depth_after r.mode r.depth x
-    → s.piece.items ≡ r.piece.items ++ x ∷ [] → s.found ≡ r.found → IsAt text r (x ∷ rest) → IsAt text s rest
+    → s.piece.now ≡ r.piece.now ++ x ∷ [] → s.found ≡ r.found → IsAt text r (x ∷ rest) → IsAt text s rest
 at_goes text r s x rest goes mode depth piece found at = record {
   before = at.before;
-  whole = at.whole ∙ ap (λ ys. at.before ++ ys) (shifted r.piece.items s.piece.items x rest piece);
-  cut = λ xs. ap (λ ys. pieces Outside 0 [] (at.before ++ ys)) (sym (shifted r.piece.items s.piece.items x xs piece)) ∙ at.cut (x ∷ xs)
-      ∙ ap (λ ps. pieces Outside 0 [] at.before ++ ps) (byte_goes r.mode r.depth r.piece.items x xs goes ∙ sym (rw (mode, depth, piece) refl));
+  whole = at.whole ∙ ap (λ ys. at.before ++ ys) (shifted r.piece.now s.piece.now x rest piece);
+  cut = λ xs. ap (λ ys. pieces Outside 0 [] (at.before ++ ys)) (sym (shifted r.piece.now s.piece.now x xs piece)) ∙ at.cut (x ∷ xs)
+      ∙ ap (λ ps. pieces Outside 0 [] at.before ++ ps) (byte_goes r.mode r.depth r.piece.now x xs goes ∙ sym (rw (mode, depth, piece) refl));
   values = at.values ∙ ap (λ vs. Some (map view vs.items)) (sym found);
-  characters = subst IsUtf8 (shifted r.piece.items s.piece.items x rest piece) at.characters;
+  characters = subst IsUtf8 (shifted r.piece.now s.piece.now x rest piece) at.characters;
 }
 
 -- the document ends after this byte
-cut_off : (text : List ℕ) (r : Reading) (p : List ℕ) (x : ℕ) (rest xs : List ℕ) → ends r.mode r.depth x ≡ true → p ≡ r.piece.items ++ x ∷ [] → (at : IsAt text r (x ∷ rest))
+cut_off : (text : List ℕ) (r : Reading) (p : List ℕ) (x : ℕ) (rest xs : List ℕ) → ends r.mode r.depth x ≡ true → p ≡ r.piece.now ++ x ∷ [] → (at : IsAt text r (x ∷ rest))
     → pieces Outside 0 [] (at.before ++ (p ++ xs)) ≡ pieces Outside 0 [] at.before ++ with_piece p (pieces Outside 0 [] xs)
 cut_off text r p x rest xs ended piece at =
     let next = pieces Outside 0 [] xs in
-    ap (λ ys. pieces Outside 0 [] (at.before ++ ys)) (sym (shifted r.piece.items p x xs piece)) ∙ at.cut (x ∷ xs)
-    ∙ ap (λ ps. pieces Outside 0 [] at.before ++ ps) (byte_ends r.mode r.depth r.piece.items x xs ended ∙ ap (λ q. with_piece q next) (sym piece))
+    ap (λ ys. pieces Outside 0 [] (at.before ++ ys)) (sym (shifted r.piece.now p x xs piece)) ∙ at.cut (x ∷ xs)
+    ∙ ap (λ ps. pieces Outside 0 [] at.before ++ ps) (byte_ends r.mode r.depth r.piece.now x xs ended ∙ ap (λ q. with_piece q next) (sym piece))
 
-cut_here : (text : List ℕ) (r : Reading) (p : List ℕ) (x : ℕ) (rest : List ℕ) → ends r.mode r.depth x ≡ true → p ≡ r.piece.items ++ x ∷ [] → (at : IsAt text r (x ∷ rest))
+cut_here : (text : List ℕ) (r : Reading) (p : List ℕ) (x : ℕ) (rest : List ℕ) → ends r.mode r.depth x ≡ true → p ≡ r.piece.now ++ x ∷ [] → (at : IsAt text r (x ∷ rest))
     → pieces Outside 0 [] (at.before ++ p) ≡ pieces Outside 0 [] at.before ++ with_piece p []
 cut_here text r p x rest ended piece at =
     ap (λ q. pieces Outside 0 [] (at.before ++ q)) (sym (append-nil p)) ∙ cut_off text r p x rest [] ended piece at
     ∙ ap (λ qs. pieces Outside 0 [] at.before ++ with_piece p qs) no_pieces
 
 -- the document was read, and the next one begins
-pub at_ended : (text : List ℕ) (r s : Reading) (p : List ℕ) (x : ℕ) (rest : List ℕ) → ends r.mode r.depth x ≡ true → p ≡ r.piece.items ++ x ∷ []
+pub at_ended : (text : List ℕ) (r s : Reading) (p : List ℕ) (x : ℕ) (rest : List ℕ) → ends r.mode r.depth x ≡ true → p ≡ r.piece.now ++ x ∷ []
     → ((rest : List (List ℕ)) → with_documents (map view r.found.items) (all_read (with_piece p rest)) ≡ with_documents (map view s.found.items) (all_read rest))
-    → (s.mode ≡ Outside) × (s.depth ≡ 0) × (s.piece.items ≡ []) → IsAt text r (x ∷ rest) → IsAt text s rest
+    → (s.mode ≡ Outside) × (s.depth ≡ 0) × (s.piece.now ≡ []) → IsAt text r (x ∷ rest) → IsAt text s rest
 at_ended text r s p x rest ended piece read begun at =
     let ps = pieces Outside 0 [] at.before in
     let here = cut_here text r p x rest ended piece at in record {
       before = at.before ++ p;
-      whole = at.whole ∙ ap (λ ys. at.before ++ ys) (shifted r.piece.items p x rest piece) ∙ sym (append_assoc at.before p rest)
+      whole = at.whole ∙ ap (λ ys. at.before ++ ys) (shifted r.piece.now p x rest piece) ∙ sym (append_assoc at.before p rest)
           ∙ ap (λ q. (at.before ++ p) ++ (q ++ rest)) (sym begun.2);
       cut = λ xs.
           let next = pieces Outside 0 [] xs in
@@ -178,15 +178,15 @@ at_ended text r s p x rest ended piece read begun at =
           ∙ ap (λ qs. qs ++ next) (sym here) ∙ ap (λ qs. pieces Outside 0 [] (at.before ++ p) ++ qs) (sym (rw (begun.0, begun.1, begun.2) refl));
       values = ap all_read here ∙ all_behind ps (with_piece p []) ∙ ap (λ vs. joined vs (all_read (with_piece p []))) at.values
           ∙ read [] ∙ none_behind (map view s.found.items);
-      characters = subst (λ q. IsUtf8 (q ++ rest)) (sym begun.2) (whole_behind r.piece.items x rest (ends_ascii r.mode r.depth x ended) at.characters);
+      characters = subst (λ q. IsUtf8 (q ++ rest)) (sym begun.2) (whole_behind r.piece.now x rest (ends_ascii r.mode r.depth x ended) at.characters);
     }
 
 -- the document isn't JSON
-pub at_refused : (text : List ℕ) (r : Reading) (p : List ℕ) (x : ℕ) (rest : List ℕ) → ends r.mode r.depth x ≡ true → p ≡ r.piece.items ++ x ∷ []
+pub at_refused : (text : List ℕ) (r : Reading) (p : List ℕ) (x : ℕ) (rest : List ℕ) → ends r.mode r.depth x ≡ true → p ≡ r.piece.now ++ x ∷ []
     → (list_all is_space p ≡ false) × (IsUtf8 p → read p ≡ None) → IsAt text r (x ∷ rest) → (b : List ℕ) × IsFirstRefused text b p rest
 at_refused text r p x rest ended piece refused at =
-    let whole = at.whole ∙ ap (λ ys. at.before ++ ys) (shifted r.piece.items p x rest piece) in
-    let characters = whole_before r.piece.items x rest (ends_ascii r.mode r.depth x ended) at.characters in (
+    let whole = at.whole ∙ ap (λ ys. at.before ++ ys) (shifted r.piece.now p x rest piece) in
+    let characters = whole_before r.piece.now x rest (ends_ascii r.mode r.depth x ended) at.characters in (
       at.before,
       record {
         whole = whole;
@@ -198,22 +198,22 @@ at_refused text r p x rest ended piece refused at =
     )
 
 -- the text is at its end
-cut_last : (text : List ℕ) (r : Reading) → (at : IsAt text r []) → pieces Outside 0 [] text ≡ pieces Outside 0 [] at.before ++ with_piece r.piece.items []
+cut_last : (text : List ℕ) (r : Reading) → (at : IsAt text r []) → pieces Outside 0 [] text ≡ pieces Outside 0 [] at.before ++ with_piece r.piece.now []
 cut_last text r at =
-    ap (pieces Outside 0 []) at.whole ∙ at.cut [] ∙ ap (λ ps. pieces Outside 0 [] at.before ++ ps) (none_left r.mode r.depth r.piece.items)
+    ap (pieces Outside 0 []) at.whole ∙ at.cut [] ∙ ap (λ ps. pieces Outside 0 [] at.before ++ ps) (none_left r.mode r.depth r.piece.now)
 
 pub at_end : (text : List ℕ) (r s : Reading)
-    → ((rest : List (List ℕ)) → with_documents (map view r.found.items) (all_read (with_piece r.piece.items rest)) ≡ with_documents (map view s.found.items) (all_read rest))
+    → ((rest : List (List ℕ)) → with_documents (map view r.found.items) (all_read (with_piece r.piece.now rest)) ≡ with_documents (map view s.found.items) (all_read rest))
     → IsAt text r [] → documents text ≡ Some (map view s.found.items)
 at_end text r s read at =
-    let last = with_piece r.piece.items [] in
+    let last = with_piece r.piece.now [] in
     ap all_read (cut_last text r at) ∙ all_behind (pieces Outside 0 [] at.before) last ∙ ap (λ vs. joined vs (all_read last)) at.values
     ∙ read [] ∙ none_behind (map view s.found.items)
 
-pub at_end_refused : (text : List ℕ) (r : Reading) → (list_all is_space r.piece.items ≡ false) × (IsUtf8 r.piece.items → read r.piece.items ≡ None)
-    → IsAt text r [] → (b : List ℕ) × IsFirstRefused text b r.piece.items []
+pub at_end_refused : (text : List ℕ) (r : Reading) → (list_all is_space r.piece.now ≡ false) × (IsUtf8 r.piece.now → read r.piece.now ≡ None)
+    → IsAt text r [] → (b : List ℕ) × IsFirstRefused text b r.piece.now []
 at_end_refused text r refused at =
-    let p = r.piece.items in
+    let p = r.piece.now in
     let ps = pieces Outside 0 [] at.before in (
       at.before,
       record {
@@ -229,6 +229,16 @@ pub at_next : (text bytes : List ℕ) (r : Reading) (i : ℕ) → i < length byt
 at_next text bytes r i below at =
     let one : suc i ≡ i + 1 = omega arith in
     subst (IsAt text r) (drop-cons bytes i 0 below ∙ ap (λ n. get_or bytes i 0 ∷ drop n bytes) one) at
+
+-- the piece after this byte is again the end of what was read
+pub piece_next : (bytes p : List ℕ) (i n : ℕ) → n ≤ i → i < length bytes → (p ≡ take (i + 1 - (i - n)) (drop (i - n) bytes)) ⊎ (p ≡ [])
+    → (length p ≤ i + 1) × (p ≡ take (length p) (drop (i + 1 - length p) bytes))
+piece_next bytes p i n within below (inr e) = rw e (omega arith, refl)
+piece_next bytes p i n within below (inl e) =
+    let count : i + 1 - (i - n) ≤ length (drop (i - n) bytes) = omega (arith, length-drop (i - n) bytes) in
+    let long : length p ≡ i + 1 - (i - n) = ap length e ∙ length-take-le (i + 1 - (i - n)) (drop (i - n) bytes) count in
+    let from : i + 1 - length p ≡ i - n = omega (arith, long) in
+    (omega (arith, long), e ∙ ap (λ m. take m (drop (i - n) bytes)) (sym long) ∙ ap (λ m. take (length p) (drop m bytes)) (sym from))
 
 -- the offset where a refused document ends
 pub ends_at : (text bytes b d : List ℕ) (n : ℕ) → IsFirstRefused text b d (drop n bytes) → n ≤ length bytes → length bytes ≡ length text → length b + length d ≡ n

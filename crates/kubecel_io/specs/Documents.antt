@@ -81,8 +81,8 @@ with_documents xs ys = option_map (λ zs. xs ++ zs) ys
 -- a reader with this rest of the text to read has read the documents before the current one
 pub record IsAt (text : List ℕ) (r : Reading) (rest : List ℕ) : Type 0 where
   pub before : List ℕ
-  pub whole : text ≡ before ++ (r.piece.items ++ rest)
-  pub cut : (xs : List ℕ) → pieces Outside 0 [] (before ++ (r.piece.items ++ xs))
-      ≡ pieces Outside 0 [] before ++ pieces r.mode r.depth r.piece.items xs
+  pub whole : text ≡ before ++ (r.piece.now ++ rest)
+  pub cut : (xs : List ℕ) → pieces Outside 0 [] (before ++ (r.piece.now ++ xs))
+      ≡ pieces Outside 0 [] before ++ pieces r.mode r.depth r.piece.now xs
   pub values : documents before ≡ Some (map view r.found.items)
-  pub characters : IsUtf8 (r.piece.items ++ rest)
+  pub characters : IsUtf8 (r.piece.now ++ rest)

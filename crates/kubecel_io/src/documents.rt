@@ -5,7 +5,7 @@ ghost use Rattle.kubecel_io.specs.declared.cut.Mode.TheVariants.{Outside};
 ghost use Rattle.serde_json.specs.View.{view};
 ghost use Rattle.std.specs.List.{list_all};
 ghost use Rattle.serde_json.specs.Read.{read};
-ghost use Rattle.std.specs.Prelude.{◌≡◌, ◌∷◌, [], ℕ, List, Some, None, false, IfErr, IfOk, OnErr, OnOk, map};
+ghost use Rattle.std.specs.Prelude.{◌≡◌, ◌∷◌, ◌++◌, ◌⊎◌, [], ℕ, List, Some, None, false, IfErr, IfOk, OnErr, OnOk, map};
 ghost use Rattle.std.specs.Str.{IsUtf8};
 
 use crate::cut::{Mode, is_space};
@@ -16,12 +16,12 @@ use std::alloc::Global;
 
 /// The state of reading a text.
 #[derive(Drop)]
-struct Reading {
+struct Reading<'t> {
     mode: Mode,
     /// The number of open brackets.
     depth: usize,
-    /// The bytes of the current document read so far.
-    piece: Vec<u8>,
+    /// The part of the current document that was read so far.
+    piece: &'t [u8],
     /// The documents that are complete.
     found: Vec<Value>,
 }
@@ -33,23 +33,31 @@ fn is_blank(piece: &[u8]) -> bool
     piece.iter().all(|byte| is_space(*byte))
 }
 
-impl Reading {
-    /// Reads one byte.
+impl<'t> Reading<'t> {
+    /// Reads one byte, with which the current document is `piece` so far.
     ///
     /// # Errors
     /// The parser's error if a document ends here that isn't JSON.
-    fn take(&mut self, alloc: Global, byte: u8) -> Result<Result<(), Error>, Refused>
+    fn take(
+        &mut self,
+        alloc: Global,
+        piece: &'t [u8],
+        byte: u8,
+    ) -> Result<Result<(), Error>, Refused>
+        requires { piece.now ≡ self.old.piece.now ++ byte ∷ [] }
         ensures read { IfOk result (λ r. OnOk r ((text rest : List ℕ)
             → IsAt text self.old (byte ∷ rest) → IsAt text self.new rest)) }
+        ensures piece { IfOk result (λ r. OnOk r
+            ((self.new.piece.now ≡ piece.now) ⊎ (self.new.piece.now ≡ []))) }
         ensures refused { IfOk result (λ r. OnErr r ((text rest : List ℕ) → IsAt text self.old (byte ∷ rest)
-            → (before : List ℕ) × IsFirstRefused text before self.new.piece.items rest)) }
+            → (before : List ℕ) × IsFirstRefused text before piece.now rest)) }
     {
         let depth = self
             .mode
             .depth_after(self.depth, byte)
             .ok_or(Refused::TooLarge)?;
         let ends = self.mode.ends(self.depth, depth, byte);
-        self.piece.push(byte)?;
+        self.piece = piece;
         if ends {
             return self.end(alloc);
         }
@@ -64,16 +72,15 @@ impl Reading {
     /// The parser's error if the document isn't JSON.
     fn end(&mut self, alloc: Global) -> Result<Result<(), Error>, Refused>
         ensures read { IfOk result (λ r. OnOk r ((rest : List (List ℕ))
-            → with_documents (map view self.old.found.items) (all_read (with_piece self.old.piece.items rest))
+            → with_documents (map view self.old.found.items) (all_read (with_piece self.old.piece.now rest))
             ≡ with_documents (map view self.new.found.items) (all_read rest))) }
         ensures begun { IfOk result (λ r. OnOk r ((self.new.mode ≡ Outside) × (self.new.depth ≡ 0)
-            × (self.new.piece.items ≡ []))) }
-        ensures refused { IfOk result (λ r. OnErr r ((list_all is_space self.old.piece.items ≡ false)
-            × (IsUtf8 self.old.piece.items → read self.old.piece.items ≡ None))) }
-        ensures kept { IfOk result (λ r. OnErr r (self.new.piece.items ≡ self.old.piece.items)) }
+            × (self.new.piece.now ≡ []))) }
+        ensures refused { IfOk result (λ r. OnErr r ((list_all is_space self.old.piece.now ≡ false)
+            × (IsUtf8 self.old.piece.now → read self.old.piece.now ≡ None))) }
     {
-        if !is_blank(self.piece.as_slice()) {
-            match Value::from_slice(alloc, self.piece.as_slice()) {
+        if !is_blank(self.piece) {
+            match Value::from_slice(alloc, self.piece) {
                 Ok(value) => self.found.push(value)?,
                 Err(error) if error.is_memory() => return Err(Refused::Memory),
                 Err(error) => return Ok(Err(error)),
@@ -81,7 +88,7 @@ impl Reading {
         }
         self.mode = Mode::Outside;
         self.depth = 0;
-        self.piece.clear();
+        self.piece = b"";
         Ok(Ok(()))
     }
 }
@@ -100,17 +107,19 @@ pub fn documents_of(alloc: Global, text: &str) -> Result<Result<Vec<Value>, Faul
     let mut reading = Reading {
         mode: Mode::Outside,
         depth: 0,
-        piece: Vec::new(alloc),
+        piece: b"",
         found: Vec::new(alloc),
     };
     for (i, byte) in bytes.iter().enumerate() {
-        if let Err(error) = reading.take(alloc, *byte)? {
-            let fault = fault_in(bytes, reading.piece.as_slice(), i + 1, &error);
+        let piece = &bytes[i - reading.piece.len()..i + 1];
+        if let Err(error) = reading.take(alloc, piece, *byte)? {
+            let fault = fault_in(bytes, piece, i + 1, &error);
             return Ok(Err(fault));
         }
     }
+    let piece = reading.piece;
     if let Err(error) = reading.end(alloc)? {
-        let fault = fault_in(bytes, reading.piece.as_slice(), bytes.len(), &error);
+        let fault = fault_in(bytes, piece, bytes.len(), &error);
         return Ok(Err(fault));
     }
     Ok(Ok(reading.found))

@@ -5,4 +5,4 @@ use Rattle.std.proofs.lemmas.Result.{IfOk-weaker}
 
 pub returns : goal.returns
 unfolding review_words
-returns c = IfOk-weaker c.arg.result _ _ (λ n h. with_option h c.in_ok-command.ensures c.crds.ensures) c.arg.ensures
+returns c = IfOk-weaker c.arg.result _ _ (λ n h. with_option h c.in_ok-command.ensures c.all_crds.ensures) c.arg.ensures

@@ -4,7 +4,7 @@ use Rattle.kubecel_io.specs.Documents.{IsAt, IsFirstRefused, all_read, is_space,
 use Rattle.kubecel_io.specs.declared.cut.Mode.TheVariants.{Outside}
 use Rattle.serde_json.specs.Read.{read}
 use Rattle.serde_json.specs.View.{view}
-use Rattle.std.proofs.Common.{◌≡◌, ◌∷◌, [], List, ℕ, None, false, map, refl, subst, sym, arith}
+use Rattle.std.proofs.Common.{◌≡◌, ◌∷◌, [], List, ℕ, None, false, map, refl, sym, arith}
 use Rattle.std.specs.List.{list_all}
 use Rattle.std.specs.Str.{IsUtf8}
 
@@ -12,27 +12,25 @@ pub returns-then-ends-clause-read : goal.returns-then-ends-clause-read
 returns-then-ends-clause-read c =
     let r = c.args.self.now in
     let s = c.end.new.self in
-    let p = c.push.new.self.items in
+    let p = c.args.piece.now in
     let x = c.args.byte in
     if_both ((rest : List (List ℕ)) → with_documents (map view r.found.items) (all_read (with_piece p rest)) ≡ with_documents (map view s.found.items) (all_read rest))
-    ((s.mode ≡ Outside) × (s.depth ≡ 0) × (s.piece.items ≡ []))
+    ((s.mode ≡ Outside) × (s.depth ≡ 0) × (s.piece.now ≡ []))
     ((text rest : List ℕ) → IsAt text r (x ∷ rest) → IsAt text s rest)
     c.end.result
-    (λ read begun text rest at. at_ended text r s p x rest (sym (c.if-ends.ensures)) c.in_ok-push.ensures.items read begun at)
+    (λ read begun text rest at. at_ended text r s p x rest (sym (c.if-ends.ensures)) c.requires read begun at)
     c.end.ensures.read c.end.ensures.begun
 
 pub returns-then-ends-clause-refused : goal.returns-then-ends-clause-refused
 returns-then-ends-clause-refused c =
     let r = c.args.self.now in
-    let s = c.end.new.self in
-    let p = c.push.new.self.items in
+    let p = c.args.piece.now in
     let x = c.args.byte in
-    if_refused ((list_all is_space p ≡ false) × (IsUtf8 p → read p ≡ None)) (s.piece.items ≡ p)
-    ((text rest : List ℕ) → IsAt text r (x ∷ rest) → (before : List ℕ) × IsFirstRefused text before s.piece.items rest) c.end.result
-    (λ refused kept text rest at. subst (λ q. (before : List ℕ) × IsFirstRefused text before q rest) (sym kept)
-    (at_refused text r p x rest (sym (c.if-ends.ensures)) c.in_ok-push.ensures.items refused at))
-    c.end.ensures.refused c.end.ensures.kept
+    if_refused ((list_all is_space p ≡ false) × (IsUtf8 p → read p ≡ None)) ((list_all is_space p ≡ false) × (IsUtf8 p → read p ≡ None))
+    ((text rest : List ℕ) → IsAt text r (x ∷ rest) → (before : List ℕ) × IsFirstRefused text before p rest) c.end.result
+    (λ refused again text rest at. at_refused text r p x rest (sym (c.if-ends.ensures)) c.requires refused at)
+    c.end.ensures.refused c.end.ensures.refused
 
 pub returns-clause-read : goal.returns-clause-read
 returns-clause-read c = λ text rest at.
-    at_goes text c.args.self.now (record { mode = c.after-self.result; depth = c.in_ok-depth.depth; piece = c.push.new.self; found = c.args.self.now.found }) c.args.byte rest (sym c.if-ends.ensures) c.after-self.ensures (grind arith) c.in_ok-push.ensures.items refl at
+    at_goes text c.args.self.now (record { mode = c.after-self.result; depth = c.in_ok-depth.depth; piece = c.args.piece; found = c.args.self.now.found }) c.args.byte rest (sym c.if-ends.ensures) c.after-self.ensures (grind arith) c.requires refl at
