@@ -1,99 +1,116 @@
 //! Answers rows about the analysis of a rule without an object: unknown names, costs, and both.
 
 use crate::schemas::compiled_given;
-use crate::types::{put_and_read, scope_of};
-use conformance_rows::texts::push_line;
-use conformance_rows::{Field, Found, Stop, given as rows};
+use crate::types::{find_written, scope_of, written_and_read};
+use conformance_rows::{Field, Found, Output, Stop, given as rows};
 use kube_cel::cel::Program;
-use kube_cel::{AnalysisWarning, analyze_rule, check_rule_scope, estimate_rule_cost};
+use kube_cel::{AnalysisWarning, ScopeContext, analyze_rule, check_rule_scope, estimate_rule_cost};
 use kube_cel_analysis::{Sizes, estimated_cost};
 use std::alloc::Global;
 
 /// Writes a warning about a rule: its kind and message. A copy of it must be equal.
-fn put_warning(warning: &AnalysisWarning, rule: &str, out: &mut String) -> Result<(), Stop> {
-    let (kind, message) = (warning.kind, warning.message.as_str());
-    push_line(out, "")?;
-    write!(out, "{kind:?}: {message}")?;
+fn put_warning(warning: &AnalysisWarning, rule: &str, out: &mut Output) {
+    out.push_line("");
+    out.debug(&warning.kind);
+    out.push(": ");
+    out.push(warning.message.as_str());
     if warning.rule.as_str() != rule {
-        return Err(Stop::Differs("the warning's rule"));
+        out.stop(Stop::Differs("the warning's rule"));
     }
-    if warning.try_clone()? == *warning {
-        Ok(())
-    } else {
-        Err(Stop::Differs("try_clone"))
+    if let Some(copy) = out.take(warning.try_clone()) {
+        if copy != *warning {
+            out.stop(Stop::Differs("try_clone"));
+        }
     }
 }
 
-/// Returns the warnings about the row's rule from the call that a key names, in the row's scope or,
-/// by default, that of a schema.
+/// Returns the warnings about a rule of the row's schema from the call that a key names.
 fn warnings_of(
     alloc: Global,
     given: &[Field],
-    rule: &str,
+    (rule, scope): (&str, ScopeContext),
     key: &str,
-) -> Result<Vec<AnalysisWarning>, Stop> {
-    let scope = scope_of(rows::text(given, "scope").unwrap_or("CrdValidation"))?;
+    out: &mut Output,
+) -> Option<Vec<AnalysisWarning>> {
     if key == "scope warnings" {
-        return Ok(check_rule_scope(alloc, rule, scope)?);
+        return out.take(check_rule_scope(alloc, rule, scope));
     }
-    let compiled = compiled_given(alloc, given)?;
+    let compiled = compiled_given(alloc, given, out)?;
     if key == "cost warnings" {
-        Ok(estimate_rule_cost(alloc, rule, &compiled)?)
+        out.take(estimate_rule_cost(alloc, rule, &compiled))
     } else {
-        Ok(analyze_rule(alloc, rule, &compiled, scope)?)
+        out.take(analyze_rule(alloc, rule, &compiled, scope))
     }
 }
 
+/// Returns the row's rule, and its scope or, by default, that of a schema.
+fn rule_given<'g>(given: &'g [Field], out: &mut Output) -> Option<(&'g str, ScopeContext)> {
+    let rule = out.take(rows::needed(given, "rule"))?;
+    let scope = rows::text(given, "scope").unwrap_or("CrdValidation");
+    Some((rule, out.take(scope_of(scope))?))
+}
+
 /// Writes the warnings about the row's rule from the call that a key names.
-fn put_warnings(alloc: Global, given: &[Field], key: &str, out: &mut String) -> Result<(), Stop> {
-    let rule = rows::needed(given, "rule")?;
-    let warnings = warnings_of(alloc, given, rule, key)?;
-    for warning in warnings.iter() {
-        put_warning(warning, rule, out)?;
+fn put_warnings(alloc: Global, given: &[Field], key: &str, out: &mut Output) {
+    let Some(rule) = rule_given(given, out) else {
+        return;
+    };
+    if let Some(warnings) = warnings_of(alloc, given, rule, key, out) {
+        for warning in warnings.iter() {
+            put_warning(warning, rule.0, out);
+        }
     }
-    Ok(())
+}
+
+/// Answers with what serde writes of the warnings of `analyze_rule` about the row's rule.
+fn find_warnings_written(alloc: Global, given: &[Field], field: &Field, found: &mut Found) {
+    let Some(rule) = rule_given(given, &mut found.other) else {
+        return;
+    };
+    if let Some(warnings) = warnings_of(alloc, given, rule, "warnings", &mut found.other) {
+        find_written(
+            written_and_read(alloc, &warnings, field.text.as_str()),
+            field,
+            found,
+        );
+    }
 }
 
 /// The greatest length of lists and texts if the row gives no other.
 const USUAL: u64 = 1_000;
 
 /// Writes the estimated cost of the row's expression.
-fn put_cost(alloc: Global, given: &[Field], out: &mut String) -> Result<(), Stop> {
-    let items = rows::number_or(given, "list size", USUAL)?;
-    let length = rows::number_or(given, "text length", USUAL)?;
-    match Program::compile(alloc, rows::needed(given, "expression")?)? {
-        Ok(program) => {
-            let cost = estimated_cost(program.expression(), Sizes { items, length });
-            Ok(write!(out, "{cost}")?)
-        }
-        Err(_) => Err(Stop::Unfit("expression")),
+fn put_cost(alloc: Global, given: &[Field], out: &mut Output) {
+    let sizes = Sizes {
+        items: out
+            .take(rows::number_or(given, "list size", USUAL))
+            .unwrap_or(0),
+        length: out
+            .take(rows::number_or(given, "text length", USUAL))
+            .unwrap_or(0),
+    };
+    let Some(text) = out.take(rows::needed(given, "expression")) else {
+        return;
+    };
+    match out.take(Program::compile(alloc, text)) {
+        Some(Ok(program)) => out.show(&estimated_cost(program.expression(), sizes)),
+        _ => out.stop(Stop::Unfit("expression")),
     }
 }
 
 /// Answers a field about the row's rule or expression. The warnings of `analyze_rule` must be those
 /// about its names, followed by those about its cost.
-pub(crate) fn find(
-    alloc: Global,
-    given: &[Field],
-    field: &Field,
-    found: &mut Found,
-) -> Result<(), Stop> {
+pub(crate) fn find(alloc: Global, given: &[Field], field: &Field, found: &mut Found) {
     match field.key.as_str() {
         "cost" => put_cost(alloc, given, &mut found.text),
         "warnings" => {
-            put_warnings(alloc, given, "warnings", &mut found.other)?;
-            found.end("analyze_rule")?;
-            put_warnings(alloc, given, "scope warnings", &mut found.other)?;
-            put_warnings(alloc, given, "cost warnings", &mut found.other)?;
-            found.end("check_rule_scope and estimate_rule_cost")
+            put_warnings(alloc, given, "warnings", &mut found.other);
+            found.end("analyze_rule");
+            put_warnings(alloc, given, "scope warnings", &mut found.other);
+            put_warnings(alloc, given, "cost warnings", &mut found.other);
+            found.end("check_rule_scope and estimate_rule_cost");
         }
-        "warnings written" => {
-            let rule = rows::needed(given, "rule")?;
-            let warnings = warnings_of(alloc, given, rule, "warnings")?;
-            found.expect(field)?;
-            let is_read = put_and_read(alloc, &warnings, field.text.as_str(), &mut found.other)?;
-            found.end_expected(field, is_read)
-        }
+        "warnings written" => find_warnings_written(alloc, given, field, found),
         key => put_warnings(alloc, given, key, &mut found.text),
     }
 }

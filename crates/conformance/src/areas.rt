@@ -1,6 +1,6 @@
 //! Dispatches the fields of rows by area.
 
-use crate::{analysis, case, causes, commands, findings, policies, types, verdicts};
+use crate::{analysis, causes, commands, findings, policies, types, verdicts};
 use conformance_rows::{Field, Found, Stop};
 use std::alloc::Global;
 
@@ -46,35 +46,28 @@ const AREAS: [(&str, Area); 24] = [
     ("differ", Area::Differ),
 ];
 
-/// The area of a key.
-///
-/// # Errors
-/// [`Stop::Unfit`] if the key isn't known.
-fn area_of(key: &str) -> Result<Area, Stop> {
+/// The area of a key, if it is known.
+fn area_of(key: &str) -> Option<Area> {
     for &(name, area) in AREAS.iter() {
         if name == key {
-            return Ok(area);
+            return Some(area);
         }
     }
-    Err(Stop::Unfit("a key that is known here"))
+    None
 }
 
 /// Answers a field about a verdict, a command, a policy, a rule or a value that serde writes.
-pub(crate) fn find(
-    alloc: Global,
-    given: &[Field],
-    field: &Field,
-    found: &mut Found,
-) -> Result<(), Stop> {
-    match area_of(field.key.as_str())? {
-        Area::Verdict => verdicts::find(alloc, &case::given(alloc, given)?, field, found),
-        Area::Command => commands::find(alloc, given, field, found),
-        Area::EachWrite => commands::refuse_each_write(alloc, given, found),
-        Area::Policy => policies::find(alloc, given, field, found),
-        Area::Findings => findings::find(alloc, given, &mut found.text),
-        Area::Analysis => analysis::find(alloc, given, field, found),
-        Area::Causes => causes::find(alloc, given, field, found),
-        Area::Written => types::written(alloc, given, field, found),
-        Area::Differ => types::differ(alloc, given, field, found),
+pub(crate) fn find(alloc: Global, given: &[Field], field: &Field, found: &mut Found) {
+    match area_of(field.key.as_str()) {
+        Some(Area::Verdict) => verdicts::find(alloc, given, field, found),
+        Some(Area::Command) => commands::find(alloc, given, field, found),
+        Some(Area::EachWrite) => commands::refuse_each_write(alloc, given, found),
+        Some(Area::Policy) => policies::find(alloc, given, field, found),
+        Some(Area::Findings) => findings::find(alloc, given, &mut found.text),
+        Some(Area::Analysis) => analysis::find(alloc, given, field, found),
+        Some(Area::Causes) => causes::find(alloc, given, field, found),
+        Some(Area::Written) => types::written(alloc, given, field, found),
+        Some(Area::Differ) => types::differ(alloc, given, field, found),
+        None => found.stop(Stop::Unfit("a key that is known here")),
     }
 }

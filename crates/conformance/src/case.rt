@@ -1,51 +1,74 @@
 //! The cases that rows give to judge.
 
 use conformance_rows::nested::{object_given, schema_given, value_given};
-use conformance_rows::{Field, Stop, given as rows};
+use conformance_rows::{Field, Found, given as rows};
 use kube_cel::RootContext;
 use serde_json::Value;
-use std::alloc::{AllocError, Global};
+use std::alloc::Global;
 
 /// A schema, an object with its old state, and the root context.
+#[derive(Clone, Copy)]
+pub(crate) struct Case<'v> {
+    pub(crate) schema: &'v Value,
+    pub(crate) object: &'v Value,
+    pub(crate) old: Option<&'v Value>,
+    pub(crate) root: Option<&'v RootContext>,
+}
+
+/// The values of a case that a row gives. What can't be read is null.
 #[derive(Drop)]
-pub(crate) struct Case {
-    pub(crate) schema: Value,
-    pub(crate) object: Value,
-    pub(crate) old: Option<Value>,
-    pub(crate) root: Option<RootContext>,
+pub(crate) struct CaseValues {
+    schema: Value,
+    object: Value,
+    old: Option<Value>,
+    root: Option<RootContext>,
+}
+
+impl CaseValues {
+    /// The case of these values.
+    pub(crate) fn case(&self) -> Case<'_> {
+        Case {
+            schema: &self.schema,
+            object: &self.object,
+            old: self.old.as_ref(),
+            root: self.root.as_ref(),
+        }
+    }
 }
 
 /// Appends a member's text to a field, if there is one.
-fn fill(field: &mut String, value: &Value, key: &str) -> Result<(), AllocError> {
-    match value.get(key).and_then(Value::as_str) {
-        Some(text) => field.push_str(text),
-        None => Ok(()),
+fn fill(field: &mut String, reported: &Value, key: &str, found: &mut Found) {
+    if let Some(Value::String(text)) = reported.get(key) {
+        let _ = found.take(field.push_str(text.as_str()));
     }
 }
 
 /// Returns a copy of the root context in JSON. Members that the JSON leaves out have their default.
-fn root_of(alloc: Global, reported: &Value) -> Result<RootContext, Stop> {
+fn root_of(alloc: Global, reported: &Value, found: &mut Found) -> Option<RootContext> {
     let mut root = RootContext::default(alloc);
-    fill(&mut root.api_version, reported, "apiVersion")?;
-    fill(&mut root.api_group, reported, "apiGroup")?;
-    fill(&mut root.kind, reported, "kind")?;
-    Ok(root.try_clone()?)
+    fill(&mut root.api_version, reported, "apiVersion", found);
+    fill(&mut root.api_group, reported, "apiGroup", found);
+    fill(&mut root.kind, reported, "kind", found);
+    found.take(root.try_clone())
 }
 
 /// Reads the root context that a row gave last.
-fn root_given(alloc: Global, given: &[Field]) -> Result<Option<RootContext>, Stop> {
-    match rows::json(alloc, given, "root context")? {
-        Some(reported) => Ok(Some(root_of(alloc, &reported)?)),
-        None => Ok(None),
+fn root_given(alloc: Global, given: &[Field], found: &mut Found) -> Option<RootContext> {
+    match found.take(rows::json(alloc, given, "root context")) {
+        Some(Some(reported)) => root_of(alloc, &reported, found),
+        _ => None,
     }
 }
 
-/// Reads the case that a row gives.
-pub(crate) fn given(alloc: Global, given: &[Field]) -> Result<Case, Stop> {
-    Ok(Case {
-        schema: schema_given(alloc, given)?,
-        object: object_given(alloc, given)?,
-        old: value_given(alloc, given, "old object")?,
-        root: root_given(alloc, given)?,
-    })
+/// Reads the case that a row gives. If a part can't be read, records why.
+pub(crate) fn given(alloc: Global, given: &[Field], found: &mut Found) -> CaseValues {
+    let schema = found.take(schema_given(alloc, given));
+    let object = found.take(object_given(alloc, given));
+    let old = found.take(value_given(alloc, given, "old object"));
+    CaseValues {
+        schema: schema.unwrap_or(Value::Null),
+        object: object.unwrap_or(Value::Null),
+        old: old.unwrap_or(None),
+        root: root_given(alloc, given, found),
+    }
 }

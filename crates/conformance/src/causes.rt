@@ -1,72 +1,82 @@
 //! Answers rows about the causes of validation errors, and about what serde writes of the errors.
 
 use crate::schemas::errors_given;
-use crate::types::{put_and_read, read};
-use conformance_rows::texts::push_line;
-use conformance_rows::{Field, Found, Stop, given as rows};
+use crate::types::{find_written, read, written_and_read};
+use conformance_rows::{Field, Found, Output, Stop, given as rows};
 use kube_cel::{ValidationError, ValidationErrors};
-use std::alloc::Global;
+use std::alloc::{AllocError, Global};
 
 /// Writes the text of an error's cause on a line, or `none` if it has none.
-fn put_cause(error: &ValidationError, out: &mut String) -> Result<(), Stop> {
-    push_line(out, "")?;
+fn put_cause(error: &ValidationError, out: &mut Output) {
+    out.push_line("");
     match error.cause() {
-        Some(cause) => write!(out, "{cause}")?,
-        None => out.push_str("none")?,
+        Some(cause) => out.show(cause),
+        None => out.push("none"),
     }
-    Ok(())
 }
 
-/// Writes the cause of a copy of an error. Returns whether the copy equals the error.
-fn put_copied(error: &ValidationError, out: &mut String) -> Result<bool, Stop> {
-    let copy = error.try_clone()?;
-    put_cause(&copy, out)?;
-    Ok(copy == *error)
+/// Adds the cause of an error to the answer. A copy of the error must be equal, and have the same
+/// cause.
+fn find_cause(error: &ValidationError, found: &mut Found) {
+    put_cause(error, &mut found.text);
+    let Some(copy) = found.take(error.try_clone()) else {
+        return;
+    };
+    put_cause(&copy, &mut found.other);
+    let is_same = copy == *error && found.other.as_str() == found.text.as_str();
+    if !is_same {
+        found.stop(Stop::Differs("try_clone"));
+    }
 }
 
-/// Answers with the causes of errors, one a line. A copy of each error must have the same cause.
-fn find_causes(errors: &[ValidationError], found: &mut Found) -> Result<(), Stop> {
+/// Answers with the causes of errors, one a line.
+fn find_causes(errors: &[ValidationError], found: &mut Found) {
     for error in errors {
-        put_cause(error, &mut found.text)?;
-        if !put_copied(error, &mut found.other)? || found.other.as_str() != found.text.as_str() {
-            return Err(Stop::Differs("try_clone"));
+        if !found.is_stopped() {
+            find_cause(error, found);
         }
     }
-    Ok(())
 }
 
-/// Answers with the causes in a copy of the errors of the row's object.
-fn find_copied(alloc: Global, given: &[Field], found: &mut Found) -> Result<(), Stop> {
-    let errors = errors_given(alloc, given)?;
-    let copy = errors.try_clone()?;
-    if copy != errors {
-        return Err(Stop::Differs("try_clone"));
+/// Answers with the causes in a copy of errors.
+fn find_copied(errors: &ValidationErrors, found: &mut Found) {
+    let Some(copy) = found.take(errors.try_clone()) else {
+        return;
+    };
+    if copy != *errors {
+        found.stop(Stop::Differs("try_clone"));
     }
-    find_causes(copy.as_slice(), found)
+    find_causes(copy.as_slice(), found);
+}
+
+/// Answers with the causes of the errors that are read from a row's JSON.
+fn find_read(alloc: Global, given: &[Field], found: &mut Found) {
+    let Some(json) = found.take(rows::needed(given, "json")) else {
+        return;
+    };
+    let errors: Result<Option<ValidationErrors>, AllocError> = read(alloc, json);
+    match found.take(errors) {
+        Some(Some(errors)) => find_causes(errors.as_slice(), found),
+        _ => found.stop(Stop::Unfit("json")),
+    }
 }
 
 /// Answers with the causes of the errors of the row's object, or of errors read from JSON, or with
 /// what serde writes of the errors.
-pub(crate) fn find(
-    alloc: Global,
-    given: &[Field],
-    field: &Field,
-    found: &mut Found,
-) -> Result<(), Stop> {
-    match field.key.as_str() {
-        "causes" => find_copied(alloc, given, found),
-        "causes read" => {
-            let errors: Option<ValidationErrors> = read(alloc, rows::needed(given, "json")?)?;
-            match errors {
-                Some(errors) => find_causes(errors.as_slice(), found),
-                None => Err(Stop::Unfit("json")),
-            }
-        }
-        _ => {
-            let errors = errors_given(alloc, given)?;
-            found.expect(field)?;
-            let is_read = put_and_read(alloc, &errors, field.text.as_str(), &mut found.other)?;
-            found.end_expected(field, is_read)
-        }
+pub(crate) fn find(alloc: Global, given: &[Field], field: &Field, found: &mut Found) {
+    if field.key.as_str() == "causes read" {
+        return find_read(alloc, given, found);
+    }
+    let Some(errors) = errors_given(alloc, given, found) else {
+        return;
+    };
+    if field.key.as_str() == "causes" {
+        find_copied(&errors, found);
+    } else {
+        find_written(
+            written_and_read(alloc, &errors, field.text.as_str()),
+            field,
+            found,
+        );
     }
 }

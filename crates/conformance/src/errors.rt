@@ -1,42 +1,40 @@
 //! Prints and compares the errors of a verdict.
 
-use conformance_rows::Stop;
-use conformance_rows::texts::{push_line, push_member};
-use kube_cel::{ErrorKind, ValidationError, ValidationErrors};
-use std::alloc::Global;
+use conformance_rows::{Output, Stop};
+use kube_cel::{ErrorKind, Refused, ValidationError, ValidationErrors};
+use std::alloc::{AllocError, Global};
 
 /// The answer of validation for an object.
 pub(crate) type Verdict = Result<(), ValidationErrors>;
 
 /// Appends an error as a JSON object on a line.
-fn push_error(alloc: Global, error: &ValidationError, out: &mut String) -> Result<(), Stop> {
-    let kind = error.kind;
-    push_line(out, "{")?;
-    write!(out, "\"kind\": \"{kind:?}\"")?;
-    push_member(alloc, out, "path", error.field_path.as_str())?;
-    push_member(alloc, out, "rule", error.rule.as_str())?;
-    if let Some(reason) = &error.reason {
-        push_member(alloc, out, "reason", reason.as_str())?;
-    }
-    push_member(alloc, out, "message", error.message.as_str())?;
+fn push_error(alloc: Global, error: &ValidationError, out: &mut Output) {
+    out.push_line("{\"kind\": \"");
+    out.debug(&error.kind);
+    out.push("\"");
+    out.push_member("path", error.field_path.as_str());
+    out.push_member("rule", error.rule.as_str());
+    out.push_optional_member("reason", &error.reason);
+    out.push_member("message", error.message.as_str());
     if let Some(cause) = error.cause() {
-        push_member(alloc, out, "cause", cause.to_string(alloc)?.as_str())?;
+        if let Some(text) = out.take(cause.to_string(alloc)) {
+            out.push_member("cause", text.as_str());
+        }
     }
-    Ok(out.push('}')?)
+    out.push("}");
 }
 
 /// Appends all fields of all errors, one error a line.
-pub(crate) fn push_parts(alloc: Global, verdict: &Verdict, out: &mut String) -> Result<(), Stop> {
+pub(crate) fn push_parts(alloc: Global, verdict: &Verdict, out: &mut Output) {
     let Err(errors) = verdict else {
-        return Ok(());
+        return;
     };
     if errors.is_empty() || errors.len() != errors.as_slice().len() {
-        return Err(Stop::Differs("the number of errors"));
+        out.stop(Stop::Differs("the number of errors"));
     }
     for error in errors.as_slice() {
-        push_error(alloc, error, out)?;
+        push_error(alloc, error, out);
     }
-    Ok(())
 }
 
 /// The ways in which a copy of a list of errors is changed.
@@ -45,86 +43,95 @@ const CHANGES: [&str; 7] = [
 ];
 
 /// Changes one field of an error.
-fn change(alloc: Global, error: &mut ValidationError, what: &str) -> Result<(), Stop> {
+fn change(alloc: Global, error: &mut ValidationError, what: &str) -> Result<(), AllocError> {
     match what {
         "kind" => {
             error.kind = match error.kind {
                 ErrorKind::InvalidResult => ErrorKind::EvaluationError,
                 _ => ErrorKind::InvalidResult,
             };
+            Ok(())
         }
-        "path" => error.field_path.push('a')?,
-        "rule" => error.rule.push('a')?,
+        "path" => error.field_path.push('a'),
+        "rule" => error.rule.push('a'),
         "reason" => match &mut error.reason {
-            Some(reason) => reason.push('a')?,
-            None => error.reason = Some(String::new(alloc)),
+            Some(reason) => reason.push('a'),
+            None => {
+                error.reason = Some(String::new(alloc));
+                Ok(())
+            }
         },
-        "message" => error.message.push('a')?,
-        _ => {}
+        "message" => error.message.push('a'),
+        _ => Ok(()),
     }
-    Ok(())
 }
 
-/// Reports whether `==` distinguishes a list of errors, and its last error, from a copy that is
-/// changed in one field of the last error or lacks it.
-fn distinguishes(alloc: Global, errors: &ValidationErrors, what: &str) -> Result<bool, Stop> {
-    let mut copies = errors.try_clone()?.into_vec();
+/// Returns a copy of a list of errors that is changed in one field of its last error, or lacks it.
+fn changed(
+    alloc: Global,
+    errors: &ValidationErrors,
+    what: &str,
+    out: &mut Output,
+) -> Option<ValidationErrors> {
+    let mut copies = out.take(errors.try_clone())?.into_vec();
     if what == "count" {
         let _ = copies.pop();
+    } else if let Some(last) = copies.last_mut() {
+        let _ = out.take(change(alloc, last, what));
     }
-    if let Some(last) = copies.last_mut() {
-        change(alloc, last, what)?;
-    }
-    let is_last_equal = match (errors.as_slice().last(), copies.as_slice().last()) {
-        (Some(a), Some(b)) => what != "count" && a == b,
+    Some(ValidationErrors::from(copies))
+}
+
+/// Reports whether `==` distinguishes a list of errors, and its last error, from a changed copy.
+/// If the copy lacks the last error, only the lists are compared.
+fn distinguishes(errors: &ValidationErrors, copy: &ValidationErrors) -> bool {
+    let is_last_equal = match (errors.as_slice().last(), copy.as_slice().last()) {
+        (Some(a), Some(b)) => errors.len() == copy.len() && a == b,
         _ => false,
     };
-    Ok(*errors != ValidationErrors::from(copies) && !is_last_equal)
+    *errors != *copy && !is_last_equal
 }
 
 /// Writes the changes by which `==` distinguishes a list of errors, and its last error, from a
 /// copy.
-fn put_changes(alloc: Global, errors: &ValidationErrors, out: &mut String) -> Result<(), Stop> {
+fn put_changes(alloc: Global, errors: &ValidationErrors, out: &mut Output) {
     for &what in CHANGES.iter() {
-        if distinguishes(alloc, errors, what)? {
-            out.push_str(if out.is_empty() { "" } else { ", " })?;
-            out.push_str(what)?;
+        if let Some(copy) = changed(alloc, errors, what, out) {
+            if distinguishes(errors, &copy) {
+                let between = if out.is_empty() { "" } else { ", " };
+                out.push(between);
+                out.push(what);
+            }
         }
     }
-    Ok(())
 }
 
-/// Appends all fields of these errors, one error a line.
-fn push_copied(alloc: Global, errors: ValidationErrors, out: &mut String) -> Result<(), Stop> {
-    for error in errors {
-        push_error(alloc, &error, out)?;
+/// Appends all fields of the errors of a copy, one error a line.
+fn push_copied(alloc: Global, copy: Result<ValidationErrors, Refused>, out: &mut Output) {
+    if let Some(errors) = out.take(copy) {
+        for error in errors {
+            push_error(alloc, &error, out);
+        }
     }
-    Ok(())
 }
 
 /// Writes errors as they print themselves, one a line.
-fn put_printed(errors: &[ValidationError], out: &mut String) -> Result<(), Stop> {
+fn put_printed(errors: &[ValidationError], out: &mut Output) {
     for error in errors {
-        push_line(out, "")?;
-        write!(out, "{error}")?;
+        out.push_line("");
+        out.show(error);
     }
-    Ok(())
 }
 
 /// Writes what a field asks about a verdict.
-pub(crate) fn put_verdict(
-    alloc: Global,
-    asked: &str,
-    verdict: &Verdict,
-    out: &mut String,
-) -> Result<(), Stop> {
+pub(crate) fn put_verdict(alloc: Global, asked: &str, verdict: &Verdict, out: &mut Output) {
     let Err(errors) = verdict else {
-        return Ok(());
+        return;
     };
     match asked {
         "error parts" => push_parts(alloc, verdict, out),
-        "printed" => Ok(write!(out, "{errors}")?),
-        "copied" => push_copied(alloc, errors.try_clone()?, out),
+        "printed" => out.show(errors),
+        "copied" => push_copied(alloc, errors.try_clone(), out),
         "errors" => put_printed(errors.as_slice(), out),
         _ => put_changes(alloc, errors, out),
     }

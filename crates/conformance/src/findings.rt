@@ -1,8 +1,7 @@
 //! Answers rows about the linter.
 
 use crate::schemas::compiled_given;
-use conformance_rows::texts::push_line;
-use conformance_rows::{Field, Stop};
+use conformance_rows::{Field, Output, Stop};
 use kube_cel::{LintFinding, LintKind, lint_schema};
 use serde_json::Value;
 use std::alloc::Global;
@@ -20,47 +19,53 @@ pub(crate) fn lint_kind_of(name: &str) -> Result<LintKind, Stop> {
     }
 }
 
-/// The text of a member of an object.
-fn member<'v>(object: &'v Value, key: &'static str) -> Result<&'v str, Stop> {
-    match object.get(key).and_then(Value::as_str) {
-        Some(text) => Ok(text),
-        None => Err(Stop::Unfit(key)),
-    }
+/// Returns a copy of the text of an object's member. If there is none, records that.
+fn member(alloc: Global, object: &Value, key: &'static str, out: &mut Output) -> String {
+    let text = match object.get(key) {
+        Some(Value::String(text)) => text.as_str(),
+        _ => {
+            out.stop(Stop::Unfit(key));
+            ""
+        }
+    };
+    out.take(String::from_str(alloc, text))
+        .unwrap_or(String::new(alloc))
 }
 
-/// Reads a finding from a JSON object.
-pub(crate) fn finding_of(alloc: Global, object: &Value) -> Result<LintFinding, Stop> {
-    let kind = lint_kind_of(member(object, "kind")?)?;
-    let pointer = member(object, "pointer")?;
-    let rule = member(object, "rule")?;
-    let message = member(object, "message")?;
-    Ok(LintFinding {
-        pointer: String::from_str(alloc, pointer)?,
-        rule: String::from_str(alloc, rule)?,
-        kind,
-        message: String::from_str(alloc, message)?,
+/// Reads a finding from a JSON object. If it is none, records why.
+pub(crate) fn finding_of(alloc: Global, object: &Value, out: &mut Output) -> Option<LintFinding> {
+    let kind = member(alloc, object, "kind", out);
+    Some(LintFinding {
+        kind: out.take(lint_kind_of(kind.as_str()))?,
+        pointer: member(alloc, object, "pointer", out),
+        rule: member(alloc, object, "rule", out),
+        message: member(alloc, object, "message", out),
     })
 }
 
 /// Writes a finding: its pointer after a number sign, its rule if it has one, and its kind and
 /// message.
-fn put_finding(finding: &LintFinding, out: &mut String) -> Result<(), Stop> {
-    let (kind, message) = (finding.kind, finding.message.as_str());
-    push_line(out, "#")?;
-    out.push_str(finding.pointer.as_str())?;
+fn put_finding(finding: &LintFinding, out: &mut Output) {
+    out.push_line("#");
+    out.push(finding.pointer.as_str());
     if !finding.rule.is_empty() {
-        out.push_str("\n  rule: ")?;
-        out.push_str(finding.rule.as_str())?;
+        out.push("\n  rule: ");
+        out.push(finding.rule.as_str());
     }
-    Ok(write!(out, "\n  {kind:?}: {message}")?)
+    out.push("\n  ");
+    out.debug(&finding.kind);
+    out.push(": ");
+    out.push(finding.message.as_str());
 }
 
 /// Writes the linter's findings about the row's schema.
-pub(crate) fn find(alloc: Global, given: &[Field], out: &mut String) -> Result<(), Stop> {
-    let compiled = compiled_given(alloc, given)?;
-    let findings = lint_schema(alloc, &compiled)?;
-    for finding in findings.iter() {
-        put_finding(finding, out)?;
+pub(crate) fn find(alloc: Global, given: &[Field], out: &mut Output) {
+    let Some(compiled) = compiled_given(alloc, given, out) else {
+        return;
+    };
+    if let Some(findings) = out.take(lint_schema(alloc, &compiled)) {
+        for finding in findings.iter() {
+            put_finding(finding, out);
+        }
     }
-    Ok(())
 }

@@ -1,7 +1,7 @@
 //! Runs the commands of `kubecel` that rows give, over files in memory.
 
 use conformance_rows::keys::file_given;
-use conformance_rows::{Field, MANY, Narrow, Ran, Stop, given as rows};
+use conformance_rows::{Field, Found, MANY, Narrow, Ran, Stop, given as rows};
 use kubecel_cli::{Admit, Check, Command, Output, Refused, ReportFormat, Sources, run};
 use std::alloc::Global;
 use std::io;
@@ -22,15 +22,16 @@ impl Sources for Files<'_> {
 }
 
 /// The form of output that a row asks for.
-fn output(given: &[Field]) -> Result<Output, Stop> {
+fn output(given: &[Field], found: &mut Found) -> Output {
     match rows::text(given, "form") {
-        None | Some("text") => Ok(Output::Text),
-        Some("coloured") => Ok(Output::Coloured),
-        Some("json") => Ok(Output::Json),
-        Some("github") => Ok(Output::Github),
-        Some("junit") => Ok(Output::Junit),
-        Some(_) => Err(Stop::Unfit("form")),
+        None | Some("text") => {}
+        Some("coloured") => return Output::Coloured,
+        Some("json") => return Output::Json,
+        Some("github") => return Output::Github,
+        Some("junit") => return Output::Junit,
+        Some(_) => found.stop(Stop::Unfit("form")),
     }
+    Output::Text
 }
 
 /// The paths that a row's command names.
@@ -89,20 +90,31 @@ fn run_command(
     }
 }
 
+/// The paths in the lines that a row gives under a key.
+fn paths_given<'g>(
+    alloc: Global,
+    given: &'g [Field],
+    key: &str,
+    found: &mut Found,
+) -> Vec<&'g str> {
+    let lines = found.take(rows::lines(alloc, given, key));
+    lines.unwrap_or(Vec::new(alloc))
+}
+
 /// Runs a row's command. Standard output accepts `writes` writes and refuses further ones.
-pub(crate) fn run_given(alloc: Global, given: &[Field], writes: u64) -> Result<Ran, Stop> {
+pub(crate) fn run_given(alloc: Global, given: &[Field], writes: u64, found: &mut Found) -> Ran {
     if !names_command(given) {
-        return Err(Stop::Unfit("command"));
+        found.stop(Stop::Unfit("command"));
     }
     let form = ReportFormat {
-        output: output(given)?,
+        output: output(given, found),
         progress: rows::text(given, "progress").is_some(),
     };
     let paths = Paths {
-        crds: rows::lines(alloc, given, "by")?,
-        olds: rows::lines(alloc, given, "before")?,
-        objects: rows::lines(alloc, given, "check")?,
-        reviewed: rows::lines(alloc, given, "review")?,
+        crds: paths_given(alloc, given, "by", found),
+        olds: paths_given(alloc, given, "before", found),
+        objects: paths_given(alloc, given, "check", found),
+        reviewed: paths_given(alloc, given, "review", found),
     };
-    Ok(run_command(alloc, command_of(given, &paths), form, given, writes))
+    run_command(alloc, command_of(given, &paths), form, given, writes)
 }

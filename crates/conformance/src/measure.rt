@@ -6,22 +6,17 @@
 mod runs;
 mod twice;
 
-use std::io;
+use std::io::{self, Input};
 
 /// Makes the run that standard input names.
 pub(crate) fn run(rt: &HostRuntime) -> io::Result<()> {
-    let mut words = Vec::new(rt.alloc());
-    for line in rt.lines(rt.alloc()) {
-        words.push(line?)?;
-    }
-    match words.as_slice() {
-        [run, text] => runs::of_text(rt, run.as_str(), text.as_str()),
-        [run, schema, given] => {
-            runs::of_schema(rt, run.as_str(), schema.as_str(), given.as_str())
-        }
-        [run, text, list, map] if run.as_str() == "execute" => {
-            runs::of_bound(rt, text.as_str(), list.as_str(), map.as_str())
-        }
-        _ => runs::unusable(),
-    }
+    let text = io::read_to_string(rt.alloc(), rt.reader())?;
+    let mut lines = text.as_str().lines();
+    let name = lines.next().unwrap_or("");
+    let texts = runs::Texts {
+        first: lines.next().unwrap_or(""),
+        second: lines.next().unwrap_or(""),
+        third: lines.next().unwrap_or(""),
+    };
+    runs::make_named(rt, name, texts)
 }

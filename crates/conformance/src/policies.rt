@@ -1,53 +1,59 @@
 //! Answers rows about policies: the results of expressions over an object, an old object,
 //! parameters, a namespace and a request.
 
-use crate::types::{put_and_read, read};
-use conformance_rows::texts::push_line;
-use conformance_rows::{Field, Found, Stop, given as rows};
+use crate::types::{find_written, read, written_and_read};
+use conformance_rows::{Field, Found, Output, Stop, given as rows};
 use kube_cel::{
-    AdmissionRequest, CompiledVapExpression, VapError, VapEvaluator, VapEvaluatorBuilder,
+    AdmissionRequest, CompiledVapExpression, Refused, VapError, VapEvaluator, VapEvaluatorBuilder,
     VapExpression, VapResult,
 };
 use serde_json::Value;
-use std::alloc::Global;
+use std::alloc::{AllocError, Global};
 
-/// Reports whether a copy of a request equals it, and copies of its parts equal them.
-fn is_copied(request: &AdmissionRequest, copy: &AdmissionRequest) -> Result<bool, Stop> {
-    let kind = copy.kind.try_clone()?;
-    let resource = copy.resource.try_clone()?;
-    Ok(copy == request && kind == request.kind && resource == request.resource)
+/// Compares a copy of a request with it, and copies of its parts with them.
+fn hold_copy(request: &AdmissionRequest, copy: &AdmissionRequest, found: &mut Found) {
+    let kind = found.take(copy.kind.try_clone());
+    let resource = found.take(copy.resource.try_clone());
+    let is_copied = match (&kind, &resource) {
+        (Some(kind), Some(resource)) => {
+            copy == request && *kind == request.kind && *resource == request.resource
+        }
+        _ => false,
+    };
+    if !is_copied {
+        found.stop(Stop::Differs("try_clone"));
+    }
 }
 
 /// Returns a copy of a request, which must be equal.
-fn copy_of(request: &AdmissionRequest) -> Result<AdmissionRequest, Stop> {
-    let copy = request.try_clone()?;
-    if is_copied(request, &copy)? {
-        Ok(copy)
-    } else {
-        Err(Stop::Differs("try_clone"))
+fn copy_of(request: &AdmissionRequest, found: &mut Found) -> Option<AdmissionRequest> {
+    let copy = found.take(request.try_clone());
+    if let Some(copy) = &copy {
+        hold_copy(request, copy, found);
     }
+    copy
 }
 
 /// Returns a copy of the request that the row gives, if it gives one.
-fn request_given(alloc: Global, given: &[Field]) -> Result<Option<AdmissionRequest>, Stop> {
-    let Some(text) = rows::text(given, "request") else {
-        return Ok(None);
-    };
-    let request: Option<AdmissionRequest> = read(alloc, text)?;
-    match request {
-        Some(request) => Ok(Some(copy_of(&request)?)),
-        None => Err(Stop::Unfit("request")),
+fn request_given(alloc: Global, given: &[Field], found: &mut Found) -> Option<AdmissionRequest> {
+    let text = rows::text(given, "request")?;
+    let request: Result<Option<AdmissionRequest>, AllocError> = read(alloc, text);
+    match found.take(request) {
+        Some(Some(request)) => copy_of(&request, found),
+        _ => {
+            found.stop(Stop::Unfit("request"));
+            None
+        }
     }
 }
 
-/// Sets the value of a key, if there is one.
-fn set(builder: VapEvaluatorBuilder, key: &str, value: Option<Value>) -> VapEvaluatorBuilder {
-    match (key, value) {
-        ("object", Some(value)) => builder.object(value),
-        ("old object", Some(value)) => builder.old_object(value),
-        ("params", Some(value)) => builder.params(value),
-        ("namespace object", Some(value)) => builder.namespace_object(value),
-        _ => builder,
+/// Sets the value of a key.
+fn set(builder: VapEvaluatorBuilder, key: &str, value: Value) -> VapEvaluatorBuilder {
+    match key {
+        "object" => builder.object(value),
+        "old object" => builder.old_object(value),
+        "params" => builder.params(value),
+        _ => builder.namespace_object(value),
     }
 }
 
@@ -57,20 +63,11 @@ fn with_value(
     given: &[Field],
     builder: VapEvaluatorBuilder,
     key: &'static str,
-) -> Result<VapEvaluatorBuilder, Stop> {
-    let value = rows::json(alloc, given, key)?;
-    Ok(set(builder, key, value))
-}
-
-/// Sets the request that the row gives, if any.
-fn with_request(
-    alloc: Global,
-    given: &[Field],
-    builder: VapEvaluatorBuilder,
-) -> Result<VapEvaluatorBuilder, Stop> {
-    match request_given(alloc, given)? {
-        Some(request) => Ok(builder.request(request)),
-        None => Ok(builder),
+    found: &mut Found,
+) -> VapEvaluatorBuilder {
+    match found.take(rows::json(alloc, given, key)) {
+        Some(Some(value)) => set(builder, key, value),
+        _ => builder,
     }
 }
 
@@ -80,13 +77,16 @@ fn built(
     alloc: Global,
     given: &[Field],
     builder: VapEvaluatorBuilder,
-) -> Result<VapEvaluator, Stop> {
-    let builder = with_value(alloc, given, builder, "object")?;
-    let builder = with_value(alloc, given, builder, "old object")?;
-    let builder = with_value(alloc, given, builder, "params")?;
-    let builder = with_value(alloc, given, builder, "namespace object")?;
-    let builder = with_request(alloc, given, builder)?;
-    Ok(builder.build())
+    found: &mut Found,
+) -> VapEvaluator {
+    let builder = with_value(alloc, given, builder, "object", found);
+    let builder = with_value(alloc, given, builder, "old object", found);
+    let builder = with_value(alloc, given, builder, "params", found);
+    let builder = with_value(alloc, given, builder, "namespace object", found);
+    match request_given(alloc, given, found) {
+        Some(request) => builder.request(request).build(),
+        None => builder.build(),
+    }
 }
 
 /// Returns a builder with the values that an unset object, old object and request stand for.
@@ -98,92 +98,97 @@ fn filled_builder(alloc: Global) -> VapEvaluatorBuilder {
 }
 
 /// Returns a copy of the text that the row gives under a key, if any.
-fn text_given(alloc: Global, given: &[Field], key: &str) -> Result<Option<String>, Stop> {
+fn text_given(alloc: Global, given: &[Field], key: &str, found: &mut Found) -> Option<String> {
     match rows::text(given, key) {
-        Some(text) => Ok(Some(String::from_str(alloc, text)?)),
-        None => Ok(None),
+        Some(text) => found.take(String::from_str(alloc, text)),
+        None => None,
     }
 }
 
 /// Reads the expression that the row gives, with its messages.
-fn expression_given(alloc: Global, given: &[Field]) -> Result<VapExpression, Stop> {
-    let text = rows::needed(given, "expression")?;
-    Ok(VapExpression {
-        expression: String::from_str(alloc, text)?,
-        message: text_given(alloc, given, "message")?,
-        message_expression: text_given(alloc, given, "message expression")?,
+fn expression_given(alloc: Global, given: &[Field], found: &mut Found) -> Option<VapExpression> {
+    let text = found.take(rows::needed(given, "expression"))?;
+    Some(VapExpression {
+        expression: found.take(String::from_str(alloc, text))?,
+        message: text_given(alloc, given, "message", found),
+        message_expression: text_given(alloc, given, "message expression", found),
     })
 }
 
-/// Reads the expressions that the row gives: a JSON list of them, or a single one.
-fn expressions_given(alloc: Global, given: &[Field]) -> Result<Vec<VapExpression>, Stop> {
-    if let Some(text) = rows::text(given, "expressions") {
-        return match read(alloc, text)? {
-            Some(expressions) => Ok(expressions),
-            None => Err(Stop::Unfit("expressions")),
-        };
+/// Reads the expressions in a JSON list.
+fn expressions_of(alloc: Global, text: &str, found: &mut Found) -> Vec<VapExpression> {
+    let expressions: Result<Option<Vec<VapExpression>>, AllocError> = read(alloc, text);
+    match found.take(expressions) {
+        Some(Some(expressions)) => expressions,
+        _ => {
+            found.stop(Stop::Unfit("expressions"));
+            Vec::new(alloc)
+        }
     }
-    let expression = expression_given(alloc, given)?;
+}
+
+/// Reads the expressions that the row gives: a JSON list of them, or a single one.
+fn expressions_given(alloc: Global, given: &[Field], found: &mut Found) -> Vec<VapExpression> {
+    if let Some(text) = rows::text(given, "expressions") {
+        return expressions_of(alloc, text, found);
+    }
     let mut expressions = Vec::new(alloc);
-    expressions.push(expression)?;
-    Ok(expressions)
+    if let Some(expression) = expression_given(alloc, given, found) {
+        let _ = found.take(expressions.push(expression));
+    }
+    expressions
 }
 
 /// Writes the result of an expression: `pass` or `fail`, and its message if it has one. Copies of
 /// both must be equal to them.
-fn put_result(reported: &VapResult, of: &VapExpression, out: &mut String) -> Result<(), Stop> {
-    push_line(out, if reported.passed { "pass" } else { "fail" })?;
+fn put_result(reported: &VapResult, of: &VapExpression, out: &mut Output) {
+    out.push_line(if reported.passed { "pass" } else { "fail" });
     if let Some(message) = &reported.message {
-        out.push(' ')?;
-        out.push_str(message.as_str())?;
+        out.push(" ");
+        out.push(message.as_str());
     }
     if reported.expression.as_str() != of.expression.as_str() {
-        return Err(Stop::Differs("the result's expression"));
+        out.stop(Stop::Differs("the result's expression"));
     }
-    if reported.try_clone()? == *reported && of.try_clone()? == *of {
-        Ok(())
-    } else {
-        Err(Stop::Differs("try_clone"))
+    let copies = (out.take(reported.try_clone()), out.take(of.try_clone()));
+    let is_copied = match &copies {
+        (Some(a), Some(b)) => *a == *reported && *b == *of,
+        _ => false,
+    };
+    if !is_copied {
+        out.stop(Stop::Differs("try_clone"));
     }
 }
 
 /// Writes the results of expressions.
 fn put_results(
-    results: &[VapResult],
+    results: Result<Vec<VapResult>, Refused>,
     expressions: &[VapExpression],
-    out: &mut String,
-) -> Result<(), Stop> {
+    out: &mut Output,
+) {
+    let Some(results) = out.take(results) else {
+        return;
+    };
     if results.len() != expressions.len() {
-        return Err(Stop::Differs("the number of results"));
+        out.stop(Stop::Differs("the number of results"));
     }
     for (reported, of) in results.iter().zip(expressions.iter()) {
-        put_result(reported, of, out)?;
+        put_result(reported, of, out);
     }
-    Ok(())
-}
-
-/// Writes the results of expressions by `evaluate`.
-fn evaluate(
-    alloc: Global,
-    evaluator: &VapEvaluator,
-    expressions: &[VapExpression],
-    out: &mut String,
-) -> Result<(), Stop> {
-    let results = evaluator.evaluate(alloc, expressions)?;
-    put_results(results.as_slice(), expressions, out)
 }
 
 /// Writes the results of expressions that one evaluator compiles and another evaluates.
-fn evaluate_compiled(
+fn put_compiled_results(
     alloc: Global,
     compiler: &VapEvaluator,
     evaluator: &VapEvaluator,
     expressions: &[VapExpression],
-    out: &mut String,
-) -> Result<(), Stop> {
-    let compiled = compiler.compile_expressions(alloc, expressions)?;
-    let results = evaluator.evaluate_compiled(alloc, compiled.as_slice())?;
-    put_results(results.as_slice(), expressions, out)
+    out: &mut Output,
+) {
+    if let Some(compiled) = out.take(compiler.compile_expressions(alloc, expressions)) {
+        let results = evaluator.evaluate_compiled(alloc, compiled.as_slice());
+        put_results(results, expressions, out);
+    }
 }
 
 /// Answers with the results of expressions by one evaluator: all at once, compiled first, and each
@@ -193,78 +198,57 @@ fn find_by(
     evaluator: &VapEvaluator,
     expressions: &[VapExpression],
     found: &mut Found,
-) -> Result<(), Stop> {
-    evaluate(alloc, evaluator, expressions, &mut found.other)?;
-    found.end("evaluate")?;
-    evaluate_compiled(alloc, evaluator, evaluator, expressions, &mut found.other)?;
-    found.end("evaluate_compiled")?;
+) {
+    put_results(
+        evaluator.evaluate(alloc, expressions),
+        expressions,
+        &mut found.other,
+    );
+    found.end("evaluate");
+    put_compiled_results(alloc, evaluator, evaluator, expressions, &mut found.other);
+    found.end("evaluate_compiled");
     for one in expressions.chunks(1) {
-        evaluate(alloc, evaluator, one, &mut found.other)?;
+        put_results(evaluator.evaluate(alloc, one), one, &mut found.other);
     }
-    found.end("evaluate, each alone")
-}
-
-/// Answers with the results of expressions that an evaluator without values compiles and another
-/// one evaluates.
-fn find_by_other(
-    alloc: Global,
-    evaluator: &VapEvaluator,
-    expressions: &[VapExpression],
-    found: &mut Found,
-) -> Result<(), Stop> {
-    let compiler = VapEvaluator::builder().build();
-    evaluate_compiled(alloc, &compiler, evaluator, expressions, &mut found.other)?;
-    found.end("evaluate_compiled of what another compiled")
+    found.end("evaluate, each alone");
 }
 
 /// Answers with the results of the row's expressions from two evaluators: one with the row's
 /// values, and one built on `filled_builder` for which an evaluator without values compiled the
 /// expressions.
-fn find_results(
-    alloc: Global,
-    given: &[Field],
-    expressions: &[VapExpression],
-    found: &mut Found,
-) -> Result<(), Stop> {
-    find_by(
-        alloc,
-        &built(alloc, given, VapEvaluator::builder())?,
-        expressions,
-        found,
-    )?;
-    let other = built(alloc, given, filled_builder(alloc))?;
-    find_by_other(alloc, &other, expressions, found)
+fn find_results(alloc: Global, given: &[Field], expressions: &[VapExpression], found: &mut Found) {
+    let evaluator = built(alloc, given, VapEvaluator::builder(), found);
+    find_by(alloc, &evaluator, expressions, found);
+    let evaluator = built(alloc, given, filled_builder(alloc), found);
+    let compiler = VapEvaluator::builder().build();
+    put_compiled_results(alloc, &compiler, &evaluator, expressions, &mut found.other);
+    found.end("evaluate_compiled of what another compiled");
 }
 
 /// Writes the result of compiling an expression: `compiled`, or the error with the text that
 /// doesn't parse and the whole expression.
-fn put_compiled(
-    compiled: &Result<CompiledVapExpression, VapError>,
-    out: &mut String,
-) -> Result<(), Stop> {
+fn put_compiled(compiled: &Result<CompiledVapExpression, VapError>, out: &mut Output) {
     match compiled {
-        Ok(_) => push_line(out, "compiled")?,
+        Ok(_) => out.push_line("compiled"),
         Err(error) => {
-            push_line(out, "")?;
-            let (unread, original) = (error.expression.as_str(), error.original.as_str());
-            write!(out, "{error}\n  unread: {unread}\n  expression: {original}")?;
+            out.push_line("");
+            out.show(error);
+            out.push("\n  unread: ");
+            out.push(error.expression.as_str());
+            out.push("\n  expression: ");
+            out.push(error.original.as_str());
         }
     }
-    Ok(())
 }
 
 /// Writes the results of compiling expressions.
-fn put_all_compiled(
-    alloc: Global,
-    expressions: &[VapExpression],
-    out: &mut String,
-) -> Result<(), Stop> {
+fn put_all_compiled(alloc: Global, expressions: &[VapExpression], out: &mut Output) {
     let evaluator = VapEvaluator::builder().build();
-    let compiled = evaluator.compile_expressions(alloc, expressions)?;
-    for one in compiled.iter() {
-        put_compiled(one, out)?;
+    if let Some(compiled) = out.take(evaluator.compile_expressions(alloc, expressions)) {
+        for one in compiled.iter() {
+            put_compiled(one, out);
+        }
     }
-    Ok(())
 }
 
 /// Answers with what serde writes of the results of expressions, and checks that it reads that
@@ -275,27 +259,24 @@ fn find_results_written(
     expressions: &[VapExpression],
     field: &Field,
     found: &mut Found,
-) -> Result<(), Stop> {
-    let evaluator = built(alloc, given, VapEvaluator::builder())?;
-    let results = evaluator.evaluate(alloc, expressions)?;
-    found.expect(field)?;
-    let is_read = put_and_read(alloc, &results, field.text.as_str(), &mut found.other)?;
-    found.end_expected(field, is_read)
+) {
+    let evaluator = built(alloc, given, VapEvaluator::builder(), found);
+    if let Some(results) = found.take(evaluator.evaluate(alloc, expressions)) {
+        find_written(
+            written_and_read(alloc, &results, field.text.as_str()),
+            field,
+            found,
+        );
+    }
 }
 
 /// Answers a field about the row's expressions.
-pub(crate) fn find(
-    alloc: Global,
-    given: &[Field],
-    field: &Field,
-    found: &mut Found,
-) -> Result<(), Stop> {
-    let expressions = expressions_given(alloc, given)?;
+pub(crate) fn find(alloc: Global, given: &[Field], field: &Field, found: &mut Found) {
+    let read = expressions_given(alloc, given, found);
+    let expressions = read.as_slice();
     match field.key.as_str() {
-        "compiled" => put_all_compiled(alloc, expressions.as_slice(), &mut found.text),
-        "results written" => {
-            find_results_written(alloc, given, expressions.as_slice(), field, found)
-        }
-        _ => find_results(alloc, given, expressions.as_slice(), found),
+        "compiled" => put_all_compiled(alloc, expressions, &mut found.text),
+        "results written" => find_results_written(alloc, given, expressions, field, found),
+        _ => find_results(alloc, given, expressions, found),
     }
 }

@@ -2,7 +2,7 @@
 
 use crate::{areas, made};
 use conformance_rows::grammar::Maker;
-use conformance_rows::{Field, Found, Stop, Subject, keys};
+use conformance_rows::{Field, Found, Output, Subject, keys};
 use kube_cel::cel::PatternBook;
 use std::alloc::Global;
 
@@ -30,17 +30,9 @@ impl Subject for Rows {
         keys::gives(key)
     }
 
-    fn find(
-        &mut self,
-        alloc: Global,
-        given: &[Field],
-        field: &Field,
-        found: &mut Found,
-    ) -> Result<(), Stop> {
-        if conformance_parts::find(alloc, given, field, &mut self.book, found)? {
-            Ok(())
-        } else {
-            areas::find(alloc, given, field, found)
+    fn find(&mut self, alloc: Global, given: &[Field], field: &Field, found: &mut Found) {
+        if !conformance_parts::find(alloc, given, field, &mut self.book, found) {
+            areas::find(alloc, given, field, found);
         }
     }
 
@@ -49,8 +41,8 @@ impl Subject for Rows {
         alloc: Global,
         maker: &mut Maker,
         found: &mut Found,
-        report: &mut String,
-    ) -> Result<(), Stop> {
-        made::run(alloc, maker, found, report)
+        report: &mut Output,
+    ) {
+        made::run(alloc, maker, found, report);
     }
 }

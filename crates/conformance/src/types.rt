@@ -1,7 +1,7 @@
 //! Answers rows about types: what serde writes of their values, and which values are equal.
 
 use crate::findings::{finding_of, lint_kind_of};
-use conformance_rows::{Field, Found, Stop, given as rows};
+use conformance_rows::{Field, Found, Output, Stop, given as rows};
 use kube_cel::{
     AdmissionRequest, AnalysisWarning, ErrorKind, GroupVersionKind, GroupVersionResource,
     LintFinding, ScopeContext, ValidationError, ValidationErrors, VapExpression, VapResult,
@@ -10,6 +10,30 @@ use kube_cel::{
 use serde::{Deserialize, Serialize};
 use serde_json::Value;
 use std::alloc::{AllocError, Global};
+
+/// What is asked about values of a type.
+#[derive(Clone, Copy)]
+enum Question<'t> {
+    /// What serde writes of the value that it reads from this text.
+    Written(&'t str),
+    /// Whether the values in this list differ.
+    Differ(&'t str),
+}
+
+/// The answer to a question about values of a type.
+#[derive(Drop)]
+enum Answer {
+    /// What serde writes of the value.
+    Written(String),
+    /// Each value of the list equals itself, read a second time, and no other.
+    Differ,
+    /// The values with these indices don't compare so.
+    Wrong(usize, usize),
+    /// The text isn't such a value, or no list of at least two.
+    Unread,
+    /// Serde reads no type with this name.
+    NoType,
+}
 
 /// Reads a value from a text by serde. `None` if the text isn't such a value.
 pub(crate) fn read<'t, T: Deserialize<'t>>(
@@ -24,142 +48,157 @@ pub(crate) fn read<'t, T: Deserialize<'t>>(
     }
 }
 
-/// Writes what serde writes of a value.
-fn put<T: Serialize>(alloc: Global, value: &T, out: &mut String) -> Result<(), AllocError> {
+/// Returns what serde writes of a value.
+fn to_text<T: Serialize>(alloc: Global, value: &T) -> Result<String, AllocError> {
     match serde_json::to_string(alloc, value) {
-        Ok(text) => out.push_str(text.as_str()),
+        Ok(text) => Ok(text),
         Err(_) => Err(AllocError),
     }
 }
 
-/// Writes what serde writes of a value. Returns whether it reads an equal value from `text`.
-pub(crate) fn put_and_read<'t, T: Serialize + Deserialize<'t> + PartialEq + Drop>(
+/// Returns what serde writes of a value, and whether it reads an equal value from `text`.
+pub(crate) fn written_and_read<'t, T: Serialize + Deserialize<'t> + PartialEq + Drop>(
     alloc: Global,
     value: &T,
     text: &'t str,
-    out: &mut String,
-) -> Result<bool, AllocError> {
-    put(alloc, value, out)?;
-    let again: Option<T> = read(alloc, text)?;
-    match again {
-        Some(again) => Ok(again == *value),
-        None => Ok(false),
+) -> Result<(String, bool), AllocError> {
+    let read: Option<T> = read(alloc, text)?;
+    let is_read = match read {
+        Some(read) => read == *value,
+        None => false,
+    };
+    Ok((to_text(alloc, value)?, is_read))
+}
+
+/// Answers with the field's text if that is what serde writes of a value, and it reads an equal
+/// value from that (`written_and_read`). White space outside strings isn't compared.
+pub(crate) fn find_written(
+    written: Result<(String, bool), AllocError>,
+    field: &Field,
+    found: &mut Found,
+) {
+    if let Some((text, is_read)) = found.take(written) {
+        found.expect(field);
+        found.other.push(text.as_str());
+        found.end_expected(field, is_read);
     }
 }
 
-/// Reads a value from a text by serde and writes it again, or writes `unread`.
-fn put_again<'t, T: Deserialize<'t> + Serialize + Drop>(
+/// Reads a value from a text by serde, and returns what serde writes of it.
+fn written_again<'t, T: Deserialize<'t> + Serialize + Drop>(
     alloc: Global,
     text: &'t str,
-    out: &mut String,
-) -> Result<(), AllocError> {
+) -> Result<Answer, AllocError> {
     let read: Option<T> = read(alloc, text)?;
     match read {
-        Some(value) => put(alloc, &value, out),
-        None => out.push_str("unread"),
+        Some(value) => Ok(Answer::Written(to_text(alloc, &value)?)),
+        None => Ok(Answer::Unread),
     }
 }
 
-/// Reads the row's JSON as the row's type and writes it again.
-fn put_as(alloc: Global, of: &str, text: &str, out: &mut String) -> Result<(), AllocError> {
+/// Returns the first index in a list whose value doesn't compare with the value at index `i` as it
+/// should: it is equal if its index is `i`, and unequal if not.
+fn wrong_with<T: PartialEq>(i: usize, value: &T, all: &[T]) -> Option<usize> {
+    for k in 0..all.len() {
+        let other = &all[k];
+        if (value == other) != (i == k) || (value != other) != (i != k) {
+            return Some(k);
+        }
+    }
+    None
+}
+
+/// Compares each value of a list with all, read a second time.
+fn compared<T: PartialEq>(values: &[T], again: &[T]) -> Answer {
+    for i in 0..values.len() {
+        if let Some(k) = wrong_with(i, &values[i], again) {
+            return Answer::Wrong(i, k);
+        }
+    }
+    if values.len() > 1 {
+        Answer::Differ
+    } else {
+        Answer::Unread
+    }
+}
+
+/// Compares the values of a list of a type that serde reads.
+fn differ_of<'t, T: Deserialize<'t> + PartialEq + Drop>(
+    alloc: Global,
+    text: &'t str,
+) -> Result<Answer, AllocError> {
+    let values: Option<Vec<T>> = read(alloc, text)?;
+    let again: Option<Vec<T>> = read(alloc, text)?;
+    match (&values, &again) {
+        (Some(values), Some(again)) => Ok(compared(values.as_slice(), again.as_slice())),
+        _ => Ok(Answer::Unread),
+    }
+}
+
+/// Answers a question about values of a type that serde reads.
+fn answer_of<'t, T: Deserialize<'t> + Serialize + PartialEq + Drop>(
+    alloc: Global,
+    question: Question<'t>,
+) -> Result<Answer, AllocError> {
+    match question {
+        Question::Written(text) => written_again::<T>(alloc, text),
+        Question::Differ(text) => differ_of::<T>(alloc, text),
+    }
+}
+
+/// Answers a question about values of the type with this name.
+fn answer_as(alloc: Global, of: &str, question: Question<'_>) -> Result<Answer, AllocError> {
     match of {
-        "ErrorKind" => put_again::<ErrorKind>(alloc, text, out),
-        "ValidationError" => put_again::<ValidationError>(alloc, text, out),
-        "ValidationErrors" => put_again::<ValidationErrors>(alloc, text, out),
-        "WarningKind" => put_again::<WarningKind>(alloc, text, out),
-        "AnalysisWarning" => put_again::<AnalysisWarning>(alloc, text, out),
-        "GroupVersionKind" => put_again::<GroupVersionKind>(alloc, text, out),
-        "GroupVersionResource" => put_again::<GroupVersionResource>(alloc, text, out),
-        "AdmissionRequest" => put_again::<AdmissionRequest>(alloc, text, out),
-        "VapExpression" => put_again::<VapExpression>(alloc, text, out),
-        "VapResult" => put_again::<VapResult>(alloc, text, out),
-        _ => out.push_str("no type that is read"),
+        "ErrorKind" => answer_of::<ErrorKind>(alloc, question),
+        "ValidationError" => answer_of::<ValidationError>(alloc, question),
+        "ValidationErrors" => answer_of::<ValidationErrors>(alloc, question),
+        "WarningKind" => answer_of::<WarningKind>(alloc, question),
+        "AnalysisWarning" => answer_of::<AnalysisWarning>(alloc, question),
+        "GroupVersionKind" => answer_of::<GroupVersionKind>(alloc, question),
+        "GroupVersionResource" => answer_of::<GroupVersionResource>(alloc, question),
+        "AdmissionRequest" => answer_of::<AdmissionRequest>(alloc, question),
+        "VapExpression" => answer_of::<VapExpression>(alloc, question),
+        "VapResult" => answer_of::<VapResult>(alloc, question),
+        _ => Ok(Answer::NoType),
     }
 }
 
 /// Answers with the field's text if that is what serde writes of the row's JSON, read as the row's
 /// type. White space outside strings isn't compared.
-pub(crate) fn written(
-    alloc: Global,
-    given: &[Field],
-    field: &Field,
-    found: &mut Found,
-) -> Result<(), Stop> {
-    let (of, json) = (rows::needed(given, "type")?, rows::needed(given, "json")?);
-    found.expect(field)?;
-    put_as(alloc, of, json, &mut found.other)?;
-    found.end_expected(field, true)
-}
-
-/// Reports whether two values of a list compare as they should: equal if their indices are, and
-/// unequal if not. If they don't, writes which values they are.
-fn is_compared(
-    (i, k): (usize, usize),
-    is_equal: bool,
-    is_unequal: bool,
-    out: &mut String,
-) -> Result<bool, AllocError> {
-    if is_equal == (i == k) && is_unequal == (i != k) {
-        return Ok(true);
+pub(crate) fn written(alloc: Global, given: &[Field], field: &Field, found: &mut Found) {
+    let Some(of) = found.take(rows::needed(given, "type")) else {
+        return;
+    };
+    let Some(json) = found.take(rows::needed(given, "json")) else {
+        return;
+    };
+    found.expect(field);
+    match found.take(answer_as(alloc, of, Question::Written(json))) {
+        Some(Answer::Written(text)) => found.other.push(text.as_str()),
+        Some(Answer::NoType) => found.other.push("no type that is read"),
+        _ => found.other.push("unread"),
     }
-    write!(out, "the values {i} and {k}")?;
-    Ok(false)
+    found.end_expected(field, true);
 }
 
-/// Reports whether each value of a list equals itself, read a second time, and no other. There must
-/// be at least two.
-fn differ_in<T: PartialEq>(
-    values: &[T],
-    again: &[T],
-    out: &mut String,
-) -> Result<bool, AllocError> {
-    for i in 0..values.len() {
-        for k in 0..again.len() {
-            let (left, right) = (&values[i], &again[k]);
-            if !is_compared((i, k), left == right, left != right, out)? {
-                return Ok(false);
+/// Reads the findings in a JSON list.
+fn findings_of(alloc: Global, text: &str, out: &mut Output) -> Vec<LintFinding> {
+    let mut findings = Vec::new(alloc);
+    if let Some(Value::Array(items)) = out.take(rows::json_of(alloc, "differ", text)) {
+        for item in items.iter() {
+            if let Some(finding) = finding_of(alloc, item, out) {
+                let _ = out.take(findings.push(finding));
             }
         }
     }
-    Ok(values.len() > 1)
+    findings
 }
 
-/// Like `differ_in`, for a JSON list of a type that serde reads.
-fn differ_of<'t, T: Deserialize<'t> + PartialEq + Drop>(
-    alloc: Global,
-    text: &'t str,
-    out: &mut String,
-) -> Result<bool, AllocError> {
-    let values: Option<Vec<T>> = read(alloc, text)?;
-    let again: Option<Vec<T>> = read(alloc, text)?;
-    match (values, again) {
-        (Some(values), Some(again)) => differ_in(values.as_slice(), again.as_slice(), out),
-        _ => Ok(false),
-    }
-}
-
-/// Reads the findings in a JSON value, if it is a list.
-fn findings_in(alloc: Global, json: &Value) -> Result<Vec<LintFinding>, Stop> {
-    let mut findings = Vec::new(alloc);
-    if let Some(items) = json.as_array() {
-        for item in items {
-            findings.push(finding_of(alloc, item)?)?;
-        }
-    }
-    Ok(findings)
-}
-
-/// Reads the findings of a JSON list.
-fn findings_of(alloc: Global, text: &str) -> Result<Vec<LintFinding>, Stop> {
-    let json = rows::json_of(alloc, "differ", text)?;
-    findings_in(alloc, &json)
-}
-
-/// Like `differ_in`, for a JSON list of findings.
-fn differ_of_findings(alloc: Global, text: &str, out: &mut String) -> Result<bool, Stop> {
-    let values = findings_of(alloc, text)?;
-    let again = findings_of(alloc, text)?;
-    Ok(differ_in(values.as_slice(), again.as_slice(), out)?)
+/// Compares the values of a JSON list of findings.
+fn differ_of_findings(alloc: Global, text: &str, out: &mut Output) -> Answer {
+    let values = findings_of(alloc, text, out);
+    let again = findings_of(alloc, text, out);
+    compared(values.as_slice(), again.as_slice())
 }
 
 /// The scope with this name.
@@ -181,63 +220,72 @@ fn compare_by_name(of: &str, left: &str, right: &str) -> Result<(bool, bool), St
     Ok((left == right, left != right))
 }
 
-/// Like `differ_in`, for a JSON list of the names of scopes, or of the linter's kinds.
-fn differ_of_names(alloc: Global, of: &str, text: &str, out: &mut String) -> Result<bool, Stop> {
-    let Some(names): Option<Vec<String>> = read(alloc, text)? else {
-        return Ok(false);
-    };
-    for i in 0..names.len() {
-        for k in 0..names.len() {
-            let (left, right) = (names[i].as_str(), names[k].as_str());
-            let (is_equal, is_unequal) = compare_by_name(of, left, right)?;
-            if !is_compared((i, k), is_equal, is_unequal, out)? {
-                return Ok(false);
-            }
+/// Like `wrong_with`, for a list of the names of scopes, or of the linter's kinds.
+fn wrong_name_with(of: &str, i: usize, names: &[String], out: &mut Output) -> Option<usize> {
+    let name = names.get(i)?.as_str();
+    for k in 0..names.len() {
+        let compared = out.take(compare_by_name(of, name, names[k].as_str()));
+        if compared != Some((i == k, i != k)) {
+            return Some(k);
         }
     }
-    Ok(names.len() > 1)
+    None
 }
 
-/// Like `differ_in`, for a JSON list of a type that serde reads, given its name. `None` if there is
-/// no such type.
-fn differ_as(
-    alloc: Global,
-    of: &str,
-    text: &str,
-    out: &mut String,
-) -> Result<Option<bool>, AllocError> {
-    let differ = match of {
-        "ErrorKind" => differ_of::<ErrorKind>(alloc, text, out)?,
-        "ValidationError" => differ_of::<ValidationError>(alloc, text, out)?,
-        "ValidationErrors" => differ_of::<ValidationErrors>(alloc, text, out)?,
-        "WarningKind" => differ_of::<WarningKind>(alloc, text, out)?,
-        "AnalysisWarning" => differ_of::<AnalysisWarning>(alloc, text, out)?,
-        "GroupVersionKind" => differ_of::<GroupVersionKind>(alloc, text, out)?,
-        "GroupVersionResource" => differ_of::<GroupVersionResource>(alloc, text, out)?,
-        "AdmissionRequest" => differ_of::<AdmissionRequest>(alloc, text, out)?,
-        "VapExpression" => differ_of::<VapExpression>(alloc, text, out)?,
-        "VapResult" => differ_of::<VapResult>(alloc, text, out)?,
-        _ => return Ok(None),
-    };
-    Ok(Some(differ))
+/// Like `compared`, for a list of the names of scopes, or of the linter's kinds.
+fn names_compared(of: &str, names: &[String], out: &mut Output) -> Answer {
+    for i in 0..names.len() {
+        if let Some(k) = wrong_name_with(of, i, names, out) {
+            return Answer::Wrong(i, k);
+        }
+    }
+    if names.len() > 1 {
+        Answer::Differ
+    } else {
+        Answer::Unread
+    }
+}
+
+/// Compares the values of a list of a type that serde doesn't read: the linter's findings, and by
+/// name its kinds and scopes.
+fn differ_by_name(alloc: Global, of: &str, text: &str, out: &mut Output) -> Answer {
+    if of == "LintFinding" {
+        return differ_of_findings(alloc, text, out);
+    }
+    let names: Result<Option<Vec<String>>, AllocError> = read(alloc, text);
+    match out.take(names) {
+        Some(Some(names)) => names_compared(of, names.as_slice(), out),
+        _ => Answer::Unread,
+    }
+}
+
+/// Answers with the field's text, a JSON list, if its values differ, and otherwise with which ones
+/// don't compare as they should.
+fn find_compared(answer: Answer, text: &str, found: &mut Found) {
+    match answer {
+        Answer::Differ => return found.say(text),
+        Answer::Wrong(i, k) => {
+            found.other.push("the values ");
+            found.other.show(&i);
+            found.other.push(" and ");
+            found.other.show(&k);
+        }
+        _ => {}
+    }
+    found.stop(Stop::Differs("=="));
 }
 
 /// Answers with the field's text, a JSON list of values of the row's type, if each value equals
 /// itself, read a second time, and no other.
-pub(crate) fn differ(
-    alloc: Global,
-    given: &[Field],
-    field: &Field,
-    found: &mut Found,
-) -> Result<(), Stop> {
-    let (of, text) = (rows::needed(given, "type")?, field.text.as_str());
-    let differ = match differ_as(alloc, of, text, &mut found.other)? {
-        Some(differ) => differ,
-        None if of == "LintFinding" => differ_of_findings(alloc, text, &mut found.other)?,
-        None => differ_of_names(alloc, of, text, &mut found.other)?,
+pub(crate) fn differ(alloc: Global, given: &[Field], field: &Field, found: &mut Found) {
+    let Some(of) = found.take(rows::needed(given, "type")) else {
+        return;
     };
-    if !differ {
-        return Err(Stop::Differs("=="));
-    }
-    Ok(found.say(text)?)
+    let text = field.text.as_str();
+    let answer = match found.take(answer_as(alloc, of, Question::Differ(text))) {
+        Some(Answer::NoType) => differ_by_name(alloc, of, text, &mut found.other),
+        Some(answer) => answer,
+        None => Answer::Unread,
+    };
+    find_compared(answer, text, found);
 }
