@@ -1,8 +1,7 @@
 //! Prints the outcomes of expressions.
 
 use cel::{Answer, Refused, Value};
-use conformance_rows::texts::push_refused;
-use conformance_rows::{Found, Stop};
+use conformance_rows::{Found, Output};
 use std::alloc::Global;
 
 /// The outcome of running an expression: a value or an error, or a refusal.
@@ -10,69 +9,60 @@ pub(crate) type Ran = Result<Answer, Refused>;
 
 /// Writes a value as `%s` formats it. If `%s` can't format it, writes `instead` and the kind that
 /// it can't format.
-pub(crate) fn put_text(
-    alloc: Global,
-    value: &Value,
-    instead: &str,
-    out: &mut String,
-) -> Result<(), Stop> {
-    match value.text(alloc)? {
-        Ok(text) => out.push_str(text.as_str())?,
-        Err(kind) => write!(out, "{instead}{kind}")?,
+pub(crate) fn put_text(alloc: Global, value: &Value, instead: &str, out: &mut Output) {
+    match out.take(value.text(alloc)) {
+        Some(Ok(text)) => out.push(text.as_str()),
+        Some(Err(kind)) => {
+            out.push(instead);
+            out.show(&kind);
+        }
+        None => {}
     }
-    Ok(())
 }
 
 /// Writes what a value of a type with its own `Display` or `text` prints. Returns false if it has
 /// another type.
-pub(crate) fn put_printed(alloc: Global, value: &Value, out: &mut String) -> Result<bool, Stop> {
+pub(crate) fn put_printed(alloc: Global, value: &Value, out: &mut Output) -> bool {
     match value {
-        Value::Quantity(quantity) => write!(out, "{}", quantity.as_ref())?,
-        Value::Ip(address) => write!(out, "{}", address.as_ref())?,
-        Value::Cidr(cidr) => write!(out, "{}", cidr.as_ref())?,
-        Value::Timestamp(time) => out.push_str(time.text(alloc)?.as_str())?,
-        Value::Duration(duration) => out.push_str(duration.text(alloc)?.as_str())?,
-        Value::Format(format) => write!(out, "{}", format.kind())?,
-        _ => return Ok(false),
+        Value::Quantity(quantity) => out.show(quantity.as_ref()),
+        Value::Ip(address) => out.show(address.as_ref()),
+        Value::Cidr(cidr) => out.show(cidr.as_ref()),
+        Value::Timestamp(time) => out.push_made(time.text(alloc)),
+        Value::Duration(duration) => out.push_made(duration.text(alloc)),
+        Value::Format(format) => out.show(&format.kind()),
+        _ => return false,
     }
-    Ok(true)
+    true
 }
 
 /// Writes what is asked about a value, or what the value is if that doesn't apply.
-fn put_value(alloc: Global, asked: &str, value: &Value, out: &mut String) -> Result<(), Stop> {
+fn put_value(alloc: Global, asked: &str, value: &Value, out: &mut Output) {
     match asked {
         "value" => return put_text(alloc, value, "of kind ", out),
         "bound" => return put_text(alloc, value, "", out),
-        "prints" if put_printed(alloc, value, out)? => return Ok(()),
+        "prints" if put_printed(alloc, value, out) => return,
         "kind" => {}
-        _ => out.push_str("a value of kind ")?,
+        _ => out.push("a value of kind "),
     }
-    let kind = value.type_of();
-    write!(out, "{kind}")?;
+    out.show(&value.type_of());
     if asked == "all" {
-        out.push_str(": ")?;
-        put_text(alloc, value, "", out)?;
+        out.push(": ");
+        put_text(alloc, value, "", out);
     }
-    Ok(())
 }
 
 /// Writes what is asked about an outcome, or what the outcome is if that doesn't apply.
-pub(crate) fn put_answer(
-    alloc: Global,
-    asked: &str,
-    answer: &Ran,
-    out: &mut String,
-) -> Result<(), Stop> {
+pub(crate) fn put_answer(alloc: Global, asked: &str, answer: &Ran, out: &mut Output) {
     match answer {
         Ok(Ok(value)) => put_value(alloc, asked, value, out),
         Ok(Err(error)) => {
             let is_asked = asked == "error" || asked == "bound";
-            out.push_str(if is_asked { "" } else { "an error: " })?;
-            Ok(write!(out, "{error}")?)
+            out.push(if is_asked { "" } else { "an error: " });
+            out.show(error);
         }
         Err(refused) => {
             let before = if asked == "refused" { "" } else { "refused: " };
-            Ok(push_refused(out, before, *refused)?)
+            out.push_refused(before, *refused);
         }
     }
 }
@@ -84,7 +74,7 @@ pub(crate) fn end_ran(
     ran: &Ran,
     call: &'static str,
     found: &mut Found,
-) -> Result<(), Stop> {
-    put_answer(alloc, asked, ran, &mut found.other)?;
-    found.end(call)
+) {
+    put_answer(alloc, asked, ran, &mut found.other);
+    found.end(call);
 }

@@ -3,36 +3,18 @@
 use crate::answers::end_ran;
 use crate::ways::compiled;
 use cel::{Context, Program, StandardFunctions, Value};
-use conformance_rows::nested::{object_given, schema_given};
+use conformance_rows::nested::case_given;
 use conformance_rows::{Field, Found, Stop, given as rows};
 use kube_schema::{bind, bind_node, compile_schema};
 use serde_json::Value as Json;
 use std::alloc::Global;
 
-/// Runs a program in a context with `self` bound to a value.
-fn run_in(
-    alloc: Global,
-    program: &Program,
-    context: &mut Context<'_, StandardFunctions>,
-    value: Value,
-    call: &'static str,
-    found: &mut Found,
-) -> Result<(), Stop> {
-    context.add_variable("self", value)?;
-    let ran = program.execute(alloc, context);
-    end_ran(alloc, "bound", &ran, call, found)
-}
-
 /// Runs a program with `self` bound to a value.
-fn run(
-    alloc: Global,
-    program: &Program,
-    value: Value,
-    call: &'static str,
-    found: &mut Found,
-) -> Result<(), Stop> {
+fn run(alloc: Global, program: &Program, value: Value, call: &'static str, found: &mut Found) {
     let mut context: Context<'_, StandardFunctions> = Context::default(alloc);
-    run_in(alloc, program, &mut context, value, call, found)
+    found.take(context.add_variable("self", value));
+    let ran = program.execute(alloc, &context);
+    end_ran(alloc, "bound", &ran, call, found);
 }
 
 /// Binds an object by its compiled schema, at a depth.
@@ -48,33 +30,39 @@ fn run_both(
     (schema, object): (&Json, &Json),
     depth: usize,
     found: &mut Found,
-) -> Result<(), Stop> {
-    let by_json = bind(alloc, schema, object, depth)?;
-    let by_node = bound_by_node(alloc, schema, object, depth)?;
+) {
+    let Some(by_json) = found.take(bind(alloc, schema, object, depth)) else {
+        return;
+    };
+    let Some(by_node) = found.take(bound_by_node(alloc, schema, object, depth)) else {
+        return;
+    };
     if by_json != by_node {
-        return Err(Stop::Differs("bind and bind_node"));
+        found.stop(Stop::Differs("bind and bind_node"));
     }
-    run(alloc, program, by_json, "bind", found)?;
-    run(alloc, program, by_node, "bind_node", found)
+    run(alloc, program, by_json, "bind", found);
+    run(alloc, program, by_node, "bind_node", found);
 }
 
 /// Runs a CEL text over an object bound by its schema, at a depth.
-fn run_text(
-    alloc: Global,
-    text: &str,
-    bound: (&Json, &Json),
-    depth: usize,
-    found: &mut Found,
-) -> Result<(), Stop> {
-    let program = compiled(alloc, text)?;
-    run_both(alloc, &program, bound, depth, found)
+fn run_text(alloc: Global, text: &str, bound: (&Json, &Json), depth: usize, found: &mut Found) {
+    if let Some(program) = found.take(compiled(alloc, text)) {
+        run_both(alloc, &program, bound, depth, found);
+    }
+}
+
+/// The depth and the expression that a row gives.
+fn asked_given(given: &[Field]) -> Result<(u64, &str), Stop> {
+    let depth = rows::number_or(given, "depth", 0)?;
+    Ok((depth, rows::needed(given, "expression")?))
 }
 
 /// Runs a row's expression over its object, bound by its schema.
-pub(crate) fn find(alloc: Global, given: &[Field], found: &mut Found) -> Result<(), Stop> {
-    let depth = rows::number_or(given, "depth", 0)? as usize;
-    let text = rows::needed(given, "expression")?;
-    let schema = schema_given(alloc, given)?;
-    let object = object_given(alloc, given)?;
-    run_text(alloc, text, (&schema, &object), depth, found)
+pub(crate) fn find(alloc: Global, given: &[Field], found: &mut Found) {
+    let Some((depth, text)) = found.take(asked_given(given)) else {
+        return;
+    };
+    if let Some((schema, object)) = found.take(case_given(alloc, given)) {
+        run_text(alloc, text, (&schema, &object), depth as usize, found);
+    }
 }

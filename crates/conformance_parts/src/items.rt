@@ -8,9 +8,14 @@ use cel::{Answer, Context, ExecutionError, Value};
 use conformance_rows::keys::{item_given, item_type};
 use conformance_rows::questions::{maker, question, word_for};
 use conformance_rows::texts::yes_or_no;
-use conformance_rows::{Field, Found, Stop, given as rows};
+use conformance_rows::{Field, Found, Output, Stop, given as rows};
 use kube_functions::{Context as KubeContext, KubeCelExt};
 use std::alloc::Global;
+
+/// Makes the value of a text.
+fn text_value(alloc: Global, text: &str) -> Result<Value, Stop> {
+    Ok(Value::from_text(alloc, String::from_str(alloc, text)?)?)
+}
 
 /// Binds a name to a text.
 pub(crate) fn bind_text(
@@ -18,80 +23,80 @@ pub(crate) fn bind_text(
     context: &mut KubeContext<'_>,
     name: &str,
     text: &str,
-) -> Result<(), Stop> {
-    let value = Value::from_text(alloc, String::from_str(alloc, text)?)?;
-    Ok(context.add_variable(name, value)?)
+    out: &mut Output,
+) {
+    if let Some(value) = out.take(text_value(alloc, text)) {
+        out.take(context.add_variable(name, value));
+    }
 }
 
 /// Binds `written` to a field's text, and makes the field's value from it.
-fn make(alloc: Global, context: &mut KubeContext<'_>, field: &Field) -> Result<Answer, Stop> {
-    bind_text(alloc, context, "written", field.text.as_str())?;
+fn make(
+    alloc: Global,
+    context: &mut KubeContext<'_>,
+    field: &Field,
+    out: &mut Output,
+) -> Option<Answer> {
+    bind_text(alloc, context, "written", field.text.as_str(), out);
     match maker(item_type(field.key.as_str()).0) {
-        Some(expression) => executed(alloc, context, expression),
-        None => Err(Stop::Unfit("item")),
+        Some(expression) => out.take(executed(alloc, context, expression)),
+        None => {
+            out.stop(Stop::Unfit("item"));
+            None
+        }
     }
 }
 
 /// Binds `other` and `text` to what the row gave, if it did.
-fn bind_others(alloc: Global, context: &mut KubeContext<'_>, fields: &[Field]) -> Result<(), Stop> {
+fn bind_others(alloc: Global, context: &mut KubeContext<'_>, fields: &[Field], out: &mut Output) {
     if let Some(text) = rows::text(fields, "text") {
-        bind_text(alloc, context, "text", text)?;
+        bind_text(alloc, context, "text", text, out);
     }
     if let Some(other) = item_given(fields, true) {
-        if let Ok(value) = make(alloc, context, other)? {
-            context.add_variable("other", value)?;
+        if let Some(Ok(value)) = make(alloc, context, other, out) {
+            out.take(context.add_variable("other", value));
         }
     }
-    Ok(())
 }
 
 /// Writes a value: a Boolean as `yes` or `no`, otherwise what it prints or its text.
-fn put_value(alloc: Global, value: &Value, out: &mut String) -> Result<(), Stop> {
+fn put_value(alloc: Global, value: &Value, out: &mut Output) {
     match value {
-        Value::Bool(holds) => Ok(out.push_str(yes_or_no(*holds))?),
-        _ if put_printed(alloc, value, out)? => Ok(()),
+        Value::Bool(holds) => out.push(yes_or_no(*holds)),
+        _ if put_printed(alloc, value, out) => {}
         _ => put_text(alloc, value, "", out),
     }
 }
 
 /// Writes an error: `no` for the key `valid`, otherwise the word for its message.
-fn put_error(
-    alloc: Global,
-    key: &str,
-    error: &ExecutionError,
-    out: &mut String,
-) -> Result<(), Stop> {
+fn put_error(alloc: Global, key: &str, error: &ExecutionError, out: &mut Output) {
     match (key, error) {
-        ("valid", _) => Ok(out.push_str("no")?),
+        ("valid", _) => out.push("no"),
         (_, ExecutionError::FunctionError { message, .. }) => {
-            Ok(out.push_str(word_for(key, message.as_str()))?)
+            out.push(word_for(key, message.as_str()));
         }
         _ => {
-            let message = error.to_string(alloc)?;
-            Ok(out.push_str(word_for(key, message.as_str()))?)
+            if let Some(message) = out.take(error.to_string(alloc)) {
+                out.push(word_for(key, message.as_str()));
+            }
         }
     }
 }
 
 /// Writes the answer to the question of this key.
-fn put_reported(alloc: Global, key: &str, answer: &Answer, out: &mut String) -> Result<(), Stop> {
+fn put_reported(alloc: Global, key: &str, answer: &Answer, out: &mut Output) {
     match answer {
-        Ok(_) if key == "integer error" => Ok(out.push_str("none")?),
+        Ok(_) if key == "integer error" => out.push("none"),
         Ok(value) => put_value(alloc, value, out),
         Err(error) => put_error(alloc, key, error, out),
     }
 }
 
 /// Answers a question about an item by an expression.
-fn ask(
-    alloc: Global,
-    context: &KubeContext<'_>,
-    key: &str,
-    expression: &str,
-    out: &mut String,
-) -> Result<(), Stop> {
-    let answer = executed(alloc, context, expression)?;
-    put_reported(alloc, key, &answer, out)
+fn ask(alloc: Global, context: &KubeContext<'_>, key: &str, expression: &str, out: &mut Output) {
+    if let Some(answer) = out.take(executed(alloc, context, expression)) {
+        put_reported(alloc, key, &answer, out);
+    }
 }
 
 /// Answers a question about an item that is a value: by the value's own methods if possible,
@@ -101,45 +106,31 @@ fn ask_value(
     context: &KubeContext<'_>,
     key: &str,
     types: (&str, &str),
-    out: &mut String,
-) -> Result<(), Stop> {
+    out: &mut Output,
+) {
     let Some(item) = context.get("item") else {
-        return Err(Stop::Unfit("item"));
+        return out.stop(Stop::Unfit("item"));
     };
     match (key, item) {
-        ("valid", Value::Null) => return Ok(out.push_str("no")?),
-        ("valid", _) => return Ok(out.push_str("yes")?),
-        ("error", _) => return Ok(out.push_str("none")?),
+        ("valid", Value::Null) => return out.push("no"),
+        ("valid", _) => return out.push("yes"),
+        ("error", _) => return out.push("none"),
         ("printed", _) => return put_value(alloc, item, out),
-        _ if values::put(key, item, context.get("other"), out)? => return Ok(()),
+        _ if values::put(key, item, context.get("other"), out) => return,
         _ => {}
     }
     match question(key, types.0, types.1) {
         Some(expression) => ask(alloc, context, key, expression, out),
-        None => Err(Stop::Unfit("a key that is known here")),
+        None => out.stop(Stop::Unfit("a key that is known here")),
     }
 }
 
-/// Answers a question about an item, in a context with all functions.
-fn find_in(
-    alloc: Global,
-    context: &mut KubeContext<'_>,
-    fields: &[Field],
-    item: &Field,
-    key: &str,
-    out: &mut String,
-) -> Result<(), Stop> {
-    bind_others(alloc, context, fields)?;
-    match make(alloc, context, item)? {
-        Ok(value) => context.add_variable("item", value)?,
-        Err(error) => return put_error(alloc, key, &error, out),
-    }
-    let other = match item_given(fields, true) {
+/// The type of the other item that a row gives. Empty if it gives none.
+fn other_type(fields: &[Field]) -> &str {
+    match item_given(fields, true) {
         Some(other) => item_type(other.key.as_str()).0,
         None => "",
-    };
-    let types = (item_type(item.key.as_str()).0, other);
-    ask_value(alloc, context, key, types, out)
+    }
 }
 
 /// Answers a question about an item.
@@ -149,8 +140,17 @@ pub(crate) fn find(
     item: &Field,
     field: &Field,
     found: &mut Found,
-) -> Result<(), Stop> {
+) {
     let mut context: KubeContext<'_> = Context::default(alloc).with_all();
     let (key, out) = (field.key.as_str(), &mut found.text);
-    find_in(alloc, &mut context, fields, item, key, out)
+    bind_others(alloc, &mut context, fields, out);
+    match make(alloc, &mut context, item, out) {
+        Some(Ok(value)) => {
+            let types = (item_type(item.key.as_str()).0, other_type(fields));
+            out.take(context.add_variable("item", value));
+            ask_value(alloc, &context, key, types, out);
+        }
+        Some(Err(error)) => put_error(alloc, key, &error, out),
+        None => {}
+    }
 }

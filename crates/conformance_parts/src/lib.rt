@@ -24,7 +24,7 @@ mod ways;
 
 use cel::PatternBook;
 use conformance_rows::keys::item_given;
-use conformance_rows::{Field, Found, Stop};
+use conformance_rows::{Field, Found};
 use std::alloc::Global;
 
 /// Answers a field about the language or a schema, with the row's book of patterns. Returns false
@@ -35,42 +35,37 @@ pub fn find(
     field: &Field,
     book: &mut PatternBook,
     found: &mut Found,
-) -> Result<bool, Stop> {
+) -> bool {
     match field.key.as_str() {
-        "matches" => patterns::matches(book, given, found)?,
-        "spans" => patterns::spans(book, given, found)?,
+        "matches" => patterns::matches(book, given, found),
+        "spans" => patterns::spans(book, given, found),
         "tokens" | "read" | "tree" | "free names" | "called names" | "name is free" => {
-            sources::find(alloc, given, field, found)?;
+            sources::find(alloc, given, field, found);
         }
-        "escaped" => names::escaped(alloc, given, found)?,
-        "unescaped" => names::unescaped(alloc, given, found)?,
-        "means a field" => names::means_a_field(alloc, given, found)?,
-        "kinds" => values::kinds(found)?,
-        "keys equal their copies" => values::keys_are_kept(alloc, found)?,
-        "optionals equal their copies" => values::optionals_are_kept(alloc, found)?,
+        "escaped" => names::escaped(alloc, given, found),
+        "unescaped" => names::unescaped(alloc, given, found),
+        "means a field" => names::means_a_field(alloc, given, found),
+        "kinds" => values::kinds(found),
+        "keys equal their copies" => values::keys_are_kept(alloc, found),
+        "optionals equal their copies" => values::optionals_are_kept(alloc, found),
         _ => return find_of_values(alloc, given, field, found),
     }
-    Ok(true)
+    true
 }
 
 /// Answers a field about a schema, or an object with it. Returns false if the field asks something
 /// else.
-fn find_of_schemas(
-    alloc: Global,
-    given: &[Field],
-    field: &Field,
-    found: &mut Found,
-) -> Result<bool, Stop> {
+fn find_of_schemas(alloc: Global, given: &[Field], field: &Field, found: &mut Found) -> bool {
     match field.key.as_str() {
-        "filled" => filled::find(alloc, given, field, found)?,
-        "bound" => bound::find(alloc, given, found)?,
+        "filled" => filled::find(alloc, given, field, found),
+        "bound" => bound::find(alloc, given, found),
         "node count" | "shown" | "rules compiled" | "compilation errors" => {
-            nodes::find(alloc, given, field, found)?;
+            nodes::find(alloc, given, field, found);
         }
-        "rules read" => rules::read(alloc, given, &mut found.text)?,
-        _ => return Ok(false),
+        "rules read" => rules::read(alloc, given, &mut found.text),
+        _ => return false,
     }
-    Ok(true)
+    true
 }
 
 /// The keys of questions about an expression.
@@ -78,18 +73,13 @@ const OF_EXPRESSIONS: [&str; 5] = ["value", "kind", "prints", "error", "refused"
 
 /// Answers a field about an item if the row gives one, otherwise about an expression or a schema.
 /// Returns false if the field asks something else.
-fn find_of_values(
-    alloc: Global,
-    given: &[Field],
-    field: &Field,
-    found: &mut Found,
-) -> Result<bool, Stop> {
+fn find_of_values(alloc: Global, given: &[Field], field: &Field, found: &mut Found) -> bool {
     match item_given(given, false) {
-        Some(item) => items::find(alloc, given, item, field, found)?,
+        Some(item) => items::find(alloc, given, item, field, found),
         None if OF_EXPRESSIONS.contains(&field.key.as_str()) => {
-            ways::find(alloc, given, field, found)?;
+            ways::find(alloc, given, field, found);
         }
         None => return find_of_schemas(alloc, given, field, found),
     }
-    Ok(true)
+    true
 }

@@ -2,13 +2,14 @@
 //! agree, unescaping an escaped name gives the name back, and parsing a printed value gives the
 //! value back.
 
+use crate::answers::Ran;
 use crate::items::bind_text;
 use crate::names::put_escaped;
 use crate::ways::{Calls, compiled, plain_value, run_program};
 use cel::{Context, Program, Value};
 use conformance_rows::grammar::Maker;
 use conformance_rows::questions::maker as maker_of;
-use conformance_rows::{Found, Stop};
+use conformance_rows::{Found, Output, Stop};
 use kube_functions::{Context as KubeContext, KubeCelExt};
 use std::alloc::Global;
 
@@ -39,10 +40,10 @@ fn run_twice(
     context: &KubeContext<'_>,
     program: &Program,
     found: &mut Found,
-) -> Result<bool, Stop> {
-    run_program(alloc, "all", program, context, &CALLS, found)?;
-    run_program(alloc, "all", program, context, &CALLS, found)?;
-    Ok(found.text.as_str().starts_with("a value"))
+) -> bool {
+    run_program(alloc, "all", program, context, &CALLS, found);
+    run_program(alloc, "all", program, context, &CALLS, found);
+    found.text.as_str().starts_with("a value")
 }
 
 /// Runs an expression in each way, twice. Returns whether it has a value, or `None` if it doesn't
@@ -52,11 +53,10 @@ fn run_expression(
     context: &KubeContext<'_>,
     text: &str,
     found: &mut Found,
-) -> Result<Option<bool>, Stop> {
-    found.clear();
-    match Program::compile(alloc, text)? {
-        Ok(program) => Ok(Some(run_twice(alloc, context, &program, found)?)),
-        Err(_) => Ok(None),
+) -> Option<bool> {
+    match found.take(Program::compile(alloc, text)) {
+        Some(Ok(program)) => Some(run_twice(alloc, context, &program, found)),
+        _ => None,
     }
 }
 
@@ -66,54 +66,70 @@ fn run_expressions_in(
     context: &KubeContext<'_>,
     maker: &mut Maker,
     found: &mut Found,
-    report: &mut String,
-) -> Result<(), Stop> {
+    report: &mut Output,
+) {
     let (mut read, mut values) = (0usize, 0usize);
     for _ in 0..EXPRESSIONS {
-        maker.make(alloc, "expression", 12)?;
-        if let Some(has_value) = run_expression(alloc, context, maker.text.as_str(), found)? {
+        if found.take(maker.make(alloc, "expression", 12)).is_none() {
+            return;
+        }
+        found.clear();
+        if let Some(has_value) = run_expression(alloc, context, maker.text.as_str(), found) {
             read = read.saturating_add(1);
             values = values.saturating_add(usize::from(has_value));
         }
+        if found.is_stopped() {
+            return;
+        }
     }
-    write!(
-        report,
-        "expressions: {EXPRESSIONS} made, {read} read, {values} with a value; all runs of each agree\n"
-    )?;
-    Ok(())
+    put_made("expressions", EXPRESSIONS, read, report);
+    report.push(", ");
+    report.show(&values);
+    report.push(" with a value; all runs of each agree\n");
+}
+
+/// Writes how many texts were made, and how many of them were read.
+fn put_made(of: &str, made: usize, read: usize, report: &mut Output) {
+    report.push_all(&[of, ": "]);
+    report.show(&made);
+    report.push(" made, ");
+    report.show(&read);
+    report.push(" read");
 }
 
 /// Makes and runs expressions.
-pub fn run_expressions(
-    alloc: Global,
-    maker: &mut Maker,
-    found: &mut Found,
-    report: &mut String,
-) -> Result<(), Stop> {
-    let value = plain_value(alloc, SELF)?;
+pub fn run_expressions(alloc: Global, maker: &mut Maker, found: &mut Found, report: &mut Output) {
     let mut context: KubeContext<'_> = Context::default(alloc);
     context.register_all();
-    context.add_variable_from_value("self", value)?;
-    run_expressions_in(alloc, &context, maker, found, report)
+    if let Some(value) = found.take(plain_value(alloc, SELF)) {
+        found.take(context.add_variable("self", value));
+    }
+    run_expressions_in(alloc, &context, maker, found, report);
 }
 
 /// Escapes names, and checks that unescaping gives them back.
-fn run_names(
-    alloc: Global,
-    maker: &mut Maker,
-    found: &mut Found,
-    report: &mut String,
-) -> Result<(), Stop> {
+fn run_names(alloc: Global, maker: &mut Maker, found: &mut Found, report: &mut Output) {
     for _ in 0..TEXTS {
-        maker.make(alloc, "name", 8)?;
+        if found.take(maker.make(alloc, "name", 8)).is_none() {
+            return;
+        }
         found.clear();
-        put_escaped(alloc, maker.text.as_str(), &mut found.text)?;
+        put_escaped(alloc, maker.text.as_str(), &mut found.text);
+        if found.is_stopped() {
+            return;
+        }
     }
-    write!(
-        report,
-        "name: {TEXTS} made, {TEXTS} read; each comes back\n"
-    )?;
-    Ok(())
+    put_made("name", TEXTS, TEXTS, report);
+    report.push("; each comes back\n");
+}
+
+/// Checks that the outcome of a run is true.
+fn check_true(ran: &Ran, found: &mut Found) {
+    match ran {
+        Ok(Ok(Value::Bool(true))) => {}
+        Err(refused) => found.stop(Stop::from(*refused)),
+        _ => found.stop(Stop::Differs("what is printed and read")),
+    }
 }
 
 /// Reports whether a text is read as an item. If it is, printing the item and reading that must
@@ -121,67 +137,74 @@ fn run_names(
 fn comes_back(
     alloc: Global,
     context: &mut KubeContext<'_>,
-    read: &Program,
-    again: &Program,
+    (read, again): (&Program, &Program),
     text: &str,
-) -> Result<bool, Stop> {
-    bind_text(alloc, context, "written", text)?;
-    match read.execute(alloc, context)? {
-        Ok(item) => context.add_variable("item", item)?,
-        Err(_) => return Ok(false),
-    }
-    match again.execute(alloc, context)? {
-        Ok(Value::Bool(true)) => Ok(true),
-        _ => Err(Stop::Differs("what is printed and read")),
-    }
+    found: &mut Found,
+) -> bool {
+    bind_text(alloc, context, "written", text, &mut found.other);
+    let Some(Ok(item)) = found.take(read.execute(alloc, context)) else {
+        return false;
+    };
+    found.take(context.add_variable("item", item));
+    let ran = again.execute(alloc, context);
+    check_true(&ran, found);
+    true
 }
 
 /// Makes texts of a type, reads them in a context, and checks that what is printed of them reads
 /// back.
 fn run_texts_in(
     alloc: Global,
-    context: &mut KubeContext<'_>,
     maker: &mut Maker,
     of: &str,
-    (read, again): (&Program, &Program),
-    report: &mut String,
-) -> Result<(), Stop> {
+    programs: (&Program, &Program),
+    found: &mut Found,
+    report: &mut Output,
+) {
+    let mut context: KubeContext<'_> = Context::default(alloc).with_all();
     let mut count = 0usize;
     for _ in 0..TEXTS {
-        maker.make(alloc, of, 8)?;
-        let text = maker.text.as_str();
-        let is_read = comes_back(alloc, context, read, again, text)?;
-        count = count.saturating_add(usize::from(is_read));
+        if found.take(maker.make(alloc, of, 8)).is_none() {
+            return;
+        }
+        if comes_back(alloc, &mut context, programs, maker.text.as_str(), found) {
+            count = count.saturating_add(1);
+        }
+        if found.is_stopped() {
+            return;
+        }
     }
-    write!(
-        report,
-        "{of}: {TEXTS} made, {count} read; each comes back\n"
-    )?;
-    Ok(())
+    put_made(of, TEXTS, count, report);
+    report.push("; each comes back\n");
 }
 
-/// Like `run_texts_in`, with the two expressions compiled from their texts.
+/// Like `run_texts_in`, with the second expression compiled from its text.
 fn run_texts_by(
     alloc: Global,
-    context: &mut KubeContext<'_>,
     maker: &mut Maker,
+    read: &Program,
     (of, again): (&str, &str),
-    report: &mut String,
-) -> Result<(), Stop> {
-    let read = compiled(alloc, maker_of(of).unwrap_or(""))?;
-    let again = compiled(alloc, again)?;
-    run_texts_in(alloc, context, maker, of, (&read, &again), report)
+    found: &mut Found,
+    report: &mut Output,
+) {
+    match compiled(alloc, again) {
+        Ok(again) => run_texts_in(alloc, maker, of, (read, &again), found, report),
+        Err(stop) => found.stop(stop),
+    }
 }
 
-/// Like `run_texts_by`, in a context with all functions.
+/// Like `run_texts_by`, with the first expression compiled too.
 fn run_texts(
     alloc: Global,
     maker: &mut Maker,
     item: (&str, &str),
-    report: &mut String,
-) -> Result<(), Stop> {
-    let mut context: KubeContext<'_> = Context::default(alloc).with_all();
-    run_texts_by(alloc, &mut context, maker, item, report)
+    found: &mut Found,
+    report: &mut Output,
+) {
+    match compiled(alloc, maker_of(item.0).unwrap_or("")) {
+        Ok(read) => run_texts_by(alloc, maker, &read, item, found, report),
+        Err(stop) => found.stop(stop),
+    }
 }
 
 /// Checks that escaped names and printed items of each type read back.
@@ -189,11 +212,13 @@ pub fn run_names_and_texts(
     alloc: Global,
     maker: &mut Maker,
     found: &mut Found,
-    report: &mut String,
-) -> Result<(), Stop> {
-    run_names(alloc, maker, found, report)?;
+    report: &mut Output,
+) {
+    run_names(alloc, maker, found, report);
     for &item in COMES_BACK.iter() {
-        run_texts(alloc, maker, item, report)?;
+        if found.is_stopped() {
+            return;
+        }
+        run_texts(alloc, maker, item, found, report);
     }
-    Ok(())
 }

@@ -2,8 +2,8 @@
 //! blanks.
 
 use cel::{BinaryOperator, Expr, MacroKind, UnaryOperator, Value};
-use conformance_rows::texts::{push_all, push_bytes, push_indented};
-use std::alloc::AllocError;
+use conformance_rows::Output;
+use std::fmt::Display;
 
 /// The symbol of a binary operator.
 fn operator_text(operator: BinaryOperator) -> &'static str {
@@ -62,62 +62,63 @@ fn words_of(expr: &Expr) -> (&str, &str) {
     }
 }
 
+/// Writes a word, and what a value prints.
+fn write_shown<T: Display>(word: &str, value: &T, out: &mut Output) {
+    out.push(word);
+    out.show(value);
+}
+
 /// Writes a literal. For a double no number is written.
-fn write_literal(value: &Value, out: &mut String) -> Result<(), AllocError> {
+fn write_literal(value: &Value, out: &mut Output) {
     match value {
-        Value::Null => out.push_str("null"),
-        Value::Bool(value) => write!(out, "bool {value}"),
-        Value::Int(number) => write!(out, "int {number}"),
-        Value::UInt(number) => write!(out, "uint {number}"),
-        Value::Float => out.push_str("double"),
-        Value::String(text) => push_all(out, &["string \"", text.as_str(), "\""]),
+        Value::Null => out.push("null"),
+        Value::Bool(value) => write_shown("bool ", value, out),
+        Value::Int(number) => write_shown("int ", number, out),
+        Value::UInt(number) => write_shown("uint ", number, out),
+        Value::Float => out.push("double"),
+        Value::String(text) => out.push_all(&["string \"", text.as_str(), "\""]),
         Value::Bytes(bytes) => {
-            out.push_str("bytes")?;
-            push_bytes(out, bytes.as_slice())
+            out.push("bytes");
+            out.push_bytes(bytes.as_slice());
         }
-        _ => out.push_str("a value that no text writes"),
+        _ => out.push("a value that no text writes"),
     }
 }
 
 /// Writes the line of a node.
-fn write_line(expr: &Expr, depth: usize, out: &mut String) -> Result<(), AllocError> {
-    match expr {
-        Expr::Literal(value) => {
-            push_indented(out, depth, &[])?;
-            write_literal(value, out)
-        }
-        _ => {
-            let (what, name) = words_of(expr);
-            push_indented(out, depth, &[what, name])
-        }
+fn write_line(expr: &Expr, depth: usize, out: &mut Output) {
+    let (what, name) = words_of(expr);
+    out.push_indented(depth, &[what, name]);
+    if let Expr::Literal(value) = expr {
+        write_literal(value, out);
     }
 }
 
 /// Writes a node, and its parts below it.
 #[cycle(outline)]
-pub(crate) fn write_node(expr: &Expr, depth: usize, out: &mut String) -> Result<(), AllocError> {
-    write_line(expr, depth, out)?;
+pub(crate) fn write_node(expr: &Expr, depth: usize, out: &mut Output) {
+    write_line(expr, depth, out);
     let below = depth.saturating_add(1);
     match expr {
-        Expr::Literal(_) | Expr::Ident(_) => Ok(()),
+        Expr::Literal(_) | Expr::Ident(_) => {}
         Expr::Select(operand, _) | Expr::Has(operand, _) | Expr::Unary(_, operand) => {
-            write_node(operand, below, out)
+            write_node(operand, below, out);
         }
         Expr::Index(left, right) | Expr::Binary(_, left, right) => {
-            write_node(left, below, out)?;
-            write_node(right, below, out)
+            write_node(left, below, out);
+            write_node(right, below, out);
         }
         Expr::Cond(test, yes, no) => {
-            write_node(test, below, out)?;
-            write_node(yes, below, out)?;
-            write_node(no, below, out)
+            write_node(test, below, out);
+            write_node(yes, below, out);
+            write_node(no, below, out);
         }
         Expr::Map(pairs) => write_entries(pairs, below, out),
         Expr::Call { target, args, .. } => {
             if let Some(target) = target {
-                write_node(target, below, out)?;
+                write_node(target, below, out);
             }
-            write_nodes(args, below, out)
+            write_nodes(args, below, out);
         }
         Expr::List(args) | Expr::Qualified { args, .. } => write_nodes(args, below, out),
         Expr::Macro {
@@ -126,36 +127,30 @@ pub(crate) fn write_node(expr: &Expr, depth: usize, out: &mut String) -> Result<
             body,
             ..
         } => {
-            write_node(range, below, out)?;
+            write_node(range, below, out);
             if let Some(filter) = filter {
-                write_node(filter, below, out)?;
+                write_node(filter, below, out);
             }
-            write_node(body, below, out)
+            write_node(body, below, out);
         }
     }
 }
 
 /// Writes nodes in order.
 #[cycle(outline)]
-fn write_nodes(items: &Vec<Expr>, depth: usize, out: &mut String) -> Result<(), AllocError> {
+fn write_nodes(items: &Vec<Expr>, depth: usize, out: &mut Output) {
     for item in items {
-        write_node(item, depth, out)?;
+        write_node(item, depth, out);
     }
-    Ok(())
 }
 
 /// Writes the entries of a map: for each the key, then the value.
 #[cycle(outline)]
-fn write_entries(
-    pairs: &Vec<(Expr, Expr)>,
-    depth: usize,
-    out: &mut String,
-) -> Result<(), AllocError> {
+fn write_entries(pairs: &Vec<(Expr, Expr)>, depth: usize, out: &mut Output) {
     let below = depth.saturating_add(1);
     for pair in pairs {
-        push_indented(out, depth, &["entry"])?;
-        write_node(&pair.0, below, out)?;
-        write_node(&pair.1, below, out)?;
+        out.push_indented(depth, &["entry"]);
+        write_node(&pair.0, below, out);
+        write_node(&pair.1, below, out);
     }
-    Ok(())
 }

@@ -3,7 +3,7 @@
 
 use cel::PatternBook;
 use conformance_rows::given::{needed, number};
-use conformance_rows::{Field, Found, Stop};
+use conformance_rows::{Field, Found};
 
 /// Finds whether a pattern matches in a text, for one call.
 fn find_match(
@@ -11,23 +11,24 @@ fn find_match(
     (pattern, text): (&str, &str),
     call: &'static str,
     found: &mut Found,
-) -> Result<(), Stop> {
-    match book.matches(pattern, text)? {
-        Some(holds) => write!(found.other, "{holds}")?,
-        None => found.other.push_str("refused")?,
+) {
+    match found.take(book.matches(pattern, text)) {
+        Some(Some(holds)) => found.other.show(&holds),
+        Some(None) => found.other.push("refused"),
+        None => {}
     }
-    found.end(call)
+    found.end(call);
 }
 
 /// Answers whether a pattern matches in a text. The book is asked twice.
-pub(crate) fn matches(
-    book: &mut PatternBook,
-    given: &[Field],
-    found: &mut Found,
-) -> Result<(), Stop> {
-    let asked = (needed(given, "pattern")?, needed(given, "text")?);
-    find_match(book, asked, "matches", found)?;
-    find_match(book, asked, "matches again", found)
+pub(crate) fn matches(book: &mut PatternBook, given: &[Field], found: &mut Found) {
+    let Some(pattern) = found.take(needed(given, "pattern")) else {
+        return;
+    };
+    if let Some(text) = found.take(needed(given, "text")) {
+        find_match(book, (pattern, text), "matches", found);
+        find_match(book, (pattern, text), "matches again", found);
+    }
 }
 
 /// Finds the spans of the first matches, in bytes, for one call.
@@ -37,25 +38,31 @@ fn find_spans(
     limit: Option<usize>,
     call: &'static str,
     found: &mut Found,
-) -> Result<(), Stop> {
-    match book.find_all(pattern, text, limit)? {
-        Some(spans) => write!(found.other, "{spans:?}")?,
-        None => found.other.push_str("refused")?,
+) {
+    match found.take(book.find_all(pattern, text, limit)) {
+        Some(Some(spans)) => found.other.debug(&spans),
+        Some(None) => found.other.push("refused"),
+        None => {}
     }
-    found.end(call)
+    found.end(call);
+}
+
+/// The number of matches that a row asks for. All if it gives none.
+fn limit_given(given: &[Field], found: &mut Found) -> Option<usize> {
+    match found.take(number(given, "limit")) {
+        Some(Some(limit)) => Some(limit as usize),
+        _ => None,
+    }
 }
 
 /// Answers with the spans of the first matches, in bytes. The book is asked twice.
-pub(crate) fn spans(
-    book: &mut PatternBook,
-    given: &[Field],
-    found: &mut Found,
-) -> Result<(), Stop> {
-    let asked = (needed(given, "pattern")?, needed(given, "text")?);
-    let most = match number(given, "limit")? {
-        Some(limit) => Some(limit as usize),
-        None => None,
+pub(crate) fn spans(book: &mut PatternBook, given: &[Field], found: &mut Found) {
+    let Some(pattern) = found.take(needed(given, "pattern")) else {
+        return;
     };
-    find_spans(book, asked, most, "find_all", found)?;
-    find_spans(book, asked, most, "find_all again", found)
+    if let Some(text) = found.take(needed(given, "text")) {
+        let most = limit_given(given, found);
+        find_spans(book, (pattern, text), most, "find_all", found);
+        find_spans(book, (pattern, text), most, "find_all again", found);
+    }
 }

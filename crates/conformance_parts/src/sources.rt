@@ -2,72 +2,81 @@
 
 use crate::outline::write_node;
 use crate::tokens::put_tokens;
-use cel::Program;
+use cel::{ParseErrors, Program, References};
 use conformance_rows::given::{needed, push_source};
-use conformance_rows::texts::{push_names, yes_or_no};
-use conformance_rows::{Field, Found, Stop};
+use conformance_rows::texts::yes_or_no;
+use conformance_rows::{Field, Found, Output, Stop};
 use std::alloc::Global;
 
-/// Answers a question about a program: that its text parses, its AST, or the names that it refers
-/// to. Whether a name is free must be the same by the program and by the list of its names.
-fn find_of_program(
-    alloc: Global,
+/// Answers a question about the names that a program refers to. Whether a name is free must be the
+/// same by the program and by the list of its names.
+fn put_names(
     given: &[Field],
     key: &str,
     program: &Program,
-    out: &mut String,
-) -> Result<(), Stop> {
+    references: &References,
+    out: &mut Output,
+) {
     match key {
-        "read" => return Ok(out.push_str("yes")?),
-        "tree" => return Ok(write_node(program.expression(), 0, out)?),
-        _ => {}
-    }
-    let references = program.references(alloc)?;
-    match key {
-        "free names" => Ok(push_names(out, references.variables())?),
-        "called names" => Ok(push_names(out, references.functions())?),
+        "free names" => out.push_names(references.variables()),
+        "called names" => out.push_names(references.functions()),
         _ => {
-            let name = needed(given, "name")?;
-            let is_free = program.has_variable(name);
-            if references.has_variable(name) != is_free {
-                return Err(Stop::Differs("has_variable"));
+            if let Some(name) = out.take(needed(given, "name")) {
+                let is_free = program.has_variable(name);
+                if references.has_variable(name) != is_free {
+                    out.stop(Stop::Differs("has_variable"));
+                }
+                out.push(yes_or_no(is_free));
             }
-            Ok(out.push_str(yes_or_no(is_free))?)
         }
     }
 }
 
-/// Answers a question about a CEL text.
-fn find_of(
-    alloc: Global,
-    given: &[Field],
-    key: &str,
-    source: &str,
-    out: &mut String,
-) -> Result<(), Stop> {
-    if key == "tokens" {
-        return put_tokens(alloc, source, out);
-    }
-    match Program::compile(alloc, source)? {
-        Ok(program) => find_of_program(alloc, given, key, &program, out),
-        Err(errors) => {
-            let text = errors.to_string(alloc)?;
-            if key == "read" && text.as_str() == "invalid CEL expression" {
-                return Ok(out.push_str("no")?);
+/// Answers a question about a program: that its text parses, its AST, or the names that it refers
+/// to.
+fn find_of_program(alloc: Global, given: &[Field], key: &str, program: &Program, out: &mut Output) {
+    match key {
+        "read" => out.push("yes"),
+        "tree" => write_node(program.expression(), 0, out),
+        _ => {
+            if let Some(references) = out.take(program.references(alloc)) {
+                put_names(given, key, program, &references, out);
             }
-            Ok(out.push_str(text.as_str())?)
         }
+    }
+}
+
+/// Writes the error of a text that doesn't parse, or `no` if the question is whether it does.
+fn put_unread(alloc: Global, key: &str, errors: &ParseErrors, out: &mut Output) {
+    let Some(text) = out.take(errors.to_string(alloc)) else {
+        return;
+    };
+    if key == "read" && text.as_str() == "invalid CEL expression" {
+        out.push("no");
+    } else {
+        out.push(text.as_str());
+    }
+}
+
+/// Answers a question about the AST or the names of a CEL text, or whether it parses.
+fn find_of(alloc: Global, given: &[Field], key: &str, source: &str, out: &mut Output) {
+    match Program::compile(alloc, source) {
+        Ok(Ok(program)) => find_of_program(alloc, given, key, &program, out),
+        Ok(Err(errors)) => put_unread(alloc, key, &errors, out),
+        Err(refused) => out.stop(Stop::from(refused)),
     }
 }
 
 /// Answers a question about the CEL text that the row gave last.
-pub(crate) fn find(
-    alloc: Global,
-    given: &[Field],
-    field: &Field,
-    found: &mut Found,
-) -> Result<(), Stop> {
-    push_source(given, &mut found.other)?;
-    let key = field.key.as_str();
-    find_of(alloc, given, key, found.other.as_str(), &mut found.text)
+pub(crate) fn find(alloc: Global, given: &[Field], field: &Field, found: &mut Found) {
+    push_source(given, &mut found.other);
+    let (key, source) = (field.key.as_str(), found.other.as_str());
+    if found.other.is_stopped() {
+        return;
+    }
+    if key == "tokens" {
+        put_tokens(alloc, source, &mut found.text);
+    } else {
+        find_of(alloc, given, key, source, &mut found.text);
+    }
 }

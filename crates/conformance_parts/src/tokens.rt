@@ -3,8 +3,8 @@
 use cel_syntax_lexer::lexer::tokens;
 use cel_syntax_lexer::punctuator::Punctuator;
 use cel_syntax_lexer::token::Token;
-use conformance_rows::Stop;
-use conformance_rows::texts::{push_line, text_of};
+use conformance_rows::Output;
+use conformance_rows::texts::text_of;
 use std::alloc::Global;
 
 /// The spelling of a punctuator.
@@ -38,26 +38,26 @@ fn symbol(punctuator: Punctuator) -> &'static str {
 }
 
 /// Writes the class and the spelling of a token on a line.
-fn put_token(token: &Token<'_>, out: &mut String) -> Result<(), Stop> {
+fn put_token(token: &Token<'_>, out: &mut Output) {
     let (class, spelling) = match token {
         Token::Word(spelling) => ("word ", text_of(spelling)),
         Token::Number(spelling) => ("number ", text_of(spelling)),
         Token::Quoted(spelling) => ("string ", text_of(spelling)),
         Token::Punctuator(punctuator) => ("symbol ", symbol(*punctuator)),
     };
-    push_line(out, class)?;
-    Ok(out.push_str(spelling)?)
+    out.push_line(class);
+    out.push(spelling);
 }
 
 /// Writes the tokens of a text, one a line, or `invalid` if it can't be cut into tokens.
-pub(crate) fn put_tokens(alloc: Global, text: &str, out: &mut String) -> Result<(), Stop> {
-    match tokens(alloc, text.as_bytes())? {
-        Some(list) => {
+pub(crate) fn put_tokens(alloc: Global, text: &str, out: &mut Output) {
+    match out.take(tokens(alloc, text.as_bytes())) {
+        Some(Some(list)) => {
             for token in list.as_slice() {
-                put_token(token, out)?;
+                put_token(token, out);
             }
         }
-        None => out.push_str("invalid")?,
+        Some(None) => out.push("invalid"),
+        None => {}
     }
-    Ok(())
 }

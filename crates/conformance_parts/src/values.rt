@@ -1,8 +1,8 @@
 //! Answers questions about values by their own methods, whatever their kinds.
 
 use cel::{Key, Kind, OptionalValue, Value};
-use conformance_rows::texts::{push_line, yes_or_no};
-use conformance_rows::{Found, Stop};
+use conformance_rows::texts::yes_or_no;
+use conformance_rows::{Found, Output, Stop};
 use std::alloc::Global;
 use std::cmp::Ordering;
 use std::rc::Rc;
@@ -30,54 +30,64 @@ const KINDS: [Kind; 18] = [
 ];
 
 /// Answers with the names of all kinds, one a line.
-pub(crate) fn kinds(found: &mut Found) -> Result<(), Stop> {
+pub(crate) fn kinds(found: &mut Found) {
     for kind in KINDS.iter() {
-        push_line(&mut found.text, "")?;
-        write!(found.text, "{kind}")?;
+        found.text.push_line("");
+        found.text.show(kind);
     }
-    Ok(())
+}
+
+/// Makes a key of a text.
+fn text_key(alloc: Global, text: &str) -> Result<Key, Stop> {
+    Ok(Key::String(Rc::new(alloc, String::from_str(alloc, text)?)?))
 }
 
 /// Reports whether a key equals its copy.
-fn is_key_kept(key: &Key) -> Result<bool, Stop> {
-    let copy = key.try_clone()?;
-    Ok(copy == *key)
+fn is_key_kept(key: &Key, out: &mut Output) -> bool {
+    match out.take(key.try_clone()) {
+        Some(copy) => copy == *key,
+        None => false,
+    }
 }
 
 /// Answers whether a key of each kind equals its copy.
-pub(crate) fn keys_are_kept(alloc: Global, found: &mut Found) -> Result<(), Stop> {
-    let text = Key::String(Rc::new(alloc, String::from_str(alloc, "a")?)?);
-    let are_kept = is_key_kept(&text)?
-        && is_key_kept(&Key::Bool(true))?
-        && is_key_kept(&Key::Int(-1))?
-        && is_key_kept(&Key::Uint(1))?;
-    Ok(found.say(yes_or_no(are_kept))?)
+pub(crate) fn keys_are_kept(alloc: Global, found: &mut Found) {
+    let Some(text) = found.take(text_key(alloc, "a")) else {
+        return;
+    };
+    let mut are_kept = true;
+    for key in [text, Key::Bool(true), Key::Int(-1), Key::Uint(1)] {
+        are_kept = are_kept && is_key_kept(&key, &mut found.other);
+    }
+    found.say(yes_or_no(are_kept));
 }
 
 /// Answers whether an optional equals its copy.
-pub(crate) fn optionals_are_kept(alloc: Global, found: &mut Found) -> Result<(), Stop> {
-    let held = OptionalValue::of(alloc, Value::Int(7))?;
-    let copy = Value::Optional(held.try_clone()?);
-    Ok(found.say(yes_or_no(copy == Value::Optional(held)))?)
+pub(crate) fn optionals_are_kept(alloc: Global, found: &mut Found) {
+    if let Some(held) = found.take(OptionalValue::of(alloc, Value::Int(7))) {
+        let is_kept = is_kept(&Value::Optional(held), &mut found.other);
+        found.say(yes_or_no(is_kept));
+    }
 }
 
 /// Reports whether a value equals its copy.
-fn is_kept(value: &Value) -> Result<bool, Stop> {
-    let copy = value.try_clone()?;
-    Ok(copy == *value)
+fn is_kept(value: &Value, out: &mut Output) -> bool {
+    match out.take(value.try_clone()) {
+        Some(copy) => copy == *value,
+        None => false,
+    }
 }
 
-/// Returns whether two values are equal, if that is the same from both sides and each equals its
-/// copy. Otherwise returns what is wrong.
-fn equality(left: &Value, right: &Value) -> Result<&'static str, Stop> {
+/// Writes whether two values are equal, if that is the same from both sides and each equals its
+/// copy. Otherwise writes what is wrong.
+fn put_equality(left: &Value, right: &Value, out: &mut Output) {
     let is_equal = left == right;
     if (right == left) != is_equal {
-        return Ok("equal from one side alone");
-    }
-    if is_kept(left)? && is_kept(right)? {
-        Ok(yes_or_no(is_equal))
+        out.push("equal from one side alone");
+    } else if is_kept(left, out) && is_kept(right, out) {
+        out.push(yes_or_no(is_equal));
     } else {
-        Ok("no value equals its copy")
+        out.push("no value equals its copy");
     }
 }
 
@@ -99,27 +109,16 @@ fn order(left: &Value, right: &Value) -> &'static str {
 
 /// Answers a question about a value, or about two. Returns false if the values' own methods don't
 /// answer it.
-pub(crate) fn put(
-    key: &str,
-    value: &Value,
-    other: Option<&Value>,
-    out: &mut String,
-) -> Result<bool, Stop> {
+pub(crate) fn put(key: &str, value: &Value, other: Option<&Value>, out: &mut Output) -> bool {
     match (key, value, other) {
-        ("kind", value, _) | ("other kind", _, Some(value)) => {
-            let kind = value.type_of();
-            write!(out, "{kind}")?;
-        }
-        ("nanoseconds", Value::Duration(length), _) => {
-            let nanoseconds = length.nanoseconds();
-            write!(out, "{nanoseconds}")?;
-        }
-        ("values are equal", _, Some(other)) => out.push_str(equality(value, other)?)?,
+        ("kind", value, _) | ("other kind", _, Some(value)) => out.show(&value.type_of()),
+        ("nanoseconds", Value::Duration(length), _) => out.show(&length.nanoseconds()),
+        ("values are equal", _, Some(other)) => put_equality(value, other, out),
         ("order of values", _, Some(other))
         | ("order", Value::Timestamp(_) | Value::Duration(_), Some(other)) => {
-            out.push_str(order(value, other))?;
+            out.push(order(value, other));
         }
-        _ => return Ok(false),
+        _ => return false,
     }
-    Ok(true)
+    true
 }

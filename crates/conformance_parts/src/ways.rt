@@ -3,7 +3,7 @@
 use crate::answers::{Ran, end_ran, put_answer};
 use cel::{Answer, Context, Functions, PatternBook, Program, StandardFunctions, Value, run_code};
 use conformance_rows::keys::bound_name;
-use conformance_rows::{Field, Found, Stop, given};
+use conformance_rows::{Field, Found, Output, Stop, given};
 use kube_functions::{Context as KubeContext, KubeCelExt};
 use kube_schema_values::bind_plain;
 use std::alloc::Global;
@@ -53,32 +53,9 @@ fn hold(
     other: Ran,
     call: &'static str,
     found: &mut Found,
-) -> Result<(), Stop> {
-    put_answer(alloc, asked, &other, &mut found.other)?;
-    if is_same(first, &other) {
-        found.end(call)
-    } else {
-        Err(Stop::Differs(call))
-    }
-}
-
-/// Runs a program's code with a new book, and then the program with that book. Compares both with
-/// the program's first run.
-fn run_again<F: Functions>(
-    alloc: Global,
-    asked: &str,
-    program: &Program,
-    context: &Context<'_, F>,
-    first: &Ran,
-    calls: &Calls,
-    found: &mut Found,
-) -> Result<(), Stop> {
-    end_ran(alloc, asked, first, calls[0], found)?;
-    let mut book = PatternBook::new(alloc);
-    let by_code = run_code(alloc, program.code(), context, &mut book);
-    hold(alloc, asked, first, by_code, calls[1], found)?;
-    let with_book = program.execute_with(alloc, context, &mut book);
-    hold(alloc, asked, first, with_book, calls[2], found)
+) {
+    put_answer(alloc, asked, &other, &mut found.other);
+    found.end_equal(is_same(first, &other), call);
 }
 
 /// Executes a program, runs its code with a new book, and executes it with the book of that run.
@@ -90,9 +67,14 @@ pub(crate) fn run_program<F: Functions>(
     context: &Context<'_, F>,
     calls: &Calls,
     found: &mut Found,
-) -> Result<(), Stop> {
+) {
     let first = program.execute(alloc, context);
-    run_again(alloc, asked, program, context, &first, calls, found)
+    end_ran(alloc, asked, &first, calls[0], found);
+    let mut book = PatternBook::new(alloc);
+    let by_code = run_code(alloc, program.code(), context, &mut book);
+    hold(alloc, asked, &first, by_code, calls[1], found);
+    let with_book = program.execute_with(alloc, context, &mut book);
+    hold(alloc, asked, &first, with_book, calls[2], found);
 }
 
 /// Compiles a text that must parse.
@@ -109,8 +91,18 @@ pub(crate) fn executed(
     context: &KubeContext<'_>,
     text: &str,
 ) -> Result<Answer, Stop> {
-    let program = compiled(alloc, text)?;
-    Ok(program.execute(alloc, context)?)
+    match compiled(alloc, text) {
+        Ok(program) => answer_of(program.execute(alloc, context)),
+        Err(stop) => Err(stop),
+    }
+}
+
+/// The answer of a run that wasn't refused.
+fn answer_of(ran: Ran) -> Result<Answer, Stop> {
+    match ran {
+        Ok(answer) => Ok(answer),
+        Err(refused) => Err(Stop::from(refused)),
+    }
 }
 
 /// Binds a JSON text as a value, without a schema.
@@ -133,14 +125,14 @@ fn bound_value(alloc: Global, context: &KubeContext<'_>, field: &Field) -> Resul
 }
 
 /// Binds the names that a row gave, in a context with all functions.
-fn bind_names(alloc: Global, context: &mut KubeContext<'_>, given: &[Field]) -> Result<(), Stop> {
+fn bind_names(alloc: Global, context: &mut KubeContext<'_>, given: &[Field], out: &mut Output) {
     for field in given {
         if let Some(name) = bound_name(field.key.as_str()) {
-            let value = bound_value(alloc, context, field)?;
-            context.add_variable(name, value)?;
+            if let Some(value) = out.take(bound_value(alloc, context, field)) {
+                out.take(context.add_variable(name, value));
+            }
         }
     }
-    Ok(())
 }
 
 /// Binds the names that a row gave to their values in another context.
@@ -148,15 +140,17 @@ fn copy_names<F: Functions>(
     context: &mut Context<'_, F>,
     bound: &KubeContext<'_>,
     given: &[Field],
-) -> Result<(), Stop> {
+    out: &mut Output,
+) {
     for field in given {
         if let Some(name) = bound_name(field.key.as_str()) {
             if let Some(value) = bound.get(name) {
-                context.add_variable(name, value.try_clone()?)?;
+                if let Some(copy) = out.take(value.try_clone()) {
+                    out.take(context.add_variable(name, copy));
+                }
             }
         }
     }
-    Ok(())
 }
 
 /// Runs a program in a context whose type has only the standard functions.
@@ -167,10 +161,10 @@ fn run_in_standard(
     bound: &KubeContext<'_>,
     given: &[Field],
     found: &mut Found,
-) -> Result<(), Stop> {
+) {
     let mut context: Context<'_, StandardFunctions> = Context::default(alloc);
-    copy_names(&mut context, bound, given)?;
-    run_program(alloc, asked, program, &context, &IN_STANDARD, found)
+    copy_names(&mut context, bound, given, &mut found.other);
+    run_program(alloc, asked, program, &context, &IN_STANDARD, found);
 }
 
 /// Runs a program in a context of all functions, before or after they are registered.
@@ -182,18 +176,15 @@ fn run_in_kubernetes(
     given: &[Field],
     registered: bool,
     found: &mut Found,
-) -> Result<(), Stop> {
+) {
     let mut context: KubeContext<'_> = Context::default(alloc);
+    let mut calls = &IN_FIRST;
     if registered {
         context.register_all();
+        calls = &IN_REGISTERED;
     }
-    let calls = if registered {
-        &IN_REGISTERED
-    } else {
-        &IN_FIRST
-    };
-    copy_names(&mut context, bound, given)?;
-    run_program(alloc, asked, program, &context, calls, found)
+    copy_names(&mut context, bound, given, &mut found.other);
+    run_program(alloc, asked, program, &context, calls, found);
 }
 
 /// Runs a program in each way with the functions that the row names.
@@ -204,17 +195,18 @@ fn run_each(
     bound: &KubeContext<'_>,
     given: &[Field],
     found: &mut Found,
-) -> Result<(), Stop> {
-    let (standard, kubernetes) = given::function_sets(given)?;
+) {
+    let Some((standard, kubernetes)) = found.take(given::function_sets(given)) else {
+        return;
+    };
     if standard {
-        run_in_standard(alloc, asked, program, bound, given, found)?;
-        run_in_kubernetes(alloc, asked, program, bound, given, false, found)?;
+        run_in_standard(alloc, asked, program, bound, given, found);
+        run_in_kubernetes(alloc, asked, program, bound, given, false, found);
     }
     if kubernetes {
-        run_in_kubernetes(alloc, asked, program, bound, given, true, found)?;
-        run_program(alloc, asked, program, bound, &IN_ALL, found)?;
+        run_in_kubernetes(alloc, asked, program, bound, given, true, found);
+        run_program(alloc, asked, program, bound, &IN_ALL, found);
     }
-    Ok(())
 }
 
 /// Binds the names that a row gave in a context, and runs a text in each way.
@@ -225,20 +217,18 @@ fn run_text(
     bound: &mut KubeContext<'_>,
     given: &[Field],
     found: &mut Found,
-) -> Result<(), Stop> {
-    bind_names(alloc, bound, given)?;
-    let program = compiled(alloc, text)?;
-    run_each(alloc, asked, &program, bound, given, found)
+) {
+    bind_names(alloc, bound, given, &mut found.other);
+    match compiled(alloc, text) {
+        Ok(program) => run_each(alloc, asked, &program, bound, given, found),
+        Err(stop) => found.stop(stop),
+    }
 }
 
 /// Runs a row's expression in each way, and answers with what is asked about the outcome.
-pub(crate) fn find(
-    alloc: Global,
-    given: &[Field],
-    field: &Field,
-    found: &mut Found,
-) -> Result<(), Stop> {
-    let text = given::needed(given, "expression")?;
-    let mut bound: KubeContext<'_> = Context::default(alloc).with_all();
-    run_text(alloc, field.key.as_str(), text, &mut bound, given, found)
+pub(crate) fn find(alloc: Global, given: &[Field], field: &Field, found: &mut Found) {
+    if let Some(text) = found.take(given::needed(given, "expression")) {
+        let mut bound: KubeContext<'_> = Context::default(alloc).with_all();
+        run_text(alloc, field.key.as_str(), text, &mut bound, given, found);
+    }
 }

@@ -2,9 +2,8 @@
 
 use crate::found::Found;
 use crate::grammar::Maker;
-use crate::judge::{FAILURE, Report, Subject, Tally, judge_text, report_stop};
-use crate::row::Stop;
-use crate::texts::push_line;
+use crate::judge::{FAILURE, Report, Subject, Tally, judge_text};
+use crate::output::Output;
 use std::alloc::Global;
 use std::io::Write;
 use std::process::ExitCode;
@@ -13,25 +12,32 @@ use std::{env, fs, io};
 /// The seed of the random numbers that choose the texts of grammars.
 const SEED: u64 = 20_261_125;
 
+/// Reports the reason to stop that `found` has, if any, with the last text made. Returns the tally.
+fn report_made(alloc: Global, maker: &Maker, found: &Found, report: &mut Report<'_>) -> Tally {
+    if !found.is_stopped() {
+        return Tally::default();
+    }
+    let mut shown = Output::new(alloc);
+    shown.push(found.text.as_str());
+    shown.push_line(maker.text.as_str());
+    report.write_failure(0, &[shown.as_str()], found);
+    FAILURE
+}
+
 /// Judges the texts made from a grammar file. On a failure, the report shows the last text made.
 fn judge_grammar<S: Subject>(
     alloc: Global,
     text: &str,
     subject: &mut S,
     report: &mut Report<'_>,
-) -> Result<Tally, Stop> {
-    let mut maker = Maker::new(alloc, text, SEED)?;
+) -> Tally {
+    let mut maker = Maker::new(alloc, text, SEED, &mut report.text);
     let mut found = Found::new(alloc);
-    write!(report.text, "seed {SEED}\n")?;
-    match subject.generate(alloc, &mut maker, &mut found, &mut report.text) {
-        Ok(()) => Ok(Tally::default()),
-        Err(stop) => {
-            push_line(&mut found.text, maker.text.as_str())?;
-            report_stop(stop, &mut found)?;
-            report.write_report(0, found.text.as_str())?;
-            Ok(FAILURE)
-        }
-    }
+    report.text.push("seed ");
+    report.text.show(&SEED);
+    report.text.push("\n");
+    subject.generate(alloc, &mut maker, &mut found, &mut report.text);
+    report_made(alloc, &maker, &found, report)
 }
 
 /// Judges the contents of a file: a grammar if the file's name ends in `.grammar`, otherwise rows.
@@ -40,13 +46,13 @@ fn judge_file<S: Subject>(
     text: &str,
     subject: &mut S,
     report: &mut Report<'_>,
-) -> Result<Tally, Stop> {
+) -> Tally {
     if report.file.ends_with(".grammar") {
         return judge_grammar(alloc, text, subject, report);
     }
-    let tally = judge_text(alloc, text, subject, report)?;
-    tally.write_report(report.file, &mut report.text)?;
-    Ok(tally)
+    let tally = judge_text(alloc, text, subject, report);
+    tally.write(report.file, &mut report.text);
+    tally
 }
 
 /// Judges a file and writes its report.
@@ -62,17 +68,15 @@ fn run_file<S: Subject>(
     };
     let mut report = Report {
         file,
-        text: String::new(rt.alloc()),
+        text: Output::new(rt.alloc()),
     };
-    let judged = judge_file(rt.alloc(), text.as_str(), subject, &mut report);
-    let _ = out.write_all(report.text.as_bytes());
-    match judged {
-        Ok(tally) => tally,
-        Err(_) => {
-            let _ = writeln!(out, "{file}: there is no memory");
-            FAILURE
-        }
+    let tally = judge_file(rt.alloc(), text.as_str(), subject, &mut report);
+    let _ = out.write_all(report.text.as_str().as_bytes());
+    if report.text.is_stopped() {
+        let _ = writeln!(out, "{file}: there is no memory");
+        return FAILURE;
     }
+    tally
 }
 
 /// Judges the files that a program's arguments name, and writes the report. The exit code is a
@@ -83,9 +87,9 @@ pub fn run_files<S: Subject>(rt: &HostRuntime, subject: &mut S) -> io::Result<Ex
     for file in env::args(rt)?.skip(1) {
         all = all.with(run_file(rt, file.as_str(), subject, &mut out));
     }
-    let mut report = String::new(rt.alloc());
-    let _ = all.write_report("all", &mut report);
-    let _ = out.write_all(report.as_bytes());
+    let mut report = Output::new(rt.alloc());
+    all.write("all", &mut report);
+    let _ = out.write_all(report.as_str().as_bytes());
     Ok(if all.failures == 0 && all.checks > 0 {
         ExitCode::SUCCESS
     } else {

@@ -1,18 +1,19 @@
 //! Reads the values that a row gives.
 
+use crate::output::Output;
 use crate::row::{Field, Stop};
-use crate::texts::push_times;
 use serde_json::Value;
 use std::alloc::{AllocError, Global};
 
 /// The text last given under a key, if any.
 pub fn text<'a>(given: &'a [Field], key: &str) -> Option<&'a str> {
-    for field in given.iter().rev() {
-        if field.key.as_str() == key {
-            return Some(field.text.as_str());
+    let mut last = None;
+    for field in given {
+        if field.has(key) {
+            last = Some(field.text.as_str());
         }
     }
-    None
+    last
 }
 
 /// The text last given under a key, which is required.
@@ -80,21 +81,25 @@ pub fn json_of(alloc: Global, key: &'static str, text: &str) -> Result<Value, St
 }
 
 /// Appends the text `within`, with `before` and `after` around it as many times as `levels` says.
-fn push_levels(given: &[Field], out: &mut String) -> Result<(), Stop> {
-    let levels = number_or(given, "levels", 0)? as usize;
-    push_times(out, needed(given, "before")?, levels)?;
-    out.push_str(needed(given, "within")?)?;
-    Ok(push_times(out, needed(given, "after")?, levels)?)
+fn push_levels(given: &[Field], out: &mut Output) {
+    let Some(levels) = out.take(number_or(given, "levels", 0)) else {
+        return;
+    };
+    for (key, times) in [("before", levels), ("within", 1), ("after", levels)] {
+        if let Some(text) = out.take(needed(given, key)) {
+            out.push_times(text, times as usize);
+        }
+    }
 }
 
 /// Appends the CEL text that a row gave last, as a whole or by its levels.
-pub fn push_source(given: &[Field], out: &mut String) -> Result<(), Stop> {
+pub fn push_source(given: &[Field], out: &mut Output) {
     for field in given.iter().rev() {
         match field.key.as_str() {
-            "text" | "expression" => return Ok(out.push_str(field.text.as_str())?),
+            "text" | "expression" => return out.push(field.text.as_str()),
             "levels" => return push_levels(given, out),
             _ => {}
         }
     }
-    Err(Stop::Unfit("text"))
+    out.stop(Stop::Unfit("text"));
 }

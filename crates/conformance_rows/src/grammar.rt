@@ -4,6 +4,7 @@
 //! may contain further names in such brackets. Empty lines and lines that begin with `#` are
 //! ignored.
 
+use crate::output::Output;
 use crate::random::Random;
 use crate::row::Stop;
 use std::alloc::{AllocError, Global};
@@ -18,148 +19,146 @@ struct Symbol {
     leaves: Vec<String>,
 }
 
-/// The names of a grammar with their texts.
-#[derive(Drop)]
-struct Grammar {
-    symbols: Vec<Symbol>,
-}
-
 /// Makes texts from a grammar, one after another.
 #[derive(Drop)]
 pub struct Maker {
-    grammar: Grammar,
+    symbols: Vec<Symbol>,
     random: Random,
     /// The text made last.
-    pub text: String,
+    pub text: Output,
 }
 
 /// The number of names that may be replaced in a text before it must be complete.
 const LIMIT: usize = 5_000;
 
 impl Symbol {
-    /// Adds a text that may replace the name.
-    fn put(&mut self, alloc: Global, text: &str) -> Result<(), AllocError> {
-        let texts = if text.contains('⟨') {
-            &mut self.forms
-        } else {
-            &mut self.leaves
-        };
-        texts.push(String::from_str(alloc, text)?)?;
-        Ok(())
+    /// Makes a name without texts.
+    fn new(alloc: Global, name: &str) -> Result<Symbol, AllocError> {
+        Ok(Symbol {
+            name: String::from_str(alloc, name)?,
+            forms: Vec::new(alloc),
+            leaves: Vec::new(alloc),
+        })
     }
 
-    /// Chooses a text. Unless `may_grow` is true, chooses one without names, if there is any.
-    fn choose(&self, random: &mut Random, may_grow: bool) -> Option<&String> {
+    /// Adds a text that may replace the name.
+    fn put(&mut self, alloc: Global, text: &str, out: &mut Output) {
+        if let Some(text) = out.take(String::from_str(alloc, text)) {
+            let added = if text.contains('⟨') {
+                self.forms.push(text)
+            } else {
+                self.leaves.push(text)
+            };
+            out.take(added);
+        }
+    }
+
+    /// Appends one of the texts. Unless `may_grow` is true, it is one without names, if there is
+    /// any.
+    fn choose(&self, random: &mut Random, may_grow: bool, out: &mut Output) {
         let grows = may_grow && random.below(5) > 0;
         let texts = if self.leaves.is_empty() || grows && !self.forms.is_empty() {
             self.forms.as_slice()
         } else {
             self.leaves.as_slice()
         };
-        texts.get(random.below(texts.len()))
-    }
-}
-
-impl Grammar {
-    /// Parses a grammar.
-    fn read(alloc: Global, text: &str) -> Result<Grammar, Stop> {
-        let mut grammar = Grammar {
-            symbols: Vec::new(alloc),
-        };
-        for line in text.lines() {
-            if line.starts_with('#') {
-                continue;
-            }
-            if let Some((name, text)) = line.split_once(" = ") {
-                grammar.put(alloc, name, text)?;
-            }
+        if let Some(text) = texts.get(random.below(texts.len())) {
+            out.push(text.as_str());
         }
-        Ok(grammar)
-    }
-
-    /// Adds a text that may replace a name.
-    fn put(&mut self, alloc: Global, name: &str, text: &str) -> Result<(), AllocError> {
-        for symbol in self.symbols.iter_mut() {
-            if symbol.name.as_str() == name {
-                return symbol.put(alloc, text);
-            }
-        }
-        self.symbols.push(Symbol {
-            name: String::from_str(alloc, name)?,
-            forms: Vec::new(alloc),
-            leaves: Vec::new(alloc),
-        })?;
-        match self.symbols.last_mut() {
-            Some(symbol) => symbol.put(alloc, text),
-            None => Ok(()),
-        }
-    }
-
-    /// Chooses a text that replaces a name.
-    fn choose(&self, random: &mut Random, name: &str, may_grow: bool) -> Result<&str, Stop> {
-        for symbol in self.symbols.iter() {
-            if symbol.name.as_str() == name {
-                if let Some(text) = symbol.choose(random, may_grow) {
-                    return Ok(text.as_str());
-                }
-            }
-        }
-        Err(Stop::Unfit("a name of the grammar"))
-    }
-
-    /// Replaces the name that a text begins with. The text starts inside the name's brackets.
-    fn expanded(
-        &self,
-        alloc: Global,
-        random: &mut Random,
-        text: &str,
-        may_grow: bool,
-    ) -> Result<String, Stop> {
-        let Some((name, behind)) = text.split_once('⟩') else {
-            return Err(Stop::Unfit("a bracket of the grammar"));
-        };
-        let mut next = String::from_str(alloc, self.choose(random, name, may_grow)?)?;
-        next.push_str(behind)?;
-        Ok(next)
-    }
-
-    /// Makes a text from a name. Only the first `most` names in it may be replaced by texts that
-    /// contain names, unless a name has no other texts.
-    fn made(
-        &self,
-        alloc: Global,
-        random: &mut Random,
-        name: &str,
-        most: usize,
-    ) -> Result<String, Stop> {
-        let mut made = String::new(alloc);
-        let mut rest = String::from_str(alloc, self.choose(random, name, true)?)?;
-        for turn in 0..LIMIT {
-            let Some((before, behind)) = rest.as_str().split_once('⟨') else {
-                made.push_str(rest.as_str())?;
-                return Ok(made);
-            };
-            made.push_str(before)?;
-            rest = self.expanded(alloc, random, behind, turn < most)?;
-        }
-        Err(Stop::Unfit("a text of the grammar that ends"))
     }
 }
 
 impl Maker {
-    /// Creates a maker from the text of a grammar. No text is made yet.
-    pub(crate) fn new(alloc: Global, grammar: &str, seed: u64) -> Result<Maker, Stop> {
-        Ok(Maker {
-            grammar: Grammar::read(alloc, grammar)?,
+    /// Creates a maker from the text of a grammar. No text is made yet. If memory is refused, `out`
+    /// stops.
+    pub(crate) fn new(alloc: Global, grammar: &str, seed: u64, out: &mut Output) -> Maker {
+        let mut maker = Maker {
+            symbols: Vec::new(alloc),
             random: Random { state: seed },
-            text: String::new(alloc),
-        })
+            text: Output::new(alloc),
+        };
+        for line in grammar.lines() {
+            if let (false, Some((name, text))) = (line.starts_with('#'), line.split_once(" = ")) {
+                maker.put(alloc, name, text, out);
+            }
+        }
+        maker
+    }
+
+    /// The index of a name, or the number of names if it isn't known.
+    fn index_of(&self, name: &str) -> usize {
+        let mut index = self.symbols.len();
+        for at in 0..self.symbols.len() {
+            if self.symbols[at].name.as_str() == name {
+                index = at;
+            }
+        }
+        index
+    }
+
+    /// Adds a text that may replace a name.
+    fn put(&mut self, alloc: Global, name: &str, text: &str, out: &mut Output) {
+        let index = self.index_of(name);
+        if index == self.symbols.len() {
+            if let Some(symbol) = out.take(Symbol::new(alloc, name)) {
+                out.take(self.symbols.push(symbol));
+            }
+        }
+        if let Some(symbol) = self.symbols.get_mut(index) {
+            symbol.put(alloc, text, out);
+        }
+    }
+
+    /// Appends a text that replaces a name. Unless `may_grow` is true, it is one without names, if
+    /// there is any.
+    fn choose(&mut self, name: &str, may_grow: bool, out: &mut Output) {
+        let index = self.index_of(name);
+        match self.symbols.get(index) {
+            Some(symbol) => symbol.choose(&mut self.random, may_grow, out),
+            None => out.stop(Stop::Unfit("a name of the grammar")),
+        }
+    }
+
+    /// Replaces the first name in a text. Returns nothing if there is none, or if the text has
+    /// stopped.
+    fn expanded(&mut self, alloc: Global, text: &Output, may_grow: bool) -> Option<Output> {
+        match text.as_str().split_once('⟨') {
+            Some((before, inner)) if !text.is_stopped() => {
+                let mut next = Output::new(alloc);
+                next.push(before);
+                match inner.split_once('⟩') {
+                    Some((name, behind)) => {
+                        self.choose(name, may_grow, &mut next);
+                        next.push(behind);
+                    }
+                    None => next.stop(Stop::Unfit("a bracket of the grammar")),
+                }
+                Some(next)
+            }
+            _ => None,
+        }
     }
 
     /// Makes the next text from a name. Only the first `most` names in it may be replaced by texts
     /// that contain names, unless a name has no other texts.
     pub fn make(&mut self, alloc: Global, name: &str, most: usize) -> Result<(), Stop> {
-        self.text = self.grammar.made(alloc, &mut self.random, name, most)?;
-        Ok(())
+        let mut made = Output::new(alloc);
+        self.choose(name, true, &mut made);
+        for turn in 0..LIMIT {
+            match self.expanded(alloc, &made, turn < most) {
+                Some(next) => made = next,
+                None => break,
+            }
+        }
+        if made.as_str().contains('⟨') {
+            made.stop(Stop::Unfit("a text of the grammar that ends"));
+        }
+        match made.stopped() {
+            Some(stop) => Err(stop),
+            None => {
+                self.text = made;
+                Ok(())
+            }
+        }
     }
 }

@@ -2,9 +2,9 @@
 
 use crate::found::Found;
 use crate::grammar::Maker;
-use crate::reader::read_rows;
-use crate::row::{Fault, Field, Stop};
-use crate::texts::push_all;
+use crate::output::Output;
+use crate::reader::Reader;
+use crate::row::{Field, Row, Stop};
 use std::alloc::Global;
 
 /// What rows are about: answers their fields.
@@ -16,24 +16,18 @@ pub trait Subject {
     fn gives(&self, key: &str) -> bool;
 
     /// Finds the answer to a field, given the fields before it in its row. The check holds if the
-    /// answer is the field's text.
-    fn find(
-        &mut self,
-        alloc: Global,
-        given: &[Field],
-        field: &Field,
-        found: &mut Found,
-    ) -> Result<(), Stop>;
+    /// answer is the field's text, and `found` has no reason to stop.
+    fn find(&mut self, alloc: Global, given: &[Field], field: &Field, found: &mut Found);
 
     /// Judges texts made from a grammar, and writes how many hold. On a failure, `found` has the
-    /// report.
+    /// reason to stop.
     fn generate(
         &mut self,
         alloc: Global,
         maker: &mut Maker,
         found: &mut Found,
-        report: &mut String,
-    ) -> Result<(), Stop>;
+        report: &mut Output,
+    );
 }
 
 /// The number of checks that were made, and how many failed.
@@ -49,6 +43,20 @@ const ROW: Tally = Tally {
     rows: 1,
     checks: 0,
     failures: 0,
+};
+
+/// A check that holds.
+const HELD: Tally = Tally {
+    rows: 0,
+    checks: 1,
+    failures: 0,
+};
+
+/// A check that fails.
+const FAILED: Tally = Tally {
+    rows: 0,
+    checks: 1,
+    failures: 1,
 };
 
 /// A failure outside of rows.
@@ -69,140 +77,122 @@ impl Tally {
     }
 
     /// Writes how many rows there are and how many of their checks hold.
-    pub(crate) fn write_report(self, what: &str, report: &mut String) -> Result<(), Stop> {
-        let (rows, checks, failures) = (self.rows, self.checks, self.failures);
-        if failures == 0 {
-            write!(report, "{what}: {rows} rows, {checks} checks hold\n")?;
+    pub(crate) fn write(self, what: &str, out: &mut Output) {
+        out.push_all(&[what, ": "]);
+        out.show(&self.rows);
+        out.push(" rows, ");
+        if self.failures == 0 {
+            out.show(&self.checks);
+            out.push(" checks hold\n");
         } else {
-            write!(
-                report,
-                "{what}: {rows} rows, {failures} of {checks} checks FAILED\n"
-            )?;
+            out.show(&self.failures);
+            out.push(" of ");
+            out.show(&self.checks);
+            out.push(" checks FAILED\n");
         }
-        Ok(())
     }
 }
 
-/// The report of a file.
+/// The report of a file. It stops only if memory was refused.
 #[derive(Drop)]
 pub(crate) struct Report<'f> {
     pub(crate) file: &'f str,
-    pub(crate) text: String,
+    pub(crate) text: Output,
 }
 
 impl Report<'_> {
-    /// Writes what is wrong at a line.
-    pub(crate) fn write_report(&mut self, line: usize, what: &str) -> Result<(), Stop> {
-        let file = self.file;
-        write!(self.text, "{file}:{line}: ")?;
-        Ok(push_all(&mut self.text, &[what, "\n"])?)
+    /// Writes the number of a line, and texts.
+    fn write(&mut self, line: usize, texts: &[&str]) {
+        self.text.push_all(&[self.file, ":"]);
+        self.text.show(&line);
+        self.text.push(": ");
+        self.text.push_all(texts);
     }
 
-    /// Writes what a field expects and what was found.
-    fn report_found(&mut self, name: &str, field: &Field, found: &str) -> Result<(), Stop> {
-        self.write_report(field.line, name)?;
+    /// Writes what is wrong with a file of rows.
+    fn write_fault(&mut self, reader: &Reader) {
+        if let Some(stop) = reader.fault.stopped() {
+            self.text.stop(stop);
+        }
+        self.write(reader.line, &[reader.fault.as_str(), "\n"]);
+    }
+
+    /// Writes what failed at a line, and why `found` has no single answer, if it has none.
+    pub(crate) fn write_failure(&mut self, line: usize, texts: &[&str], found: &Found) {
+        let stopped = found.stopped();
+        if let Some(Stop::Memory) = stopped {
+            self.text.stop(Stop::Memory);
+        }
+        self.write(line, texts);
+        match stopped {
+            None | Some(Stop::Memory) => {}
+            Some(Stop::TooLarge) => self.text.push(", and too large"),
+            Some(Stop::Unfit(key)) => self.text.push_all(&[key, " isn't given as it has to be"]),
+            Some(Stop::Differs(call)) => {
+                self.text.push_all(&[", but by ", call, ": "]);
+                self.text.push(found.other.as_str());
+            }
+        }
+        self.text.push("\n");
+    }
+
+    /// Writes what a field of a row expects and what was found.
+    fn write_field(&mut self, name: &str, field: &Field, found: &Found) {
         let (key, expected) = (field.key.as_str(), field.text.as_str());
-        let reported = [
-            "  ",
+        let answer = found.text.as_str();
+        let texts = [
+            name,
+            "\n  ",
             key,
             " expected: ",
             expected,
             "\n  ",
             key,
             " found: ",
-            found,
-            "\n",
+            answer,
         ];
-        Ok(push_all(&mut self.text, &reported)?)
+        self.write_failure(field.line, &texts, found);
     }
 }
 
-/// Replaces the answer in `found` by a message that says why there is no single answer.
-///
-/// # Errors
-/// [`Stop::Memory`] if memory was refused.
-pub(crate) fn report_stop(stop: Stop, found: &mut Found) -> Result<(), Stop> {
-    match stop {
-        Stop::Memory => return Err(Stop::Memory),
-        Stop::TooLarge => found.text.push_str(", and too large")?,
-        Stop::Unfit(key) => push_all(&mut found.text, &[key, " isn't given as it has to be"])?,
-        Stop::Differs(call) => {
-            push_all(&mut found.text, &[", but by ", call, ": "])?;
-            found.text.push_str(found.other.as_str())?;
-        }
-    }
-    Ok(())
-}
-
-/// Reports whether a field holds. If it doesn't, `found` has the answer or the reason.
-fn holds<S: Subject>(
+/// Judges a field by the fields before it in its row. Returns its tally.
+fn judge_field<S: Subject>(
     alloc: Global,
+    name: &str,
     given: &[Field],
     field: &Field,
     subject: &mut S,
-    found: &mut Found,
-) -> Result<bool, Stop> {
-    found.clear();
-    match subject.find(alloc, given, field, found) {
-        Ok(()) => Ok(found.text.as_str() == field.text.as_str()),
-        Err(stop) => {
-            report_stop(stop, found)?;
-            Ok(false)
-        }
+    report: &mut Report<'_>,
+) -> Tally {
+    let mut found = Found::new(alloc);
+    subject.find(alloc, given, field, &mut found);
+    if !found.is_stopped() && found.text.as_str() == field.text.as_str() {
+        return HELD;
     }
+    report.write_field(name, field, &found);
+    FAILED
 }
 
-/// Judges a row by the fields after the one that begins it. Returns its tally.
+/// Judges a row. Returns its tally.
 fn judge_row<S: Subject>(
     alloc: Global,
-    row: &Field,
-    fields: &[Field],
+    row: &Row,
     subject: &mut S,
     report: &mut Report<'_>,
-) -> Result<Tally, Stop> {
+) -> Tally {
+    let (name, fields) = (row.name.as_str(), row.fields.as_slice());
     let mut tally = ROW;
-    let mut found = Found::new(alloc);
     for index in 0..fields.len() {
         let (given, field) = (fields.split_at(index).0, &fields[index]);
-        if field.key.as_str() == "==" {
-            break;
-        }
-        if subject.gives(field.key.as_str()) {
-            continue;
-        }
-        tally.checks = tally.checks.saturating_add(1);
-        if !holds(alloc, given, field, subject, &mut found)? {
-            tally.failures = tally.failures.saturating_add(1);
-            report.report_found(row.text.as_str(), field, found.text.as_str())?;
+        if !subject.gives(field.key.as_str()) {
+            tally = tally.with(judge_field(alloc, name, given, field, subject, report));
         }
     }
-    Ok(tally)
-}
-
-/// Judges rows in order and reports failures. Returns the tally.
-fn judge_rows<S: Subject>(
-    alloc: Global,
-    fields: &[Field],
-    subject: &mut S,
-    report: &mut Report<'_>,
-) -> Result<Tally, Stop> {
-    let mut all = Tally::default();
-    for index in 0..fields.len() {
-        let [row, below @ ..] = fields.split_at(index).1 else {
-            continue;
-        };
-        if row.key.as_str() != "==" {
-            continue;
-        }
-        subject.begin(alloc);
-        let mut tally = judge_row(alloc, row, below, subject, report)?;
-        if tally.checks == 0 {
-            tally.failures = 1;
-            report.write_report(row.line, "nothing is expected")?;
-        }
-        all = all.with(tally);
+    if tally.checks == 0 {
+        tally.failures = 1;
+        report.write(row.line, &["nothing is expected\n"]);
     }
-    Ok(all)
+    tally
 }
 
 /// Judges the rows of a file's contents and reports failures. Returns the tally.
@@ -211,12 +201,16 @@ pub(crate) fn judge_text<S: Subject>(
     text: &str,
     subject: &mut S,
     report: &mut Report<'_>,
-) -> Result<Tally, Stop> {
-    match read_rows(alloc, text)? {
-        Ok(fields) => judge_rows(alloc, fields.as_slice(), subject, report),
-        Err(Fault { line, what }) => {
-            report.write_report(line, what)?;
-            Ok(FAILURE)
-        }
+) -> Tally {
+    let reader = Reader::read(alloc, text);
+    if reader.fails() {
+        report.write_fault(&reader);
+        return FAILURE;
     }
+    let mut all = Tally::default();
+    for row in reader.rows.iter() {
+        subject.begin(alloc);
+        all = all.with(judge_row(alloc, row, subject, report));
+    }
+    all
 }

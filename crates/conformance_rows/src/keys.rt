@@ -72,14 +72,13 @@ pub fn bound_name(key: &str) -> Option<&str> {
 /// The contents last given for the file at a path. The key of such a field is `file` followed by
 /// the path.
 pub fn file_given<'g>(given: &'g [Field], path: &str) -> Option<&'g str> {
-    for field in given.iter().rev() {
-        if let Some(name) = field.key.as_str().strip_prefix("file ") {
-            if name == path {
-                return Some(field.text.as_str());
-            }
+    let mut last = None;
+    for field in given {
+        if field.key.as_str().strip_prefix("file ") == Some(path) {
+            last = Some(field.text.as_str());
         }
     }
-    None
+    last
 }
 
 /// The type of the item that a field with this key gives, and whether it is the other item.
@@ -100,11 +99,12 @@ pub fn gives(key: &str) -> bool {
 
 /// The field that last gave the item, or the other item.
 pub fn item_given(given: &[Field], wants_other: bool) -> Option<&Field> {
-    for field in given.iter().rev() {
+    let mut last = None;
+    for field in given {
         let (of, is_other) = item_type(field.key.as_str());
         if is_other == wants_other && maker(of).is_some() {
-            return Some(field);
+            last = Some(field);
         }
     }
-    None
+    last
 }

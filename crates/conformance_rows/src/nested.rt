@@ -2,7 +2,7 @@
 //! `properties` or of branches takes two.
 
 use crate::found::Found;
-use crate::given::{json, json_of};
+use crate::given::{json_of, text};
 use crate::row::{Field, Stop};
 use serde_json::{Map, Value};
 use std::alloc::{AllocError, Global};
@@ -26,26 +26,28 @@ const STEPS: [(&str, &str); 6] = [
 
 /// The step between levels for a key that gives their number.
 fn step_of(key: &str) -> Option<&'static str> {
+    let mut found = None;
     for &(name, step) in STEPS.iter() {
         if name == key {
-            return Some(step);
+            found = Some(step);
         }
     }
-    None
+    found
 }
 
 /// The nesting that a row gave last. Zero levels if it gave none.
 pub fn nesting_given(given: &[Field]) -> Result<Nesting, Stop> {
-    for field in given.iter().rev() {
-        if let Some(step) = step_of(field.key.as_str()) {
-            return match field.text.parse::<u64>() {
-                Ok(levels) => Ok(Nesting { step, levels }),
-                Err(_) => Err(Stop::Unfit("nested")),
-            };
+    let (mut step, mut levels) = ("items", "0");
+    for field in given {
+        if let Some(last) = step_of(field.key.as_str()) {
+            step = last;
+            levels = field.text.as_str();
         }
     }
-    let (step, levels) = ("items", 0);
-    Ok(Nesting { step, levels })
+    match levels.parse::<u64>() {
+        Ok(levels) => Ok(Nesting { step, levels }),
+        Err(_) => Err(Stop::Unfit("nested")),
+    }
 }
 
 /// Returns a list of one value.
@@ -80,20 +82,21 @@ fn value_above(alloc: Global, step: &str, below: Value) -> Result<Value, AllocEr
     }
 }
 
-/// Nests a schema.
-fn nested_schema(alloc: Global, nesting: Nesting, inner: Value) -> Result<Value, AllocError> {
-    let mut schema = inner;
+/// Parses a JSON text that was given under a key, nested as the row says.
+fn nested_json(
+    alloc: Global,
+    given: &[Field],
+    key: &'static str,
+    text: &str,
+) -> Result<Value, Stop> {
+    let nesting = nesting_given(given)?;
+    let mut value = json_of(alloc, key, text)?;
     for _ in 0..nesting.levels {
-        schema = schema_above(alloc, nesting.step, schema)?;
-    }
-    Ok(schema)
-}
-
-/// Nests a value.
-fn nested_value(alloc: Global, nesting: Nesting, inner: Value) -> Result<Value, AllocError> {
-    let mut value = inner;
-    for _ in 0..nesting.levels {
-        value = value_above(alloc, nesting.step, value)?;
+        value = if key == "schema" {
+            schema_above(alloc, nesting.step, value)?
+        } else {
+            value_above(alloc, nesting.step, value)?
+        };
     }
     Ok(value)
 }
@@ -104,39 +107,41 @@ pub fn value_given(
     given: &[Field],
     key: &'static str,
 ) -> Result<Option<Value>, Stop> {
-    let nesting = nesting_given(given)?;
-    match json(alloc, given, key)? {
-        Some(value) => Ok(Some(nested_value(alloc, nesting, value)?)),
+    match text(given, key) {
+        Some(text) => Ok(Some(nested_json(alloc, given, key, text)?)),
         None => Ok(None),
+    }
+}
+
+/// Like `value_given`, but an empty object if the row gave none.
+fn given_or_empty(alloc: Global, given: &[Field], key: &'static str) -> Result<Value, Stop> {
+    match text(given, key) {
+        Some(text) => nested_json(alloc, given, key, text),
+        None => Ok(Value::Object(Map::new(alloc))),
     }
 }
 
 /// The object that a row gave last, nested as the row says. Empty if it gave none.
 pub fn object_given(alloc: Global, given: &[Field]) -> Result<Value, Stop> {
-    match value_given(alloc, given, "object")? {
-        Some(object) => Ok(object),
-        None => Ok(Value::Object(Map::new(alloc))),
-    }
+    given_or_empty(alloc, given, "object")
 }
 
 /// The schema that a row gave last, nested as the row says. Empty if it gave none.
 pub fn schema_given(alloc: Global, given: &[Field]) -> Result<Value, Stop> {
-    let nesting = nesting_given(given)?;
-    match json(alloc, given, "schema")? {
-        Some(schema) => Ok(nested_schema(alloc, nesting, schema)?),
-        None => Ok(Value::Object(Map::new(alloc))),
-    }
+    given_or_empty(alloc, given, "schema")
+}
+
+/// The schema and the object that a row gave last, nested as the row says. Each is empty if it gave
+/// none.
+pub fn case_given(alloc: Global, given: &[Field]) -> Result<(Value, Value), Stop> {
+    let schema = schema_given(alloc, given)?;
+    Ok((schema, object_given(alloc, given)?))
 }
 
 /// Answers with a field's JSON, nested as the row says.
-pub fn find_nested(
-    alloc: Global,
-    given: &[Field],
-    field: &Field,
-    found: &mut Found,
-) -> Result<(), Stop> {
-    let nesting = nesting_given(given)?;
-    let value = json_of(alloc, "filled", field.text.as_str())?;
-    let value = nested_value(alloc, nesting, value)?;
-    found.end_json(&value, "filled")
+pub fn find_nested(alloc: Global, given: &[Field], field: &Field, found: &mut Found) {
+    let text = field.text.as_str();
+    if let Some(value) = found.take(nested_json(alloc, given, "filled", text)) {
+        found.end_json(&value, "filled");
+    }
 }

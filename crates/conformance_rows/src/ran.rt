@@ -1,8 +1,7 @@
 //! The results of running a command.
 
 use crate::found::Found;
-use crate::row::{Field, Stop};
-use std::alloc::Global;
+use crate::row::Field;
 
 /// The exit status of a run, and what it wrote.
 #[derive(Drop)]
@@ -16,28 +15,21 @@ pub struct Ran {
 
 impl Ran {
     /// Answers with the exit status, or with what was written to one stream.
-    pub fn find(&self, alloc: Global, field: &Field, found: &mut Found) -> Result<(), Stop> {
+    pub fn find(&self, field: &Field, found: &mut Found) {
         let (status, out, err) = (self.status, self.out.as_slice(), self.err.as_slice());
         let text = field.text.as_str();
         match field.key.as_str() {
-            "output" => self.put(alloc, out, err, text, found),
-            "error output" => self.put(alloc, err, out, text, found),
-            _ => Ok(write!(found.text, "{status}")?),
+            "output" => self.put(out, err, text, found),
+            "error output" => self.put(err, out, text, found),
+            _ => found.text.show(&status),
         }
     }
 
     /// Answers with what was written to one stream. Unless the field's text is empty or ends in a
     /// line feed, the last line feed is left out. If there is none, or if the run wrote to the
     /// other stream and may not, the answer says so and shows the other stream.
-    fn put(
-        &self,
-        alloc: Global,
-        written: &[u8],
-        other: &[u8],
-        text: &str,
-        found: &mut Found,
-    ) -> Result<(), Stop> {
-        found.other = String::from_utf8_lossy(alloc, written)?;
+    fn put(&self, written: &[u8], other: &[u8], text: &str, found: &mut Found) {
+        found.other.push_lossy(written);
         let written = found.other.as_str();
         let compared = if text.is_empty() || text.ends_with('\n') {
             Some(written)
@@ -45,15 +37,13 @@ impl Ran {
             written.strip_suffix("\n")
         };
         match compared {
-            Some(compared) if other.is_empty() || !self.is_alone => found.text.push_str(compared)?,
+            Some(compared) if other.is_empty() || !self.is_alone => found.text.push(compared),
             _ => {
-                found.text.push_str(written)?;
-                found.text.push_str("with no line feed, or beside this: ")?;
-                let other = String::from_utf8_lossy(alloc, other)?;
-                found.text.push_str(other.as_str())?;
+                found.text.push(written);
+                found.text.push("with no line feed, or beside this: ");
+                found.text.push_lossy(other);
             }
         }
-        Ok(())
     }
 
     /// Reports whether two runs had the same results.

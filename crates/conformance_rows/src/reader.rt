@@ -1,11 +1,12 @@
 //! Reads files of rows.
 
-use crate::row::{Fault, Field};
-use crate::texts::push_line;
+use crate::output::Output;
+use crate::row::{Field, Row};
 use serde_json::Value;
 use std::alloc::{AllocError, Global};
 
-/// A line that isn't part of a field's text.
+/// What a line is.
+#[derive(Clone, Copy)]
 enum Line<'a> {
     /// An empty line or a comment.
     Nothing,
@@ -17,39 +18,32 @@ enum Line<'a> {
     Block(&'a str),
     /// A field whose text is a JSON string.
     Quoted(&'a str, &'a str),
+    /// A line of the text of the field above.
+    Further(&'a str),
     /// None of these.
     Other,
 }
 
-/// Reports whether a text is a key: lower-case letters and blanks.
+/// Reports whether a text is a key: lower-case letters and blanks, without a blank at its end.
 fn is_key(text: &str) -> bool {
+    let mut is_key = !text.is_empty() && !text.ends_with(' ');
     for byte in text.bytes() {
-        if !byte.is_ascii_lowercase() && byte != b' ' {
-            return false;
-        }
+        is_key = is_key && (byte.is_ascii_lowercase() || byte == b' ');
     }
-    !text.is_empty()
+    is_key
 }
 
 /// Parses a line with a key.
 fn field_line(line: &str) -> Line<'_> {
-    let Some(at) = line.find([':', '=']) else {
-        return Line::Other;
-    };
-    let (key, rest) = line.split_at(at);
-    if let Some(key) = key.strip_suffix(" ") {
-        return match rest.strip_prefix("= ") {
-            Some(text) if is_key(key) => Line::Quoted(key, text),
-            _ => Line::Other,
-        };
-    }
-    if !is_key(key) {
-        return Line::Other;
-    }
-    match rest.strip_prefix(": ") {
-        Some(text) => Line::Plain(key, text),
-        None if rest == ":" => Line::Block(key),
-        None => Line::Other,
+    match (
+        line.split_once(" = "),
+        line.split_once(": "),
+        line.strip_suffix(":"),
+    ) {
+        (Some((key, text)), _, _) if is_key(key) => Line::Quoted(key, text),
+        (_, Some((key, text)), _) if is_key(key) => Line::Plain(key, text),
+        (_, _, Some(key)) if is_key(key) => Line::Block(key),
+        _ => Line::Other,
     }
 }
 
@@ -58,16 +52,37 @@ fn line_of(line: &str) -> Line<'_> {
     if line.is_empty() || line.starts_with('#') {
         return Line::Nothing;
     }
-    match line.strip_prefix("== ") {
-        Some(name) => Line::Row(name),
-        None => field_line(line),
+    match (line.strip_prefix("  "), line.strip_prefix("== ")) {
+        (Some(text), _) => Line::Further(text),
+        (_, Some(name)) => Line::Row(name),
+        _ => field_line(line),
     }
 }
 
-/// The fields that were read so far.
+/// Makes a field.
+fn field_of(alloc: Global, key: &str, text: &str, line: usize) -> Result<Field, AllocError> {
+    let key = String::from_str(alloc, key)?;
+    let text = String::from_str(alloc, text)?;
+    Ok(Field { key, text, line })
+}
+
+/// Appends a line to a text.
+fn append_line(text: &mut String, line: &str) -> Result<(), AllocError> {
+    if !text.is_empty() {
+        text.push('\n')?;
+    }
+    text.push_str(line)
+}
+
+/// Reads a file's rows, up to the first line that is wrong.
 #[derive(Drop)]
-struct Reader {
-    fields: Vec<Field>,
+pub(crate) struct Reader {
+    alloc: Global,
+    pub(crate) rows: Vec<Row>,
+    /// The number of the line read last.
+    pub(crate) line: usize,
+    /// What is wrong with that line. Empty if nothing is.
+    pub(crate) fault: Output,
     /// Whether the next lines may continue the last field's text.
     in_block: bool,
 }
@@ -75,89 +90,96 @@ struct Reader {
 impl Reader {
     /// Reports whether a row has this name.
     fn has_row(&self, name: &str) -> bool {
-        for field in self.fields.iter() {
-            if field.key.as_str() == "==" && field.text.as_str() == name {
-                return true;
+        let mut has_row = false;
+        for row in self.rows.iter() {
+            has_row = has_row || row.name.as_str() == name;
+        }
+        has_row
+    }
+
+    /// Begins a row.
+    fn begin(&mut self, name: &str) {
+        if self.has_row(name) {
+            self.fault.push("another row has this name");
+        }
+        if let Some(name) = self.fault.take(String::from_str(self.alloc, name)) {
+            let (line, fields) = (self.line, Vec::new(self.alloc));
+            self.fault.take(self.rows.push(Row { name, line, fields }));
+        }
+    }
+
+    /// Appends a field to the last row.
+    fn put(&mut self, key: &str, text: &str) {
+        let field = field_of(self.alloc, key, text, self.line);
+        match (self.rows.last_mut(), self.fault.take(field)) {
+            (Some(row), Some(field)) => {
+                self.fault.take(row.fields.push(field));
+            }
+            _ => self.fault.push("a field stands before the first row"),
+        }
+    }
+
+    /// Appends a field whose text is a JSON string.
+    fn put_quoted(&mut self, key: &str, json: &str) {
+        match Value::from_str(self.alloc, json) {
+            Ok(Value::String(text)) => self.put(key, text.as_str()),
+            _ => self.fault.push("no JSON string"),
+        }
+    }
+
+    /// Appends a line to the text of the last field.
+    fn go_on(&mut self, text: &str) {
+        if let (true, Some(row)) = (self.in_block, self.rows.last_mut()) {
+            if let Some(field) = row.fields.last_mut() {
+                self.fault.take(append_line(&mut field.text, text));
+                return;
             }
         }
-        false
+        self.fault.push("no field's text goes on here");
     }
 
-    /// Appends a field. Returns what is wrong with it, if anything.
-    fn put(
-        &mut self,
-        alloc: Global,
-        key: &str,
-        text: String,
-        line: usize,
-    ) -> Result<Option<&'static str>, AllocError> {
-        if key != "==" && self.fields.is_empty() {
-            return Ok(Some("a field stands before the first row"));
+    /// Reads a line.
+    fn take(&mut self, text: &str) {
+        let line = line_of(text);
+        self.in_block = match line {
+            Line::Block(_) => true,
+            Line::Further(_) => self.in_block,
+            _ => false,
+        };
+        match line {
+            Line::Nothing => {}
+            Line::Row(name) => self.begin(name),
+            Line::Plain(key, text) => self.put(key, text),
+            Line::Block(key) => self.put(key, ""),
+            Line::Quoted(key, json) => self.put_quoted(key, json),
+            Line::Further(text) => self.go_on(text),
+            Line::Other => self.fault.push("neither a row, a field nor a comment"),
         }
-        let key = String::from_str(alloc, key)?;
-        self.fields.push(Field { key, text, line })?;
-        Ok(None)
     }
 
-    /// Appends a line to the text of the last field. Returns what is wrong with it, if anything.
-    fn go_on(&mut self, text: &str) -> Result<Option<&'static str>, AllocError> {
-        match self.fields.last_mut() {
-            Some(field) if self.in_block => {
-                push_line(&mut field.text, text)?;
-                Ok(None)
+    /// Reports whether a line is wrong, or memory was refused.
+    pub(crate) fn fails(&self) -> bool {
+        !self.fault.is_empty() || self.fault.is_stopped()
+    }
+
+    /// Reads the rows in a text, of which there must be at least one.
+    pub(crate) fn read(alloc: Global, text: &str) -> Reader {
+        let mut reader = Reader {
+            alloc,
+            rows: Vec::new(alloc),
+            line: 0,
+            fault: Output::new(alloc),
+            in_block: false,
+        };
+        for line in text.lines() {
+            if !reader.fails() {
+                reader.line = reader.line.saturating_add(1);
+                reader.take(line);
             }
-            _ => Ok(Some("no field's text goes on here")),
         }
-    }
-
-    /// Reads a line. Returns what is wrong with it, if anything.
-    fn take(
-        &mut self,
-        alloc: Global,
-        text: &str,
-        line: usize,
-    ) -> Result<Option<&'static str>, AllocError> {
-        if let Some(inner) = text.strip_prefix("  ") {
-            return self.go_on(inner);
+        if reader.rows.is_empty() && !reader.fails() {
+            reader.fault.push("no row");
         }
-        self.in_block = false;
-        match line_of(text) {
-            Line::Nothing => Ok(None),
-            Line::Row(name) if self.has_row(name) => Ok(Some("another row has this name")),
-            Line::Row(name) => self.put(alloc, "==", String::from_str(alloc, name)?, line),
-            Line::Plain(key, text) => self.put(alloc, key, String::from_str(alloc, text)?, line),
-            Line::Block(key) => {
-                self.in_block = true;
-                self.put(alloc, key, String::new(alloc), line)
-            }
-            Line::Quoted(key, json) => match Value::from_str(alloc, json) {
-                Ok(Value::String(text)) => self.put(alloc, key, text, line),
-                _ => Ok(Some("no JSON string")),
-            },
-            Line::Other => Ok(Some("neither a row, a field nor a comment")),
-        }
+        reader
     }
-}
-
-/// Returns the fields of all rows, in order, or the first line that is wrong.
-pub(crate) fn read_rows(
-    alloc: Global,
-    text: &str,
-) -> Result<Result<Vec<Field>, Fault>, AllocError> {
-    let mut reader = Reader {
-        fields: Vec::new(alloc),
-        in_block: false,
-    };
-    let mut line = 0usize;
-    for content in text.lines() {
-        line = line.saturating_add(1);
-        if let Some(what) = reader.take(alloc, content, line)? {
-            return Ok(Err(Fault { line, what }));
-        }
-    }
-    if reader.fields.is_empty() {
-        let what = "no row";
-        return Ok(Err(Fault { line, what }));
-    }
-    Ok(Ok(reader.fields))
 }

@@ -3,8 +3,7 @@
 use kube_types_refused::Refused;
 use std::alloc::{AllocError, AllocFailed};
 
-/// A field of a row: its key, its text, and its line number. A field with the key `==` begins a
-/// row; its text is the row's name.
+/// A field of a row: its key, its text, and its line number.
 #[derive(Drop)]
 pub struct Field {
     pub key: String,
@@ -12,11 +11,19 @@ pub struct Field {
     pub line: usize,
 }
 
-/// What is wrong with a file of rows, and at which line.
-#[derive(Clone, Copy)]
-pub struct Fault {
-    pub line: usize,
-    pub what: &'static str,
+impl Field {
+    /// Reports whether this is the field's key.
+    pub fn has(&self, key: &str) -> bool {
+        self.key.as_str() == key
+    }
+}
+
+/// A row: its name, the number of the line with the name, and its fields in order.
+#[derive(Drop)]
+pub(crate) struct Row {
+    pub(crate) name: String,
+    pub(crate) line: usize,
+    pub(crate) fields: Vec<Field>,
 }
 
 /// Why a field has no single answer.
