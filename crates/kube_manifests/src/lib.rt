@@ -19,6 +19,8 @@
 //! }
 //! ```
 //!
+//! For many objects, lend one book of patterns to [`CrdSet::validate_in`].
+//!
 //! Proved: a set holds exactly the versions of its documents, or else the documents' first fault is
 //! returned. An object is judged exactly if the set has a served version with its apiVersion and
 //! kind, and then the answer is that of the version's schema, as `kube_cel` defines it; otherwise
