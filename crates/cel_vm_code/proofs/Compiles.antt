@@ -1,12 +1,15 @@
--- Code that is stored in reverse, and the codes of several trees.
-use Rattle.std.proofs.Common.{◌≡◌, ℕ, suc, ◌+◌, List, [], ◌∷◌, ◌++◌, length, map, reverse, Bool, false, true, Option, Some, None, MatchOption, Result, Ok, Err, IfOk, Vec, refl, sym, ap, ◌∙◌, arith}
-use Rattle.std.proofs.lemmas.List.{map-append, reverse-append, reverse-reverse, length-reverse, length-map}
-use Rattle.std.specs.declared.alloc.Global.{Global}
-use Rattle.cel_syntax_ast.specs.Term.{Term, Terms, no_terms, term_and, count_of}
-use Rattle.cel_vm_code.specs.Code.{is_sure, with_guard, operand, operands, entry_code, entries_code, after_form, code_in, codes_in}
-use Rattle.cel_vm_code.specs.Op.{Op, op, as_list, guard, apply, invoke}
-use Rattle.cel_vm_code.specs.CodeViews.{from_end, codes_view, pairs_view}
+-- Code that is written from its end to its start, in front of the code r of what comes after it.
+use Rattle.std.proofs.Common.{◌≡◌, ℕ, zero, suc, ◌+◌, ◌-◌, ◌<◌, ◌≤◌, List, [], ◌∷◌, ◌++◌, length, map, reverse, get_or, Bool, false, true, Result, Ok, Err, OnOk, refl, sym, ap, ◌∙◌, arith, append_assoc, length-append}
+use Rattle.std.proofs.lemmas.List.{map-append, reverse-append, length-reverse, length-map}
+use Rattle.cel_syntax_ast.specs.Term.{count_of, term, terms_of, pairs_of}
+use Rattle.cel_syntax_ast.specs.declared.expr.Expr.{Expr}
+use Rattle.cel_syntax_ast.specs.declared.expr.MacroKind.{MacroKind}
+use Rattle.cel_syntax_ast.specs.declared.expr.MacroKind.TheVariants.{All, Exists, ExistsOne, Map, Filter}
+use Rattle.cel_vm_code.specs.Code.{is_sure, with_guard, operand, operands, entry_code, entries_code, logic, choice_code, loop, after_form, macro_code}
+use Rattle.cel_vm_code.specs.Op.{Op, op, put_entry, guard, apply, form, branch, skip, absorb, join, begin, next}
+use Rattle.cel_vm_code.specs.CodeViews.{from_end, guard_to, operand_to, operands_to, entry_to, entries_to}
 use Rattle.cel_vm_code.specs.declared.instr.Instr.{Instr}
+use Rattle.cel_vm_code.specs.Size.{nodes, all_nodes, pair_nodes}
 
 map_reverse : {X Y : Type 0} (f : X → Y) (xs : List X) → map f (reverse xs) ≡ reverse (map f xs)
 map_reverse f [] = refl
@@ -14,98 +17,125 @@ map_reverse f (x ∷ xs) =
     ap (map f) (reverse-append (x ∷ []) xs) ∙ map-append f (reverse xs) (x ∷ []) ∙ ap (λ l. l ++ f x ∷ []) (map_reverse f xs) ∙ sym (reverse-append (f x ∷ []) (map f xs))
 
 -- reversing gives the code itself
-pub from_end_reversed : (xs ys : List Instr) → ys ≡ reverse xs → from_end ys ≡ map op xs
-from_end_reversed xs ys h = ap from_end h ∙ ap reverse (map_reverse op xs) ∙ reverse-reverse (map op xs)
-
 pub reversed_from_end : (xs ys : List Instr) → ys ≡ reverse xs → map op ys ≡ from_end xs
 reversed_from_end xs ys h = ap (map op) h ∙ map_reverse op xs
 
 pub length_from_end : (xs : List Instr) → length (from_end xs) ≡ length xs
 length_from_end xs = length-reverse (map op xs) ∙ length-map xs op
 
-from_end_front : (xs c : List Instr) → from_end (xs ++ reverse c) ≡ map op c ++ from_end xs
-from_end_front xs c =
-    ap reverse (map-append op xs (reverse c)) ∙ reverse-append (map op xs) (map op (reverse c)) ∙ ap (λ l. l ++ from_end xs) (from_end_reversed c (reverse c) refl)
+past : (f r : List Op) → length (f ++ r) - length r ≡ length f
+past f r = omega (arith, length-append f r)
 
--- an operand in front
-pub operand_front : (old mid new c : List Instr) (front : List Instr) (under : ℕ) (s : Bool) → s ≡ is_sure (map op c) → from_end mid ≡ with_guard s under (from_end old) → front ≡ reverse c → new ≡ mid ++ front
-    → from_end new ≡ operand (map op c) under (from_end old)
-operand_front old mid new c front under s sure m r e =
-    ap from_end (e ∙ ap (λ f. mid ++ f) r) ∙ from_end_front mid c ∙ ap (λ t. map op c ++ t) (m ∙ ap (λ b. with_guard b under (from_end old)) sure)
+guard_end : (s : Bool) (k : ℕ) (f r : List Op) → guard_to s k (length r) (f ++ r) ≡ with_guard s k f ++ r
+guard_end true k f r = refl
+guard_end false k f r = ap (λ n. guard k n ∷ (f ++ r)) (past f r)
 
--- a guard in front
-pub check_front : (old mid : List Instr) (under offset : ℕ) → offset ≡ length old → from_end mid ≡ guard under offset ∷ from_end old → from_end mid ≡ with_guard false under (from_end old)
-check_front old mid under offset n g =
-    let l : offset ≡ length (from_end old) = n ∙ sym (length_from_end old) in
-    g ∙ ap (λ m. guard under m ∷ from_end old) l
+pub operand_end : (c : List Op) (k : ℕ) (f r : List Op) → operand_to c k (length r) (f ++ r) ≡ operand c k f ++ r
+operand_end c k f r = ap (λ l. c ++ l) (guard_end (is_sure c) k f r) ∙ sym (append_assoc c (with_guard (is_sure c) k f) r)
 
--- ---- several codes
+pub operands_end : (cs : List (List Op)) (k : ℕ) (f r : List Op) → operands_to cs k (length r) (f ++ r) ≡ operands cs k f ++ r
+operands_end [] k f r = refl
+operands_end (c ∷ cs) k f r = ap (operand_to c k (length r)) (operands_end cs (suc k) f r) ∙ operand_end c k (operands cs (suc k) f) r
 
-pub operands_push : (cs : List (List Op)) (c : List Op) (k : ℕ) (rest : List Op) → operands (cs ++ c ∷ []) k rest ≡ operands cs k (operand c (k + length cs) rest)
-operands_push [] c k rest = let e : k ≡ k + length {A = List Op} [] = omega arith in ap (λ n. operand c n rest) e
-operands_push (d ∷ cs) c k rest =
-    let e : suc k + length cs ≡ k + length (d ∷ cs) = omega arith in
-    ap (operand d k) (operands_push cs c (suc k) rest ∙ ap (λ n. operands cs (suc k) (operand c n rest)) e)
+entry_end : (a b f r : List Op) → entry_to a b (length r) (f ++ r) ≡ entry_code a b f ++ r
+entry_end a b f r =
+    ap (λ l. operand_to a 1 (length r) (operand_to b 2 (length r) (apply put_entry 3 ∷ l))) (guard_end false 0 f r)
+    ∙ ap (operand_to a 1 (length r)) (operand_end b 2 (apply put_entry 3 ∷ guard 0 (length f) ∷ f) r)
+    ∙ operand_end a 1 (operand b 2 (apply put_entry 3 ∷ guard 0 (length f) ∷ f)) r
 
--- the last of the remaining operands is put in front
-pub operands_step : (old new : List (Vec Instr Global)) (c : Vec Instr Global) (k n : ℕ) (before after : List Op) → old ≡ new ++ c ∷ [] → n ≡ k + length new → after ≡ operand (map op c.items) n before
-    → operands (codes_view old) k before ≡ operands (codes_view new) k after
-operands_step old new c k n before after h e a =
-    let m : k + length (codes_view new) ≡ n = ap (λ l. k + l) (length-map new (λ v. map op v.items)) ∙ sym e in
-    ap (λ l. operands (codes_view l) k before) h ∙ ap (λ l. operands l k before) (map-append (λ v. map op v.items) new (c ∷ [])) ∙ operands_push (codes_view new) (map op c.items) k before
-    ∙ ap (λ l. operands (codes_view new) k (operand (map op c.items) l before)) m ∙ ap (operands (codes_view new) k) (sym a)
+pub entries_end : (ps : List (List Op × List Op)) (f r : List Op) → entries_to ps (length r) (f ++ r) ≡ entries_code ps f ++ r
+entries_end [] f r = refl
+entries_end (p ∷ ps) f r = ap (entry_to p.0 p.1 (length r)) (entries_end ps f r) ∙ entry_end p.0 p.1 (entries_code ps f) r
 
-entries_push : (ps : List (List Op × List Op)) (p : List Op × List Op) (rest : List Op) → entries_code (ps ++ p ∷ []) rest ≡ entries_code ps (entry_code p.0 p.1 rest)
-entries_push [] p rest = refl
-entries_push (q ∷ ps) p rest = ap (entry_code q.0 q.1) (entries_push ps p rest)
+pub logic_end : (s : Bool) (a b r : List Op) → let m = b ++ join s ∷ r in a ++ absorb s (length m - length r) ∷ m ≡ logic s a b ++ r
+logic_end s a b r =
+    let m = b ++ join s ∷ r in
+    let n : length m - length r ≡ length b + 1 = omega (arith, length-append b (join s ∷ r)) in
+    ap (λ k. a ++ absorb s k ∷ m) n ∙ ap (λ l. a ++ absorb s (length b + 1) ∷ l) (sym (append_assoc b (join s ∷ []) r))
+    ∙ sym (append_assoc a (absorb s (length b + 1) ∷ (b ++ join s ∷ [])) r)
 
-pub entries_step : (old new : List (Vec Instr Global × Vec Instr Global)) (k v : Vec Instr Global) (before after : List Op) → old ≡ new ++ (k, v) ∷ [] → after ≡ entry_code (map op k.items) (map op v.items) before
-    → entries_code (pairs_view old) before ≡ entries_code (pairs_view new) after
-entries_step old new k v before after h a =
-    ap (λ l. entries_code (pairs_view l) before) h ∙ ap (λ l. entries_code l before) (map-append (λ p. (map op p.0.items, map op p.1.items)) new ((k, v) ∷ [])) ∙ entries_push (pairs_view new) (map op k.items, map op v.items) before
-    ∙ ap (entries_code (pairs_view new)) (sym a)
+pub choice_end : (name : List ℕ) (a b c r : List Op) → let m = b ++ skip (length (c ++ r) - length r) ∷ (c ++ r) in
+    a ++ branch name (length m - length (c ++ r)) (length m - length r) ∷ m ≡ choice_code name a b c ++ r
+choice_end name a b c r =
+    let s = length (c ++ r) - length r in
+    let m = b ++ skip s ∷ (c ++ r) in
+    let on_false : length m - length (c ++ r) ≡ length b + 1 = omega (arith, length-append b (skip s ∷ (c ++ r))) in
+    let offset : length m - length r ≡ length b + 1 + length c = omega (arith, length-append b (skip s ∷ (c ++ r)), length-append c r) in
+    ap (λ k. a ++ branch name k (length m - length r) ∷ m) on_false ∙ ap (λ k. a ++ branch name (length b + 1) k ∷ m) offset
+    ∙ ap (λ k. a ++ branch name (length b + 1) (length b + 1 + length c) ∷ (b ++ skip k ∷ (c ++ r))) (past c r)
+    ∙ ap (λ l. a ++ branch name (length b + 1) (length b + 1 + length c) ∷ l) (sym (append_assoc b (skip (length c) ∷ c) r))
+    ∙ sym (append_assoc a (branch name (length b + 1) (length b + 1 + length c) ∷ (b ++ skip (length c) ∷ c)) r)
 
--- ---- trees with several operands
+pub loop_end : (k : MacroKind) (f : Bool) (b r : List Op) → let m = b ++ next k f ∷ r in begin k (length m - length r) ∷ m ≡ loop k f [] b ++ r
+loop_end k f b r =
+    let m = b ++ next k f ∷ r in
+    let n : length m - length r ≡ length b + 1 = omega (arith, length-append b (next k f ∷ r)) in
+    ap (λ j. begin k j ∷ m) n ∙ ap (λ l. begin k (length b + 1) ∷ l) (sym (append_assoc b (next k f ∷ []) r))
 
-length_codes : (xs : List (List ℕ)) (ts : Terms) → length (codes_in xs ts) ≡ count_of ts
-length_codes xs no_terms = refl
-length_codes xs (term_and t ts) = ap suc (length_codes xs ts)
+-- a macro is its range, then the rest of it
+in_front : (k : MacroKind) (range : List Op) (cs : List (List Op)) (b : List Op) → range ++ macro_code k [] cs b ≡ macro_code k range cs b
+in_front All range cs b = refl
+in_front Exists range cs b = refl
+in_front ExistsOne range cs b = refl
+in_front Filter range cs b = refl
+in_front Map range [] b = refl
+in_front Map range (c ∷ cs) b = refl
 
-counted : (xs : List (List ℕ)) (ts : Terms) (cs : List (Vec Instr Global)) → codes_view cs ≡ codes_in xs ts → length cs ≡ count_of ts
-counted xs ts cs h = sym (length-map cs (λ v. map op v.items)) ∙ ap length h ∙ length_codes xs ts
+pub macro_end : (k : MacroKind) (range : List Op) (cs : List (List Op)) (b r : List Op) → range ++ (macro_code k [] cs b ++ r) ≡ macro_code k range cs b ++ r
+macro_end k range cs b r = sym (append_assoc range (macro_code k [] cs b) r) ∙ ap (λ l. l ++ r) (in_front k range cs b)
 
-pub list_weaken : {E : Type 0} (r : Result (Vec Instr Global) E) (cs : List (Vec Instr Global)) (n : ℕ) (last : List Op) → n ≡ length cs → last ≡ apply as_list n ∷ []
-    → IfOk r (λ all. map op all.items ≡ operands (codes_view cs) 0 last)
-    → IfOk r (λ all. (xs : List (List ℕ)) (ts : Terms) → codes_view cs ≡ codes_in xs ts → map op all.items ≡ operands (codes_in xs ts) 0 (apply as_list (count_of ts) ∷ []))
-list_weaken (Ok all) cs n last e l a = λ xs ts h.
-    a ∙ ap (λ z. operands (codes_view cs) 0 z) (l ∙ ap (λ m. apply as_list m ∷ []) (e ∙ counted xs ts cs h)) ∙ ap (λ z. operands z 0 (apply as_list (count_of ts) ∷ [])) h
-list_weaken (Err x) cs n last e l a = tt
+pub unfiltered : (k : MacroKind) (b : List Op) → loop k false [] b ≡ macro_code k [] [] b
+unfiltered All b = refl
+unfiltered Exists b = refl
+unfiltered ExistsOne b = refl
+unfiltered Filter b = refl
+unfiltered Map b = refl
 
-pub function_weaken : {E : Type 0} (r : Result (Vec Instr Global) E) (x : List ℕ) (cs : List (Vec Instr Global)) (n : ℕ) (i : Op) (last rest : List Op) → n ≡ length cs → i ≡ invoke x 0 n → last ≡ i ∷ [] → rest ≡ operands (codes_view cs) 0 last
-    → IfOk r (λ all. map op all.items ≡ after_form x false n rest)
-    → IfOk r (λ all. (xs : List (List ℕ)) (ts : Terms) → codes_view cs ≡ codes_in xs ts → map op all.items ≡ after_form x false (count_of ts) (operands (codes_in xs ts) 0 (invoke x 0 (count_of ts) ∷ [])))
-function_weaken (Ok all) x cs n i last rest e f l o a = λ xs ts h.
-    a ∙ ap (after_form x false n) (o ∙ ap (operands (codes_view cs) 0) (l ∙ ap (λ z. z ∷ []) f))
-    ∙ ap (λ m. after_form x false m (operands (codes_view cs) 0 (invoke x 0 m ∷ []))) (e ∙ counted xs ts cs h)
-    ∙ ap (λ z. after_form x false (count_of ts) (operands z 0 (invoke x 0 (count_of ts) ∷ []))) h
-function_weaken (Err y) x cs n i last rest e f l o a = tt
+pub form_end : (x : List ℕ) (r : Bool) (n : ℕ) (c rest : List Op) → form x r n (length (c ++ rest) - length rest) ∷ (c ++ rest) ≡ after_form x r n c ++ rest
+form_end x r n c rest = ap (λ k. form x r n k ∷ (c ++ rest)) (past c rest)
 
-pub method_weaken : {E : Type 0} (r : Result (Vec Instr Global) E) (x : List ℕ) (c : List Op) (cs : List (Vec Instr Global)) (n : ℕ) (i : Op) (last front rest : List Op) → n ≡ length cs → i ≡ invoke x 1 n → last ≡ i ∷ [] → front ≡ operands (codes_view cs) 1 last → rest ≡ operand c 0 front
-    → IfOk r (λ all. map op all.items ≡ after_form x true n rest)
-    → IfOk r (λ all. (xs : List (List ℕ)) (t : Term) (ts : Terms) → c ≡ code_in xs t → codes_view cs ≡ codes_in xs ts → map op all.items ≡ after_form x true (count_of ts) (operand (code_in xs t) 0 (operands (codes_in xs ts) 1 (invoke x 1 (count_of ts) ∷ []))))
-method_weaken (Ok all) x c cs n i last front rest e f l o g a = λ xs t ts k h.
-    a ∙ ap (after_form x true n) (g ∙ ap (operand c 0) (o ∙ ap (operands (codes_view cs) 1) (l ∙ ap (λ z. z ∷ []) f)))
-    ∙ ap (λ m. after_form x true m (operand c 0 (operands (codes_view cs) 1 (invoke x 1 m ∷ [])))) (e ∙ counted xs ts cs h)
-    ∙ ap (λ z. after_form x true (count_of ts) (operand c 0 (operands z 1 (invoke x 1 (count_of ts) ∷ [])))) h
-    ∙ ap (λ z. after_form x true (count_of ts) (operand z 0 (operands (codes_in xs ts) 1 (invoke x 1 (count_of ts) ∷ [])))) k
-method_weaken (Err y) x c cs n i last front rest e f l o g a = tt
+-- ---- what calls have written, `end` being the length of the code r
 
--- ---- nothing left
+pub on_ok : {X E P Q : Type 0} (r : Result X E) → OnOk r P → (P → Q) → OnOk r Q
+on_ok (Ok x) p f = f p
+on_ok (Err e) p f = p
 
-pub nothing_popped : {X : Type 0} (o : Option X) (p : X → Type 0) (q : Type 0) → ((x : X) → o ≡ Some x → ⊥) → MatchOption o q p → q
-nothing_popped None p q h m = m
-nothing_popped (Some x) p q h m = absurd (h x refl)
+pub operand_written : (a : List Op) (k : ℕ) (r c front : List Op) (end : ℕ) → end ≡ length r → c ≡ front ++ r → operand_to a k end c ≡ operand a k front ++ r
+operand_written a k r c front end n e = ap (λ m. operand_to a k m c) n ∙ ap (operand_to a k (length r)) e ∙ operand_end a k front r
 
-pub no_items_left : {X : Type 0} (xs : List X) (n m : ℕ) → n ≡ 0 → n ≡ length xs → xs ≡ []
-no_items_left [] n m h e = refl
-no_items_left (x ∷ xs) n m h e = absurd (omega (arith, h, e))
+pub operands_written : (cs : List (List Op)) (k : ℕ) (i : Op) (r c whole : List Op) (end : ℕ) → end ≡ length r → c ≡ i ∷ r → whole ≡ operands cs k (i ∷ []) → operands_to cs k end c ≡ whole ++ r
+operands_written cs k i r c whole end n e h =
+    ap (λ m. operands_to cs k m c) n ∙ ap (operands_to cs k (length r)) e ∙ operands_end cs k (i ∷ []) r ∙ ap (λ l. l ++ r) (sym h)
+
+pub form_written : (x : List ℕ) (b : Bool) (count n : ℕ) (r c whole new : List Op) (end : ℕ) → end ≡ length r → count ≡ n → c ≡ whole ++ r → new ≡ form x b count (length c - end) ∷ c → new ≡ after_form x b n whole ++ r
+form_written x b count n r c whole new end e m h w =
+    w ∙ ap (λ k. form x b count (length c - k) ∷ c) e ∙ ap (λ l. form x b count (length l - length r) ∷ l) h
+    ∙ ap (λ k. form x b k (length (whole ++ r) - length r) ∷ (whole ++ r)) m ∙ form_end x b n whole r
+
+pub macro_written : (k : MacroKind) (range : List Op) (cs : List (List Op)) (b r c whole : List Op) → c ≡ macro_code k [] cs b ++ r → whole ≡ macro_code k range cs b → range ++ c ≡ whole ++ r
+macro_written k range cs b r c whole e h = ap (λ l. range ++ l) e ∙ macro_end k range cs b r ∙ ap (λ l. l ++ r) (sym h)
+
+-- ---- trees with several parts
+
+pub count_terms : (es : List Expr) → count_of (terms_of (map term es)) ≡ length es
+count_terms [] = refl
+count_terms (e ∷ es) = ap suc (count_terms es)
+
+item_nodes : (es : List Expr) (k : ℕ) (d : Expr) → k < length es → nodes (term (get_or es k d)) ≤ all_nodes (terms_of (map term es))
+item_nodes [] k d h = absurd (omega (arith, h))
+item_nodes (e ∷ es) zero d h = omega arith
+item_nodes (e ∷ es) (suc k) d h = let less : k < length es = omega (arith, h) in omega (arith, item_nodes es k d less)
+
+pair_nodes_of : (ps : List (Expr × Expr)) (k : ℕ) (d : Expr × Expr) → k < length ps
+    → nodes (term (get_or ps k d).0) + nodes (term (get_or ps k d).1) ≤ pair_nodes (pairs_of (map (λ p. (term p.0, term p.1)) ps))
+pair_nodes_of [] k d h = absurd (omega (arith, h))
+pair_nodes_of (p ∷ ps) zero d h = omega arith
+pair_nodes_of (p ∷ ps) (suc k) d h = let less : k < length ps = omega (arith, h) in omega (arith, pair_nodes_of ps k d less)
+
+pub fewer_in_item : (es : List Expr) (k n : ℕ) (e : Expr) → 0 < k → k ≤ n → n ≡ length es → e ≡ get_or es (k - 1) e → nodes (term e) ≤ all_nodes (terms_of (map term es))
+fewer_in_item es k n e a b m h = let less : k - 1 < length es = omega (arith, a, b, m) in omega (arith, ap (λ x. nodes (term x)) h, item_nodes es (k - 1) e less)
+
+pub fewer_in_pair : (ps : List (Expr × Expr)) (k n : ℕ) (p : Expr × Expr) → 0 < k → k ≤ n → n ≡ length ps → p ≡ get_or ps (k - 1) p
+    → nodes (term p.0) + nodes (term p.1) ≤ pair_nodes (pairs_of (map (λ p. (term p.0, term p.1)) ps))
+fewer_in_pair ps k n p a b m h =
+    let less : k - 1 < length ps = omega (arith, a, b, m) in omega (arith, ap (λ x. nodes (term x.0) + nodes (term x.1)) h, pair_nodes_of ps (k - 1) p less)

@@ -1,2 +1,4 @@
 pub mod Sizes
 pub mod Compiles
+pub mod Terms
+pub mod Sure

@@ -1,11 +1,12 @@
-//! Compiles trees to code.
-ghost use Rattle.std.specs.Prelude.{◌≡◌, ◌≤◌, ◌<◌, [], ◌∷◌, ℕ, List, IfOk, IfErr, IfSome, OnOk, map, length, option_map, string_bytes, codes};
+//! Compiles trees to code. The code is written from its end to its start, into one list that holds it
+//! in reverse: so the lengths that jumps need are known when a jump is written.
+ghost use Rattle.std.specs.Prelude.{◌≡◌, ◌≤◌, ◌<◌, ◌-◌, true, false, [], ◌∷◌, ◌++◌, IfOk, IfErr, IfSome, OnOk, map, length, option_map, string_bytes, codes};
 ghost use Rattle.cel_value.specs.Data.{map_of, no_entries};
 ghost use Rattle.cel_value.specs.View.{view};
-ghost use Rattle.cel_syntax_ast.specs.Term.{Term, Terms, list_of, call, qualified, no_terms, term_and, term, terms_of, pairs_of};
-ghost use Rattle.cel_vm_code.specs.Code.{loop_index, load_of, code_of, code_in, codes_in, pairs_in, leaves_value, is_sure, literal_of, logic, with_guard, operand, operands, one_with, both_with, strict_code, binary_code, choice_code, filter_code, loop, macro_code, after_form, entry_code, entries_code};
-ghost use Rattle.cel_vm_code.specs.Op.{op, work_of, operands_of, receivers, invoke, push, test_name};
-ghost use Rattle.cel_vm_code.specs.CodeViews.{variables, codes_view, pairs_view, filter_codes, from_end};
+ghost use Rattle.cel_syntax_ast.specs.Term.{call, qualified, no_terms, term_and, term, terms_of, pairs_of};
+ghost use Rattle.cel_vm_code.specs.Code.{loop_index, load_of, code_of, code_in, codes_in, pairs_in, is_sure, literal_of, one_with, both_with, logic, choice_code, loop, binary_code, macro_code};
+ghost use Rattle.cel_vm_code.specs.Op.{op, work_of, operands_of, receivers, begin, branch, form, invoke, push, test_name};
+ghost use Rattle.cel_vm_code.specs.CodeViews.{variables, from_end, guard_to, operand_to, operands_to, entries_to};
 
 use crate::instr::{Instr, Operation, Test};
 use cel_syntax_ast::{BinaryOperator, Expr, MacroKind};
@@ -19,7 +20,10 @@ pub fn compile_tree(alloc: Global, expr: &Expr) -> Result<Vec<Instr>, Refused>
     ensures memory { IfErr result (λ e. e ≡ Refused.Memory) }
 {
     let names = Vec::new(alloc);
-    compile_in(alloc, names.as_slice(), expr)
+    let mut code = Vec::new(alloc);
+    write_tree(alloc, names.as_slice(), expr, &mut code)?;
+    code.reverse();
+    Ok(code)
 }
 
 /// Returns how many loops out a name is bound, 0 being the innermost, or None if no loop binds it.
@@ -68,390 +72,26 @@ fn with_variable<'n>(
     Ok(all)
 }
 
-/// Compiles a tree inside loops over these variables.
-#[cycle(compile)]
-fn compile_in<'e>(alloc: Global, names: &[&'e str], expr: &'e Expr) -> Result<Vec<Instr>, Refused>
-    ensures value { IfOk result (λ code. map op code.items ≡ code_in (variables names.now) (term expr.now)) }
-    ensures memory { IfErr result (λ e. e ≡ Refused.Memory) }
+/// Reports whether the code of a tree is sure to leave a value, never an error: it is a single
+/// instruction that pushes a value or loads an item.
+fn is_sure(names: &[&str], expr: &Expr) -> bool
+    ensures { result ≡ is_sure (code_in (variables names.now) (term expr.now)) }
 {
     match expr {
-        Expr::Literal(value) => Ok(one(alloc, Instr::Push(value.try_clone()?))?),
-        Expr::Ident(name) => Ok(one(alloc, load(names, name)?)?),
-        Expr::Select(operand, name) => {
-            let code = compile_in(alloc, names, operand)?;
-            let key = Key::String(name.clone()?);
-            Ok(join_one(alloc, Operation::Select(key), code)?)
-        }
-        Expr::Has(operand, name) => {
-            let code = compile_in(alloc, names, operand)?;
-            let key = Key::String(name.clone()?);
-            Ok(join_one(alloc, Operation::Has(key), code)?)
-        }
-        Expr::Index(operand, index) => {
-            let first = compile_in(alloc, names, operand)?;
-            let second = compile_in(alloc, names, index)?;
-            Ok(join_both(alloc, Operation::Index, first, second)?)
-        }
-        Expr::Unary(operator, operand) => {
-            let code = compile_in(alloc, names, operand)?;
-            Ok(join_one(alloc, Operation::Unary(*operator), code)?)
-        }
-        Expr::Binary(operator, left, right) => {
-            let first = compile_in(alloc, names, left)?;
-            let second = compile_in(alloc, names, right)?;
-            join_binary(alloc, *operator, first, second, literal(right))
-        }
-        Expr::Cond(test, yes, no) => {
-            let first = compile_in(alloc, names, test)?;
-            let second = compile_in(alloc, names, yes)?;
-            let third = compile_in(alloc, names, no)?;
-            Ok(join_branches(Test::Condition, first, second, third)?)
-        }
-        Expr::List(items) => {
-            let codes = compile_all(alloc, names, items)?;
-            let all = join_list(alloc, codes)?;
-            Ok(all)
-        }
-        Expr::Map(pairs) => {
-            let codes = compile_pairs(alloc, names, pairs)?;
-            join_map(alloc, codes)
-        }
-        Expr::Call { target, name, args } => match target {
-            None => {
-                let codes = compile_all(alloc, names, args)?;
-                let all = join_function(alloc, name, codes)?;
-                Ok(all)
-            }
-            Some(target) => {
-                let receiver = compile_in(alloc, names, target)?;
-                let codes = compile_all(alloc, names, args)?;
-                let all = join_method(alloc, name, receiver, codes)?;
-                Ok(all)
-            }
-        },
-        Expr::Qualified { name, args } => {
-            let codes = compile_all(alloc, names, args)?;
-            let all = join_function(alloc, name, codes)?;
-            Ok(all)
-        }
-        Expr::Macro {
-            kind,
-            range,
-            variable,
-            filter,
-            body,
-        } => {
-            let first = compile_in(alloc, names, range)?;
-            let inner = with_variable(alloc, names, variable.as_str())?;
-            let second = compile_in(alloc, inner.as_slice(), body)?;
-            match filter {
-                None => {
-                    let all = join_macro(alloc, *kind, first, None, second)?;
-                    Ok(all)
-                }
-                Some(filter) => {
-                    let test = compile_in(alloc, inner.as_slice(), filter)?;
-                    let all = join_macro(alloc, *kind, first, Some(test), second)?;
-                    Ok(all)
-                }
-            }
-        }
+        Expr::Literal(_) => true,
+        Expr::Ident(name) => loop_index(names, name.as_str()).is_some(),
+        Expr::Select(_, _) => false,
+        Expr::Has(_, _) => false,
+        Expr::Index(_, _) => false,
+        Expr::Unary(_, _) => false,
+        Expr::Binary(_, _, _) => false,
+        Expr::Cond(_, _, _) => false,
+        Expr::List(_) => false,
+        Expr::Map(pairs) => pairs.is_empty(),
+        Expr::Call { .. } => false,
+        Expr::Qualified { .. } => false,
+        Expr::Macro { .. } => false,
     }
-}
-
-/// Compiles each tree.
-#[cycle(compile)]
-fn compile_all<'e>(
-    alloc: Global,
-    names: &[&'e str],
-    items: &'e Vec<Expr>,
-) -> Result<Vec<Vec<Instr>>, Refused>
-    ensures value { IfOk result (λ codes. codes_view codes.items
-        ≡ codes_in (variables names.now) (terms_of (map term items.now.items))) }
-    ensures memory { IfErr result (λ e. e ≡ Refused.Memory) }
-{
-    let mut codes = Vec::new(alloc);
-    for item in items {
-        codes.push(compile_in(alloc, names, item)?)?;
-    }
-    Ok(codes)
-}
-
-/// Compiles each key and its value.
-#[cycle(compile)]
-fn compile_pairs<'e>(
-    alloc: Global,
-    names: &[&'e str],
-    pairs: &'e Vec<(Expr, Expr)>,
-) -> Result<Vec<(Vec<Instr>, Vec<Instr>)>, Refused>
-    ensures value { IfOk result (λ codes. pairs_view codes.items
-        ≡ pairs_in (variables names.now) (pairs_of (map (λ p. (term p.0, term p.1)) pairs.now.items))) }
-    ensures memory { IfErr result (λ e. e ≡ Refused.Memory) }
-{
-    let mut codes = Vec::new(alloc);
-    for pair in pairs {
-        let key = compile_in(alloc, names, &pair.0)?;
-        let value = compile_in(alloc, names, &pair.1)?;
-        codes.push((key, value))?;
-    }
-    Ok(codes)
-}
-
-fn one(alloc: Global, instr: Instr) -> Result<Vec<Instr>, AllocError>
-    ensures { IfOk result (λ code. map op code.items ≡ op instr ∷ []) }
-{
-    let mut code = Vec::new(alloc);
-    code.push(instr)?;
-    Ok(code)
-}
-
-/// Reports whether an instruction leaves a value for sure, never an error.
-fn leaves_value(instr: &Instr) -> bool
-    ensures { result ≡ leaves_value (op instr.now) }
-{
-    match instr {
-        Instr::Push(_) => true,
-        Instr::LoadItem(_) => true,
-        _ => false,
-    }
-}
-
-/// Reports whether the code is a single such instruction.
-fn is_sure(code: &[Instr]) -> bool
-    ensures { result ≡ is_sure (map op code.now) }
-{
-    code.len() == 1 && leaves_value(&code[0])
-}
-
-/// Joins an operand of a strict form and the code after it, with a guard between them unless the
-/// operand is sure. `depth` is the number of operands below it on the stack.
-fn join_operand(
-    code: Vec<Instr>,
-    depth: usize,
-    mut rest: Vec<Instr>,
-) -> Result<Vec<Instr>, AllocError>
-    ensures { IfOk result (λ all. map op all.items ≡ operand (map op code.items) depth (map op rest.items)) }
-{
-    let sure = is_sure(code.as_slice());
-    let mut all = code;
-    if !sure {
-        all.push(Instr::Guard {
-            depth,
-            offset: rest.len(),
-        })?;
-    }
-    all.append(&mut rest)?;
-    Ok(all)
-}
-
-/// Adds an instruction in front of code that is stored in reverse.
-fn prepend_one(rest: &mut Vec<Instr>, instr: Instr) -> Result<(), AllocError>
-    ensures { OnOk result (from_end rest.new.items ≡ op instr ∷ from_end rest.old.items) }
-{
-    rest.push(instr)?;
-    Ok(())
-}
-
-/// Adds a guard in front of code that is stored in reverse, unless the operand is sure.
-/// `depth` is the number of values below the operand.
-fn prepend_check(sure: bool, depth: usize, rest: &mut Vec<Instr>) -> Result<(), AllocError>
-    ensures { OnOk result (from_end rest.new.items ≡ with_guard sure depth (from_end rest.old.items)) }
-{
-    if sure {
-        return Ok(());
-    }
-    let offset = rest.len();
-    prepend_one(rest, Instr::Guard { depth, offset })
-}
-
-/// Adds an operand, over `depth` values, in front of code that is stored in reverse.
-fn prepend_operand(code: Vec<Instr>, depth: usize, rest: &mut Vec<Instr>) -> Result<(), AllocError>
-    ensures { OnOk result (from_end rest.new.items
-        ≡ operand (map op code.items) depth (from_end rest.old.items)) }
-{
-    let sure = is_sure(code.as_slice());
-    prepend_check(sure, depth, rest)?;
-    let mut front = code;
-    front.reverse();
-    rest.append(&mut front)?;
-    Ok(())
-}
-
-/// Joins the operands of a strict form, the first over `depth` values, and the code after them.
-fn join_operands(
-    codes: Vec<Vec<Instr>>,
-    depth: usize,
-    last: Vec<Instr>,
-) -> Result<Vec<Instr>, AllocError>
-    requires { depth ≤ 1 }
-    ensures { IfOk result (λ all. map op all.items
-        ≡ operands (codes_view codes.items) depth (map op last.items)) }
-{
-    let mut before = codes;
-    let mut rest = last;
-    rest.reverse();
-    while let Some(code) = before.pop() {
-        prepend_operand(code, depth + before.len(), &mut rest)?;
-    }
-    rest.reverse();
-    Ok(rest)
-}
-
-/// Returns the code of a list, from the codes of its items.
-fn join_list(alloc: Global, codes: Vec<Vec<Instr>>) -> Result<Vec<Instr>, AllocError>
-    ensures { IfOk result (λ all. (xs : List (List ℕ)) (ts : Terms)
-        → codes_view codes.items ≡ codes_in xs ts → map op all.items ≡ code_in xs (list_of ts)) }
-{
-    let last = one(alloc, Instr::Apply(Operation::List(codes.len())))?;
-    join_operands(codes, 0, last)
-}
-
-/// Returns the code of an operation on one value, from the code of its operand.
-fn join_one(alloc: Global, operation: Operation, code: Vec<Instr>) -> Result<Vec<Instr>, AllocError>
-    requires { operands_of operation ≡ 1 }
-    ensures { IfOk result (λ all. map op all.items ≡ one_with (work_of operation) (map op code.items)) }
-{
-    let last = one(alloc, Instr::Apply(operation))?;
-    join_operand(code, 0, last)
-}
-
-/// Returns the code of an operation on two values, from the codes of its operands.
-fn join_both(
-    alloc: Global,
-    operation: Operation,
-    left: Vec<Instr>,
-    right: Vec<Instr>,
-) -> Result<Vec<Instr>, AllocError>
-    requires { operands_of operation ≡ 2 }
-    ensures { IfOk result (λ all. map op all.items
-        ≡ both_with (work_of operation) (map op left.items) (map op right.items)) }
-{
-    let last = one(alloc, Instr::Apply(operation))?;
-    let rest = join_operand(right, 1, last)?;
-    join_operand(left, 0, rest)
-}
-
-/// Adds an entry of a map literal in front of code that is stored in reverse.
-fn prepend_entry(
-    key: Vec<Instr>,
-    value: Vec<Instr>,
-    rest: &mut Vec<Instr>,
-) -> Result<(), AllocError>
-    ensures { OnOk result (from_end rest.new.items
-        ≡ entry_code (map op key.items) (map op value.items) (from_end rest.old.items)) }
-{
-    let offset = rest.len();
-    prepend_one(rest, Instr::Guard { depth: 0, offset })?;
-    prepend_one(rest, Instr::Apply(Operation::Put))?;
-    prepend_operand(value, 2, rest)?;
-    prepend_operand(key, 1, rest)
-}
-
-/// Returns the instruction that pushes an empty map.
-fn empty_map(alloc: Global) -> Result<Instr, Refused>
-    ensures value { IfOk result (λ i. op i ≡ push (map_of no_entries)) }
-    ensures memory { IfErr result (λ e. e ≡ Refused.Memory) }
-{
-    Ok(Instr::Push(Value::from_entries(alloc, Entries::new(alloc))?))
-}
-
-/// Returns the code of a map literal, from the codes of its keys and values.
-fn join_map(alloc: Global, pairs: Vec<(Vec<Instr>, Vec<Instr>)>) -> Result<Vec<Instr>, Refused>
-    ensures value { IfOk result (λ all. map op all.items
-        ≡ push (map_of no_entries) ∷ entries_code (pairs_view pairs.items) []) }
-    ensures memory { IfErr result (λ e. e ≡ Refused.Memory) }
-{
-    let mut before = pairs;
-    let mut rest = Vec::new(alloc);
-    while let Some(pair) = before.pop() {
-        prepend_entry(pair.0, pair.1, &mut rest)?;
-    }
-    let empty = empty_map(alloc)?;
-    prepend_one(&mut rest, empty)?;
-    rest.reverse();
-    Ok(rest)
-}
-
-/// Adds the test of a call's form in front of the call's code.
-fn join_form(
-    alloc: Global,
-    name: &Rc<String>,
-    receiver: bool,
-    count: usize,
-    mut rest: Vec<Instr>,
-) -> Result<Vec<Instr>, AllocError>
-    ensures { IfOk result (λ all. map op all.items
-        ≡ after_form (string_bytes name.now.value) receiver count (map op rest.items)) }
-{
-    let offset = rest.len();
-    let mut all = one(
-        alloc,
-        Instr::Form {
-            name: name.clone()?,
-            receiver,
-            count,
-            offset,
-        },
-    )?;
-    all.append(&mut rest)?;
-    Ok(all)
-}
-
-fn call_instr(name: &Rc<String>, receiver: bool, count: usize) -> Result<Instr, AllocError>
-    ensures { IfOk result (λ i. op i ≡ invoke (string_bytes name.now.value) (receivers receiver) count) }
-{
-    Ok(Instr::Call {
-        name: name.clone()?,
-        receiver,
-        count,
-    })
-}
-
-/// Returns the code of a call without a receiver, from the codes of its arguments.
-fn join_function(
-    alloc: Global,
-    name: &Rc<String>,
-    codes: Vec<Vec<Instr>>,
-) -> Result<Vec<Instr>, AllocError>
-    ensures { IfOk result (λ all. (xs : List (List ℕ)) (ts : Terms) → codes_view codes.items ≡ codes_in xs ts
-        → map op all.items ≡ code_in xs (qualified (string_bytes name.now.value) ts)) }
-{
-    let count = codes.len();
-    let instr = call_instr(name, false, count)?;
-    let last = one(alloc, instr)?;
-    let rest = join_operands(codes, 0, last)?;
-    join_form(alloc, name, false, count, rest)
-}
-
-/// Returns the code of a call with a receiver.
-fn join_method(
-    alloc: Global,
-    name: &Rc<String>,
-    receiver: Vec<Instr>,
-    codes: Vec<Vec<Instr>>,
-) -> Result<Vec<Instr>, AllocError>
-    ensures { IfOk result (λ all. (xs : List (List ℕ)) (t : Term) (ts : Terms)
-        → map op receiver.items ≡ code_in xs t → codes_view codes.items ≡ codes_in xs ts
-        → map op all.items ≡ code_in xs (call (term_and t no_terms) (string_bytes name.now.value) ts)) }
-{
-    let count = codes.len();
-    let instr = call_instr(name, true, count)?;
-    let last = one(alloc, instr)?;
-    let front = join_operands(codes, 1, last)?;
-    let rest = join_operand(receiver, 0, front)?;
-    join_form(alloc, name, true, count, rest)
-}
-
-/// Returns the code of `&&` or `||`; `stop` is the bool that decides the operator.
-fn join_logic(stop: bool, left: Vec<Instr>, mut right: Vec<Instr>) -> Result<Vec<Instr>, AllocError>
-    ensures { IfOk result (λ all. map op all.items ≡ logic stop (map op left.items) (map op right.items)) }
-{
-    let offset = right.len() + 1;
-    let mut all = left;
-    all.push(Instr::Absorb { stop, offset })?;
-    all.append(&mut right)?;
-    all.push(Instr::Join(stop))?;
-    Ok(all)
 }
 
 /// The value of a literal, or None for any other tree.
@@ -464,123 +104,476 @@ fn literal(expr: &Expr) -> Option<&Value>
     }
 }
 
-/// Returns the code of a strict binary operator.
-/// `literal` is its right operand if that is a literal.
-fn join_strict(
-    alloc: Global,
-    operator: BinaryOperator,
-    left: Vec<Instr>,
-    right: Vec<Instr>,
-    literal: Option<&Value>,
-) -> Result<Vec<Instr>, Refused>
-    ensures value { IfOk result (λ all. map op all.items
-        ≡ strict_code operator (map op left.items) (map op right.items)
-        (option_map (λ v. view v.now) literal.entry)) }
+/// Returns the instruction that pushes an empty map.
+fn empty_map(alloc: Global) -> Result<Instr, Refused>
+    ensures value { IfOk result (λ i. op i ≡ push (map_of no_entries)) }
     ensures memory { IfErr result (λ e. e ≡ Refused.Memory) }
 {
-    match literal {
-        None => Ok(join_both(alloc, Operation::Binary(operator), left, right)?),
-        Some(value) => {
-            let operation = Operation::WithLiteral(operator, value.try_clone()?);
-            Ok(join_one(alloc, operation, left)?)
+    Ok(Instr::Push(Value::from_entries(alloc, Entries::new(alloc))?))
+}
+
+/// Returns the instruction of a call.
+fn call_instr(name: &Rc<String>, receiver: bool, count: usize) -> Result<Instr, AllocError>
+    ensures { IfOk result (λ i. op i ≡ invoke (string_bytes name.now.value) (receivers receiver) count) }
+{
+    Ok(Instr::Call {
+        name: name.clone()?,
+        receiver,
+        count,
+    })
+}
+
+/// Returns the number of instructions that were written after the code was `end` long.
+fn written_since(end: usize, code: &Vec<Instr>) -> usize
+    ensures { result ≡ length (from_end code.now.items) - end }
+{
+    code.len().saturating_sub(end)
+}
+
+/// Writes an instruction in front of the code. Returns how long the code was.
+fn write_one(instr: Instr, code: &mut Vec<Instr>) -> Result<usize, AllocError>
+    ensures value { OnOk result (from_end code.new.items ≡ op instr ∷ from_end code.old.items) }
+    ensures end { IfOk result (λ end. end ≡ length (from_end code.old.items)) }
+{
+    let end = code.len();
+    code.push(instr)?;
+    Ok(end)
+}
+
+/// Writes the guard that follows an operand over `depth` values, unless the operand is sure.
+/// It jumps to where the code is `end` long.
+fn write_guard(
+    sure: bool,
+    depth: usize,
+    end: usize,
+    code: &mut Vec<Instr>,
+) -> Result<(), AllocError>
+    ensures { OnOk result (from_end code.new.items ≡ guard_to sure depth end (from_end code.old.items)) }
+{
+    if sure {
+        return Ok(());
+    }
+    let offset = written_since(end, code);
+    write_one(Instr::Guard { depth, offset }, code)?;
+    Ok(())
+}
+
+/// Writes the instruction that tests a call's form. It jumps to where the code is `end` long.
+fn write_form(
+    name: &Rc<String>,
+    receiver: bool,
+    count: usize,
+    end: usize,
+    code: &mut Vec<Instr>,
+) -> Result<(), AllocError>
+    ensures { OnOk result (from_end code.new.items
+        ≡ form (string_bytes name.now.value) receiver count (length (from_end code.old.items) - end)
+        ∷ from_end code.old.items) }
+{
+    let name = name.clone()?;
+    let offset = written_since(end, code);
+    write_one(
+        Instr::Form {
+            name,
+            receiver,
+            count,
+            offset,
+        },
+        code,
+    )?;
+    Ok(())
+}
+
+/// Writes a branch. It jumps to where the code is `middle` long if the test is
+/// false, and to where it is `end` long on an error.
+fn write_branch(
+    test: Test,
+    middle: usize,
+    end: usize,
+    code: &mut Vec<Instr>,
+) -> Result<(), AllocError>
+    ensures { OnOk result (from_end code.new.items
+        ≡ branch (test_name test) (length (from_end code.old.items) - middle)
+        (length (from_end code.old.items) - end) ∷ from_end code.old.items) }
+{
+    let on_false = written_since(middle, code);
+    let offset = written_since(end, code);
+    write_one(
+        Instr::Branch {
+            test,
+            on_false,
+            offset,
+        },
+        code,
+    )?;
+    Ok(())
+}
+
+/// Writes the start of a loop. It jumps to where the code is `end` long.
+fn write_begin(kind: MacroKind, end: usize, code: &mut Vec<Instr>) -> Result<(), AllocError>
+    ensures { OnOk result (from_end code.new.items
+        ≡ begin kind (length (from_end code.old.items) - end) ∷ from_end code.old.items) }
+{
+    let offset = written_since(end, code);
+    write_one(Instr::Begin { kind, offset }, code)?;
+    Ok(())
+}
+
+/// Writes the code of a tree inside loops over these variables.
+#[cycle(compile)]
+fn write_tree<'e>(
+    alloc: Global,
+    names: &[&'e str],
+    expr: &'e Expr,
+    code: &mut Vec<Instr>,
+) -> Result<(), Refused>
+    ensures value { OnOk result (from_end code.new.items
+        ≡ code_in (variables names.now) (term expr.now) ++ from_end code.old.items) }
+    ensures memory { IfErr result (λ e. e ≡ Refused.Memory) }
+{
+    match expr {
+        Expr::Literal(value) => {
+            write_one(Instr::Push(value.try_clone()?), code)?;
+            Ok(())
+        }
+        Expr::Ident(name) => {
+            write_one(load(names, name)?, code)?;
+            Ok(())
+        }
+        Expr::Select(operand, name) => {
+            let key = Key::String(name.clone()?);
+            write_part(alloc, names, Operation::Select(key), operand, code)
+        }
+        Expr::Has(operand, name) => {
+            let key = Key::String(name.clone()?);
+            write_part(alloc, names, Operation::Has(key), operand, code)
+        }
+        Expr::Index(operand, index) => {
+            write_parts(alloc, names, Operation::Index, operand, index, code)
+        }
+        Expr::Unary(operator, operand) => {
+            write_part(alloc, names, Operation::Unary(*operator), operand, code)
+        }
+        Expr::Binary(operator, left, right) => {
+            write_binary(alloc, names, *operator, left, right, code)
+        }
+        Expr::Cond(test, yes, no) => write_choice(alloc, names, test, yes, no, code),
+        Expr::List(items) => {
+            let end = write_one(Instr::Apply(Operation::List(items.len())), code)?;
+            write_operands(alloc, names, items, 0, end, code)
+        }
+        Expr::Map(pairs) => {
+            let end = code.len();
+            write_entries(alloc, names, pairs, end, code)?;
+            write_one(empty_map(alloc)?, code)?;
+            Ok(())
+        }
+        Expr::Call { target, name, args } => match target {
+            None => write_function(alloc, names, name, args, code),
+            Some(target) => write_method(alloc, names, target, name, args, code),
+        },
+        Expr::Qualified { name, args } => write_function(alloc, names, name, args, code),
+        Expr::Macro {
+            kind,
+            range,
+            variable,
+            filter,
+            body,
+        } => {
+            let inner = with_variable(alloc, names, variable.as_str())?;
+            match filter {
+                None => {
+                    write_loop(alloc, inner.as_slice(), *kind, body, code)?;
+                    write_tree(alloc, names, range, code)
+                }
+                Some(test) => {
+                    write_filter(alloc, inner.as_slice(), *kind, test, body, code)?;
+                    write_tree(alloc, names, range, code)
+                }
+            }
         }
     }
 }
 
-/// Returns the code of a binary operator. `literal` is its right operand if that is a literal.
-fn join_binary(
+/// Writes an operand over `depth` values, in a form that ends where the code is `end` long.
+#[cycle(compile)]
+fn write_operand<'e>(
     alloc: Global,
+    names: &[&'e str],
+    expr: &'e Expr,
+    depth: usize,
+    end: usize,
+    code: &mut Vec<Instr>,
+) -> Result<(), Refused>
+    ensures value { OnOk result (from_end code.new.items
+        ≡ operand_to (code_in (variables names.now) (term expr.now)) depth end
+        (from_end code.old.items)) }
+    ensures memory { IfErr result (λ e. e ≡ Refused.Memory) }
+{
+    write_guard(is_sure(names, expr), depth, end, code)?;
+    write_tree(alloc, names, expr, code)
+}
+
+/// Writes the code of an operation on one value.
+#[cycle(compile)]
+fn write_part<'e>(
+    alloc: Global,
+    names: &[&'e str],
+    operation: Operation,
+    operand: &'e Expr,
+    code: &mut Vec<Instr>,
+) -> Result<(), Refused>
+    requires { operands_of operation ≡ 1 }
+    ensures value { OnOk result (from_end code.new.items
+        ≡ one_with (work_of operation) (code_in (variables names.now) (term operand.now))
+        ++ from_end code.old.items) }
+    ensures memory { IfErr result (λ e. e ≡ Refused.Memory) }
+{
+    let end = write_one(Instr::Apply(operation), code)?;
+    write_operand(alloc, names, operand, 0, end, code)
+}
+
+/// Writes the code of an operation on two values.
+#[cycle(compile)]
+fn write_parts<'e>(
+    alloc: Global,
+    names: &[&'e str],
+    operation: Operation,
+    left: &'e Expr,
+    right: &'e Expr,
+    code: &mut Vec<Instr>,
+) -> Result<(), Refused>
+    requires { operands_of operation ≡ 2 }
+    ensures value { OnOk result (from_end code.new.items
+        ≡ both_with (work_of operation) (code_in (variables names.now) (term left.now))
+        (code_in (variables names.now) (term right.now)) ++ from_end code.old.items) }
+    ensures memory { IfErr result (λ e. e ≡ Refused.Memory) }
+{
+    let end = write_one(Instr::Apply(operation), code)?;
+    write_operand(alloc, names, right, 1, end, code)?;
+    write_operand(alloc, names, left, 0, end, code)
+}
+
+/// Writes operands, the first over `depth` values.
+#[cycle(compile)]
+fn write_operands<'e>(
+    alloc: Global,
+    names: &[&'e str],
+    items: &'e Vec<Expr>,
+    depth: usize,
+    end: usize,
+    code: &mut Vec<Instr>,
+) -> Result<(), Refused>
+    requires { depth ≤ 1 }
+    ensures value { OnOk result (from_end code.new.items
+        ≡ operands_to (codes_in (variables names.now) (terms_of (map term items.now.items)))
+        depth end (from_end code.old.items)) }
+    ensures memory { IfErr result (λ e. e ≡ Refused.Memory) }
+{
+    for k in (0..items.len()).rev() {
+        write_operand(alloc, names, &items[k], depth + k, end, code)?;
+    }
+    Ok(())
+}
+
+/// Writes the entries of a map literal.
+#[cycle(compile)]
+fn write_entries<'e>(
+    alloc: Global,
+    names: &[&'e str],
+    pairs: &'e Vec<(Expr, Expr)>,
+    end: usize,
+    code: &mut Vec<Instr>,
+) -> Result<(), Refused>
+    ensures value { OnOk result (from_end code.new.items
+        ≡ entries_to (pairs_in (variables names.now)
+        (pairs_of (map (λ p. (term p.0, term p.1)) pairs.now.items))) end (from_end code.old.items)) }
+    ensures memory { IfErr result (λ e. e ≡ Refused.Memory) }
+{
+    for k in (0..pairs.len()).rev() {
+        let pair = &pairs[k];
+        write_guard(false, 0, end, code)?;
+        write_one(Instr::Apply(Operation::Put), code)?;
+        write_operand(alloc, names, &pair.1, 2, end, code)?;
+        write_operand(alloc, names, &pair.0, 1, end, code)?;
+    }
+    Ok(())
+}
+
+/// Writes the code of a binary operator.
+#[cycle(compile)]
+fn write_binary<'e>(
+    alloc: Global,
+    names: &[&'e str],
     operator: BinaryOperator,
-    left: Vec<Instr>,
-    right: Vec<Instr>,
-    literal: Option<&Value>,
-) -> Result<Vec<Instr>, Refused>
-    ensures value { IfOk result (λ all. map op all.items
-        ≡ binary_code operator (map op left.items) (map op right.items)
-        (option_map (λ v. view v.now) literal.entry)) }
+    left: &'e Expr,
+    right: &'e Expr,
+    code: &mut Vec<Instr>,
+) -> Result<(), Refused>
+    ensures value { OnOk result (from_end code.new.items
+        ≡ binary_code operator (code_in (variables names.now) (term left.now))
+        (code_in (variables names.now) (term right.now)) (literal_of (term right.now))
+        ++ from_end code.old.items) }
     ensures memory { IfErr result (λ e. e ≡ Refused.Memory) }
 {
     match operator {
-        BinaryOperator::Or => Ok(join_logic(true, left, right)?),
-        BinaryOperator::And => Ok(join_logic(false, left, right)?),
-        _ => join_strict(alloc, operator, left, right, literal),
+        BinaryOperator::Or => write_logic(alloc, names, true, left, right, code),
+        BinaryOperator::And => write_logic(alloc, names, false, left, right, code),
+        _ => match literal(right) {
+            None => write_parts(alloc, names, Operation::Binary(operator), left, right, code),
+            Some(value) => {
+                let operation = Operation::WithLiteral(operator, value.try_clone()?);
+                write_part(alloc, names, operation, left, code)
+            }
+        },
     }
 }
 
-/// Returns the code of a test and its two branches.
-fn join_branches(
-    kind: Test,
-    test: Vec<Instr>,
-    mut yes: Vec<Instr>,
-    mut no: Vec<Instr>,
-) -> Result<Vec<Instr>, AllocError>
-    ensures { IfOk result (λ all. map op all.items
-        ≡ choice_code (test_name kind) (map op test.items) (map op yes.items) (map op no.items)) }
-{
-    let on_false = yes.len() + 1;
-    let skipped = no.len();
-    let mut all = test;
-    all.push(Instr::Branch {
-        test: kind,
-        on_false,
-        offset: on_false + skipped,
-    })?;
-    all.append(&mut yes)?;
-    all.push(Instr::Skip(skipped))?;
-    all.append(&mut no)?;
-    Ok(all)
-}
-
-/// Returns the code of a body with a filter.
-fn join_filter(alloc: Global, test: Vec<Instr>, body: Vec<Instr>) -> Result<Vec<Instr>, AllocError>
-    ensures { IfOk result (λ all. map op all.items ≡ filter_code (map op test.items) (map op body.items)) }
-{
-    let kept = one(alloc, Instr::Push(Value::Bool(true)))?;
-    let yes = join_operand(body, 0, kept)?;
-    let no = one(alloc, Instr::Push(Value::Bool(false)))?;
-    join_branches(Test::Filter, test, yes, no)
-}
-
-/// Returns the code of a macro's range and of the loop over it.
-fn join_loop(
-    kind: MacroKind,
-    filtered: bool,
-    range: Vec<Instr>,
-    mut body: Vec<Instr>,
-) -> Result<Vec<Instr>, AllocError>
-    ensures { IfOk result (λ all. map op all.items
-        ≡ loop kind filtered (map op range.items) (map op body.items)) }
-{
-    let offset = body.len() + 1;
-    let mut all = range;
-    all.push(Instr::Begin { kind, offset })?;
-    all.append(&mut body)?;
-    all.push(Instr::Next { kind, filtered })?;
-    Ok(all)
-}
-
-/// Returns the code of a macro. A filter is used only for `map`.
-fn join_macro(
+/// Writes the code of `&&` or `||`; `stop` is the bool that decides the operator.
+#[cycle(compile)]
+fn write_logic<'e>(
     alloc: Global,
+    names: &[&'e str],
+    stop: bool,
+    left: &'e Expr,
+    right: &'e Expr,
+    code: &mut Vec<Instr>,
+) -> Result<(), Refused>
+    ensures value { OnOk result (from_end code.new.items
+        ≡ logic stop (code_in (variables names.now) (term left.now))
+        (code_in (variables names.now) (term right.now)) ++ from_end code.old.items) }
+    ensures memory { IfErr result (λ e. e ≡ Refused.Memory) }
+{
+    let end = write_one(Instr::Join(stop), code)?;
+    write_tree(alloc, names, right, code)?;
+    let offset = written_since(end, code);
+    write_one(Instr::Absorb { stop, offset }, code)?;
+    write_tree(alloc, names, left, code)
+}
+
+/// Writes the code of a condition and its two branches.
+#[cycle(compile)]
+fn write_choice<'e>(
+    alloc: Global,
+    names: &[&'e str],
+    test: &'e Expr,
+    yes: &'e Expr,
+    no: &'e Expr,
+    code: &mut Vec<Instr>,
+) -> Result<(), Refused>
+    ensures value { OnOk result (from_end code.new.items
+        ≡ choice_code (codes "?:") (code_in (variables names.now) (term test.now))
+        (code_in (variables names.now) (term yes.now)) (code_in (variables names.now) (term no.now))
+        ++ from_end code.old.items) }
+    ensures memory { IfErr result (λ e. e ≡ Refused.Memory) }
+{
+    let end = code.len();
+    write_tree(alloc, names, no, code)?;
+    let skipped = written_since(end, code);
+    let middle = write_one(Instr::Skip(skipped), code)?;
+    write_tree(alloc, names, yes, code)?;
+    write_branch(Test::Condition, middle, end, code)?;
+    write_tree(alloc, names, test, code)
+}
+
+/// Writes the code of a call without a receiver.
+#[cycle(compile)]
+fn write_function<'e>(
+    alloc: Global,
+    names: &[&'e str],
+    name: &Rc<String>,
+    args: &'e Vec<Expr>,
+    code: &mut Vec<Instr>,
+) -> Result<(), Refused>
+    ensures value { OnOk result (from_end code.new.items
+        ≡ code_in (variables names.now)
+        (qualified (string_bytes name.now.value) (terms_of (map term args.now.items)))
+        ++ from_end code.old.items) }
+    ensures memory { IfErr result (λ e. e ≡ Refused.Memory) }
+{
+    let count = args.len();
+    let end = write_one(call_instr(name, false, count)?, code)?;
+    write_operands(alloc, names, args, 0, end, code)?;
+    Ok(write_form(name, false, count, end, code)?)
+}
+
+/// Writes the code of a call with a receiver.
+#[cycle(compile)]
+fn write_method<'e>(
+    alloc: Global,
+    names: &[&'e str],
+    target: &'e Expr,
+    name: &Rc<String>,
+    args: &'e Vec<Expr>,
+    code: &mut Vec<Instr>,
+) -> Result<(), Refused>
+    ensures value { OnOk result (from_end code.new.items
+        ≡ code_in (variables names.now) (call (term_and (term target.now) no_terms)
+        (string_bytes name.now.value) (terms_of (map term args.now.items))) ++ from_end code.old.items) }
+    ensures memory { IfErr result (λ e. e ≡ Refused.Memory) }
+{
+    let count = args.len();
+    let end = write_one(call_instr(name, true, count)?, code)?;
+    write_operands(alloc, names, args, 1, end, code)?;
+    write_operand(alloc, names, target, 0, end, code)?;
+    Ok(write_form(name, true, count, end, code)?)
+}
+
+/// Writes the loop of a macro without a filter, over a range that is still to be written.
+#[cycle(compile)]
+fn write_loop<'e>(
+    alloc: Global,
+    names: &[&'e str],
     kind: MacroKind,
-    range: Vec<Instr>,
-    filter: Option<Vec<Instr>>,
-    body: Vec<Instr>,
-) -> Result<Vec<Instr>, AllocError>
-    ensures { IfOk result (λ all. map op all.items
-        ≡ macro_code kind (map op range.items) (filter_codes filter) (map op body.items)) }
+    body: &'e Expr,
+    code: &mut Vec<Instr>,
+) -> Result<(), Refused>
+    ensures value { OnOk result (from_end code.new.items
+        ≡ loop kind false [] (code_in (variables names.now) (term body.now))
+        ++ from_end code.old.items) }
+    ensures memory { IfErr result (λ e. e ≡ Refused.Memory) }
+{
+    let end = write_one(
+        Instr::Next {
+            kind,
+            filtered: false,
+        },
+        code,
+    )?;
+    write_tree(alloc, names, body, code)?;
+    Ok(write_begin(kind, end, code)?)
+}
+
+/// Writes the loop of a macro with a filter. Only `map` uses the filter.
+#[cycle(compile)]
+fn write_filter<'e>(
+    alloc: Global,
+    names: &[&'e str],
+    kind: MacroKind,
+    test: &'e Expr,
+    body: &'e Expr,
+    code: &mut Vec<Instr>,
+) -> Result<(), Refused>
+    ensures value { OnOk result (from_end code.new.items
+        ≡ macro_code kind [] (code_in (variables names.now) (term test.now) ∷ [])
+        (code_in (variables names.now) (term body.now)) ++ from_end code.old.items) }
+    ensures memory { IfErr result (λ e. e ≡ Refused.Memory) }
 {
     match kind {
-        MacroKind::All => join_loop(MacroKind::All, false, range, body),
-        MacroKind::Exists => join_loop(MacroKind::Exists, false, range, body),
-        MacroKind::ExistsOne => join_loop(MacroKind::ExistsOne, false, range, body),
-        MacroKind::Filter => join_loop(MacroKind::Filter, false, range, body),
-        MacroKind::Map => match filter {
-            None => join_loop(MacroKind::Map, false, range, body),
-            Some(test) => {
-                let filtered = join_filter(alloc, test, body)?;
-                join_loop(MacroKind::Map, true, range, filtered)
-            }
-        },
+        MacroKind::Map => {
+            let next = Instr::Next {
+                kind,
+                filtered: true,
+            };
+            let last = write_one(next, code)?;
+            let end = write_one(Instr::Push(Value::Bool(false)), code)?;
+            let middle = write_one(Instr::Skip(1), code)?;
+            let kept = write_one(Instr::Push(Value::Bool(true)), code)?;
+            write_operand(alloc, names, body, 0, kept, code)?;
+            write_branch(Test::Filter, middle, end, code)?;
+            write_tree(alloc, names, test, code)?;
+            Ok(write_begin(kind, last, code)?)
+        }
+        _ => write_loop(alloc, names, kind, body, code),
     }
 }
