@@ -8,3 +8,4 @@ pub mod Sets
 pub mod Parts
 pub mod Missing
 pub mod Found
+pub mod Pairs

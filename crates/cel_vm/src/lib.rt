@@ -4,6 +4,7 @@
 mod calls;
 mod forms;
 mod items;
+mod lent;
 mod loops;
 mod operands;
 mod operations;
