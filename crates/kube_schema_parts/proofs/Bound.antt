@@ -1,5 +1,5 @@
 -- A bound object or list is alike to its converted parts, in what is demanded of it.
-use Rattle.std.proofs.Common.{◌≡◌, ℕ, suc, Box, ◌+◌, ◌<◌, List, [], ◌∷◌, ◌++◌, map, length, take, get_or, Bool, true, false, not, Bor, Option, Some, None, is_some, option_copied, option_map, refl, sym, ap, ◌∙◌, subst, true≢false}
+use Rattle.std.proofs.Common.{◌≡◌, ℕ, zero, suc, Box, ◌+◌, ◌<◌, List, [], ◌∷◌, ◌++◌, map, length, take, get_or, Bool, true, false, not, Bor, Option, Some, None, is_some, option_copied, option_map, refl, sym, ap, ◌∙◌, subst, true≢false}
 use Rattle.std.proofs.lemmas.Map.Text.{is_eq-slice_cmp}
 use Rattle.std.proofs.lemmas.Slice.Eq.{bytes_eq-Decides}
 use Rattle.std.proofs.lemmas.List.{map-append, take_more}
@@ -22,7 +22,7 @@ use Rattle.cel_value.specs.Find.{find}
 use Rattle.cel_value.specs.Keys.{key_order, put}
 use Rattle.cel_value.specs.View.{view, items_of}
 use Rattle.cel_value.specs.declared.value.Value.{Value}
-use Rattle.kube_schema_values.proofs.Bounds.{bound_within, items_by_is}
+use Rattle.kube_schema_values.proofs.Bounds.{bound_past, bound_within, items_by_is}
 use Rattle.kube_schema_values.proofs.Fields.{found_in_object}
 use Rattle.kube_schema_values.proofs.Found.{find-put, find-put_other, found_member}
 use Rattle.kube_schema_values.proofs.Plains.{plain_items_is}
@@ -30,7 +30,7 @@ use Rattle.kube_schema_values.specs.Conversion.{ConversionAccessors, items_by, k
 use Rattle.kube_schema_values.specs.Escape.{escape}
 use Rattle.kube_schema_values.specs.Fields.{field_besides}
 use Rattle.kube_schema_values.specs.Plain.{plain}
-use Rattle.kube_schema_parts.specs.Parts.{AreParts, entries_at, is_embedded_at, items_node, key_at, node_of_member, value_at}
+use Rattle.kube_schema_parts.specs.Parts.{AreParts, entries_at, is_embedded_at, items_node, key_at, node_of_member, scalar_of, value_at}
 
 -- ---- look-ups
 
@@ -190,3 +190,32 @@ module _ {S : Type 0} (accessors : ConversionAccessors S) where
   unfolding to_cel_by plain
   object_bound k n None d ms e is = ap plain is
   object_bound k n (Some s) d ms e is = bound_within accessors k n s d e ∙ ap (to_cel_by accessors (to_cel accessors n) s) is
+
+-- ---- the conversion of scalars
+
+scalar_plain : (d : json.Data) (v : Data) → Some v ≡ scalar_of d → v ≡ plain d
+unfolding plain
+scalar_plain json.null v e = cc
+scalar_plain (json.boolean b) v e = cc
+scalar_plain (json.number n) v e = cc
+scalar_plain (json.string s) v e = cc
+scalar_plain (json.array ds) v e = cc
+scalar_plain (json.object ms) v e = cc
+
+module _ {S : Type 0} (accessors : ConversionAccessors S) where
+  scalar_within : (n : ℕ) (s : S) (d : json.Data) (v : Data) → Some v ≡ scalar_of d → v ≡ to_cel_by accessors (to_cel accessors n) s d
+  unfolding to_cel_by
+  scalar_within n s json.null v e = cc
+  scalar_within n s (json.boolean b) v e = cc
+  scalar_within n s (json.number m) v e = cc
+  scalar_within n s (json.string t) v e = cc
+  scalar_within n s (json.array ds) v e = cc
+  scalar_within n s (json.object ms) v e = cc
+
+  scalar_by : (k : ℕ) (s : S) (d : json.Data) (v : Data) → Some v ≡ scalar_of d → v ≡ to_cel accessors k s d
+  scalar_by zero s d v e = scalar_plain d v e ∙ sym (bound_past accessors zero s d refl)
+  scalar_by (suc n) s d v e = scalar_within n s d v e ∙ sym (bound_within accessors (suc n) n s d refl)
+
+  pub scalar_bound : (k : ℕ) (o : Option S) (d : json.Data) (v : Data) → Some v ≡ scalar_of d → v ≡ value_at accessors k o d
+  scalar_bound k None d v e = scalar_plain d v e
+  scalar_bound k (Some s) d v e = scalar_by k s d v e

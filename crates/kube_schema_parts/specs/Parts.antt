@@ -1,15 +1,19 @@
 -- Scaffolding: only proofs and private clauses cite it.
 -- Conversion by a node of a schema if there is one, and
 -- plainly if not; and the parts of members converted so far.
-use Rattle.std.specs.Prelude.{◌≡◌, ℕ, List, Bool, false, Option, None, option_and_then}
+use Rattle.std.specs.Prelude.{◌≡◌, ℕ, List, All, Bool, false, Option, Some, None, option_and_then}
 use Rattle.std.specs.Option.{option_map_or}
 use Rattle.serde_json.specs.Data as json
 use Rattle.cel_demand.specs.Alike.{MembersAlike}
 use Rattle.cel_demand.specs.Part.{Members}
-use Rattle.cel_value.specs.Data.{Data, Entries, text_key}
+use Rattle.cel_demand.specs.Places.{Entry, name_of}
+use Rattle.cel_demand.specs.declared.demand.Demand.{Demand}
+use Rattle.cel_demand.specs.declared.demand.Demand.TheVariants as demand
+use Rattle.cel_value.specs.Data.{Data, Entries, null, bool, text_key}
 use Rattle.cel_value.specs.Find.{find}
 use Rattle.kube_schema_values.specs.Conversion.{ConversionAccessors, key_in, member_node, object_by, to_cel}
-use Rattle.kube_schema_values.specs.Plain.{plain, plain_entries}
+use Rattle.kube_schema_values.specs.Escape.{escape}
+use Rattle.kube_schema_values.specs.Plain.{plain, plain_entries, plain_number}
 
 module _ {S : Type 0} (accessors : ConversionAccessors S) where
   -- the node of list items
@@ -43,3 +47,20 @@ module _ {S : Type 0} (accessors : ConversionAccessors S) where
 abbrev pub AreParts : Members → Entries → Entries → Type 0
 AreParts ms es fs = MembersAlike ms (λ x. find (text_key x) es) (λ x. find (text_key x) fs)
     × ((x : List ℕ) → find (text_key x) fs ≡ None → find (text_key x) es ≡ None)
+
+-- the value of null, of a bool or of a number, which is the same by every node
+abbrev pub scalar_of : json.Data → Option Data
+scalar_of json.null = Some null
+scalar_of (json.boolean b) = Some (bool b)
+scalar_of (json.number n) = Some (plain_number n)
+scalar_of (json.string s) = None
+scalar_of (json.array ds) = None
+scalar_of (json.object ms) = None
+
+-- the name of each member is its own escape
+abbrev pub AreOwnNames : List Entry → Type 0
+AreOwnNames es = All (λ e. escape (name_of e) ≡ name_of e) es
+
+-- the same of the members that are demanded, if some are
+abbrev pub HasOwnNames : Demand → Type 0
+HasOwnNames d = (ms : _) → d ≡ demand.Members ms → AreOwnNames ms.items

@@ -6,18 +6,21 @@ ghost use Rattle.serde_json.specs.View.{view as json_view, items_view, members_v
 ghost use Rattle.cel_demand.specs.Alike.{Alike, ListsAlike};
 ghost use Rattle.cel_demand.specs.Demand.{part_of, members_view as demands_view};
 ghost use Rattle.cel_demand.specs.Part.{each_item, some_members};
-ghost use Rattle.cel_demand.specs.Places.{Entry};
+ghost use Rattle.cel_demand.specs.Places.{Entry, name_of};
 ghost use Rattle.cel_value.specs.Data as bound_data;
 ghost use Rattle.cel_value.specs.Data.{text_key};
 ghost use Rattle.cel_value.specs.Find.{find};
 ghost use Rattle.cel_value.specs.Keys.{put};
 ghost use Rattle.cel_value.specs.View.{view, entries_view};
 ghost use Rattle.kube_schema_values.specs.Conversion.{to_cel, levels};
-ghost use Rattle.kube_schema_parts.specs.Parts.{AreParts, entries_at, is_embedded_at, is_map_at, items_node, key_at, node_of_member, value_at};
+ghost use Rattle.kube_schema_values.specs.Escape.{escape};
+ghost use Rattle.kube_schema_parts.specs.Parts.{AreOwnNames, AreParts, HasOwnNames, entries_at, is_embedded_at, is_map_at, items_node, key_at, node_of_member, scalar_of, value_at};
 
 use cel_demand::Demand;
 use cel_value::{Entries, Key, Refused, Value};
-use kube_schema_values::{MemberKeys, Node, bind_at, bind_plain_with, is_its_own_escape};
+use kube_schema_values::{
+    MemberKeys, Node, bind_at, bind_number, bind_plain_with, is_its_own_escape,
+};
 use serde_json::{Map as Members, Value as Json};
 use std::alloc::Global;
 use std::rc::Rc;
@@ -43,20 +46,24 @@ pub fn bind_part_at<N: Node>(
     ensures memory { IfErr result (λ e. e ≡ Refused.Memory) }
 {
     let mut keys = MemberKeys::new(alloc);
-    let part = part_with(alloc, Some(node), value, depth, demand, &mut keys)?;
+    let part = part_with(alloc, Some(node), value, depth, demand, false, &mut keys)?;
     Ok(part)
 }
 
 // Converts a part like `bind_part_at`, by a node if there is one, reusing the keys in `keys`.
+// `own` says that the name of each demanded member is known to be its own escape.
 #[cycle(part)]
+#[inline(always)]
 fn part_with<N: Node>(
     alloc: Global,
     node: Option<N>,
     value: &Json,
     depth: usize,
     demand: &Demand,
+    own: bool,
     keys: &mut MemberKeys,
 ) -> Result<Value, Refused>
+    requires { own ≡ true → HasOwnNames demand.now }
     ensures value { IfOk result (λ v. Alike (part_of demand.now) (view v)
         (value_at N.accessors (levels depth) (option_map N.seen node) (json_view value.now))) }
     ensures memory { IfErr result (λ e. e ≡ Refused.Memory) }
@@ -72,7 +79,7 @@ fn part_with<N: Node>(
             Ok(list)
         }
         Demand::Members(members) => {
-            let map = map_part(alloc, node, value, depth, members, keys)?;
+            let map = map_part(alloc, node, value, depth, members, own, keys)?;
             Ok(map)
         }
     }
@@ -81,6 +88,7 @@ fn part_with<N: Node>(
 // Converts a part of each item, if the value is a list whose
 // items aren't demanded whole. Converts any other value whole.
 #[cycle(part)]
+#[inline(never)]
 fn list_part<N: Node>(
     alloc: Global,
     node: Option<N>,
@@ -120,9 +128,10 @@ fn item_parts<N: Node>(
     if items.len() > 1 {
         keys.keep_names();
     }
+    let own = has_own_names(item);
     let mut parts = Vec::with_capacity(alloc, items.len())?;
     for value in items {
-        let part = part_with(alloc, node, value, depth, item, keys)?;
+        let part = part_with(alloc, node, value, depth, item, own, keys)?;
         parts.push(part)?;
     }
     Ok(parts)
@@ -131,20 +140,23 @@ fn item_parts<N: Node>(
 // Converts some members of a map, if the value is an object whose
 // members can be found by these names. Converts any other value whole.
 #[cycle(part)]
+#[inline(never)]
 fn map_part<N: Node>(
     alloc: Global,
     node: Option<N>,
     value: &Json,
     depth: usize,
     members: &Vec<(Rc<String>, Demand)>,
+    own: bool,
     keys: &mut MemberKeys,
 ) -> Result<Value, Refused>
+    requires { own ≡ true → AreOwnNames members.now.items }
     ensures value { IfOk result (λ v. Alike (some_members (demands_view members.now.items)) (view v)
         (value_at N.accessors (levels depth) (option_map N.seen node) (json_view value.now))) }
     ensures memory { IfErr result (λ e. e ≡ Refused.Memory) }
 {
     if let Some(object) = object_of(value, depth) {
-        let found = member_parts(alloc, node, object, depth, members, keys)?;
+        let found = member_parts(alloc, node, object, depth, members, own, keys)?;
         if let Some(parts) = found {
             let map = Value::from_entries(alloc, parts)?;
             return Ok(map);
@@ -162,9 +174,11 @@ fn member_parts<N: Node>(
     object: &Members<String, Json>,
     depth: usize,
     members: &Vec<(Rc<String>, Demand)>,
+    own: bool,
     keys: &mut MemberKeys,
 ) -> Result<Option<Entries>, Refused>
-    requires { depth ≤ 64 }
+    requires within { depth ≤ 64 }
+    requires own { own ≡ true → AreOwnNames members.now.items }
     ensures members { IfOk result (λ found. IfSome found (λ parts. AreParts (demands_view members.now.items)
         (entries_view parts.entries)
         (entries_at N.accessors (64 - depth) (option_map N.seen node) (members_view object.now.entries)))) }
@@ -172,7 +186,7 @@ fn member_parts<N: Node>(
 {
     let mut parts = Entries::new(alloc);
     for member in members {
-        if !add_part(alloc, node, object, depth, member, &mut parts, keys)? {
+        if !add_part(alloc, node, object, depth, member, own, &mut parts, keys)? {
             return Ok(None);
         }
     }
@@ -189,10 +203,12 @@ fn add_part<N: Node>(
     object: &Members<String, Json>,
     depth: usize,
     member: &(Rc<String>, Demand),
+    own: bool,
     parts: &mut Entries,
     keys: &mut MemberKeys,
 ) -> Result<bool, Refused>
-    requires { depth ≤ 64 }
+    requires within { depth ≤ 64 }
+    requires own { own ≡ true → escape (name_of member.now) ≡ name_of member.now }
     ensures added { IfOk result (λ added. added ≡ true → (bound : bound_data.Entries)
         → bound ≡ entries_at N.accessors (64 - depth) (option_map N.seen node)
         (members_view object.now.entries)
@@ -201,7 +217,7 @@ fn add_part<N: Node>(
     ensures memory { IfErr result (λ e. e ≡ Refused.Memory) }
 {
     let name = member.0.as_str();
-    let is_found = is_found_by(node, name, keys)?;
+    let is_found = is_found_by(node, name, own, keys)?;
     if !is_found {
         return Ok(false);
     }
@@ -209,12 +225,13 @@ fn add_part<N: Node>(
         return Ok(!is_embedded(node));
     };
     let inner = node_of_member(node, name);
-    let part = part_with(alloc, inner, value, depth + 1, &member.1, keys)?;
+    let part = part_with(alloc, inner, value, depth + 1, &member.1, false, keys)?;
     let is_new = put_new(parts, member.0.clone()?, part)?;
     Ok(is_new)
 }
 
 // Converts the whole value, by the node if there is one, else plainly.
+#[inline(always)]
 fn bind_whole<N: Node>(
     alloc: Global,
     node: Option<N>,
@@ -226,10 +243,48 @@ fn bind_whole<N: Node>(
         ≡ value_at N.accessors (levels depth) (option_map N.seen node) (json_view value.now)) }
     ensures memory { IfErr result (λ e. e ≡ Refused.Memory) }
 {
+    if let Some(scalar) = scalar_of(value) {
+        return Ok(scalar);
+    }
     match node {
         Some(node) => bind_at(alloc, node, value, depth),
         None => bind_plain_with(alloc, value, keys),
     }
+}
+
+// The value of null, of a bool or of a number, which is the same by every node.
+fn scalar_of(value: &Json) -> Option<Value>
+    ensures { option_map view result ≡ scalar_of (json_view value.now) }
+{
+    match value {
+        Json::Null => Some(Value::Null),
+        Json::Bool(truth) => Some(Value::Bool(*truth)),
+        Json::Number(number) => Some(bind_number(number)),
+        _ => None,
+    }
+}
+
+// Reports whether the name of each demanded member is known
+// to be its own escape. The contract only covers true.
+fn has_own_names(demand: &Demand) -> bool
+    ensures { result ≡ true → HasOwnNames demand.now }
+{
+    match demand {
+        Demand::Members(members) => are_own_names(members),
+        _ => false,
+    }
+}
+
+// Reports whether each name is known to be its own escape. The contract only covers true.
+fn are_own_names(members: &Vec<(Rc<String>, Demand)>) -> bool
+    ensures { result ≡ true → AreOwnNames members.now.items }
+{
+    for member in members {
+        if !is_its_own_escape(member.0.as_str()) {
+            return false;
+        }
+    }
+    true
 }
 
 // The node of list items, if any.
@@ -298,11 +353,20 @@ fn object_of(value: &Json, depth: usize) -> Option<&Members<String, Json>>
 }
 
 // Reports whether a name is also the key of the member of that name. The contract only covers true.
-fn is_found_by<N: Node>(node: Option<N>, name: &str, keys: &mut MemberKeys) -> Result<bool, Refused>
+fn is_found_by<N: Node>(
+    node: Option<N>,
+    name: &str,
+    own: bool,
+    keys: &mut MemberKeys,
+) -> Result<bool, Refused>
+    requires { own ≡ true → escape name.now ≡ name.now }
     ensures found { IfOk result (λ is_found. is_found ≡ true
         → key_at N.accessors (option_map N.seen node) name.now ≡ name.now) }
     ensures memory { IfErr result (λ e. e ≡ Refused.Memory) }
 {
+    if own {
+        return Ok(true);
+    }
     if is_map(node) || is_its_own_escape(name) {
         return Ok(true);
     }

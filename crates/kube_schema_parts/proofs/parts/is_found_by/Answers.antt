@@ -6,6 +6,10 @@ use Rattle.kube_schema_parts.proofs.Bound.{own_key}
 use Rattle.kube_schema_parts.proofs.parts.is_found_by.Goals as goal
 use Rattle.kube_schema_parts.proofs.parts.is_found_by.Goals.{then-is_map-via-then-is_map, then-is_map-via-else-is_map+then-is_its_own_escape}
 
+pub returns-then-own-clause-found : goal.returns-then-own-clause-found
+returns-then-own-clause-found g c = λ h.
+    own_key (is_map_at g.N.Node.accessors (option_map g.N.Node.seen c.args.node)) c.args.name.now (c.requires c.if-own.true)
+
 pub returns-then-is_map-clause-found : goal.returns-then-is_map-clause-found
 returns-then-is_map-clause-found g c = λ h.
     elim c.then-is_map.branch [
