@@ -7,6 +7,7 @@ use Rattle.cel_syntax_ast.specs.Term.{Term}
 use Rattle.cel_value.specs.Data.{Data, null}
 use Rattle.cel_value.specs.Faults.{Fault}
 use Rattle.cel_value.specs.Parts.{bool_in}
+use Rattle.kube_cel_walk.specs.AddedErrors.{is_true}
 use Rattle.kube_cel_walk.specs.Errors.{ErrorData}
 use Rattle.kube_cel_walk.specs.RuleErrors.{fault_error, malformed_error, undeclared_name}
 use Rattle.cel.proofs.Bound.{meaning_same, under}
@@ -14,7 +15,7 @@ use Rattle.kube_cel_walk.specs.Verdicts.{is_applicable, is_old_null, outcome_in,
 use Rattle.kube_schema_rules.specs.Compilation.{Compiled, Malformed}
 use Rattle.kube_schema_rules.specs.Rules.{Fields}
 use Rattle.serde_json.specs.Data.{Data as Json}
-use Rattle.std.proofs.Common.{◌≡◌, ℕ, List, ◌∷◌, codes, Bool, true, false, Option, Some, None, option_map, unwrap_or, Result, Ok, Err, if◌then◌else◌, refl, sym, ap, ◌∙◌}
+use Rattle.std.proofs.Common.{◌≡◌, ℕ, List, ◌∷◌, codes, Bool, true, false, Option, Some, None, option_map, unwrap_or, Result, Ok, Err, if◌then◌else◌, refl, sym, ap, ◌∙◌, true≢false}
 
 pub malformed_found : (b : Book) (e : Bindings) (old : Option Json) (path : List ℕ) (r : Result Compiled Malformed) (m : Malformed) (x : ErrorData)
     → Err m ≡ r → x ≡ malformed_error path m → Some x ≡ verdict b e old path r
@@ -91,3 +92,23 @@ unfolding verdict
 verdict_alike b e f old path (Err m) h = refl
 verdict_alike b e f old path (Ok c) h =
     ap (λ x. if is_applicable old c then x else None) (verdict_same b path c (rule_bindings e old c.fields) (rule_bindings f old c.fields) (rule_under (is_old_null old c.fields) e f h))
+
+-- ---- a rule by its outcome
+
+pub outcome_found : (b : Book) (e : Bindings) (path : List ℕ) (c : Compiled) (o : Outcome) → o ≡ outcome_in b e c.tree
+    → outcome_error path c.fields (failed_message c.fields (option_map (outcome_in b e) c.message_tree)) o ≡ bound_verdict b e path c
+unfolding bound_verdict
+outcome_found b e path c o q = ap (outcome_error path c.fields (failed_message c.fields (option_map (outcome_in b e) c.message_tree))) q
+
+true_value : (path : List ℕ) (r : Fields) (message : List ℕ) (o : Option Bool) → unwrap_or o false ≡ true → value_error path r message o ≡ None
+true_value path r message None h = absurd (true≢false (sym h))
+true_value path r message (Some false) h = absurd (true≢false (sym h))
+true_value path r message (Some true) h = refl
+
+true_outcome : (path : List ℕ) (r : Fields) (message : List ℕ) (o : Outcome) → is_true o ≡ true → outcome_error path r message o ≡ None
+true_outcome path r message (Ok v) h = true_value path r message (bool_in v) h
+true_outcome path r message (Err e) h = absurd (true≢false (sym h))
+
+-- no error if it is true
+pub true_found : (b : Book) (e : Bindings) (path : List ℕ) (c : Compiled) (o : Outcome) → o ≡ outcome_in b e c.tree → is_true o ≡ true → bound_verdict b e path c ≡ None
+true_found b e path c o q h = sym (outcome_found b e path c o q) ∙ true_outcome path c.fields (failed_message c.fields (option_map (outcome_in b e) c.message_tree)) o h

@@ -8,11 +8,13 @@ ghost use Rattle.cel_semantics.specs.Bindings.{Bindings, bindings_of};
 ghost use Rattle.kube_cel_walk.specs.AddedErrors.{AreAdded};
 ghost use Rattle.kube_cel_walk.specs.Verdicts.{with_old};
 ghost use Rattle.kube_cel_walk.specs.Answers.{bound_at, place_bindings, verdicts};
+ghost use Rattle.kube_cel_walk.specs.Errors.{error_view};
+ghost use Rattle.kube_cel_walk.specs.RuleErrors.{too_deep};
 ghost use Rattle.kube_cel_walk.specs.Visits.{visit_at};
 ghost use Rattle.kube_schema_values.specs.Conversion.{to_cel, levels};
 ghost use Rattle.kube_schema_rules.specs.Demands.{rules_read};
 ghost use Rattle.serde_json.specs.View.{view};
-ghost use Rattle.std.specs.Prelude.{◌≡◌, ◌∷◌, codes, IfOk, List, OnOk, Option, option_map, ℕ};
+ghost use Rattle.std.specs.Prelude.{◌≡◌, ◌∷◌, ◌++◌, [], codes, List, map, OnOk, Option, option_map, ℕ};
 
 use crate::error::ValidationError;
 use crate::node::Node;
@@ -23,7 +25,7 @@ use cel::PatternBook;
 use cel_demand::Demand;
 use kube_types::Refused;
 use serde_json::Value;
-use std::alloc::Global;
+use std::alloc::{AllocError, Global};
 
 /// The number of steps from the root at which a schema is too deep: rules apply up to depth 64.
 pub(crate) const TOO_DEEP: usize = 65;
@@ -72,30 +74,45 @@ fn bind_old<N: Node>(
     Ok(())
 }
 
-/// Returns the bindings that all rules at a place share, each as far as
+/// Binds the names that all rules at a place share, each as far as
 /// the rules read it: `self`, `oldSelf` if there is an old counterpart,
 /// and `apiVersion`, `apiGroup` and `kind` if there is a root context.
-fn context_at<'c, N: Node>(alloc: Global, state: &WalkState<'_, N>) -> Result<Context<'c>, Refused>
-    ensures bound { IfOk result (λ c. (path : List ℕ)
+fn bind_place<N: Node>(
+    alloc: Global,
+    context: &mut Context<'_>,
+    state: &WalkState<'_, N>,
+) -> Result<(), Refused>
+    requires { bindings_of context.old ≡ [] }
+    ensures bound { OnOk result ((path : List ℕ)
         → NamesAlike (λ x. rules_read x (N.form.rules (N.seen state.now.node)))
-        (bindings_of c) (place_bindings N.form (visit_at N.seen state.now path))) }
+        (bindings_of context.new) (place_bindings N.form (visit_at N.seen state.now path))) }
 {
     let known = state.node.demands(alloc)?;
     let demands = known.get();
-    let mut context = Context::default(alloc);
     let (node, value) = (&state.node, state.value);
     bind_name(
         alloc,
-        &mut context,
+        context,
         "self",
         node,
         value,
         state.depth,
         &demands.value,
     )?;
-    bind_old(alloc, &mut context, state, &demands.old)?;
-    bind_root(alloc, &mut context, state.root)?;
-    Ok(context)
+    bind_old(alloc, context, state, &demands.old)?;
+    bind_root(alloc, context, state.root)?;
+    Ok(())
+}
+
+/// Adds the error of a place beyond the maximum depth.
+#[inline(never)]
+fn add_deep(path: &str, errors: &mut Vec<ValidationError>) -> Result<(), AllocError>
+    ensures { OnOk result (map error_view errors.new.items
+        ≡ map error_view errors.old.items ++ too_deep path.now ∷ []) }
+{
+    let error = deep_error(*errors.allocator(), path)?;
+    errors.push(error)?;
+    Ok(())
 }
 
 /// Adds the errors at one place. Names are bound once
@@ -111,14 +128,15 @@ pub(crate) fn validate_at<N: Node>(
         (λ b. verdicts N.form b (visit_at N.seen state.now path.now))) }
 {
     if state.depth == TOO_DEEP {
-        let error = deep_error(*errors.allocator(), path)?;
-        errors.push(error)?;
+        add_deep(path, errors)?;
         return Ok(());
     }
     if state.node.is_without_rules() {
         return Ok(());
     }
-    let context = context_at(*errors.allocator(), state)?;
+    let alloc = *errors.allocator();
+    let mut context = Context::default(alloc);
+    bind_place(alloc, &mut context, state)?;
     state
         .node
         .add_verdicts(&context, state.old, path, book, errors)?;

@@ -9,12 +9,13 @@ ghost use Rattle.cel_value.specs.Parts.{bool_in};
 ghost use Rattle.cel_value.specs.View.{view as cel_view};
 ghost use Rattle.kube_cel_walk.specs.Errors.{error_view};
 ghost use Rattle.kube_cel_walk.specs.Roots.{root_view};
-ghost use Rattle.kube_cel_walk.specs.AddedErrors.{AreAdded, IsVerdict};
-ghost use Rattle.kube_cel_walk.specs.Verdicts.{bound_verdict, compiled_verdict, failed_message, is_applicable, is_old_null, is_old_optional, list_of_option, outcome_in, own_message, message_text, value_error, verdict, with_root};
-ghost use Rattle.kube_schema_rules.specs.Compilation.{compiled_seen, result_view};
+ghost use Rattle.kube_cel_walk.specs.RuleErrors.{malformed_error};
+ghost use Rattle.kube_cel_walk.specs.AddedErrors.{AreAdded, IsVerdict, is_true};
+ghost use Rattle.kube_cel_walk.specs.Verdicts.{bound_verdict, compiled_verdict, failed_message, is_applicable, is_old_null, is_old_optional, list_of_option, outcome_in, own_message, message_text, outcome_error, value_error, verdict, with_root};
+ghost use Rattle.kube_schema_rules.specs.Compilation.{compiled_seen, error_view as malformed_view, result_view};
 ghost use Rattle.kube_schema_rules.specs.Rules.{rule_view};
 ghost use Rattle.serde_json.specs.View.{view};
-ghost use Rattle.std.specs.Prelude.{◌≡◌, ◌++◌, IfErr, IfOk, List, map, OnOk, option_map, string_bytes, ℕ};
+ghost use Rattle.std.specs.Prelude.{◌≡◌, ◌++◌, ◌∷◌, [], codes, IfErr, IfOk, List, map, OnOk, option_map, string_bytes, ℕ};
 
 use crate::error::ValidationError;
 use crate::root::RootContext;
@@ -156,73 +157,26 @@ fn verdict_of_value(
     }
 }
 
-/// Evaluates a rule in a context that binds its names. Returns its error; None if the rule is true.
-fn verdict_where_bound(
+/// Returns the error of a rule by its outcome in this context; None if the rule is true.
+fn verdict_of_outcome(
     alloc: Global,
     rule: &CompilationResult,
+    outcome: Answer,
     context: &Context<'_>,
     path: &str,
     book: &mut PatternBook,
 ) -> Result<Option<ValidationError>, Refused>
     ensures keeps { (b : Book) → Extends b (entries_of book.new) → Extends b (entries_of book.old) }
-    ensures found { IfOk result (λ o. IsVerdict (entries_of book.new) o
-        (λ b. bound_verdict b (bindings_of context.now) path.now (result_view rule.now))) }
+    ensures found { IfOk result
+        (λ o. IsVerdict (entries_of book.new) o (λ b. outcome_error path.now (rule_view rule.now.rule)
+        (failed_message (rule_view rule.now.rule)
+        (option_map (outcome_in b (bindings_of context.now)) (result_view rule.now).message_tree))
+        (outcome_view outcome))) }
 {
-    match rule.program.execute_with(alloc, context, book)? {
+    match outcome {
         Err(fault) => Ok(Some(fault_error(alloc, &rule.rule, fault, path)?)),
         Ok(value) => {
             let error = verdict_of_value(alloc, rule, &value, context, path, book)?;
-            Ok(error)
-        }
-    }
-}
-
-/// Returns the verdict of a compiled rule in this context. Binds `oldSelf`
-/// to null if the rule sets `optionalOldSelf` and there is no old value.
-fn verdict_of_compiled(
-    alloc: Global,
-    rule: &CompilationResult,
-    context: &Context<'_>,
-    old: Option<&Value>,
-    path: &str,
-    book: &mut PatternBook,
-) -> Result<Option<ValidationError>, Refused>
-    ensures keeps { (b : Book) → Extends b (entries_of book.new) → Extends b (entries_of book.old) }
-    ensures found { IfOk result (λ o. IsVerdict (entries_of book.new) o
-        (λ b. compiled_verdict b (bindings_of context.now)
-        (option_map (λ v. view v.now) old.entry) path.now (result_view rule.now))) }
-{
-    if !is_applicable(rule, old) {
-        return Ok(None);
-    }
-    if !is_old_null(&rule.rule, old) {
-        let error = verdict_where_bound(alloc, rule, context, path, book)?;
-        return Ok(error);
-    }
-    let mut inner = context.new_inner_scope();
-    inner.add_variable("oldSelf", null_old_self())?;
-    let with_null = verdict_where_bound(alloc, rule, &inner, path, book)?;
-    Ok(with_null)
-}
-
-/// Returns the verdict of a rule in this context. `old` is the old value at the place, if any.
-fn verdict_of_rule(
-    alloc: Global,
-    rule: &Result<CompilationResult, CompilationError>,
-    context: &Context<'_>,
-    old: Option<&Value>,
-    path: &str,
-    book: &mut PatternBook,
-) -> Result<Option<ValidationError>, Refused>
-    ensures keeps { (b : Book) → Extends b (entries_of book.new) → Extends b (entries_of book.old) }
-    ensures found { IfOk result (λ o. IsVerdict (entries_of book.new) o
-        (λ b. verdict b (bindings_of context.now)
-        (option_map (λ v. view v.now) old.entry) path.now (compiled_seen rule.now))) }
-{
-    match rule {
-        Err(error) => Ok(Some(malformed_error(alloc, error, path)?)),
-        Ok(rule) => {
-            let error = verdict_of_compiled(alloc, rule, context, old, path, book)?;
             Ok(error)
         }
     }
@@ -239,6 +193,122 @@ fn push_listed(
     let Some(error) = error else {
         return Ok(());
     };
+    errors.push(error)?;
+    Ok(())
+}
+
+/// Appends the error of a rule by its outcome in this context, if it has one.
+#[inline(never)]
+fn add_by_outcome(
+    rule: &CompilationResult,
+    outcome: Answer,
+    context: &Context<'_>,
+    path: &str,
+    book: &mut PatternBook,
+    errors: &mut Vec<ValidationError>,
+) -> Result<(), Refused>
+    ensures keeps { (b : Book) → Extends b (entries_of book.new) → Extends b (entries_of book.old) }
+    ensures found { OnOk result (AreAdded (entries_of book.new) errors.old.items errors.new.items
+        (λ b. list_of_option (outcome_error path.now (rule_view rule.now.rule)
+        (failed_message (rule_view rule.now.rule)
+        (option_map (outcome_in b (bindings_of context.now)) (result_view rule.now).message_tree))
+        (outcome_view outcome)))) }
+{
+    let error = verdict_of_outcome(*errors.allocator(), rule, outcome, context, path, book)?;
+    push_listed(error, errors)?;
+    Ok(())
+}
+
+/// Reports whether an outcome is true.
+fn is_true(outcome: &Answer) -> bool
+    ensures { result ≡ is_true (outcome_view outcome.now) }
+{
+    match outcome {
+        Ok(value) => value.as_bool() == Some(true),
+        Err(_) => false,
+    }
+}
+
+/// Evaluates a rule in a context that binds its names. Appends its error, unless the rule is true.
+fn add_where_bound(
+    rule: &CompilationResult,
+    context: &Context<'_>,
+    path: &str,
+    book: &mut PatternBook,
+    errors: &mut Vec<ValidationError>,
+) -> Result<(), Refused>
+    ensures keeps { (b : Book) → Extends b (entries_of book.new) → Extends b (entries_of book.old) }
+    ensures found { OnOk result (AreAdded (entries_of book.new) errors.old.items errors.new.items
+        (λ b. list_of_option
+        (bound_verdict b (bindings_of context.now) path.now (result_view rule.now)))) }
+{
+    let outcome = rule
+        .program
+        .execute_with(*errors.allocator(), context, book)?;
+    if is_true(&outcome) {
+        return Ok(());
+    }
+    add_by_outcome(rule, outcome, context, path, book, errors)?;
+    Ok(())
+}
+
+/// Evaluates a rule like [`add_where_bound`], with `oldSelf` bound to null.
+#[inline(never)]
+fn add_where_old_null(
+    rule: &CompilationResult,
+    context: &Context<'_>,
+    path: &str,
+    book: &mut PatternBook,
+    errors: &mut Vec<ValidationError>,
+) -> Result<(), Refused>
+    ensures keeps { (b : Book) → Extends b (entries_of book.new) → Extends b (entries_of book.old) }
+    ensures found { OnOk result (AreAdded (entries_of book.new) errors.old.items errors.new.items
+        (λ b. list_of_option (bound_verdict b ((codes "oldSelf", null) ∷ bindings_of context.now)
+        path.now (result_view rule.now)))) }
+{
+    let mut inner = context.new_inner_scope();
+    inner.add_variable("oldSelf", null_old_self())?;
+    add_where_bound(rule, &inner, path, book, errors)?;
+    Ok(())
+}
+
+/// Appends the verdict of a compiled rule in this context. Binds `oldSelf`
+/// to null if the rule sets `optionalOldSelf` and there is no old value.
+fn add_compiled(
+    rule: &CompilationResult,
+    context: &Context<'_>,
+    old: Option<&Value>,
+    path: &str,
+    book: &mut PatternBook,
+    errors: &mut Vec<ValidationError>,
+) -> Result<(), Refused>
+    ensures keeps { (b : Book) → Extends b (entries_of book.new) → Extends b (entries_of book.old) }
+    ensures found { OnOk result (AreAdded (entries_of book.new) errors.old.items errors.new.items
+        (λ b. list_of_option (compiled_verdict b (bindings_of context.now)
+        (option_map (λ v. view v.now) old.entry) path.now (result_view rule.now)))) }
+{
+    if !is_applicable(rule, old) {
+        return Ok(());
+    }
+    if is_old_null(&rule.rule, old) {
+        add_where_old_null(rule, context, path, book, errors)?;
+        return Ok(());
+    }
+    add_where_bound(rule, context, path, book, errors)?;
+    Ok(())
+}
+
+/// Appends the error of a malformed rule.
+#[inline(never)]
+fn add_malformed(
+    error: &CompilationError,
+    path: &str,
+    errors: &mut Vec<ValidationError>,
+) -> Result<(), Refused>
+    ensures { OnOk result (map error_view errors.new.items
+        ≡ map error_view errors.old.items ++ malformed_error path.now (malformed_view error.now) ∷ []) }
+{
+    let error = malformed_error(*errors.allocator(), error, path)?;
     errors.push(error)?;
     Ok(())
 }
@@ -262,7 +332,14 @@ pub fn add_verdict(
         (λ b. list_of_option (verdict b (bindings_of context.now)
         (option_map (λ v. view v.now) old.entry) path.now (compiled_seen rule.now)))) }
 {
-    let error = verdict_of_rule(*errors.allocator(), rule, context, old, path, book)?;
-    push_listed(error, errors)?;
-    Ok(())
+    match rule {
+        Err(error) => {
+            add_malformed(error, path, errors)?;
+            Ok(())
+        }
+        Ok(rule) => {
+            add_compiled(rule, context, old, path, book, errors)?;
+            Ok(())
+        }
+    }
 }

@@ -3,17 +3,13 @@ use Rattle.kube_cel_walk.specs.Errors.{error_view}
 use Rattle.kube_cel_walk.proofs.judge.validate_at.Goals as goal
 use Rattle.kube_cel_walk.proofs.Judged.{deep_found, none_found, rules_found}
 use Rattle.kube_cel_walk.specs.Visits.{visit_at}
-use Rattle.std.proofs.Common.{◌≡◌, ◌==◌, ◌++◌, ◌∷◌, [], map, true, false, sym, ap, ◌∙◌, arith, append-nil}
+use Rattle.std.proofs.Common.{◌≡◌, ◌==◌, ◌++◌, map, false, sym, ap, ◌∙◌, arith, append-nil}
 use Rattle.std.proofs.lemmas.Bool.Decides.{nat_tests}
-use Rattle.std.proofs.lemmas.List.{map-append}
 
 pub returns-then-state-eq-TOO_DEEP-clause-found : goal.returns-then-state-eq-TOO_DEEP-clause-found
 returns-then-state-eq-TOO_DEEP-clause-found g c = λ b h.
     let e : c.args.state.now.depth ≡ 65 = omega arith in
-    let old = c.args.errors.now.items in
-    ap (map error_view) c.in_ok-push.ensures.items ∙ map-append error_view old (c.in_ok-error.error ∷ [])
-    ∙ ap (λ r. map error_view old ++ r ∷ []) c.in_ok-error.ensures
-    ∙ sym (ap (λ r. map error_view old ++ r) (deep_found g.N.Node.form b (visit_at g.N.Node.seen c.args.state.now c.args.path.now) e))
+    c.in_ok-add_deep.ensures ∙ sym (ap (λ r. map error_view c.args.errors.now.items ++ r) (deep_found g.N.Node.form b (visit_at g.N.Node.seen c.args.state.now c.args.path.now) e))
 
 pub returns-then-is_without_rules-clause-found : goal.returns-then-is_without_rules-clause-found
 returns-then-is_without_rules-clause-found g c = λ b h.
@@ -27,4 +23,4 @@ returns-clause-found g c = λ b h.
     let s = visit_at g.N.Node.seen c.args.state.now c.args.path.now in
     c.in_ok-add_verdicts.ensures.found b h
     ∙ sym (ap (λ r. map error_view c.args.errors.now.items ++ r)
-    (rules_found g.N.Node.form b s (bindings_of c.in_ok-context.context) t (c.in_ok-context.ensures.bound c.args.path.now)))
+    (rules_found g.N.Node.form b s (bindings_of c.bind_place.new.context) t (c.in_ok-bind_place.ensures.bound c.args.path.now)))
