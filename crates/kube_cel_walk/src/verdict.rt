@@ -230,6 +230,7 @@ fn is_true(outcome: &Answer) -> bool
 }
 
 /// Evaluates a rule in a context that binds its names. Appends its error, unless the rule is true.
+#[inline(always)]
 fn add_where_bound(
     rule: &CompilationResult,
     context: &Context<'_>,
