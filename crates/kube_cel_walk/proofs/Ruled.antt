@@ -4,12 +4,11 @@ use Rattle.cel_semantics.specs.Bindings.{Bindings, binding}
 use Rattle.cel_semantics.specs.Outcome.{Outcome}
 use Rattle.kube_functions.specs.Kube.{all_library}
 use Rattle.cel_syntax_ast.specs.Term.{Term}
-use Rattle.cel_value.specs.Data.{Data, null}
-use Rattle.cel_value.specs.Faults.{Fault}
+use Rattle.cel_value.specs.Data.{null}
 use Rattle.cel_value.specs.Parts.{bool_in}
 use Rattle.kube_cel_walk.specs.AddedErrors.{is_true}
 use Rattle.kube_cel_walk.specs.Errors.{ErrorData}
-use Rattle.kube_cel_walk.specs.RuleErrors.{fault_error, malformed_error, undeclared_name}
+use Rattle.kube_cel_walk.specs.RuleErrors.{malformed_error}
 use Rattle.cel.proofs.Bound.{meaning_same, under}
 use Rattle.kube_cel_walk.specs.Verdicts.{is_applicable, is_old_null, outcome_in, message_text, own_message, failed_message, value_error, outcome_error, bound_verdict, rule_bindings, compiled_verdict, verdict}
 use Rattle.kube_schema_rules.specs.Compilation.{Compiled, Malformed}
@@ -53,15 +52,23 @@ no_message_found b e r o t s outcome k q p m = m ∙ ap (λ o. unwrap_or o (own_
 
 -- ---- a rule under given bindings
 
-pub erred_found : (b : Book) (e : Bindings) (path : List ℕ) (c : Compiled) (f : Fault) (x : ErrorData) → Err f ≡ outcome_in b e c.tree
-    → x ≡ fault_error path c.fields f (undeclared_name f) → Some x ≡ bound_verdict b e path c
+pub outcome_found : (b : Book) (e : Bindings) (path : List ℕ) (c : Compiled) (o : Outcome) → o ≡ outcome_in b e c.tree
+    → outcome_error path c.fields (failed_message c.fields (option_map (outcome_in b e) c.message_tree)) o ≡ bound_verdict b e path c
 unfolding bound_verdict
-erred_found b e path c f x q p = ap Some p ∙ ap (outcome_error path c.fields (failed_message c.fields (option_map (outcome_in b e) c.message_tree))) q
+outcome_found b e path c o q = ap (outcome_error path c.fields (failed_message c.fields (option_map (outcome_in b e) c.message_tree))) q
 
-pub valued_found : (b : Book) (e : Bindings) (path : List ℕ) (c : Compiled) (v : Data) (o : Option ErrorData) → Ok v ≡ outcome_in b e c.tree
-    → o ≡ value_error path c.fields (failed_message c.fields (option_map (outcome_in b e) c.message_tree)) (bool_in v) → o ≡ bound_verdict b e path c
-unfolding bound_verdict
-valued_found b e path c v o q p = p ∙ ap (outcome_error path c.fields (failed_message c.fields (option_map (outcome_in b e) c.message_tree))) q
+true_value : (path : List ℕ) (r : Fields) (message : List ℕ) (o : Option Bool) → unwrap_or o false ≡ true → value_error path r message o ≡ None
+true_value path r message None h = absurd (true≢false (sym h))
+true_value path r message (Some false) h = absurd (true≢false (sym h))
+true_value path r message (Some true) h = refl
+
+true_outcome : (path : List ℕ) (r : Fields) (message : List ℕ) (o : Outcome) → is_true o ≡ true → outcome_error path r message o ≡ None
+true_outcome path r message (Ok v) h = true_value path r message (bool_in v) h
+true_outcome path r message (Err e) h = absurd (true≢false (sym h))
+
+-- no error if it is true
+pub true_found : (b : Book) (e : Bindings) (path : List ℕ) (c : Compiled) (o : Outcome) → o ≡ outcome_in b e c.tree → is_true o ≡ true → bound_verdict b e path c ≡ None
+true_found b e path c o q h = sym (outcome_found b e path c o q) ∙ true_outcome path c.fields (failed_message c.fields (option_map (outcome_in b e) c.message_tree)) o h
 
 -- ---- whether a rule applies, and how
 
@@ -92,23 +99,3 @@ unfolding verdict
 verdict_alike b e f old path (Err m) h = refl
 verdict_alike b e f old path (Ok c) h =
     ap (λ x. if is_applicable old c then x else None) (verdict_same b path c (rule_bindings e old c.fields) (rule_bindings f old c.fields) (rule_under (is_old_null old c.fields) e f h))
-
--- ---- a rule by its outcome
-
-pub outcome_found : (b : Book) (e : Bindings) (path : List ℕ) (c : Compiled) (o : Outcome) → o ≡ outcome_in b e c.tree
-    → outcome_error path c.fields (failed_message c.fields (option_map (outcome_in b e) c.message_tree)) o ≡ bound_verdict b e path c
-unfolding bound_verdict
-outcome_found b e path c o q = ap (outcome_error path c.fields (failed_message c.fields (option_map (outcome_in b e) c.message_tree))) q
-
-true_value : (path : List ℕ) (r : Fields) (message : List ℕ) (o : Option Bool) → unwrap_or o false ≡ true → value_error path r message o ≡ None
-true_value path r message None h = absurd (true≢false (sym h))
-true_value path r message (Some false) h = absurd (true≢false (sym h))
-true_value path r message (Some true) h = refl
-
-true_outcome : (path : List ℕ) (r : Fields) (message : List ℕ) (o : Outcome) → is_true o ≡ true → outcome_error path r message o ≡ None
-true_outcome path r message (Ok v) h = true_value path r message (bool_in v) h
-true_outcome path r message (Err e) h = absurd (true≢false (sym h))
-
--- no error if it is true
-pub true_found : (b : Book) (e : Bindings) (path : List ℕ) (c : Compiled) (o : Outcome) → o ≡ outcome_in b e c.tree → is_true o ≡ true → bound_verdict b e path c ≡ None
-true_found b e path c o q h = sym (outcome_found b e path c o q) ∙ true_outcome path c.fields (failed_message c.fields (option_map (outcome_in b e) c.message_tree)) o h
