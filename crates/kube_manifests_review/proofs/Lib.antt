@@ -1,4 +1,5 @@
 pub mod Edits
+pub mod Swaps
 pub mod Books
 pub mod Steps
 pub mod Items

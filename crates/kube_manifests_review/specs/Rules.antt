@@ -11,7 +11,7 @@ use Rattle.kube_schema_values.specs.DefaultsAccessors.{members_or_none}
 use Rattle.kube_schema_rules.specs.Compilation.{Compiled, Malformed, compiled_rule}
 use Rattle.kube_manifests_review.specs.Calls.{Text, node_candidates, text_candidate}
 use Rattle.kube_manifests_review.specs.Candidates.{Candidate, always, unconditional}
-use Rattle.kube_manifests_review.specs.Keywords.{keywords, keys_candidates, rule_fields}
+use Rattle.kube_manifests_review.specs.Keywords.{keys_candidates, rule_fields, schema_fields}
 use Rattle.kube_manifests_review.specs.Messages.{is_no_string}
 use Rattle.kube_manifests_review.specs.Nodes.{nodes_of}
 use Rattle.kube_manifests_review.specs.Locations.{SchemaLocation}
@@ -82,6 +82,6 @@ validations_candidates q (Some d) = listed_candidates q (as_array d)
 
 unfoldable pub location_candidates : SchemaLocation → List Candidate
 location_candidates p =
-    keys_candidates keywords p.pointer [] (members_of p.schema)
+    keys_candidates schema_fields p.pointer [] (members_of p.schema)
     ++ validations_candidates (keyword_pointer p.pointer (codes "x-kubernetes-validations"))
     (get (codes "x-kubernetes-validations") p.schema)

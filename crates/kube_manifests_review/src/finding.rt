@@ -24,7 +24,7 @@ pub enum ReviewKind {
     OldSelf,
     /// A messageExpression obviously doesn't evaluate to a string.
     Message,
-    /// A key is one letter off a keyword of schemas, or off a field of rules.
+    /// A key is no field of schemas, or no field of rules.
     Keyword,
     /// `x-kubernetes-validations` is not a list.
     Rules,

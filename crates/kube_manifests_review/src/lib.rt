@@ -2,8 +2,8 @@
 //!
 //! [`review_crd`] reports for each version the findings of the linter, and then whatever else is
 //! wrong with the schema: calls that can't work, literals and patterns that are refused,
-//! messageExpressions that aren't strings, keys one letter off a keyword, rules that aren't a list,
-//! a schema without rules. Each finding has its JSON Pointer into the document.
+//! messageExpressions that aren't strings, keys that no schema or rule has, rules that aren't a
+//! list, a schema without rules. Each finding has its JSON Pointer into the document.
 //!
 //! ```rust
 //! use kube_manifests_review::review_crd;

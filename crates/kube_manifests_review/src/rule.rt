@@ -159,21 +159,21 @@ fn text_of_rule(rule: &Value) -> &str
     }
 }
 
-/// Adds a candidate for each key of a value that is one letter off one of these words.
+/// Adds a candidate for each key of a value that is none of these fields.
 pub(crate) fn add_keys_of(
     alloc: Global,
-    words: &[&str],
+    fields: &[&str],
     pointer: &str,
     rule: &str,
     value: &Value,
     candidates: &mut Vec<Candidate>,
 ) -> Result<(), AllocError>
     ensures { OnOk result (AddsCandidates candidates.old.items candidates.new.items
-        (keys_candidates (map (λ w. w.now) words.now) pointer.now rule.now
+        (keys_candidates (map (λ f. f.now) fields.now) pointer.now rule.now
         (spec.members_of (view value.now)))) }
 {
     match value.as_object() {
-        Some(members) => add_keys(alloc, words, pointer, rule, members, candidates),
+        Some(members) => add_keys(alloc, fields, pointer, rule, members, candidates),
         None => Ok(()),
     }
 }

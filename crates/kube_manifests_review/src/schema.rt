@@ -11,7 +11,7 @@ ghost use Rattle.serde_json.specs.View.{items_view, view};
 
 use crate::candidate::{Candidate, Condition};
 use crate::finding::{ReviewFinding, ReviewKind};
-use crate::keyword::KEYWORDS;
+use crate::keyword::SCHEMA_FIELDS;
 use crate::locations::{SchemaLocation, add_locations};
 use crate::pointer::keyword_pointer;
 use crate::rule::{add_keys_of, add_validations};
@@ -117,7 +117,14 @@ fn add_location(
         (location_candidates (location_view location.now))) }
 {
     let pointer = location.pointer.as_str();
-    add_keys_of(alloc, &KEYWORDS, pointer, "", location.schema, candidates)?;
+    add_keys_of(
+        alloc,
+        &SCHEMA_FIELDS,
+        pointer,
+        "",
+        location.schema,
+        candidates,
+    )?;
     let inner = keyword_pointer(alloc, pointer, "x-kubernetes-validations")?;
     let rules = location.schema.get("x-kubernetes-validations");
     add_validations(alloc, inner.as_str(), rules, candidates)?;

@@ -2,6 +2,6 @@ use Rattle.std.proofs.Common.{◌≡◌, map, drop}
 use Rattle.kube_manifests_review.specs.Keywords.{near}
 use Rattle.kube_manifests_review.proofs.keyword.near.Given as goal
 
--- the remaining words give the answer of all words
-abbrev pub invariant-loop-word : goal.invariant-loop-word
-invariant-loop-word l = near (map (λ w. w.now) (drop l.word-index l.words)) l.key ≡ near (map (λ w. w.now) l.words) l.key
+-- the remaining fields give the answer of all fields
+abbrev pub invariant-loop-field : goal.invariant-loop-field
+invariant-loop-field l = near (map (λ f. f.now) (drop l.field-index l.fields)) l.key ≡ near (map (λ f. f.now) l.fields) l.key

@@ -1,10 +1,9 @@
 use Rattle.std.proofs.Common.{refl}
 use Rattle.kube_manifests_review.proofs.laws.no_keyword_is_one_letter_off.Goals as goal
-use Rattle.kube_manifests_review.specs.Edits.{schema_keywords}
-use Rattle.kube_manifests_review.specs.Keywords.{keywords, rule_fields}
+use Rattle.kube_manifests_review.specs.Keywords.{rule_fields, schema_fields}
 
 pub returns-clause-keywords : goal.returns-clause-keywords
-unfolding keywords schema_keywords
+unfolding schema_fields
 returns-clause-keywords c = refl
 
 pub returns-clause-fields : goal.returns-clause-fields
