@@ -2,7 +2,7 @@
 -- The findings of a CustomResourceDefinition: for each version, in order, the findings of the
 -- linter, then those of the review of its schema. Source: Kubernetes API reference,
 -- `CustomResourceDefinitionSpec`, `CustomResourceDefinitionVersion`, `CustomResourceValidation`.
-use Rattle.std.specs.Prelude.{ℕ, suc, List, [], ◌∷◌, ◌++◌, map, Bool, true, false, Option, Some, None, if◌then◌else◌, is_some, codes}
+use Rattle.std.specs.Prelude.{ℕ, suc, List, [], ◌∷◌, ◌++◌, map, Bool, true, false, ◌&&◌, Option, Some, None, if◌then◌else◌, is_some, codes}
 use Rattle.std.specs.List.{flat_map, list_any}
 use Rattle.std.specs.Option.{option_and_then}
 use Rattle.cel_patterns.specs.Book.{Book}
@@ -38,7 +38,7 @@ any_item no_items = false
 any_item (item d ds) = true
 
 abbrev pub has_rules : SchemaLocation → Bool
-has_rules p = any_item (rule_items p.schema)
+has_rules p = p.is_read && any_item (rule_items p.schema)
 
 abbrev pub no_rule_candidates : List ℕ → List SchemaLocation → List Candidate
 no_rule_candidates base ps =
@@ -51,7 +51,7 @@ own_candidates base ps = no_rule_candidates base ps ++ flat_map location_candida
 unfoldable pub schema_candidates : Naming → List ℕ → Data → List Candidate
 schema_candidates names base s =
     map (candidate_of_finding base) (findings names [] (view_of 65 s))
-    ++ own_candidates base (locations_of 65 base s)
+    ++ own_candidates base (locations_of 65 true base s)
 
 -- ---- the candidates of a document
 

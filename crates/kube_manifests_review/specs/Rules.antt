@@ -1,7 +1,7 @@
 -- Trusted by the clauses of manifests.
 -- The candidate findings of the rules of one schema, and of the schema's keys. Source: Kubernetes
 -- API reference, `JSONSchemaProps`, `ValidationRule`.
-use Rattle.std.specs.Prelude.{ℕ, suc, List, [], ◌∷◌, ◌++◌, false, true, Option, Some, None, unwrap_or, Result, Ok, Err, if◌then◌else◌, codes}
+use Rattle.std.specs.Prelude.{ℕ, suc, List, [], ◌∷◌, ◌++◌, Bool, false, true, Option, Some, None, unwrap_or, Result, Ok, Err, if◌then◌else◌, codes}
 use Rattle.std.specs.List.{flat_map}
 use Rattle.std.specs.Option.{option_and_then}
 use Rattle.cel_syntax_ast.specs.Term.{Term}
@@ -80,8 +80,19 @@ abbrev pub validations_candidates : List ℕ → Option Data → List Candidate
 validations_candidates q None = []
 validations_candidates q (Some d) = listed_candidates q (as_array d)
 
+-- of a schema that isn't read
+abbrev pub unread_candidates : List ℕ → Option Data → List Candidate
+unread_candidates q None = []
+unread_candidates q (Some d) =
+    unconditional q kind.Rules (codes "no object is judged by this schema, so its rules are never evaluated")
+    ∷ []
+
+abbrev pub schema_rules_candidates : Bool → List ℕ → Option Data → List Candidate
+schema_rules_candidates true q o = validations_candidates q o
+schema_rules_candidates false q o = unread_candidates q o
+
 unfoldable pub location_candidates : SchemaLocation → List Candidate
 location_candidates p =
     keys_candidates schema_fields p.pointer [] (members_of p.schema)
-    ++ validations_candidates (keyword_pointer p.pointer (codes "x-kubernetes-validations"))
+    ++ schema_rules_candidates p.is_read (keyword_pointer p.pointer (codes "x-kubernetes-validations"))
     (get (codes "x-kubernetes-validations") p.schema)

@@ -26,9 +26,9 @@ pub enum ReviewKind {
     Message,
     /// A key is no field of schemas, or no field of rules.
     Keyword,
-    /// `x-kubernetes-validations` is not a list.
+    /// `x-kubernetes-validations` is not a list, or is in a schema that no object is judged by.
     Rules,
-    /// No node of the schema has a rule.
+    /// No schema that objects are judged by has a rule.
     NoRules,
 }
 

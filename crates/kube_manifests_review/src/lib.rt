@@ -3,7 +3,7 @@
 //! [`review_crd`] reports for each version the findings of the linter, and then whatever else is
 //! wrong with the schema: calls that can't work, literals and patterns that are refused,
 //! messageExpressions that aren't strings, keys that no schema or rule has, rules that aren't a
-//! list, a schema without rules. Each finding has its JSON Pointer into the document.
+//! list or that no object is judged by, a schema without rules. Each finding has its JSON Pointer into the document.
 //!
 //! ```rust
 //! use kube_manifests_review::review_crd;

@@ -1,8 +1,8 @@
 //! Finds the schemas within a schema.
-ghost use Rattle.std.specs.Prelude.{◌≡◌, OnOk, codes, option_map};
-ghost use Rattle.kube_manifests_review.specs.Locations.{AddsLocations, branch_locations, locations_of, maybe_locations, named_locations};
+ghost use Rattle.std.specs.Prelude.{◌≡◌, OnOk, false, option_map};
+ghost use Rattle.kube_manifests_review.specs.Locations.{AddsLocations, branch_locations, locations_of, locations_within, maybe_locations, named_schemas, names_locations, unread_within};
 ghost use Rattle.kube_manifests_review.specs.Pointers.{keyword_pointer};
-ghost use Rattle.kube_schema_values.specs.DefaultsAccessors.{additional, declared_properties, members_or_none};
+ghost use Rattle.kube_schema_values.specs.DefaultsAccessors.{additional};
 ghost use Rattle.kube_schema.specs.View.{branches};
 ghost use Rattle.serde_json.specs.View.{items_view, members_view, view};
 
@@ -15,14 +15,16 @@ use std::alloc::{AllocError, Global};
 pub(crate) struct SchemaLocation<'a> {
     pub(crate) pointer: String,
     pub(crate) schema: &'a Value,
+    /// Whether objects are judged by it.
+    pub(crate) is_read: bool,
 }
 
-/// The `properties` of a schema, if it has any.
-#[tactic(auto, unfolding(kube_schema_values::specs::DefaultsAccessors::declared_properties))]
-fn declared(schema: &Value) -> Option<&Map<String, Value>>
-    ensures { option_map (λ m. members_view m.now.entries) result ≡ declared_properties (view schema.now) }
+/// The members of a field of a schema, if it is an object.
+#[tactic(auto, unfolding(crate::specs::Locations::named_schemas))]
+fn named_schemas<'s>(schema: &'s Value, field: &str) -> Option<&'s Map<String, Value>>
+    ensures { option_map (λ m. members_view m.now.entries) result ≡ named_schemas field.now (view schema.now) }
 {
-    schema.get("properties")?.as_object()
+    schema.get(field)?.as_object()
 }
 
 /// The `additionalProperties` schema, if it is an object.
@@ -42,17 +44,19 @@ fn branches<'s>(schema: &'s Value, keyword: &str) -> Option<&'s Vec<Value>>
     schema.get(keyword)?.as_array()
 }
 
-/// Adds a schema and the schemas within it, `levels` levels of nesting at most.
+/// Adds a schema, which is read or isn't, and the schemas within it, `levels` levels of nesting at
+/// most.
 #[cycle(locations)]
 pub(crate) fn add_locations<'a>(
     alloc: Global,
     pointer: &str,
     schema: &'a Value,
+    is_read: bool,
     levels: usize,
     locations: &mut Vec<SchemaLocation<'a>>,
 ) -> Result<(), AllocError>
     ensures { OnOk result (AddsLocations locations.old.items locations.new.items
-        (locations_of levels pointer.now (view schema.now))) }
+        (locations_of levels is_read pointer.now (view schema.now))) }
 {
     if levels == 0 {
         return Ok(());
@@ -60,34 +64,57 @@ pub(crate) fn add_locations<'a>(
     locations.push(SchemaLocation {
         pointer: String::from_str(alloc, pointer)?,
         schema,
+        is_read,
     })?;
     let left = levels - 1;
-    add_properties(alloc, pointer, schema, left, locations)?;
-    add_maybe(
+    add_within(alloc, pointer, schema, is_read, left, locations)?;
+    add_unread(alloc, pointer, schema, left, locations)?;
+    Ok(())
+}
+
+/// Adds the schemas of the fields that a walk over an object goes through, and those within them.
+#[cycle(locations)]
+fn add_within<'a>(
+    alloc: Global,
+    pointer: &str,
+    schema: &'a Value,
+    is_read: bool,
+    levels: usize,
+    locations: &mut Vec<SchemaLocation<'a>>,
+) -> Result<(), AllocError>
+    ensures { OnOk result (AddsLocations locations.old.items locations.new.items
+        (locations_within (locations_of levels is_read) pointer.now (view schema.now))) }
+{
+    let items = schema.get("items");
+    let others = additional(schema);
+    add_names(
         alloc,
         pointer,
-        "items",
-        schema.get("items"),
-        left,
+        "properties",
+        schema,
+        is_read,
+        levels,
         locations,
     )?;
+    add_maybe(alloc, pointer, "items", items, is_read, levels, locations)?;
     add_maybe(
         alloc,
         pointer,
         "additionalProperties",
-        additional(schema),
-        left,
+        others,
+        is_read,
+        levels,
         locations,
     )?;
-    add_branches(alloc, pointer, "allOf", schema, left, locations)?;
-    add_branches(alloc, pointer, "oneOf", schema, left, locations)?;
-    add_branches(alloc, pointer, "anyOf", schema, left, locations)?;
+    add_branches(alloc, pointer, "allOf", schema, is_read, levels, locations)?;
+    add_branches(alloc, pointer, "oneOf", schema, is_read, levels, locations)?;
+    add_branches(alloc, pointer, "anyOf", schema, is_read, levels, locations)?;
     Ok(())
 }
 
-/// Adds the schemas of the properties and those within them, in the order of their names.
+/// Adds the schemas of the other fields that hold schemas, and those within them: none is read.
 #[cycle(locations)]
-fn add_properties<'a>(
+fn add_unread<'a>(
     alloc: Global,
     pointer: &str,
     schema: &'a Value,
@@ -95,16 +122,72 @@ fn add_properties<'a>(
     locations: &mut Vec<SchemaLocation<'a>>,
 ) -> Result<(), AllocError>
     ensures { OnOk result (AddsLocations locations.old.items locations.new.items
-        (named_locations (locations_of levels) (keyword_pointer pointer.now (codes "properties"))
-        (members_or_none (declared_properties (view schema.now))))) }
+        (unread_within (locations_of levels false) pointer.now (view schema.now))) }
 {
-    let Some(members) = declared(schema) else {
+    let not = schema.get("not");
+    let others = schema.get("additionalItems");
+    add_maybe(alloc, pointer, "not", not, false, levels, locations)?;
+    add_maybe(
+        alloc,
+        pointer,
+        "additionalItems",
+        others,
+        false,
+        levels,
+        locations,
+    )?;
+    add_branches(alloc, pointer, "items", schema, false, levels, locations)?;
+    add_names(
+        alloc,
+        pointer,
+        "patternProperties",
+        schema,
+        false,
+        levels,
+        locations,
+    )?;
+    add_names(
+        alloc,
+        pointer,
+        "definitions",
+        schema,
+        false,
+        levels,
+        locations,
+    )?;
+    add_names(
+        alloc,
+        pointer,
+        "dependencies",
+        schema,
+        false,
+        levels,
+        locations,
+    )?;
+    Ok(())
+}
+
+/// Adds the named schemas of a field and those within them, in the order of their names.
+#[cycle(locations)]
+fn add_names<'a>(
+    alloc: Global,
+    pointer: &str,
+    field: &str,
+    schema: &'a Value,
+    is_read: bool,
+    levels: usize,
+    locations: &mut Vec<SchemaLocation<'a>>,
+) -> Result<(), AllocError>
+    ensures { OnOk result (AddsLocations locations.old.items locations.new.items
+        (names_locations (locations_of levels is_read) pointer.now field.now (view schema.now))) }
+{
+    let Some(members) = named_schemas(schema, field) else {
         return Ok(());
     };
-    let inner = keyword_pointer(alloc, pointer, "properties")?;
+    let inner = keyword_pointer(alloc, pointer, field)?;
     for (key, member) in members.iter() {
         let named = key_pointer(alloc, inner.as_str(), key.as_str())?;
-        add_locations(alloc, named.as_str(), member, levels, locations)?;
+        add_locations(alloc, named.as_str(), member, is_read, levels, locations)?;
     }
     Ok(())
 }
@@ -116,18 +199,19 @@ fn add_maybe<'a>(
     pointer: &str,
     keyword: &str,
     schema: Option<&'a Value>,
+    is_read: bool,
     levels: usize,
     locations: &mut Vec<SchemaLocation<'a>>,
 ) -> Result<(), AllocError>
     ensures { OnOk result (AddsLocations locations.old.items locations.new.items
-        (maybe_locations (locations_of levels) (keyword_pointer pointer.now keyword.now)
+        (maybe_locations (locations_of levels is_read) (keyword_pointer pointer.now keyword.now)
         (option_map (λ s. view s.now) schema.entry))) }
 {
     let Some(schema) = schema else {
         return Ok(());
     };
     let inner = keyword_pointer(alloc, pointer, keyword)?;
-    add_locations(alloc, inner.as_str(), schema, levels, locations)?;
+    add_locations(alloc, inner.as_str(), schema, is_read, levels, locations)?;
     Ok(())
 }
 
@@ -138,11 +222,12 @@ fn add_branches<'a>(
     pointer: &str,
     keyword: &str,
     schema: &'a Value,
+    is_read: bool,
     levels: usize,
     locations: &mut Vec<SchemaLocation<'a>>,
 ) -> Result<(), AllocError>
     ensures { OnOk result (AddsLocations locations.old.items locations.new.items
-        (branch_locations (locations_of levels) pointer.now keyword.now (view schema.now))) }
+        (branch_locations (locations_of levels is_read) pointer.now keyword.now (view schema.now))) }
 {
     let Some(items) = branches(schema, keyword) else {
         return Ok(());
@@ -150,7 +235,7 @@ fn add_branches<'a>(
     let inner = keyword_pointer(alloc, pointer, keyword)?;
     for (index, item) in items.iter().enumerate() {
         let branch = index_pointer(alloc, inner.as_str(), index)?;
-        add_locations(alloc, branch.as_str(), item, levels, locations)?;
+        add_locations(alloc, branch.as_str(), item, is_read, levels, locations)?;
     }
     Ok(())
 }

@@ -219,7 +219,7 @@ fn add_rules(
 }
 
 /// Adds the candidates of a schema's rules, if it has any, or that they aren't a list.
-pub(crate) fn add_validations(
+fn add_validations(
     alloc: Global,
     pointer: &str,
     rules: Option<&Value>,
@@ -242,4 +242,45 @@ pub(crate) fn add_validations(
         )?,
     }
     Ok(())
+}
+
+/// Adds a candidate if a schema that isn't read has rules.
+fn add_unread_rules(
+    alloc: Global,
+    pointer: &str,
+    rules: Option<&Value>,
+    candidates: &mut Vec<Candidate>,
+) -> Result<(), AllocError>
+    ensures { OnOk result (AddsCandidates candidates.old.items candidates.new.items
+        (spec.unread_candidates pointer.now (option_map (λ v. view v.now) rules.entry))) }
+{
+    match rules {
+        None => Ok(()),
+        Some(_) => add_unconditional(
+            alloc,
+            pointer,
+            ReviewKind::Rules,
+            "no object is judged by this schema, so its rules are never evaluated",
+            candidates,
+        ),
+    }
+}
+
+/// Adds the candidates of the rules of a schema, which is read or isn't.
+pub(crate) fn add_schema_rules(
+    alloc: Global,
+    pointer: &str,
+    is_read: bool,
+    rules: Option<&Value>,
+    candidates: &mut Vec<Candidate>,
+) -> Result<(), Refused>
+    ensures candidates { OnOk result (AddsCandidates candidates.old.items candidates.new.items
+        (spec.schema_rules_candidates is_read pointer.now (option_map (λ v. view v.now) rules.entry))) }
+{
+    if is_read {
+        add_validations(alloc, pointer, rules, candidates)
+    } else {
+        add_unread_rules(alloc, pointer, rules, candidates)?;
+        Ok(())
+    }
 }

@@ -14,7 +14,7 @@ use crate::finding::{ReviewFinding, ReviewKind};
 use crate::keyword::SCHEMA_FIELDS;
 use crate::locations::{SchemaLocation, add_locations};
 use crate::pointer::keyword_pointer;
-use crate::rule::{add_keys_of, add_validations};
+use crate::rule::{add_keys_of, add_schema_rules};
 use crate::text::add_unconditional;
 use kube_cel_analysis::{LintFinding, lint_schema};
 use kube_schema::compile_schema;
@@ -73,19 +73,19 @@ pub(crate) fn has_item(items: &[Value]) -> bool
     }
 }
 
-/// Reports whether any of these schemas has a rule.
+/// Reports whether any of these schemas that is read has a rule.
 fn has_rules(locations: &[SchemaLocation<'_>]) -> bool
     ensures { result ≡ list_any spec.has_rules (map location_view locations.now) }
 {
     for location in locations {
-        if has_item(rule_values(location.schema)) {
+        if location.is_read && has_item(rule_values(location.schema)) {
             return true;
         }
     }
     false
 }
 
-/// Adds a candidate if no schema has a rule.
+/// Adds a candidate if no schema that is read has a rule.
 fn add_no_rule(
     alloc: Global,
     base: &str,
@@ -127,7 +127,7 @@ fn add_location(
     )?;
     let inner = keyword_pointer(alloc, pointer, "x-kubernetes-validations")?;
     let rules = location.schema.get("x-kubernetes-validations");
-    add_validations(alloc, inner.as_str(), rules, candidates)?;
+    add_schema_rules(alloc, inner.as_str(), location.is_read, rules, candidates)?;
     Ok(())
 }
 
@@ -177,7 +177,7 @@ pub(crate) fn add_schema(
     let findings = lint_schema(alloc, &compiled)?;
     add_lint(alloc, base, findings, candidates)?;
     let mut locations = Vec::new(alloc);
-    add_locations(alloc, base, schema, LEVELS, &mut locations)?;
+    add_locations(alloc, base, schema, true, LEVELS, &mut locations)?;
     add_own(alloc, base, locations.as_slice(), candidates)?;
     Ok(())
 }

@@ -77,7 +77,8 @@ no_crd_item f = item_of f verdict.NotJudged
 -- ---- definitions with parts that aren't read
 
 -- whether the finding is about something that isn't read, though rules may have been meant there: a
--- key that no schema or rule has, or `x-kubernetes-validations` that isn't a list
+-- key that no schema or rule has, or `x-kubernetes-validations` that isn't a list or that no object
+-- is judged by
 abbrev pub is_unread : ReviewKind → Bool
 is_unread (kind.Lint k) = false
 is_unread kind.Document = false

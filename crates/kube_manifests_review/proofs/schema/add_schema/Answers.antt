@@ -1,4 +1,4 @@
-use Rattle.std.proofs.Common.{◌++◌, [], map, ap, ◌∙◌}
+use Rattle.std.proofs.Common.{◌++◌, [], map, true, ap, ◌∙◌}
 use Rattle.kube_cel_analysis.specs.Lint.{findings}
 use Rattle.kube_manifests_review.proofs.Steps.{two_steps}
 use Rattle.kube_manifests_review.proofs.schema.add_schema.Goals as goal
@@ -17,5 +17,5 @@ returns c = record {
       two_steps old mid _ _ _
       (c.in_ok-add_lint.ensures ∙ ap (λ fs. old ++ map (candidate_of_finding base) fs) (c.in_ok-findings.ensures.findings names ∙ ap (findings names []) c.in_ok-compiled.ensures.tree))
       (c.in_ok-add_own.ensures.candidates ∙ ap (λ ps. mid ++ own_candidates base (map location_view ps)) c.as_slice.ensures.value
-      ∙ ap (λ ps. mid ++ own_candidates base ps) (c.in_ok-add_locations.ensures ∙ ap (λ ps. map location_view ps ++ locations_of 65 base (view c.args.schema.now)) c.new-locations.ensures.items));
+      ∙ ap (λ ps. mid ++ own_candidates base ps) (c.in_ok-add_locations.ensures ∙ ap (λ ps. map location_view ps ++ locations_of 65 true base (view c.args.schema.now)) c.new-locations.ensures.items));
 }
