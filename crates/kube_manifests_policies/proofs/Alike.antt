@@ -4,7 +4,6 @@ use Rattle.cel_semantics.specs.Bindings.{Bindings, binding}
 use Rattle.cel_semantics.specs.Members.{put_in}
 use Rattle.cel_semantics.specs.Outcome.{Outcome, and_then}
 use Rattle.cel_value.specs.Data.{Data, map_of, no_entries, text}
-use Rattle.cel_value.specs.Texts.{fault_text}
 use Rattle.cel.proofs.Bound.{bound, meaning_same}
 use Rattle.kube_cel_vap.specs.Results.{outcome_in, policy_library}
 use Rattle.kube_cel_vap.specs.Variables.{Variables, bindings_always, policy_bindings, with_given}
@@ -74,7 +73,7 @@ missing_alike s t h name reported = record { bindings = h.bindings; absent = h.a
 
 stored_alike : (s t : ScopeData) → Alike s t → (name : List ℕ) (o : Outcome) → Alike (with_stored s name o) (with_stored t name o)
 stored_alike s t h name (Ok m) = values_alike s t h m
-stored_alike s t h name (Err f) = missing_alike s t h name (fault_report (fault_text f))
+stored_alike s t h name (Err f) = missing_alike s t h name (fault_report f)
 
 variable_alike : (s t : ScopeData) → Alike s t → (name : List ℕ) (r : Result Outcome ItemReportData) → Alike (with_variable s name r) (with_variable t name r)
 variable_alike s t h name (Err reported) = missing_alike s t h name reported

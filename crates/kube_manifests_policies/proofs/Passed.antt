@@ -56,23 +56,23 @@ all_judged false false true n h = no_pass (ap is_admitted h)
 all_judged false false false true h = no_pass (ap is_admitted h)
 all_judged false false false false h = (refl, refl, refl)
 
-judged_in : (r : Reach) (missing : List Labelled) (p : PolicyData) (rs : List Labelled) → any_is problem.NotGiven rs ≡ false → (verdict_in r missing p rs).decision ≡ Admitted
+judged_in : (r : Reach) (missing : List Labelled) (p : PolicyData) (rs : List Labelled) → any_is problem.NotJudged rs ≡ false → (verdict_in r missing p rs).decision ≡ Admitted
     → IsJudged (verdict_in r missing p rs)
 unfolding verdict_in
 judged_in r missing p rs c h =
     let vs = results_as Validation r p.validations in
     let ws = results_as Annotation r p.annotations in
-    let k = all_judged (any_is problem.False vs) (not p.ignores && (any_is problem.Error vs || any_is problem.Error ws)) (any_is problem.NotGiven vs) (any_is problem.NotGiven ws) h in
+    let k = all_judged (any_is problem.False vs) (not p.ignores && (any_is problem.Error vs || any_is problem.Error ws)) (any_is problem.NotJudged vs) (any_is problem.NotJudged ws) h in
     record { conditions = c; validations = k.1; annotations = k.2; none_false = k.0 }
 
 judged_after : (b : Book) (v : Variables) (p : PolicyData) (rs : List Labelled) (o : Option PolicyDecision) → after_conditions p.ignores rs ≡ o
     → (verdict_after b v p rs o).decision ≡ Admitted → IsJudged (verdict_after b v p rs o)
 unfolding lets_pass is_admitted
 judged_after b v p rs (Some d) q h =
-    no_pass (sym (by_conditions (any_is problem.False rs) (any_is problem.NotGiven rs) (any_is problem.Error rs) p.ignores) ∙ ap lets_pass q ∙ ap is_admitted h)
+    no_pass (sym (by_conditions (any_is problem.False rs) (any_is problem.NotJudged rs) (any_is problem.Error rs) p.ignores) ∙ ap lets_pass q ∙ ap is_admitted h)
 judged_after b v p rs None q h =
     let s = variables_after b (scope_for v p.variables) p.variables in
-    judged_in (outcome_or_reason b s) s.missing p rs (none_missing (any_is problem.False rs) (any_is problem.NotGiven rs) (any_is problem.Error rs) p.ignores q) h
+    judged_in (outcome_or_reason b s) s.missing p rs (none_missing (any_is problem.False rs) (any_is problem.NotJudged rs) (any_is problem.Error rs) p.ignores q) h
 
 pub all_was_judged : (b : Book) (v : Variables) (p : PolicyData) → (policy_verdict b v p).decision ≡ Admitted → IsJudged (policy_verdict b v p)
 unfolding policy_verdict

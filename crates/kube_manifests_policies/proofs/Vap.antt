@@ -13,10 +13,10 @@ use Rattle.kube_cel_vap.specs.Variables.{Variables, policy_bindings}
 use Rattle.kube_manifests_policies.specs.Reports.{false_message, message_tree_report, outcome_report, policy_verdict, result_as, results_as, final_report, truth_report, validation_report, validation_with, verdict_in, with_message}
 use Rattle.kube_manifests_policies.specs.Laws.{IsJudgedIn, expression_of, message_report, of_validations, vap_result}
 use Rattle.kube_manifests_admission.specs.Policies.{ItemData}
-use Rattle.kube_manifests_policies.specs.Scopes.{Reach, ScopeData, first_scope, outcome_or_reason, outcome_unless, tree_or, why_not}
-use Rattle.kube_manifests_policies.specs.Verdicts.{erred, with_report}
+use Rattle.kube_manifests_policies.specs.Scopes.{Reach, ScopeData, fault_message, first_scope, is_undeclared, outcome_or_reason, outcome_unless, tree_or, why_not}
+use Rattle.kube_manifests_policies.specs.Verdicts.{erred, not_compiled, with_report}
 use Rattle.kube_manifests_policies.specs.declared.reports.Subject.TheVariants.{Validation}
-use Rattle.std.proofs.Common.{◌≡◌, ℕ, List, [], ◌∷◌, map, Bool, true, false, Option, Some, None, Ok, Err, option_map, refl, sym, ap, ◌∙◌}
+use Rattle.std.proofs.Common.{◌≡◌, ℕ, List, [], ◌∷◌, map, Bool, true, false, if◌then◌else◌, Option, Some, None, Ok, Err, option_map, refl, sym, ap, ◌∙◌}
 use Rattle.std.specs.List.{AllByRecursion}
 
 message_of_truth : (m n : List ℕ) (v : Data) (o : Option Bool) → m ≡ n → message_report (with_message m (truth_report v o)) ≡ results.value_message n v o
@@ -24,9 +24,13 @@ message_of_truth m n v (Some true) p = refl
 message_of_truth m n v (Some false) p = ap Some p
 message_of_truth m n v None p = refl
 
+message_of_fault : (m s : List ℕ) (undeclared : Bool) → message_report (with_message m (if undeclared then not_compiled s else erred s)) ≡ Some s
+message_of_fault m s true = refl
+message_of_fault m s false = refl
+
 message_of_outcome : (m n : List ℕ) (o : Outcome) → m ≡ n → message_report (with_message m (outcome_report o)) ≡ results.outcome_message n o
 message_of_outcome m n (Ok v) p = message_of_truth m n v (bool_in v) p
-message_of_outcome m n (Err f) p = refl
+message_of_outcome m n (Err f) p = message_of_fault m (fault_message f) (is_undeclared f)
 
 same_message : (b : Book) (e : Bindings) (x : ItemData) (t : Term) (o : Option Term)
     → false_message x (option_map (λ u. Ok (results.outcome_in b e u)) o)
@@ -51,13 +55,13 @@ with_both b e r x t o l p q =
 
 -- the report of a text that wasn't read
 unread_alike : (x : ItemData) (u : Unread) → x.label ≡ x.expression → u.original ≡ x.expression
-    → vap_result (with_report x.label (erred (unread_text u))) ≡ results.result_with u.original (Some (unread_text u))
+    → vap_result (with_report x.label (not_compiled (unread_text u))) ≡ results.result_with u.original (Some (unread_text u))
 unread_alike x u l p = λ i. results.result_with ((l ∙ sym p) i) (Some (unread_text u))
 
 -- given the tree of the expression, and this tree of the messageExpression
 by_message_tree : (b : Book) (e : Bindings) (r : Reach) (x : ItemData) (t : Term) (m : List ℕ) (o : Option Term) → x.label ≡ x.expression
     → r t ≡ Ok (results.outcome_in b e t) → ((u : Term) → o ≡ Some u → r u ≡ Ok (results.outcome_in b e u))
-    → vap_result (with_report x.label (final_report ((tree_or (erred (unread_text (record { text = m; original = m }))) o >>= (λ u. Ok (Some u))) >>= (λ k. Ok (validation_with r x t k)))))
+    → vap_result (with_report x.label (final_report ((tree_or (not_compiled (unread_text (record { text = m; original = m }))) o >>= (λ u. Ok (Some u))) >>= (λ k. Ok (validation_with r x t k)))))
     ≡ results.compiled_result b e ((required_tree (record { text = m; original = x.expression }) o >>= (λ u. Ok (Some u))) >>= (λ k. Ok (with_trees (expression_of x) t k)))
 by_message_tree b e r x t m None l p h = unread_alike x (record { text = m; original = x.expression }) l refl
 by_message_tree b e r x t m (Some u) l p h = with_both b e r x t (Some u) l p (ap Some (h u refl))
@@ -72,7 +76,7 @@ by_message b e r x t (Some m) l p h = by_message_tree b e r x t m (tree_of m) l 
 
 by_tree : (b : Book) (e : Bindings) (r : Reach) (x : ItemData) (o : Option Term) → x.label ≡ x.expression → ((t : Term) → o ≡ Some t → r t ≡ Ok (results.outcome_in b e t))
     → ((m : List ℕ) (u : Term) → x.message_expression ≡ Some m → tree_of m ≡ Some u → r u ≡ Ok (results.outcome_in b e u))
-    → vap_result (with_report x.label (final_report (tree_or (erred (unread_text (record { text = x.expression; original = x.expression }))) o
+    → vap_result (with_report x.label (final_report (tree_or (not_compiled (unread_text (record { text = x.expression; original = x.expression }))) o
     >>= (λ t. message_tree_report x.message_expression >>= (λ k. Ok (validation_with r x t k))))))
     ≡ results.compiled_result b e (required_tree (record { text = x.expression; original = x.expression }) o >>= trees.with_tree (expression_of x))
 by_tree b e r x None l h k = unread_alike x (record { text = x.expression; original = x.expression }) l refl

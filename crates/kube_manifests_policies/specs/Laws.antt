@@ -51,11 +51,12 @@ vap_result r = record {
   message = message_report r.reported;
 }
 
--- no expression reads an input that isn't given, and no validation is false
+-- no expression reads an input that isn't given, none that was evaluated fails to compile, and no
+-- validation is false
 pub record IsJudged (v : VerdictData) : Type 0 where
-  pub conditions : any_is problem.NotGiven v.conditions ≡ false
-  pub validations : any_is problem.NotGiven v.validations ≡ false
-  pub annotations : any_is problem.NotGiven v.annotations ≡ false
+  pub conditions : any_is problem.NotJudged v.conditions ≡ false
+  pub validations : any_is problem.NotJudged v.validations ≡ false
+  pub annotations : any_is problem.NotJudged v.annotations ≡ false
   pub none_false : any_is problem.False v.validations ≡ false
 
 -- ---- variables that don't read each other

@@ -10,7 +10,6 @@ use Rattle.cel_syntax_ast.specs.Term.{Term}
 use Rattle.cel_value.specs.Data.{Data}
 use Rattle.cel_value.specs.Kinds.{kind_name}
 use Rattle.cel_value.specs.Parts.{bool_in, text_in}
-use Rattle.cel_value.specs.Texts.{fault_text}
 use Rattle.cel_value.specs.View.{kind_of}
 use Rattle.cel_value.specs.declared.kind.Kind.{Kind}
 use Rattle.cel_value.specs.declared.kind.Kind.TheVariants.{Null}
@@ -47,7 +46,7 @@ truth_report v None = erred (codes "expression returned non-boolean: " ++ kind_n
 -- true, false (with an empty message for now), or neither
 abbrev pub outcome_report : Outcome → ItemReportData
 outcome_report (Ok v) = truth_report v (bool_in v)
-outcome_report (Err f) = fault_report (fault_text f)
+outcome_report (Err f) = fault_report f
 
 -- replaces the message of a report that something is false
 abbrev pub with_message : List ℕ → ItemReportData → ItemReportData
@@ -115,7 +114,7 @@ annotation_value v = text_report (text_in v) (kind_of v)
 
 abbrev pub annotation_outcome : Outcome → ItemReportData
 annotation_outcome (Ok v) = annotation_value v
-annotation_outcome (Err f) = fault_report (fault_text f)
+annotation_outcome (Err f) = fault_report f
 
 unfoldable pub annotation_report : Reach → ItemData → ItemReportData
 annotation_report r x = final_report (do

@@ -1,7 +1,9 @@
 -- Trusted by the clauses of policies.
 -- The names and inputs that a policy's expressions see (Kubernetes documentation, "Validating
--- Admission Policy", variables of expressions and variable composition), and the outcome of an
--- expression there.
+-- Admission Policy", variables of expressions and variable composition), the outcome of an
+-- expression there, and what doesn't compile (the same page, type checking: a policy with a syntax
+-- error is rejected; CEL language definition, "Gradual Type Checking": a reference that isn't
+-- declared is refused before any evaluation).
 use Rattle.cel.specs.Program.{program_term}
 use Rattle.cel.specs.declared.program.Program.{Program}
 use Rattle.cel_patterns.specs.Book.{Book}
@@ -11,6 +13,7 @@ use Rattle.cel_semantics.specs.Outcome.{Outcome, and_then, outcome_view}
 use Rattle.cel_syntax.specs.Reading.{tree_of}
 use Rattle.cel_syntax_ast.specs.Term.{Term}
 use Rattle.cel_value.specs.Data.{Data, map_of, no_entries, text}
+use Rattle.cel_value.specs.Faults.{Fault, undeclared}
 use Rattle.cel_value.specs.Texts.{fault_text}
 use Rattle.cel_value.specs.View.{view}
 use Rattle.cel_value.specs.declared.error.ExecutionError.{ExecutionError}
@@ -21,7 +24,7 @@ use Rattle.kube_cel_vap.specs.Variables.{Variables, policy_bindings}
 use Rattle.kube_manifests_policies.specs.Inputs.{absent_in, first_missing}
 use Rattle.kube_manifests_admission.specs.Policies.{ItemData}
 use Rattle.kube_manifests_policies.specs.Uses.{asks}
-use Rattle.kube_manifests_policies.specs.Verdicts.{Labelled, ItemReportData, erred, not_given, result_view, report_view, with_report}
+use Rattle.kube_manifests_policies.specs.Verdicts.{Labelled, ItemReportData, erred, not_compiled, not_given, result_view, report_view, with_report}
 use Rattle.kube_manifests_policies.specs.declared.inputs.Input.{Input}
 use Rattle.kube_manifests_policies.specs.declared.scope.Scope.{Scope}
 use Rattle.kube_manifests_policies.specs.declared.verdict.ItemReport.{ItemReport}
@@ -59,16 +62,17 @@ scope_for v xs = record (first_scope v) { bindings = with_no_values xs (policy_b
 
 -- ---- why an expression isn't evaluated
 
-abbrev pub is_not_given : ItemReportData → Bool
-is_not_given (not_given i) = true
-is_not_given _ = false
+abbrev pub is_not_judged : ItemReportData → Bool
+is_not_judged (not_given i) = true
+is_not_judged (not_compiled m) = true
+is_not_judged _ = false
 
--- If a variable reads an input that isn't given, an expression that reads the variable isn't
--- evaluated either. If a variable fails, selecting it is an error, which `&&`, `||` and `?:` may
+-- If a variable reads an input that isn't given, or doesn't compile, an expression that reads the
+-- variable isn't evaluated either. If a variable fails, selecting it is an error, which `&&`, `||` and `?:` may
 -- absorb like any other; an expression that reads it in another way isn't evaluated and has that
 -- error.
 abbrev pub stops : Term → Labelled → Bool
-stops t r = asks (codes "variables") r.label (is_not_given r.reported) t
+stops t r = asks (codes "variables") r.label (is_not_judged r.reported) t
 
 abbrev pub first_stop : List Labelled → Term → Option ItemReportData
 first_stop [] t = None
@@ -95,9 +99,9 @@ abbrev pub tree_or : ItemReportData → Option Term → Result Term ItemReportDa
 tree_or reported (Some t) = Ok t
 tree_or reported None = Err reported
 
--- the tree of a text, or the report of a text that derives none
+-- The tree of a text. A text that derives none doesn't compile.
 abbrev pub tree_report : List ℕ → Result Term ItemReportData
-tree_report s = tree_or (erred (unread_text (record { text = s; original = s }))) (tree_of s)
+tree_report s = tree_or (not_compiled (unread_text (record { text = s; original = s }))) (tree_of s)
 
 -- how the outcome of an expression is found
 abbrev pub Reach : Type 0
@@ -106,8 +110,17 @@ Reach = Term → Result Outcome ItemReportData
 abbrev pub evaluation : Reach → List ℕ → Result Outcome ItemReportData
 evaluation r s = tree_report s >>= r
 
-abbrev pub fault_report : List ℕ → ItemReportData
-fault_report m = erred (codes "evaluation error: " ++ m)
+abbrev pub is_undeclared : Fault → Bool
+is_undeclared (undeclared name) = true
+is_undeclared _ = false
+
+abbrev pub fault_message : Fault → List ℕ
+fault_message f = codes "evaluation error: " ++ fault_text f
+
+-- An expression that names what isn't declared doesn't compile: Kubernetes refuses it when the
+-- policy is made. Any other fault is an error of the evaluation.
+abbrev pub fault_report : Fault → ItemReportData
+fault_report f = if is_undeclared f then not_compiled (fault_message f) else erred (fault_message f)
 
 -- ---- variables
 
@@ -116,7 +129,7 @@ without_value s name reported = record s { missing = s.missing ++ with_report na
 
 abbrev pub with_stored : ScopeData → List ℕ → Outcome → ScopeData
 with_stored s name (Ok m) = with_values s m
-with_stored s name (Err f) = without_value s name (fault_report (fault_text f))
+with_stored s name (Err f) = without_value s name (fault_report f)
 
 abbrev pub with_variable : ScopeData → List ℕ → Result Outcome ItemReportData → ScopeData
 with_variable s name (Ok o) = with_stored s name (and_then o (λ v. put_in s.values (text name) v))

@@ -24,6 +24,8 @@ pub data ItemReportData : Type 0 where
   nothing : ItemReportData
   erred : List ℕ → ItemReportData
   not_given : Input → ItemReportData
+  -- it doesn't compile, for this reason
+  not_compiled : List ℕ → ItemReportData
 
 -- the report of an expression, with its source or its name
 pub record Labelled : Type 0 where
@@ -47,26 +49,29 @@ is_problem problem.False (fails m) = true
 is_problem problem.False _ = false
 is_problem problem.Error (erred m) = true
 is_problem problem.Error _ = false
-is_problem problem.NotGiven (not_given i) = true
-is_problem problem.NotGiven _ = false
+is_problem problem.NotJudged (not_given i) = true
+is_problem problem.NotJudged (not_compiled m) = true
+is_problem problem.NotJudged _ = false
 
 abbrev pub any_is : Problem → List Labelled → Bool
 any_is m rs = list_any (λ r. is_problem m r.reported) rs
 
 -- If one condition is false, the policy is skipped, whatever the others are. If none is false and
--- one can't be evaluated, the policy is not judged. Otherwise, if one fails, failurePolicy decides:
--- the request is denied or the policy is skipped. Otherwise the policy is evaluated.
+-- one reads an input that isn't given or doesn't compile, the policy is not judged, whatever
+-- failurePolicy is. Otherwise, if one fails, failurePolicy decides: the request is denied or the
+-- policy is skipped. Otherwise the policy is evaluated.
 abbrev pub after_conditions : Bool → List Labelled → Option PolicyDecision
 after_conditions ignores rs = if any_is problem.False rs then Some Skipped else (
-    if any_is problem.NotGiven rs then Some NotJudged else (
+    if any_is problem.NotJudged rs then Some NotJudged else (
     if any_is problem.Error rs then Some (if ignores then Skipped else Denied) else None))
 
 -- A validation that is false denies the request. So does an error, unless failurePolicy is
--- `Ignore`.
+-- `Ignore`. If nothing denies it, and an expression reads an input that isn't given or doesn't
+-- compile, the policy is not judged, whatever failurePolicy is.
 abbrev pub decision_of : Bool → List Labelled → List Labelled → PolicyDecision
 decision_of ignores vs as_ = if any_is problem.False vs then Denied else (
     if not ignores && (any_is problem.Error vs || any_is problem.Error as_) then Denied else (
-    if any_is problem.NotGiven vs || any_is problem.NotGiven as_ then NotJudged else Admitted))
+    if any_is problem.NotJudged vs || any_is problem.NotJudged as_ then NotJudged else Admitted))
 
 -- ---- texts
 
@@ -77,6 +82,7 @@ report_text (says s) = s
 report_text nothing = codes "null"
 report_text (erred m) = m
 report_text (not_given i) = input_name i ++ codes " is not given"
+report_text (not_compiled m) = m
 
 abbrev pub decision_text : PolicyDecision → List ℕ
 decision_text Admitted = codes "admitted"
@@ -93,6 +99,7 @@ report_view (variant.Text s) = says (string_bytes s)
 report_view variant.Null = nothing
 report_view (variant.Error m) = erred (string_bytes m)
 report_view (variant.NotGiven i) = not_given i
+report_view (variant.NotCompiled m) = not_compiled (string_bytes m)
 
 abbrev pub result_view : PolicyResult → Labelled
 result_view r = record { label = string_bytes r.label; reported = report_view r.reported }

@@ -107,7 +107,9 @@ fn policy_verdict(
 ///
 /// An expression that reads an input that isn't given, itself or through a variable, is not
 /// evaluated: it is reported as [`ItemReport::NotGiven`](crate::ItemReport), and the policy then
-/// never admits.
+/// never admits. The same holds for an expression that doesn't compile, whatever `failurePolicy` is:
+/// its text doesn't parse, or its evaluation ends with an undeclared reference. It is reported as
+/// [`ItemReport::NotCompiled`](crate::ItemReport).
 ///
 /// The inner error is the first [`PolicyFault`] if the document is not such a policy.
 ///

@@ -23,8 +23,8 @@ pub fn validations_alone()
         ≡ policy_results b v (map expression_of xs) }
 {}
 
-/// If a policy admits a request, none of its expressions read an input that isn't given, and no
-/// validation is false.
+/// If a policy admits a request, none of its expressions read an input that isn't given or doesn't
+/// compile, and no validation is false.
 pub fn admitted_only_if_judged()
     ensures { (b : Book) (v : Variables) (p : PolicyData)
         → (policy_verdict b v p).decision ≡ PolicyDecision.Admitted

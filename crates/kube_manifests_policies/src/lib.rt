@@ -4,7 +4,7 @@
 //! The input is a policy's document and what is known of a request ([`PolicyInputs`]). The output
 //! is a verdict ([`PolicyVerdict`]) with the result of each expression. An input that isn't given
 //! is never taken as empty: an expression that reads it isn't evaluated, and the policy then never
-//! admits.
+//! admits. An expression that doesn't compile keeps it from admitting, too.
 //!
 //! ```rust
 //! use kube_manifests_policies::{PolicyDecision, PolicyInputs, Refused, evaluate_policy};
@@ -26,8 +26,8 @@
 //! Proved: [`evaluate_policy`] answers, under some book of patterns, exactly the verdict of the
 //! policy over the inputs, or the document's first fault (`specs/Reports.antt`,
 //! `specs/Policies.antt`). Laws: if a policy admits, none of its expressions read an input that
-//! isn't given, and no validation is false; the order of two variables that don't read each other
-//! doesn't matter.
+//! isn't given or doesn't compile, and no validation is false; the order of two variables that don't
+//! read each other doesn't matter.
 #![tactic(auto)]
 
 mod context;

@@ -13,7 +13,7 @@ ghost use Rattle.kube_manifests_policies.specs.Scopes.{outcome_or_reason, outcom
 ghost use Rattle.kube_manifests_policies.specs.Verdicts.{result_view, report_view};
 ghost use Rattle.std.specs.Prelude.{◌≡◌, IfOk, map, option_map, Some, string_bytes};
 
-use crate::scope::{Scope, evaluate, reach, read};
+use crate::scope::{Scope, evaluate, fault_report, reach, read};
 use crate::verdict::{ItemReport, PolicyResult, Problem, with_report};
 use cel::{Answer, Kind, PatternBook, Program, Value};
 use kube_manifests_admission::Item;
@@ -53,10 +53,7 @@ fn outcome_report(alloc: Global, answer: Answer) -> Result<ItemReport, AllocErro
 {
     match answer {
         Ok(value) => truth_report(alloc, &value),
-        Err(fault) => {
-            let message = format!(in alloc; "evaluation error: {fault}")?;
-            Ok(ItemReport::Error(message))
-        }
+        Err(fault) => fault_report(alloc, &fault),
     }
 }
 
@@ -97,10 +94,7 @@ fn annotation_outcome(alloc: Global, answer: Answer) -> Result<ItemReport, Alloc
 {
     match answer {
         Ok(value) => annotation_value(alloc, &value),
-        Err(fault) => {
-            let message = format!(in alloc; "evaluation error: {fault}")?;
-            Ok(ItemReport::Error(message))
-        }
+        Err(fault) => fault_report(alloc, &fault),
     }
 }
 

@@ -4,20 +4,21 @@ ghost use Rattle.cel_patterns.specs.Book.{Extends};
 ghost use Rattle.cel_patterns.specs.Entries.{entries_of};
 ghost use Rattle.cel_patterns.specs.Extensions.{HoldsForExtensions};
 ghost use Rattle.cel_semantics.specs.Outcome.{outcome_view};
+ghost use Rattle.cel_value.specs.Faults.{fault_view};
 ghost use Rattle.cel_syntax_ast.specs.Term.{term};
 ghost use Rattle.kube_cel_vap.specs.Results.{outcome_in};
 ghost use Rattle.cel_semantics.specs.Bindings.{bindings_of};
-ghost use Rattle.kube_manifests_policies.specs.Scopes.{evaluation, first_stop, is_not_given, outcome_or_reason, outcome_seen, scope_view, stops, tree_seen, tree_report, why_not};
+ghost use Rattle.kube_manifests_policies.specs.Scopes.{evaluation, fault_report, first_stop, is_not_judged, is_undeclared, outcome_or_reason, outcome_seen, scope_view, stops, tree_seen, tree_report, why_not};
 ghost use Rattle.kube_manifests_policies.specs.Verdicts.{result_view, report_view};
 ghost use Rattle.std.specs.Prelude.{◌≡◌, IfOk, map, option_map};
 
 use crate::inputs::{Input, first_missing};
 use crate::uses::asks;
 use crate::verdict::{ItemReport, PolicyResult};
-use cel::{Answer, Context, Expr, PatternBook, Program, Value};
+use cel::{Answer, Context, ExecutionError, Expr, PatternBook, Program, Value};
 use kube_functions::AllFunctions;
 use kube_types_refused::Refused;
-use std::alloc::Global;
+use std::alloc::{AllocError, Global};
 
 /// The context of a policy's expressions, which may call all functions of Kubernetes.
 pub(crate) type PolicyContext<'a> = Context<'a, AllFunctions>;
@@ -35,8 +36,8 @@ pub(crate) struct Scope<'a> {
     pub(crate) missing: Vec<PolicyResult>,
 }
 
-fn is_not_given(reported: &ItemReport) -> bool
-    ensures { result ≡ is_not_given (report_view reported.now) }
+fn is_not_judged(reported: &ItemReport) -> bool
+    ensures { result ≡ is_not_judged (report_view reported.now) }
 {
     match reported {
         ItemReport::True => false,
@@ -45,6 +46,7 @@ fn is_not_given(reported: &ItemReport) -> bool
         ItemReport::Null => false,
         ItemReport::Error(_) => false,
         ItemReport::NotGiven(_) => true,
+        ItemReport::NotCompiled(_) => true,
     }
 }
 
@@ -56,7 +58,7 @@ fn stops(expr: &Expr, variable: &PolicyResult) -> bool
         expr,
         "variables",
         variable.label.as_str(),
-        is_not_given(&variable.reported),
+        is_not_judged(&variable.reported),
     )
 }
 
@@ -123,6 +125,23 @@ pub(crate) fn reach(
     }
 }
 
+fn is_undeclared(fault: &ExecutionError) -> bool
+    ensures { result ≡ is_undeclared (fault_view fault.now) }
+{
+    matches!(fault, ExecutionError::UndeclaredReference(_))
+}
+
+/// Returns the report of an expression whose evaluation ended with a fault.
+pub(crate) fn fault_report(alloc: Global, fault: &ExecutionError) -> Result<ItemReport, AllocError>
+    ensures { IfOk result (λ t. report_view t ≡ fault_report (fault_view fault.now)) }
+{
+    let message = format!(in alloc; "evaluation error: {fault}")?;
+    if is_undeclared(fault) {
+        return Ok(ItemReport::NotCompiled(message));
+    }
+    Ok(ItemReport::Error(message))
+}
+
 /// Compiles an expression. If it doesn't parse, the inner error is its report.
 pub(crate) fn read(alloc: Global, text: &str) -> Result<Result<Program, ItemReport>, Refused>
     ensures read { IfOk result (λ r. tree_seen r ≡ tree_report text.now) }
@@ -133,7 +152,7 @@ pub(crate) fn read(alloc: Global, text: &str) -> Result<Result<Program, ItemRepo
             let message = format!(in alloc;
                 "failed to compile VAP expression \"{text}\": {errors}"
             )?;
-            Ok(Err(ItemReport::Error(message)))
+            Ok(Err(ItemReport::NotCompiled(message)))
         }
     }
 }

@@ -10,7 +10,7 @@ ghost use Rattle.kube_manifests_policies.specs.Scopes.{Alike, outcome_seen, scop
 ghost use Rattle.kube_manifests_policies.specs.Verdicts.{report_view};
 ghost use Rattle.std.specs.Prelude.{◌≡◌, IfOk, map};
 
-use crate::scope::{Scope, evaluate};
+use crate::scope::{Scope, evaluate, fault_report};
 use crate::verdict::{ItemReport, with_report};
 use cel::{Answer, PatternBook, Value};
 use cel_semantics::members::put;
@@ -92,8 +92,8 @@ fn with_stored<'a>(
     match answer {
         Ok(map) => with_values(scope, map),
         Err(fault) => {
-            let message = format!(in alloc; "evaluation error: {fault}")?;
-            let kept = without_value(alloc, scope, name, ItemReport::Error(message))?;
+            let reported = fault_report(alloc, &fault)?;
+            let kept = without_value(alloc, scope, name, reported)?;
             Ok(kept)
         }
     }

@@ -22,6 +22,9 @@ pub enum ItemReport {
     Error(String),
     /// The expression wasn't evaluated, because it reads an input that isn't given.
     NotGiven(Input),
+    /// The expression doesn't compile, for this reason: it doesn't parse, or its evaluation came to
+    /// a name that isn't declared. Kubernetes refuses a policy with such an expression.
+    NotCompiled(String),
 }
 
 impl fmt::Display for ItemReport {
@@ -35,6 +38,7 @@ impl fmt::Display for ItemReport {
             ItemReport::Null => write!(f, "null"),
             ItemReport::Error(message) => write!(f, "{message}"),
             ItemReport::NotGiven(input) => write!(f, "{input} is not given"),
+            ItemReport::NotCompiled(message) => write!(f, "{message}"),
         }
     }
 }
@@ -51,6 +55,7 @@ impl ItemReport {
             ItemReport::Null => Ok(ItemReport::Null),
             ItemReport::Error(message) => Ok(ItemReport::Error(message.clone()?)),
             ItemReport::NotGiven(input) => Ok(ItemReport::NotGiven(*input)),
+            ItemReport::NotCompiled(message) => Ok(ItemReport::NotCompiled(message.clone()?)),
         }
     }
 }
@@ -60,7 +65,8 @@ impl ItemReport {
 pub(crate) enum Problem {
     False,
     Error,
-    NotGiven,
+    /// The expression reads an input that isn't given, or doesn't compile.
+    NotJudged,
 }
 
 impl Problem {
@@ -74,7 +80,8 @@ impl Problem {
             ItemReport::Text(_) => false,
             ItemReport::Null => false,
             ItemReport::Error(_) => matches!(self, Problem::Error),
-            ItemReport::NotGiven(_) => matches!(self, Problem::NotGiven),
+            ItemReport::NotGiven(_) => matches!(self, Problem::NotJudged),
+            ItemReport::NotCompiled(_) => matches!(self, Problem::NotJudged),
         }
     }
 }
@@ -112,7 +119,8 @@ pub enum PolicyDecision {
     Denied,
     /// The policy doesn't apply to the request.
     Skipped,
-    /// Nothing denies the request, but an expression reads an input that isn't given.
+    /// Nothing denies the request, but an expression reads an input that isn't given, or doesn't
+    /// compile.
     NotJudged,
 }
 
@@ -165,7 +173,7 @@ pub(crate) fn after_conditions(ignores: bool, conditions: &[PolicyResult]) -> Op
     if any_is(Problem::False, conditions) {
         return Some(PolicyDecision::Skipped);
     }
-    if any_is(Problem::NotGiven, conditions) {
+    if any_is(Problem::NotJudged, conditions) {
         return Some(PolicyDecision::NotJudged);
     }
     if !any_is(Problem::Error, conditions) {
@@ -192,7 +200,7 @@ pub(crate) fn decision_of(
     if !ignores && (any_is(Problem::Error, validations) || any_is(Problem::Error, annotations)) {
         return PolicyDecision::Denied;
     }
-    if any_is(Problem::NotGiven, validations) || any_is(Problem::NotGiven, annotations) {
+    if any_is(Problem::NotJudged, validations) || any_is(Problem::NotJudged, annotations) {
         return PolicyDecision::NotJudged;
     }
     PolicyDecision::Admitted

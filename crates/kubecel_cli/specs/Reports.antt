@@ -7,7 +7,7 @@ use Rattle.kube_manifests.specs.Texts.{reason_text}
 use Rattle.kube_manifests.specs.declared.judgement.Judgement.{Judgement}
 use Rattle.kube_manifests.specs.declared.judgement.Judgement.TheVariants as judgement
 use Rattle.kube_manifests.specs.declared.judgement.NotJudged as reason
-use Rattle.kube_manifests_policies.specs.Verdicts.{Labelled, ItemReportData, VerdictData, holds, fails, says, nothing, erred, not_given, report_text}
+use Rattle.kube_manifests_policies.specs.Verdicts.{Labelled, ItemReportData, VerdictData, holds, fails, says, nothing, erred, not_given, not_compiled, report_text}
 use Rattle.kube_manifests_policies.specs.declared.verdict.PolicyDecision.{PolicyDecision}
 use Rattle.kube_manifests_policies.specs.declared.verdict.PolicyDecision.TheVariants as decision
 use Rattle.kube_manifests_review.specs.Candidates.{Finding, kind_text}
@@ -123,6 +123,7 @@ is_quiet (says s) = false
 is_quiet nothing = true
 is_quiet (erred m) = false
 is_quiet (not_given i) = false
+is_quiet (not_compiled m) = false
 
 -- the findings of an expression; their location is the kind of the expression and its label
 abbrev pub result_findings : List ℕ → Labelled → List FindingData
