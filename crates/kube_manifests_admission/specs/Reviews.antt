@@ -1,6 +1,7 @@
 -- Trusted by the clauses of policies.
 -- The request in an AdmissionReview (Kubernetes API reference, AdmissionReview and AdmissionRequest
--- of `admission.k8s.io`), or its first fault.
+-- of `admission.k8s.io`; Kubernetes documentation, "Dynamic Admission Control", webhook request), or
+-- its first fault.
 use Rattle.kube_cel_vap.specs.Requests.{KindData, RequestData, ResourceData}
 use Rattle.kube_cel_vap.specs.Expressions.{◌>>=◌}
 use Rattle.kube_cel_vap.specs.Variables.{Variables}
@@ -10,13 +11,16 @@ use Rattle.kube_manifests_admission.specs.Policies.{object_of, required_one, req
 use Rattle.kube_manifests_admission.specs.declared.fault.FaultKind.TheVariants.{NotBool, NotList, NotString}
 use Rattle.kube_manifests_admission.specs.declared.fault.PolicyFault.{PolicyFault}
 use Rattle.kube_manifests_admission.specs.declared.inputs.PolicyInputs.{PolicyInputs}
+use Rattle.kube_manifests_admission.specs.declared.review.Objects.{Objects}
 use Rattle.kube_manifests_admission.specs.declared.review.Parts.{Parts}
 use Rattle.kube_manifests_admission.specs.declared.review.Served.{Served}
 use Rattle.kube_manifests_admission.specs.declared.review.User.{User}
 use Rattle.serde_json.specs.Data.{Data, null, boolean, string, array, Items, no_items, item}
 use Rattle.serde_json.specs.Find.{get}
-use Rattle.serde_json.specs.View.{items_view}
-use Rattle.std.specs.Prelude.{ℕ, List, [], ◌∷◌, ◌++◌, length, Bool, false, Option, Some, None, Result, Ok, Err, codes, unwrap_or}
+use Rattle.serde_json.specs.View.{items_view, view}
+use Rattle.std.specs.List.{list_any}
+use Rattle.std.specs.Prelude.{ℕ, List, [], ◌∷◌, ◌++◌, length, Bool, true, false, Option, Some, None, option_map, Result, Ok, Err, codes, unwrap_or}
+use Rattle.std.specs.Str.{bytes_eq}
 
 -- a group, a version, and the name of a kind or of a resource
 pub record ServedData : Type 0 where
@@ -114,9 +118,16 @@ resource_in d =
     object_in request_pointer d (codes "resource")
     >>= served_of (codes "/request/resource") (codes "resource")
 
+-- the operations that a request may have
+abbrev pub operations : List (List ℕ)
+operations = codes "CREATE" ∷ codes "UPDATE" ∷ codes "DELETE" ∷ codes "CONNECT" ∷ []
+
+abbrev pub operation_in : Data → Result (List ℕ) FaultData
+operation_in d = required_one (field request_pointer (codes "operation")) operations (get (codes "operation") d)
+
 unfoldable pub parts_of : Data → Result PartsData FaultData
 parts_of d = do
-  operation ← required_text_in request_pointer d (codes "operation")
+  operation ← operation_in d
   name ← text_in request_pointer d (codes "name")
   namespace ← text_in request_pointer d (codes "namespace")
   dry_run ← bool_of (field request_pointer (codes "dryRun")) (get (codes "dryRun") d)
@@ -173,19 +184,47 @@ request_in d = do
   kind ← required_one (field [] (codes "kind")) review_kinds (get (codes "kind") d)
   object_of (field [] (codes "request")) (get (codes "request") d)
 
--- If a review leaves out one of the two objects, it is null. `params` and the namespace are
--- unknown.
-abbrev pub inputs_from : Data → RequestData → Variables
-inputs_from d r = record {
-  object = Some (value_or_null (get (codes "object") d));
-  old_object = Some (value_or_null (get (codes "oldObject") d));
+-- the two objects of a request
+pub record ObjectsData : Type 0 where
+  pub object : Data
+  pub old_object : Data
+
+-- the operations that have a new object, and those that have an old one
+abbrev pub with_object : List (List ℕ)
+with_object = codes "CREATE" ∷ codes "UPDATE" ∷ []
+
+abbrev pub with_old_object : List (List ℕ)
+with_old_object = codes "UPDATE" ∷ codes "DELETE" ∷ []
+
+abbrev pub is_with : List (List ℕ) → List ℕ → Bool
+is_with known operation = list_any (bytes_eq operation) known
+
+-- An object that the operation has must be there. Any other one is null if it is left out.
+abbrev pub object_if : Bool → Data → List ℕ → Result Data FaultData
+object_if true d name = object_in request_pointer d name
+object_if false d name = Ok (value_or_null (get name d))
+
+unfoldable pub objects_of : List ℕ → Data → Result ObjectsData FaultData
+objects_of operation d = do
+  object ← object_if (is_with with_object operation) d (codes "object")
+  old_object ← object_if (is_with with_old_object operation) d (codes "oldObject")
+  Ok (record { object = object; old_object = old_object })
+
+-- `params` and the namespace are unknown
+abbrev pub inputs_from : ObjectsData → RequestData → Variables
+inputs_from o r = record {
+  object = Some o.object;
+  old_object = Some o.old_object;
   params = None;
   namespace_object = None;
   request = Some r;
 }
 
+abbrev pub inputs_with : Data → RequestData → Result Variables FaultData
+inputs_with d r = objects_of r.operation d >>= (λ o. Ok (inputs_from o r))
+
 abbrev pub inputs_in : Data → Result Variables FaultData
-inputs_in request = request_of request >>= (λ r. Ok (inputs_from request r))
+inputs_in request = request_of request >>= inputs_with request
 
 unfoldable pub review_of : Data → Result Variables FaultData
 review_of d = request_in d >>= inputs_in
@@ -207,6 +246,12 @@ parts_view p = record {
   dry_run = p.dry_run;
   kind = served_view p.kind;
   resource = served_view p.resource;
+}
+
+abbrev pub objects_view : Objects → ObjectsData
+objects_view o = record {
+  object = value_or_null (option_map (λ v. view v.now) o.object);
+  old_object = value_or_null (option_map (λ v. view v.now) o.old_object);
 }
 
 abbrev pub inputs_seen : Result PolicyInputs PolicyFault → Result Variables FaultData

@@ -3,11 +3,11 @@ ghost use Rattle.kube_cel_vap.specs.Requests.{kind_view, request_view, resource_
 ghost use Rattle.kube_manifests_admission.specs.Faults.{pointer_at};
 ghost use Rattle.kube_manifests_admission.specs.Inputs.{inputs_view};
 ghost use Rattle.kube_manifests_admission.specs.Policies.{reading_view};
-ghost use Rattle.kube_manifests_admission.specs.Reviews.{bool_of, inputs_in, inputs_seen, items_of, kind_from, kind_in, object_in, parts_of, parts_view, request_from, request_in, request_of, resource_from, review_kinds, review_of, review_versions, required_text_in, resource_in, served_of, served_view, text_in, texts_after, user_in, user_of, user_view, value_or_null};
+ghost use Rattle.kube_manifests_admission.specs.Reviews.{bool_of, inputs_in, inputs_seen, inputs_with, is_with, items_of, kind_from, kind_in, object_if, object_in, objects_of, objects_view, operation_in, operations, parts_of, parts_view, request_from, request_in, request_of, resource_from, review_kinds, review_of, review_versions, required_text_in, resource_in, served_of, served_view, text_in, texts_after, user_in, user_of, user_view, value_or_null, with_object, with_old_object};
 ghost use Rattle.serde_json.specs.Find.{get};
 ghost use Rattle.serde_json.specs.View.{items_view, view};
 ghost use Rattle.std.specs.List.{list_any};
-ghost use Rattle.std.specs.Prelude.{◌≡◌, [], IfErr, IfOk, map, string_bytes};
+ghost use Rattle.std.specs.Prelude.{◌≡◌, [], IfErr, IfOk, map, option_map, string_bytes};
 ghost use Rattle.std.specs.Str.{bytes_eq};
 
 use crate::fault::{FaultKind, Found, PolicyFault, reported};
@@ -193,13 +193,34 @@ fn resource_in(request: &Value) -> Result<Served<'_>, Found<'_>>
     served_of("/request/resource", "resource", resource)
 }
 
+fn is_operation(text: &str) -> bool
+    ensures { result ≡ list_any (bytes_eq text.now) operations }
+{
+    text == "CREATE" || text == "UPDATE" || text == "DELETE" || text == "CONNECT"
+}
+
+/// Reads the operation of a request.
+fn operation_in(request: &Value) -> Result<&str, Found<'_>>
+    ensures { reading_view (λ s. s.now) result ≡ operation_in (view request.now) }
+{
+    let location = Location::Field("/request", "operation");
+    let operation = required_text_at(request, "operation", location)?;
+    if !is_operation(operation) {
+        return Err(Found {
+            location,
+            kind: FaultKind::Unsupported,
+        });
+    }
+    Ok(operation)
+}
+
 /// Reads the fields of a request, or its first fault.
 #[tactic(auto, unfolding(crate::specs::Reviews::parts_of))]
 fn parts_of(request: &Value) -> Result<Parts<'_>, Found<'_>>
     ensures { reading_view parts_view result ≡ parts_of (view request.now) }
 {
     let base = "/request";
-    let operation = required_text_in(base, request, "operation")?;
+    let operation = operation_in(request)?;
     let name = text_in(base, request, "name")?;
     let namespace = text_in(base, request, "namespace")?;
     let dry_run = bool_at(request, "dryRun", Location::Field(base, "dryRun"))?;
@@ -319,13 +340,81 @@ fn request_in(document: &Value) -> Result<&Value, Found<'_>>
     object_at(document, "request", Location::Field("", "request"))
 }
 
-/// Returns a copy of the value in a field, or null if the field is missing.
-fn value_or_null(value: &Value, name: &str) -> Result<Value, AllocError>
-    ensures { IfOk result (λ v. view v ≡ value_or_null (get name.now (view value.now))) }
+/// The two objects of a request. `None` is null.
+#[derive(Clone, Copy, Drop)]
+pub(crate) struct Objects<'v> {
+    object: Option<&'v Value>,
+    old_object: Option<&'v Value>,
+}
+
+/// Reports whether the requests of an operation have an object.
+fn has_object(operation: &str) -> bool
+    ensures { result ≡ is_with with_object operation.now }
 {
-    match value.get(name) {
+    operation == "CREATE" || operation == "UPDATE"
+}
+
+/// Reports whether the requests of an operation have an old object.
+fn has_old_object(operation: &str) -> bool
+    ensures { result ≡ is_with with_old_object operation.now }
+{
+    operation == "UPDATE" || operation == "DELETE"
+}
+
+/// Returns the object in a field of a request, which must be there if `required` is true.
+fn object_if<'v>(
+    required: bool,
+    request: &'v Value,
+    name: &'static str,
+) -> Result<Option<&'v Value>, Found<'v>>
+    ensures { reading_view (λ o. value_or_null (option_map (λ v. view v.now) o)) result
+        ≡ object_if required (view request.now) name.now }
+{
+    if required {
+        return Ok(Some(object_in("/request", request, name)?));
+    }
+    Ok(request.get(name))
+}
+
+/// Reads the objects of a request with this operation. An object that the operation has must be
+/// there.
+#[tactic(auto, unfolding(crate::specs::Reviews::objects_of))]
+fn objects_of<'v>(operation: &str, request: &'v Value) -> Result<Objects<'v>, Found<'v>>
+    ensures { reading_view objects_view result ≡ objects_of operation.now (view request.now) }
+{
+    let object = object_if(has_object(operation), request, "object")?;
+    let old_object = object_if(has_old_object(operation), request, "oldObject")?;
+    Ok(Objects { object, old_object })
+}
+
+/// Returns a copy of a value, or null if there is none.
+fn value_or_null(value: Option<&Value>) -> Result<Value, AllocError>
+    ensures { IfOk result (λ v. view v ≡ value_or_null (option_map (λ u. view u.now) value.entry)) }
+{
+    match value {
         Some(found) => found.clone(),
         None => Ok(Value::Null),
+    }
+}
+
+/// Returns the inputs with this request and with the objects that its document has.
+fn inputs_with<'v>(
+    document: &'v Value,
+    request: AdmissionRequest,
+) -> Result<Result<PolicyInputs, Found<'v>>, Refused>
+    ensures inputs { IfOk result (λ r. reading_view inputs_view r
+        ≡ inputs_with (view document.now) (request_view request)) }
+    ensures memory { IfErr result (λ e. e ≡ Refused.Memory) }
+{
+    match objects_of(request.operation.as_str(), document) {
+        Err(found) => Ok(Err(found)),
+        Ok(objects) => Ok(Ok(PolicyInputs {
+            object: Some(value_or_null(objects.object)?),
+            old_object: Some(value_or_null(objects.old_object)?),
+            params: None,
+            namespace_object: None,
+            request: Some(request),
+        })),
     }
 }
 
@@ -339,13 +428,7 @@ fn inputs_in<'v>(
 {
     match request_of(alloc, request)? {
         Err(found) => Ok(Err(found)),
-        Ok(admission) => Ok(Ok(PolicyInputs {
-            object: Some(value_or_null(request, "object")?),
-            old_object: Some(value_or_null(request, "oldObject")?),
-            params: None,
-            namespace_object: None,
-            request: Some(admission),
-        })),
+        Ok(admission) => inputs_with(request, admission),
     }
 }
 
@@ -362,9 +445,10 @@ fn review_of(alloc: Global, document: &Value) -> Result<Result<PolicyInputs, Fou
 }
 
 impl PolicyInputs {
-    /// Reads `request`, `object` and `oldObject` from an AdmissionReview (`admission.k8s.io`). If
-    /// the review leaves out one of the two objects, it is known to be null. `params` and
-    /// `namespaceObject` are unknown: set these fields afterwards.
+    /// Reads `request`, `object` and `oldObject` from an AdmissionReview (`admission.k8s.io`). A
+    /// CREATE must have an object, a DELETE an old object, and an UPDATE both; any other object that
+    /// the review leaves out is known to be null. `params` and `namespaceObject` are unknown: set
+    /// these fields afterwards.
     ///
     /// The inner error is the first [`PolicyFault`] if the document is not such a review.
     ///
