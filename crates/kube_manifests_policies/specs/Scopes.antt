@@ -68,9 +68,9 @@ is_not_judged (not_compiled m) = true
 is_not_judged _ = false
 
 -- If a variable reads an input that isn't given, or doesn't compile, an expression that reads the
--- variable isn't evaluated either. If a variable fails, selecting it is an error, which `&&`, `||` and `?:` may
--- absorb like any other; an expression that reads it in another way isn't evaluated and has that
--- error.
+-- variable isn't evaluated either. If a variable fails, selecting it is an error, which `&&`, `||`
+-- and `?:` may absorb like any other; an expression that reads it in another way isn't evaluated
+-- and has that error.
 abbrev pub stops : Term → Labelled → Bool
 stops t r = asks (codes "variables") r.label (is_not_judged r.reported) t
 
