@@ -1,6 +1,6 @@
 -- Trusted by the clauses of kubecel.
 -- The input of a run of `kubecel`: the files that it names, in order, and the documents in them; or
--- the first file that can't be read or isn't JSON, and the message about it.
+-- the first file that can't be read, isn't JSON or has no document, and the message about it.
 use Rattle.kubecel_io.specs.Documents.{documents}
 use Rattle.kubecel_io.specs.Faults.{IsFault, fault_text}
 use Rattle.kubecel_io.specs.declared.fault.Fault.{Fault}
@@ -11,7 +11,7 @@ use Rattle.serde_json.specs.Data.{Data}
 use Rattle.serde_json.specs.View.{view}
 use Rattle.std.specs.declared.io.Error.{Error}
 use Rattle.std.specs.Global.{Global}
-use Rattle.std.specs.Prelude.{◌≡◌, ◌⊎◌, ℕ, ◌+◌, List, [], ◌∷◌, ◌++◌, Option, Some, None, Result, Ok, Err, String, codes, string_bytes}
+use Rattle.std.specs.Prelude.{◌≡◌, ◌⊎◌, ℕ, ◌+◌, ◌<◌, List, [], ◌∷◌, ◌++◌, length, Option, Some, None, Result, Ok, Err, String, codes, string_bytes}
 
 -- the result of a read: a text, or none
 abbrev pub text_seen : Result (String Global) Error → Option (List ℕ)
@@ -30,11 +30,12 @@ with_indices file n [] = []
 with_indices file n (d ∷ ds) = record { file = file; index = n; value = d } ∷ with_indices file (n + 1) ds
 
 module _ {S : Type 0} (reads : S → List ℕ → Option (List ℕ) → S → Type 0) where
-  -- the text of the file at this path consists of these documents
+  -- the text of the file at this path consists of these documents, and there is at least one
   pub record IsRead (before : S) (path : List ℕ) (values : List Data) (after : S) : Type 0 where
     pub text : List ℕ
     pub given : reads before path (Some text) after
     pub means : documents text ≡ Some values
+    pub some : 0 < length values
 
   -- the files at these paths were read in order, and nothing else was
   unfoldable pub AreRead : S → List (List ℕ) → List Found → S → Type 0
@@ -45,15 +46,17 @@ module _ {S : Type 0} (reads : S → List ℕ → Option (List ℕ) → S → Ty
       × (found ≡ with_indices path 0 values ++ rest)
 
   -- the file at this path has no documents, and these words say why: it can't be read, for an
-  -- unspecified reason, or it isn't JSON at the given place
+  -- unspecified reason; it isn't JSON at the given place; or its text is white space only
   abbrev pub IsUnread : S → List ℕ → List ℕ → S → Type 0
   IsUnread before path words after =
       (reads before path None after × (reason : List ℕ) × (words ≡ path ++ (codes ": " ++ reason)))
-      ⊎ ((text : List ℕ) × (fault : Fault) × reads before path (Some text) after × IsFault text fault
+      ⊎ (((text : List ℕ) × (fault : Fault) × reads before path (Some text) after × IsFault text fault
       × (words ≡ path ++ (codes ":" ++ fault_text fault)))
+      ⊎ ((text : List ℕ) × reads before path (Some text) after × (documents text ≡ Some [])
+      × (words ≡ path ++ codes ": no document")))
 
-  -- the files at the first of these paths were read in order, and the next one can't be read or
-  -- isn't JSON
+  -- the files at the first of these paths were read in order, and the next one can't be read, isn't
+  -- JSON or has no document
   pub record Stops (before : S) (paths : List (List ℕ)) (words : List ℕ) (after : S) : Type 0 where
     pub first : List (List ℕ)
     pub path : List ℕ

@@ -61,8 +61,8 @@ pub struct Document {
 /// Reads the documents of the files at these paths, in order.
 ///
 /// # Errors
-/// The first file that can't be read or that isn't made of JSON documents, with the place where it
-/// isn't JSON.
+/// The first file that can't be read, that isn't made of JSON documents, with the place where it
+/// isn't JSON, or that has no document.
 pub fn read_documents<S: Sources>(
     alloc: Global,
     paths: &[&str],
@@ -90,7 +90,7 @@ fn unreadable(alloc: Global, path: &str, error: &io::Error) -> Result<String, Al
     format!(in alloc; "{path}: {reason}")
 }
 
-/// Reads the documents of the file at a path.
+/// Reads the documents of the file at a path, of which there has to be one.
 fn read_file<S: Sources>(alloc: Global, path: &str, files: &mut S) -> Result<Vec<Value>, Stop>
     ensures read { IfOk result (λ v. IsRead S.reads files.old path.now (map view v.items) files.new) }
     ensures unread { IfErr result (λ stop. IfSome (words_of stop)
@@ -101,7 +101,12 @@ fn read_file<S: Sources>(alloc: Global, path: &str, files: &mut S) -> Result<Vec
         Err(error) => return Err(Stop::Said(unreadable(alloc, path, &error)?)),
     };
     match documents_of(alloc, text.as_str())? {
-        Ok(values) => Ok(values),
+        Ok(values) => {
+            if values.is_empty() {
+                return Err(Stop::Said(format!(in alloc; "{path}: no document")?));
+            }
+            Ok(values)
+        }
         Err(fault) => Err(Stop::Said(format!(in alloc; "{path}:{fault}")?)),
     }
 }
