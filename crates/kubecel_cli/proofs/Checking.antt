@@ -10,11 +10,13 @@ use Rattle.kubecel_io.specs.declared.subject.Subject.{Subject}
 use Rattle.kubecel_io.specs.Items.{ItemData}
 use Rattle.kubecel_cli.proofs.Judging.{items_otherwise}
 use Rattle.kubecel_cli.proofs.Definitions.{unless_otherwise}
+use Rattle.kubecel_cli.proofs.Held.{held_alike}
 use Rattle.kubecel_cli.specs.Commands.{CheckData}
-use Rattle.kubecel_cli.specs.Runs.{AreChecked, AreItems, AreReviewed, AreUnread, IsJudged, IsJudgedBy, IsReviewed, IsSetOf, UnlessAny}
+use Rattle.kubecel_cli.specs.Runs.{AreChecked, AreCompared, AreItems, AreReviewed, AreUnread, AreWhole, IsJudged, IsJudgedBy, IsReviewed, IsSetOf, UnlessAny, holds_object}
 use Rattle.serde_json.specs.Data.{Data, Items}
 use Rattle.serde_json.specs.View.{items_of}
-use Rattle.std.proofs.Common.{◌≡◌, ℕ, ◌<◌, List, [], ◌∷◌, length, map, Option, Result, Ok, Err, refl, subst, arith}
+use Rattle.std.proofs.Common.{◌≡◌, ℕ, ◌<◌, List, [], ◌∷◌, length, map, true, Option, Result, Ok, Err, refl, subst, arith}
+use Rattle.std.specs.List.{list_all}
 
 -- ---- sets
 
@@ -39,9 +41,10 @@ pub checked_so : {S : Type 0} (reads : S → List ℕ → Option (List ℕ) → 
     (crds olds objects : List Found) (with_crds with_olds : S) (set : CrdSet) (definitions old_subjects subjects : List Subject)
     → AreRead reads before asked.crds crds with_crds → AreRead reads with_crds asked.olds olds with_olds → AreRead reads with_olds asked.objects objects after
     → IsSetOf crds set → map subject_view definitions ≡ all_objects crds → map subject_view old_subjects ≡ all_objects olds → map subject_view subjects ≡ all_objects objects
-    → 0 < length subjects → AreUnread (map subject_view definitions) unread
+    → 0 < length subjects → list_all (holds_object (set_view set) (map subject_view old_subjects)) asked.olds ≡ true
+    → AreCompared asked.olds (map (λ f. f.value) (map subject_view old_subjects)) (map subject_view subjects) → AreUnread (map subject_view definitions) unread
     → UnlessAny unread (AreItems (IsJudgedBy set (map (λ f. f.value) (map subject_view old_subjects))) (map subject_view subjects)) items → AreChecked reads before asked after items
-checked_so reads before asked after unread items crds olds objects with_crds with_olds set definitions old_subjects subjects crds_read olds_read objects_read of crds_are old_are are some those judged =
+checked_so reads before asked after unread items crds olds objects with_crds with_olds set definitions old_subjects subjects crds_read olds_read objects_read of crds_are old_are are some held compared those judged =
     let versions = of.0 in
     let values = map (λ f. f.value) (map subject_view old_subjects) in
     let all_judged = AreItems (IsJudged versions values) in
@@ -61,17 +64,22 @@ checked_so reads before asked after unread items crds olds objects with_crds wit
       versions = versions;
       whole = of.1;
       some = some_of subjects (all_objects objects) some are;
+      held = subst (λ os. list_all (holds_object versions os) asked.olds ≡ true) old_are (held_alike (set_view set) versions of.2 (map subject_view old_subjects) asked.olds held);
+      compared = subst (λ os. AreCompared asked.olds (map (λ f. f.value) os) (all_objects objects)) old_are
+          (subst (AreCompared asked.olds values) are compared);
       unread = unread;
       definitions = subst (λ fs. AreUnread fs unread) crds_are those;
       judged = subst (λ os. UnlessAny unread (AreItems (IsJudged versions (map (λ f. f.value) os)) (all_objects objects)) items) old_are of_objects;
     }
 
 pub reviewed_so : {S : Type 0} (reads : S → List ℕ → Option (List ℕ) → S → Type 0) (before : S) (paths : List (List ℕ)) (after : S) (items : List ItemData)
-    (crds : List Found) (subjects : List Subject) → AreRead reads before paths crds after → map subject_view subjects ≡ all_objects crds → 0 < length subjects
-    → AreItems IsReviewed (map subject_view subjects) items → AreReviewed reads before paths after items
-reviewed_so reads before paths after items crds subjects crds_read are some reviewed = record {
+    (crds : List Found) (subjects : List Subject) (versions : List (Version Data)) → AreRead reads before paths crds after → AreWhole crds versions
+    → map subject_view subjects ≡ all_objects crds → 0 < length subjects → AreItems IsReviewed (map subject_view subjects) items → AreReviewed reads before paths after items
+reviewed_so reads before paths after items crds subjects versions crds_read whole are some reviewed = record {
   crds = crds;
   crds_read = crds_read;
+  versions = versions;
+  whole = whole;
   some = some_of subjects (all_objects crds) some are;
   reviewed = subst (λ fs. AreItems IsReviewed fs items) are reviewed;
 }

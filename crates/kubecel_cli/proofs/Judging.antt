@@ -5,7 +5,7 @@ use Rattle.kubecel_io.specs.declared.subject.Subject.{Subject}
 use Rattle.kubecel_io.specs.Items.{ItemData, item_view, items_status}
 use Rattle.kubecel_io.specs.declared.item.Item.{Item}
 use Rattle.kubecel_io.specs.declared.sources.Stop.{Stop}
-use Rattle.kubecel_cli.specs.Runs.{AreItems, IfReport, IsReported}
+use Rattle.kubecel_cli.specs.Runs.{AreItems, IfReport, IsReported, UnlessFault}
 use Rattle.kubecel_cli.specs.declared.report.Report.{Report}
 use Rattle.std.proofs.Common.{◌≡◌, ℕ, ◌+◌, ◌<◌, List, [], ◌∷◌, ◌++◌, get_or, length, map, take, Result, Ok, Err, IfOk, refl, sym, ap, subst, ◌∙◌}
 use Rattle.std.proofs.lemmas.List.{map-append, take_more}
@@ -32,6 +32,11 @@ items_otherwise P Q g (f ∷ fs) items are = (are.0, are.1, are.2, g f are.0 are
 
 -- the results of a command were reported
 pub reported_so : (Are : List ItemData → Type 0) (status : ℕ) (Writes : List ItemData → Type 0) (found : Result Report Stop)
-    → IfOk found (λ r. Are (map item_view r.items.items)) → IfReport found (λ items. (status ≡ items_status items) × Writes items) → IsReported Are status Writes
-reported_so Are status Writes (Ok r) are reported = record { items = map item_view r.items.items; are = are; status_is = reported.0; written = reported.1 }
+    → IfOk found (λ r. UnlessFault r Are) → IfReport found (λ items. (status ≡ items_status items) × Writes items) → IsReported Are status Writes
+reported_so Are status Writes (Ok r) are reported = record { items = map item_view r.items.items; are = are reported.0; status_is = reported.1.0; written = reported.1.1 }
 reported_so Are status Writes (Err stop) are reported = absurd reported
+
+-- what holds of a report holds of it where no fault is reported beside
+pub without_fault : (Are : List ItemData → Type 0) (found : Result Report Stop) → IfOk found (λ r. Are (map item_view r.items.items)) → IfOk found (λ r. UnlessFault r Are)
+without_fault Are (Ok r) are = λ none. are
+without_fault Are (Err stop) are = tt

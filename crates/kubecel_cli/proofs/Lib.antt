@@ -2,5 +2,6 @@ pub mod Judging
 pub mod Writes
 pub mod Alone
 pub mod Definitions
+pub mod Held
 pub mod Checking
 pub mod Admitting

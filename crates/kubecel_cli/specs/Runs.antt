@@ -6,8 +6,10 @@ use Rattle.kube_cel_analysis.specs.Findings.{Naming}
 use Rattle.kube_cel_vap.specs.Variables.{Variables, no_variables}
 use Rattle.kube_manifests.specs.Documents.{is_crd}
 use Rattle.kube_manifests.specs.Sets.{IsJudgement, with_tree, set_view, versions_of}
-use Rattle.kube_manifests.specs.Versions.{Version}
+use Rattle.kube_manifests.specs.Versions.{Version, chosen_version}
 use Rattle.kube_manifests.specs.declared.judgement.Judgement.{Judgement}
+use Rattle.kube_manifests.specs.declared.judgement.NotJudged.{NotJudged}
+use Rattle.kube_manifests.specs.declared.judgement.NotJudged.TheVariants as reason
 use Rattle.kube_manifests.specs.declared.set.CrdSet.{CrdSet}
 use Rattle.kube_manifests_admission.specs.Faults.{FaultData}
 use Rattle.kube_manifests_policies.specs.Reports.{IsVerdictOf}
@@ -24,7 +26,9 @@ use Rattle.kubecel_cli.specs.declared.report.Report.{Report}
 use Rattle.kubecel_cli.specs.Reports.{judged_item, no_crd_item, policy_item, reviewed_item, unread_findings, unread_items}
 use Rattle.serde_json.specs.Data.{Data}
 use Rattle.serde_json.specs.View.{items_of}
-use Rattle.std.specs.Prelude.{◌≡◌, ℕ, ◌<◌, List, [], ◌∷◌, ◌++◌, map, length, true, false, Option, Some, None, Result, Ok, Err}
+use Rattle.std.specs.List.{list_all, list_any}
+use Rattle.std.specs.Str.{bytes_eq}
+use Rattle.std.specs.Prelude.{◌≡◌, ℕ, ◌<◌, ◌&&◌, List, [], ◌∷◌, ◌++◌, map, length, Bool, true, false, Option, Some, None, is_some, Result, Ok, Err, ⊤}
 
 -- each thing, in order, is reported as one item
 abbrev pub AreItems : (Found → ItemData → Type 0) → List Found → List ItemData → Type 0
@@ -38,6 +42,37 @@ AreItems Is (f ∷ fs) items =
 abbrev pub IsJudged : List (Version Data) → List Data → Found → ItemData → Type 0
 IsJudged versions olds f i =
     (j : Judgement) × IsJudgement versions f.value (old_of olds f.value) j × (i ≡ judged_item f j)
+
+-- whether one of the old objects has the object's identity
+abbrev pub has_old : List Data → Found → Bool
+has_old olds f = is_some (old_of olds f.value)
+
+-- whether a definition has the group and kind of an object, perhaps without its version
+abbrev pub has_definition : {A : Type 0} → Result A NotJudged → Bool
+has_definition (Ok v) = true
+has_definition (Err reason.NotAnObject) = false
+has_definition (Err reason.NoApiVersion) = false
+has_definition (Err reason.NoKind) = false
+has_definition (Err reason.NoSuchKind) = false
+has_definition (Err reason.NoSuchVersion) = true
+has_definition (Err reason.NotServed) = true
+
+-- whether an object is in the file at the path, and is of a definition
+abbrev pub is_held : {A : Type 0} → List (Version A) → List ℕ → Found → Bool
+is_held versions path f = bytes_eq f.file path && has_definition (chosen_version versions f.value)
+
+-- whether one of the objects is
+abbrev pub holds_object : {A : Type 0} → List (Version A) → List Found → List ℕ → Bool
+holds_object versions objects path = list_any (is_held versions path) objects
+
+-- if files of old objects are named, at least one object has an old one in them
+abbrev pub AreCompared : List (List ℕ) → List Data → List Found → Type 0
+AreCompared [] olds objects = ⊤
+AreCompared (path ∷ paths) olds objects = list_any (has_old olds) objects ≡ true
+
+-- the definitions are well-formed, and have these versions
+abbrev pub AreWhole : List Found → List (Version Data) → Type 0
+AreWhole crds versions = versions_of (items_of (map (λ f. f.value) crds)) ≡ Ok versions
 
 -- a definition is reviewed, under some book of patterns
 pub record IsReviewed (f : Found) (i : ItemData) : Type 0 where
@@ -91,8 +126,10 @@ module _ {S : Type 0} (reads : S → List ℕ → Option (List ℕ) → S → Ty
   -- ---- the results of a command
 
   -- The definitions, the old objects and the objects were read in order. All definitions are
-  -- well-formed, and there is at least one object. If some definitions have parts that aren't read,
-  -- only these are reported, as not judged; otherwise each object is judged.
+  -- well-formed, and there is at least one object. If files of old objects are named, each of them
+  -- holds an object of a definition, and at least one object has an old one. If some definitions
+  -- have parts that aren't read, only these are reported, as not judged; otherwise each object is
+  -- judged.
   pub record AreChecked (before : S) (asked : CheckData) (after : S) (items : List ItemData) : Type 0 where
     pub crds : List Found
     pub olds : List Found
@@ -103,18 +140,22 @@ module _ {S : Type 0} (reads : S → List ℕ → Option (List ℕ) → S → Ty
     pub olds_read : AreRead reads with_crds asked.olds olds with_olds
     pub objects_read : AreRead reads with_olds asked.objects objects after
     pub versions : List (Version Data)
-    pub whole : versions_of (items_of (map (λ f. f.value) crds)) ≡ Ok versions
+    pub whole : AreWhole crds versions
     pub some : 0 < length (all_objects objects)
+    pub held : list_all (holds_object versions (all_objects olds)) asked.olds ≡ true
+    pub compared : AreCompared asked.olds (map (λ f. f.value) (all_objects olds)) (all_objects objects)
     pub unread : List ItemData
     pub definitions : AreUnread (all_objects crds) unread
     pub judged : UnlessAny unread
         (AreItems (IsJudged versions (map (λ f. f.value) (all_objects olds))) (all_objects objects)) items
 
-  -- The definitions were read. There is at least one, and each is reviewed.
+  -- The definitions were read. There is at least one, all are well-formed, and each is reviewed.
   pub record AreReviewed (before : S) (paths : List (List ℕ)) (after : S) (items : List ItemData)
       : Type 0 where
     pub crds : List Found
     pub crds_read : AreRead reads before paths crds after
+    pub versions : List (Version Data)
+    pub whole : AreWhole crds versions
     pub some : 0 < length (all_objects crds)
     pub reviewed : AreItems IsReviewed (all_objects crds) items
 
@@ -164,16 +205,19 @@ pub record IsReported (Are : List ItemData → Type 0) (status : ℕ)
 
 -- ---- for private clauses
 
--- P holds of the items that a command reports
+-- P holds of the items that a command reports, and no fault is reported beside them
 abbrev pub IfReport : Result Report Stop → (List ItemData → Type 0) → Type 0
-IfReport (Ok r) P = P (map item_view r.items.items)
+IfReport (Ok r) P = (r.fault ≡ None) × P (map item_view r.items.items)
 IfReport (Err s) P = ⊥
+
+-- P holds of the items of a report, unless a fault is reported beside them
+abbrev pub UnlessFault : Report → (List ItemData → Type 0) → Type 0
+UnlessFault r P = r.fault ≡ None → P (map item_view r.items.items)
 
 -- the set consists of the versions of these definitions
 abbrev pub IsSetOf : List Found → CrdSet → Type 0
 IsSetOf crds set =
-    (versions : List (Version Data)) × (versions_of (items_of (map (λ f. f.value) crds)) ≡ Ok versions)
-    × (set_view set ≡ map with_tree versions)
+    (versions : List (Version Data)) × AreWhole crds versions × (set_view set ≡ map with_tree versions)
 
 -- an object is judged by a set, with the old object of the same identity, if any
 abbrev pub IsJudgedBy : CrdSet → List Data → Found → ItemData → Type 0

@@ -15,7 +15,9 @@ ghost use Rattle.std.specs.Prelude.{◌≡◌, IfOk, List, map, option_map, stri
 
 use crate::command::Check;
 use crate::item::{item_of, remark};
+use crate::olds::{refuse_unless_compared, refuse_unless_held};
 use crate::report::{Report, ReportFormat};
+use crate::set::set_or_fault;
 use crate::unread::unread_items;
 use kube_manifests::{CrdSet, Judgement, NotJudged, PatternBook, ValidationError, is_crd};
 use kubecel_io::{
@@ -50,6 +52,8 @@ pub(crate) fn checked<S: Sources, E: Write>(
     if subjects.is_empty() {
         return Err(Stop::Said(String::from_str(alloc, "no object to judge")?));
     }
+    refuse_unless_held(alloc, check.olds, &set, olds.as_slice())?;
+    refuse_unless_compared(alloc, check.olds, olds.as_slice(), subjects.as_slice())?;
     let unread = unread_items(alloc, definitions.as_slice())?;
     Ok(judge_unless_any(
         alloc,
@@ -66,39 +70,9 @@ pub(crate) fn checked<S: Sources, E: Write>(
 fn set_of(alloc: Global, documents: &[Document]) -> Result<CrdSet, Stop>
     ensures { IfOk result (IsSetOf (map document_view documents.now)) }
 {
-    let values = values_of(alloc, documents)?;
-    match CrdSet::from_documents(alloc, values.as_slice())? {
+    match set_or_fault(alloc, documents)? {
         Ok(set) => Ok(set),
-        Err(error) => {
-            let location = location_of(alloc, documents, error.document)?;
-            let (pointer, fault) = (&error.pointer, error.fault);
-            Err(Stop::Said(if pointer.is_empty() {
-                format!(in alloc; "{location}: {fault}")?
-            } else {
-                format!(in alloc; "{location}: at {pointer}: {fault}")?
-            }))
-        }
-    }
-}
-
-/// Returns copies of the documents' values.
-fn values_of(alloc: Global, documents: &[Document]) -> Result<Vec<Value>, AllocError>
-    ensures { IfOk result (λ v. map view v.items ≡ map (λ d. d.value) (map document_view documents.now)) }
-{
-    let mut values = Vec::with_capacity(alloc, documents.len())?;
-    for document in documents {
-        values.push(document.value.clone()?)?;
-    }
-    Ok(values)
-}
-
-/// Returns the location of the document at index `at`: its file and, unless it is the first there,
-/// its index in the file.
-fn location_of(alloc: Global, documents: &[Document], at: usize) -> Result<String, AllocError> {
-    match documents.get(at) {
-        Some(document) if document.index == 0 => document.file.clone(),
-        Some(document) => format!(in alloc; "{}[{}]", document.file, document.index),
-        None => Ok(String::new(alloc)),
+        Err(fault) => Err(Stop::Said(fault)),
     }
 }
 
@@ -124,6 +98,7 @@ fn judge_unless_any<E: Write>(
             noun: "no object was judged; definitions with mistakes",
             rules: None,
             compared: None,
+            fault: None,
         }),
     }
 }
@@ -162,6 +137,7 @@ fn judge_all<E: Write>(
         } else {
             Some(compared)
         },
+        fault: None,
     })
 }
 

@@ -5,16 +5,17 @@ mod admit;
 mod check;
 mod command;
 mod item;
+mod olds;
 mod report;
 mod review;
+mod set;
 mod unread;
 
 ghost use Rattle.kubecel_cli.specs.Commands.{command_view};
-ghost use Rattle.kubecel_cli.specs.Runs.{AreFound, IsReported};
-ghost use Rattle.kubecel_io.specs.Items.{item_view};
+ghost use Rattle.kubecel_cli.specs.Runs.{AreFound, IsReported, UnlessFault};
 ghost use Rattle.kubecel_io.specs.Output.{output_text};
 ghost use Rattle.std.specs.Io.KnownBytes.{Appends};
-ghost use Rattle.std.specs.Prelude.{◌≤◌, IfOk, map};
+ghost use Rattle.std.specs.Prelude.{◌≤◌, IfOk};
 
 use crate::admit::admitted;
 use crate::check::checked;
@@ -32,9 +33,9 @@ use std::io::Write;
 /// everything was judged and some rule doesn't hold. In both cases exactly the files that the
 /// command names were read, in order; the result of each thing is what the definitions state for
 /// the contents of the files; and the whole report was written to `out`, in the requested form. In
-/// all other cases the status is 2: a file can't be read or isn't JSON, a definition or policy is
-/// malformed, an object couldn't be judged, there is nothing to judge, memory is refused, or a
-/// write fails. No contract can rule out a status of 2 in further cases, since no caller knows
+/// all other cases the status is 2: a file can't be read, isn't JSON or has no document, a definition
+/// or policy is malformed, an object couldn't be judged, there is nothing to judge, no object has an
+/// old one though old ones are named, memory is refused, or a write fails. No contract can rule out a status of 2 in further cases, since no caller knows
 /// whether there is memory or whether a write succeeds.
 pub fn run<S: Sources, O: Write, E: Write>(
     alloc: Global,
@@ -62,7 +63,7 @@ fn found_by<S: Sources, E: Write>(
     err: &mut E,
 ) -> Result<Report, Stop>
     ensures { IfOk result (λ r.
-        AreFound S.reads files.old (command_view command.entry) files.new (map item_view r.items.items)) }
+        UnlessFault r (AreFound S.reads files.old (command_view command.entry) files.new)) }
 {
     match command {
         Command::Check(check) => checked(alloc, check, form, files, err),

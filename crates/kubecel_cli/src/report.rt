@@ -3,7 +3,7 @@ ghost use Rattle.kubecel_io.specs.Items.{item_view, items_status};
 ghost use Rattle.kubecel_io.specs.Output.{output_text};
 ghost use Rattle.kubecel_cli.specs.Runs.{IfReport};
 ghost use Rattle.std.specs.Io.KnownBytes.{Appends};
-ghost use Rattle.std.specs.Prelude.{◌≡◌, ◌≤◌, OnOk, map};
+ghost use Rattle.std.specs.Prelude.{◌≡◌, ◌≤◌, None, OnOk, map};
 
 use kubecel_io::{Item, Output, Refused, Stop, status_of, write_items};
 use std::alloc::Global;
@@ -31,6 +31,8 @@ pub(crate) struct Report {
     pub(crate) rules: Option<u64>,
     /// The number of objects that were compared with an old one, if old objects were given.
     pub(crate) compared: Option<u64>,
+    /// What is wrong with a definition, beside the items.
+    pub(crate) fault: Option<String>,
 }
 
 /// Writes the report, or the reason why there is none, and returns the exit status.
@@ -61,16 +63,23 @@ fn write_report<O: Write, E: Write>(
     out: &mut O,
     err: &mut E,
 ) -> u8
-    ensures reported { result ≤ 1 → (result ≡ items_status (map item_view report.now.items.items))
+    ensures reported { result ≤ 1 → (report.now.fault ≡ None)
+        × ((result ≡ items_status (map item_view report.now.items.items))
         × Appends (O.contents out.old) (O.contents out.new)
-        (output_text form.output (map item_view report.now.items.items)) }
+        (output_text form.output (map item_view report.now.items.items))) }
     ensures statuses { result ≤ 2 }
 {
     let items = report.items.as_slice();
     match write_all(alloc, form, items, out) {
         Ok(()) => {
             let _ = summarize(report, err);
-            status_of(items)
+            match &report.fault {
+                None => status_of(items),
+                Some(fault) => {
+                    let _ = writeln!(err, "kubecel: {fault}");
+                    STOPPED
+                }
+            }
         }
         Err(error) => {
             let _ = writeln!(err, "kubecel: can't write: {error}");

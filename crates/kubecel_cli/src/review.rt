@@ -1,28 +1,32 @@
 //! `review`: reports what a person should look at in CustomResourceDefinitions.
+ghost use Rattle.kube_manifests.specs.Versions.{Version};
 ghost use Rattle.kube_manifests_review.specs.Candidates as candidates;
+ghost use Rattle.kubecel_io.specs.Reads.{document_view};
 ghost use Rattle.kubecel_io.specs.Subjects.{subject_view};
 ghost use Rattle.kubecel_io.specs.Items.{finding_view, item_view};
-ghost use Rattle.kubecel_cli.specs.Runs.{AreItems, AreReviewed, IsReviewed};
+ghost use Rattle.kubecel_cli.specs.Runs.{AreItems, AreReviewed, AreWhole, IsReviewed, UnlessFault};
 ghost use Rattle.kubecel_cli.specs.Reports.{pass_unless, review_finding};
-ghost use Rattle.std.specs.Prelude.{◌≡◌, IfOk, map};
+ghost use Rattle.serde_json.specs.Data.{Data};
+ghost use Rattle.std.specs.Prelude.{◌≡◌, IfOk, List, None, map};
 
 use crate::item::{item_of, remark};
 use crate::report::Report;
+use crate::set::set_or_fault;
 use kube_manifests::is_crd;
 use kube_manifests_review::{ReviewFinding, review_crd};
 use kubecel_io::{
-    Finding, Item, Refused, Sources, Stop, Subject, Verdict, objects_of, read_documents,
+    Document, Finding, Item, Refused, Sources, Stop, Subject, Verdict, objects_of, read_documents,
 };
 use std::alloc::{AllocError, Global};
 
-/// Reviews the definitions at these paths.
+/// Reviews the definitions at these paths. If one is malformed, the report says so, too.
 pub(crate) fn reviewed<S: Sources>(
     alloc: Global,
     crds: &[&str],
     files: &mut S,
 ) -> Result<Report, Stop>
     ensures { IfOk result (λ r.
-        AreReviewed S.reads files.old (map (λ s. s.now) crds.now) files.new (map item_view r.items.items)) }
+        UnlessFault r (AreReviewed S.reads files.old (map (λ s. s.now) crds.now) files.new)) }
 {
     let documents = read_documents(alloc, crds, files)?;
     let subjects = objects_of(alloc, documents.as_slice())?;
@@ -34,7 +38,19 @@ pub(crate) fn reviewed<S: Sources>(
         noun: "definitions",
         rules: None,
         compared: None,
+        fault: fault_in(alloc, documents.as_slice())?,
     })
+}
+
+/// Returns the first fault of the first definition that has one, with its place.
+fn fault_in(alloc: Global, documents: &[Document]) -> Result<Option<String>, Refused>
+    ensures { IfOk result (λ f. f ≡ None
+        → (versions : List (Version Data)) × AreWhole (map document_view documents.now) versions) }
+{
+    match set_or_fault(alloc, documents)? {
+        Ok(_) => Ok(None),
+        Err(fault) => Ok(Some(fault)),
+    }
 }
 
 /// Reviews each definition.

@@ -1,4 +1,4 @@
-use Rattle.kubecel_cli.proofs.check.values_of.Given as goal
+use Rattle.kubecel_cli.proofs.set.values_of.Given as goal
 use Rattle.kubecel_io.specs.Reads.{document_view}
 use Rattle.serde_json.specs.View.{view}
 use Rattle.std.proofs.Common.{◌≡◌, map, take}
