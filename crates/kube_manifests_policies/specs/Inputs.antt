@@ -6,10 +6,10 @@ use Rattle.cel_syntax_ast.specs.Term.{Term}
 use Rattle.kube_cel_vap.specs.Variables.{Variables}
 use Rattle.kube_manifests_policies.specs.Uses.{asks}
 use Rattle.kube_manifests_policies.specs.declared.inputs.Input.{Input}
-use Rattle.kube_manifests_policies.specs.declared.inputs.Input.TheVariants.{Object, OldObject, Request, Params, NamespaceObject, Authorizer, SubResource, RequestKind, RequestResource, RequestSubResource, Options}
+use Rattle.kube_manifests_policies.specs.declared.inputs.Input.TheVariants.{Object, OldObject, Request, Params, NamespaceObject, Authorizer, WholeRequest, SubResource, RequestKind, RequestResource, RequestSubResource, Options}
 use Rattle.std.specs.Prelude.{ℕ, List, [], ◌∷◌, ◌++◌, Bool, true, false, if◌then◌else◌, Option, Some, None, is_some, codes}
 
--- the input as it is written in an expression
+-- the input as it is written in an expression, or a text for one that is written in many ways
 abbrev pub input_name : Input → List ℕ
 input_name Object = codes "object"
 input_name OldObject = codes "oldObject"
@@ -17,13 +17,15 @@ input_name Request = codes "request"
 input_name Params = codes "params"
 input_name NamespaceObject = codes "namespaceObject"
 input_name Authorizer = codes "authorizer"
+input_name WholeRequest = codes "request as a whole"
 input_name SubResource = codes "request.subResource"
 input_name RequestKind = codes "request.requestKind"
 input_name RequestResource = codes "request.requestResource"
 input_name RequestSubResource = codes "request.requestSubResource"
 input_name Options = codes "request.options"
 
--- the member of `request` that the input is, if any
+-- The member of `request` that the input is, if any. No member has the empty name, which an
+-- expression reads only by taking `request` as a whole.
 abbrev pub member_of : Input → Option (List ℕ)
 member_of Object = None
 member_of OldObject = None
@@ -31,6 +33,7 @@ member_of Request = None
 member_of Params = None
 member_of NamespaceObject = None
 member_of Authorizer = None
+member_of WholeRequest = Some []
 member_of SubResource = Some (codes "subResource")
 member_of RequestKind = Some (codes "requestKind")
 member_of RequestResource = Some (codes "requestResource")
@@ -51,9 +54,12 @@ abbrev pub first_asked : List Input → Term → Option Input
 first_asked [] t = None
 first_asked (i ∷ is) t = if asks_for i t then Some i else first_asked is t
 
--- `authorizer` queries an API server; requests have none of these members here
+-- `authorizer` queries an API server; requests have none of these members here, so they aren't given
+-- as a whole either
 abbrev pub never_given : List Input
-never_given = Authorizer ∷ SubResource ∷ RequestKind ∷ RequestResource ∷ RequestSubResource ∷ Options ∷ []
+never_given =
+    Authorizer ∷ WholeRequest ∷ SubResource ∷ RequestKind
+    ∷ RequestResource ∷ RequestSubResource ∷ Options ∷ []
 
 abbrev pub or_first : Option Input → Option Input → Option Input
 or_first None o = o

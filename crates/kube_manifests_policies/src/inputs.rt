@@ -28,6 +28,9 @@ pub enum Input {
     NamespaceObject,
     /// `authorizer`, which queries an API server. It is never given.
     Authorizer,
+    /// `request` as a whole, as in `request['name']` or `request == x`, which has members that are
+    /// never given.
+    WholeRequest,
     /// `request.subResource`. An [`AdmissionRequest`](crate::AdmissionRequest) doesn't carry it,
     /// nor any of the following.
     SubResource,
@@ -43,6 +46,8 @@ pub enum Input {
 
 impl Input {
     /// The input as it is written in an expression.
+    /// [`WholeRequest`](Input::WholeRequest), which may be written in many ways, is `request as a
+    /// whole`.
     pub fn name(self) -> &'static str
         ensures { result.now ≡ input_name self }
     {
@@ -53,6 +58,7 @@ impl Input {
             Input::Params => "params",
             Input::NamespaceObject => "namespaceObject",
             Input::Authorizer => "authorizer",
+            Input::WholeRequest => "request as a whole",
             Input::SubResource => "request.subResource",
             Input::RequestKind => "request.requestKind",
             Input::RequestResource => "request.requestResource",
@@ -61,7 +67,8 @@ impl Input {
         }
     }
 
-    /// The member of `request` that the input is, if any.
+    /// The member of `request` that the input is, if any. The empty name stands for `request` as a
+    /// whole.
     fn member(self) -> Option<&'static str>
         ensures { option_map (λ s. s.now) result ≡ member_of self }
     {
@@ -72,6 +79,7 @@ impl Input {
             Input::Params => None,
             Input::NamespaceObject => None,
             Input::Authorizer => None,
+            Input::WholeRequest => Some(""),
             Input::SubResource => Some("subResource"),
             Input::RequestKind => Some("requestKind"),
             Input::RequestResource => Some("requestResource"),
@@ -117,6 +125,7 @@ fn first_never(expr: &Expr) -> Option<Input>
 {
     let never = [
         Input::Authorizer,
+        Input::WholeRequest,
         Input::SubResource,
         Input::RequestKind,
         Input::RequestResource,
