@@ -1,14 +1,15 @@
 -- A text read one byte at a time.
-use Rattle.kubecel_io.specs.Documents.{IsAt, IsFirstRefused, all_read, before, depth_after, documents, ends, is_space, with_documents, with_piece, mode_after, pieces}
-use Rattle.kubecel_io.specs.Faults.{IsFault}
+use Rattle.kubecel_io.specs.Documents.{IsAt, IsFirstRefused, all_read, before, depth_after, documents, ends, is_space, read_document, with_documents, with_piece, mode_after, pieces}
+use Rattle.kubecel_io.specs.Faults.{IsFault, is_repeated_key}
 use Rattle.kubecel_io.specs.declared.cut.Mode.{Mode}
 use Rattle.kubecel_io.specs.declared.cut.Mode.TheVariants.{Outside, Within, Escaped}
 use Rattle.kubecel_io.specs.declared.documents.Reading.{Reading}
 use Rattle.kubecel_io.specs.declared.fault.Fault.{Fault}
+use Rattle.kubecel_io.specs.declared.fault.FaultKind.{FaultKind}
 use Rattle.serde_json.specs.Data.{Data}
 use Rattle.serde_json.specs.Read.{read}
 use Rattle.serde_json.specs.View.{view}
-use Rattle.std.proofs.Common.{◌≡◌, ℕ, suc, ◌+◌, ◌-◌, ◌<◌, ◌≤◌, ◌⊎◌, inl, inr, List, [], ◌∷◌, ◌++◌, append-nil, append_assoc, drop, drop-cons, get_or, length, length-append, length-drop, map, take, Bool, true, false, if◌then◌else◌, Option, Some, None, option_and_then, Result, Ok, Err, IfOk, OnErr, OnOk, refl, sym, ap, subst, arith, ◌∙◌}
+use Rattle.std.proofs.Common.{◌≡◌, ℕ, suc, ◌+◌, ◌-◌, ◌<◌, ◌≤◌, ◌⊎◌, inl, inr, List, [], ◌∷◌, ◌++◌, append-nil, append_assoc, drop, drop-cons, get_or, length, length-append, length-drop, map, take, Bool, true, false, if◌then◌else◌, Option, Some, None, option_and_then, is_some, Result, Ok, Err, IfErr, IfOk, OnOk, refl, sym, ap, subst, arith, ◌∙◌}
 use Rattle.std.proofs.lemmas.List.{drop_at, get_or_at, length-take-le, take_at}
 use Rattle.std.proofs.lemmas.Str.{IsCharBoundary-after_ascii, IsUtf8-drop, IsUtf8-take}
 use Rattle.std.specs.List.{list_all}
@@ -34,10 +35,10 @@ if_both P Q R (Ok (Ok u)) f p q = f p q
 if_both P Q R (Ok (Err e)) f p q = tt
 if_both P Q R (Err e) f p q = tt
 
-pub if_refused : {E F : Type 0} (P Q R : Type 0) (r : Result (Result (Unit {0}) E) F) → (P → Q → R) → IfOk r (λ s. OnErr s P) → IfOk r (λ s. OnErr s Q) → IfOk r (λ s. OnErr s R)
-if_refused P Q R (Ok (Ok u)) f p q = tt
-if_refused P Q R (Ok (Err e)) f p q = f p q
-if_refused P Q R (Err e) f p q = tt
+pub if_refused : {E F : Type 0} (P R : E → Type 0) (r : Result (Result (Unit {0}) E) F) → ((e : E) → P e → R e) → IfOk r (λ s. IfErr s P) → IfOk r (λ s. IfErr s R)
+if_refused P R (Ok (Ok u)) f p = tt
+if_refused P R (Ok (Err e)) f p = f e p
+if_refused P R (Err e) f p = tt
 
 pub none_before : (ds : Option (List Data)) → with_documents [] ds ≡ ds
 none_before None = refl
@@ -68,7 +69,7 @@ joined_none (Some ds) = refl
 
 all_behind : (ps qs : List (List ℕ)) → all_read (ps ++ qs) ≡ joined (all_read ps) (all_read qs)
 all_behind [] qs = sym (none_before (all_read qs))
-all_behind (p ∷ ps) qs = ap (before (read p)) (all_behind ps qs) ∙ joined_before (read p) (all_read ps) (all_read qs)
+all_behind (p ∷ ps) qs = ap (before (read_document p)) (all_behind ps qs) ∙ joined_before (read_document p) (all_read ps) (all_read qs)
 
 -- a text with a first refused document has no list of documents
 pub none_read : (text b d e : List ℕ) → IsFirstRefused text b d e → documents text ≡ None
@@ -181,20 +182,23 @@ at_ended text r s p x rest ended piece read begun at =
       characters = subst (λ q. IsUtf8 (q ++ rest)) (sym begun.2) (whole_behind r.piece.now x rest (ends_ascii r.mode r.depth x ended) at.characters);
     }
 
--- the document isn't JSON
-pub at_refused : (text : List ℕ) (r : Reading) (p : List ℕ) (x : ℕ) (rest : List ℕ) → ends r.mode r.depth x ≡ true → p ≡ r.piece.now ++ x ∷ []
-    → (list_all is_space p ≡ false) × (IsUtf8 p → read p ≡ None) → IsAt text r (x ∷ rest) → (b : List ℕ) × IsFirstRefused text b p rest
-at_refused text r p x rest ended piece refused at =
+-- the document is refused
+pub at_refused : (text : List ℕ) (r : Reading) (p : List ℕ) (x : ℕ) (rest : List ℕ) (kind : FaultKind) → ends r.mode r.depth x ≡ true → p ≡ r.piece.now ++ x ∷ []
+    → (list_all is_space p ≡ false) × (IsUtf8 p → (read_document p ≡ None) × (is_repeated_key kind ≡ is_some (read p))) → IsAt text r (x ∷ rest)
+    → (b : List ℕ) × IsFirstRefused text b p rest × (is_repeated_key kind ≡ is_some (read p))
+at_refused text r p x rest kind ended piece refused at =
     let whole = at.whole ∙ ap (λ ys. at.before ++ ys) (shifted r.piece.now p x rest piece) in
-    let characters = whole_before r.piece.now x rest (ends_ascii r.mode r.depth x ended) at.characters in (
+    let characters = whole_before r.piece.now x rest (ends_ascii r.mode r.depth x ended) at.characters in
+    let why = refused.1 (subst IsUtf8 (sym piece) characters) in (
       at.before,
       record {
         whole = whole;
         cut = ap (pieces Outside 0 []) whole ∙ cut_off text r p x rest rest ended piece at
             ∙ ap (λ ps. pieces Outside 0 [] at.before ++ ps) (piece_kept p (pieces Outside 0 [] rest) refused.0);
         read_before = rw at.values refl;
-        refused = refused.1 (subst IsUtf8 (sym piece) characters);
+        refused = why.0;
       },
+      why.1,
     )
 
 -- the text is at its end
@@ -210,18 +214,21 @@ at_end text r s read at =
     ap all_read (cut_last text r at) ∙ all_behind (pieces Outside 0 [] at.before) last ∙ ap (λ vs. joined vs (all_read last)) at.values
     ∙ read [] ∙ none_behind (map view s.found.items)
 
-pub at_end_refused : (text : List ℕ) (r : Reading) → (list_all is_space r.piece.now ≡ false) × (IsUtf8 r.piece.now → read r.piece.now ≡ None)
-    → IsAt text r [] → (b : List ℕ) × IsFirstRefused text b r.piece.now []
-at_end_refused text r refused at =
+pub at_end_refused : (text : List ℕ) (r : Reading) (kind : FaultKind)
+    → (list_all is_space r.piece.now ≡ false) × (IsUtf8 r.piece.now → (read_document r.piece.now ≡ None) × (is_repeated_key kind ≡ is_some (read r.piece.now)))
+    → IsAt text r [] → (b : List ℕ) × IsFirstRefused text b r.piece.now [] × (is_repeated_key kind ≡ is_some (read r.piece.now))
+at_end_refused text r kind refused at =
     let p = r.piece.now in
+    let why = refused.1 (subst IsUtf8 (append-nil p) at.characters) in
     let ps = pieces Outside 0 [] at.before in (
       at.before,
       record {
         whole = at.whole;
         cut = cut_last text r at ∙ ap (λ qs. ps ++ qs) (piece_kept p [] refused.0) ∙ ap (λ qs. ps ++ p ∷ qs) (sym no_pieces);
         read_before = rw at.values refl;
-        refused = refused.1 (subst IsUtf8 (append-nil p) at.characters);
+        refused = why.0;
       },
+      why.1,
     )
 
 -- taking the next byte
@@ -251,8 +258,9 @@ pub ends_last : (text b d : List ℕ) → IsFirstRefused text b d [] → length 
 ends_last text b d first = sym (ap length first.whole ∙ length-append b (d ++ []) ∙ ap (λ xs. length b + length xs) (append-nil d))
 
 -- the fault of a text is that of its bytes
-pub same_fault : (text bytes b piece slice behind : List ℕ) (n : ℕ) (f : Fault) → IsFirstRefused text b piece behind → bytes ≡ text → slice ≡ piece → length b + length piece ≡ n
-    → ((c e : List ℕ) → IsFirstRefused bytes c slice e → length c + length slice ≡ n → IsFault bytes f) → IsFault text f
-same_fault text bytes b piece slice behind n f first same part ends fault =
+pub same_fault : (text bytes b piece slice behind : List ℕ) (n : ℕ) (kind : FaultKind) (f : Fault) → IsFirstRefused text b piece behind → bytes ≡ text → slice ≡ piece
+    → is_repeated_key kind ≡ is_some (read piece) → length b + length piece ≡ n
+    → ((c e : List ℕ) → IsFirstRefused bytes c slice e → is_repeated_key kind ≡ is_some (read slice) → length c + length slice ≡ n → IsFault bytes f) → IsFault text f
+same_fault text bytes b piece slice behind n kind f first same part why ends fault =
     let again = subst (λ t. IsFirstRefused t b slice behind) (sym same) (subst (λ d. IsFirstRefused text b d behind) (sym part) first) in
-    subst (λ t. IsFault t f) same (fault b behind again (subst (λ d. length b + length d ≡ n) (sym part) ends))
+    subst (λ t. IsFault t f) same (fault b behind again (subst (λ d. is_repeated_key kind ≡ is_some (read d)) (sym part) why) (subst (λ d. length b + length d ≡ n) (sym part) ends))

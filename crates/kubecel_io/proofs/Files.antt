@@ -1,16 +1,24 @@
 -- Files read one after another.
+use Rattle.kubecel_io.specs.Documents.{documents}
 use Rattle.kubecel_io.specs.Reads.{AreRead, Found, IsRead, IsUnread, Stops, document_view, with_indices}
 use Rattle.kubecel_io.specs.declared.sources.Document.{Document}
 use Rattle.serde_json.specs.Data.{Data}
 use Rattle.serde_json.specs.View.{view}
 use Rattle.serde_json.specs.declared.value.Value.{Value}
-use Rattle.std.proofs.Common.{◌≡◌, ℕ, ◌+◌, List, [], ◌∷◌, ◌++◌, ◌<◌, get_or, take, map, length, string_bytes, Option, Some, None, IfSome, suc, drop, drop-cons, refl, arith, sym, ap, subst, ◌∙◌}
+use Rattle.std.proofs.Common.{◌≡◌, ℕ, ◌+◌, List, [], ◌∷◌, ◌++◌, ◌<◌, inr, get_or, take, map, length, codes, string_bytes, Option, Some, None, IfSome, suc, drop, drop-cons, refl, arith, sym, ap, subst, ◌∙◌}
 use Rattle.std.proofs.lemmas.List.{append_assoc, append-nil, map-append, take-append-drop, take_more}
 use denote.Ref.{Bor}
 
 pub none_read : {S : Type 0} (reads : S → List ℕ → Option (List ℕ) → S → Type 0) (a : S) → AreRead reads a [] [] a
 unfolding AreRead
 none_read reads a = (refl, refl)
+
+-- a file without a document
+pub no_document : {S : Type 0} (reads : S → List ℕ → Option (List ℕ) → S → Type 0) (a b : S) (path words bytes text : List ℕ) (values : List Value)
+    → reads a path (Some text) b → bytes ≡ text → documents bytes ≡ Some (map view values) → length values ≡ 0 → words ≡ path ++ codes ": no document"
+    → IsUnread reads a path words b
+no_document reads a b path words bytes text [] given same means none said = inr (inr (text, given, ap documents (sym same) ∙ means, said))
+no_document reads a b path words bytes text (v ∷ vs) given same means none said = absurd (omega arith)
 
 -- one more file is read
 pub one_more_read : {S : Type 0} (reads : S → List ℕ → Option (List ℕ) → S → Type 0) (a b c : S) (paths : List (List ℕ)) (path : List ℕ) (found : List Found) (values : List Data)

@@ -1,4 +1,5 @@
 pub mod Cuts
+pub mod Distinct
 pub mod Files
 pub mod Lists
 pub mod Statuses

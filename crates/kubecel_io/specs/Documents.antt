@@ -2,6 +2,8 @@
 -- The JSON documents that follow one another in a text. RFC 8259 defines what a document is, which
 -- bytes are white space (section 2), and how strings end (section 7). A document ends at white
 -- space outside all brackets, at the bracket that closes its first one, or at the end of the text.
+-- One in which an object has a key twice is refused.
+use Rattle.kubecel_io.specs.Repeats.{has_unique_keys}
 use Rattle.kubecel_io.specs.declared.cut.Mode.{Mode}
 use Rattle.kubecel_io.specs.declared.cut.Mode.TheVariants.{Outside, Within, Escaped}
 use Rattle.kubecel_io.specs.declared.documents.Reading.{Reading}
@@ -53,24 +55,29 @@ pieces mode depth piece (x ∷ xs) =
     if ends mode depth x then with_piece (piece ++ x ∷ []) (pieces Outside 0 [] xs)
     else pieces (mode_after mode x) (depth_after mode depth x) (piece ++ x ∷ []) xs
 
+-- the value of a document; none if it isn't JSON, or if an object in it has a key twice
+unfoldable pub read_document : List ℕ → Option Data
+read_document text = if has_unique_keys text then read text else None
+
 abbrev pub before : Option Data → Option (List Data) → Option (List Data)
 before x xs = option_and_then (λ d. option_map (λ ds. d ∷ ds) xs) x
 
--- the values of these texts; none if one of them isn't JSON
+-- the values of these texts; none if one of them has none
 abbrev pub all_read : List (List ℕ) → Option (List Data)
 all_read [] = Some []
-all_read (p ∷ ps) = before (read p) (all_read ps)
+all_read (p ∷ ps) = before (read_document p) (all_read ps)
 
--- the documents of a text, in order; none if one of them isn't JSON
+-- the documents of a text, in order; none if one of them isn't JSON or has a key twice
 abbrev pub documents : List ℕ → Option (List Data)
 documents text = all_read (pieces Outside 0 [] text)
 
--- `document` is the text's first document that isn't JSON, with `before` and `behind` around it
+-- `document` is the text's first document that isn't JSON or has a key twice, with `before` and
+-- `behind` around it
 pub record IsFirstRefused (text before document behind : List ℕ) : Type 0 where
   pub whole : text ≡ before ++ (document ++ behind)
   pub cut : pieces Outside 0 [] text ≡ pieces Outside 0 [] before ++ document ∷ pieces Outside 0 [] behind
   pub read_before : IsSome (documents before)
-  pub refused : read document ≡ None
+  pub refused : read_document document ≡ None
 
 -- ---- for private clauses
 

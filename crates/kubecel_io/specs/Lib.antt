@@ -1,3 +1,4 @@
+pub mod Repeats
 pub mod Documents
 pub mod Reads
 pub mod Objects

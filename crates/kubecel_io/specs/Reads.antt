@@ -1,6 +1,7 @@
 -- Trusted by the clauses of kubecel.
 -- The input of a run of `kubecel`: the files that it names, in order, and the documents in them; or
--- the first file that can't be read, isn't JSON or has no document, and the message about it.
+-- the first file that can't be read, isn't JSON, has a key twice in an object or has no document,
+-- and the message about it.
 use Rattle.kubecel_io.specs.Documents.{documents}
 use Rattle.kubecel_io.specs.Faults.{IsFault, fault_text}
 use Rattle.kubecel_io.specs.declared.fault.Fault.{Fault}
@@ -46,7 +47,8 @@ module _ {S : Type 0} (reads : S → List ℕ → Option (List ℕ) → S → Ty
       × (found ≡ with_indices path 0 values ++ rest)
 
   -- the file at this path has no documents, and these words say why: it can't be read, for an
-  -- unspecified reason; it isn't JSON at the given place; or its text is white space only
+  -- unspecified reason; it isn't JSON or has a key twice, at the given place; or its text is white
+  -- space only
   abbrev pub IsUnread : S → List ℕ → List ℕ → S → Type 0
   IsUnread before path words after =
       (reads before path None after × (reason : List ℕ) × (words ≡ path ++ (codes ": " ++ reason)))
@@ -56,7 +58,7 @@ module _ {S : Type 0} (reads : S → List ℕ → Option (List ℕ) → S → Ty
       × (words ≡ path ++ codes ": no document")))
 
   -- the files at the first of these paths were read in order, and the next one can't be read, isn't
-  -- JSON or has no document
+  -- JSON, has a key twice in an object or has no document
   pub record Stops (before : S) (paths : List (List ℕ)) (words : List ℕ) (after : S) : Type 0 where
     pub first : List (List ℕ)
     pub path : List ℕ

@@ -1,17 +1,19 @@
 //! Reads the documents of a text.
-ghost use Rattle.kubecel_io.specs.Documents.{IsAt, IsFirstRefused, all_read, documents, is_space, with_documents, with_piece};
-ghost use Rattle.kubecel_io.specs.Faults.{IsFault};
+ghost use Rattle.kubecel_io.specs.Documents.{IsAt, IsFirstRefused, all_read, documents, is_space, read_document, with_documents, with_piece};
+ghost use Rattle.kubecel_io.specs.Faults.{IsFault, is_repeated_key};
 ghost use Rattle.kubecel_io.specs.declared.cut.Mode.TheVariants.{Outside};
 ghost use Rattle.serde_json.specs.View.{view};
 ghost use Rattle.std.specs.List.{list_all};
 ghost use Rattle.serde_json.specs.Read.{read};
-ghost use Rattle.std.specs.Prelude.{◌≡◌, ◌∷◌, ◌++◌, ◌⊎◌, [], ℕ, List, Some, None, false, IfErr, IfOk, OnErr, OnOk, map};
+ghost use Rattle.std.specs.Prelude.{◌≡◌, ◌∷◌, ◌++◌, ◌⊎◌, [], ℕ, List, Some, None, false, IfErr, IfOk, OnErr, OnOk, is_some, map};
 ghost use Rattle.std.specs.Str.{IsUtf8};
 
 use crate::cut::{Mode, is_space};
-use crate::fault::{Fault, fault_in};
+use crate::fault::{Fault, FaultKind, Flaw, fault_in};
+use crate::keys::repeated_key;
+use crate::unique::has_unique_keys;
 use kube_types_refused::Refused;
-use serde_json::{Error, Value};
+use serde_json::Value;
 use std::alloc::Global;
 
 /// The state of reading a text.
@@ -33,24 +35,52 @@ fn is_blank(piece: &[u8]) -> bool
     piece.iter().all(|byte| is_space(*byte))
 }
 
+/// Reads a document.
+///
+/// # Errors
+/// What is wrong with it, if it isn't JSON or an object in it has a key twice.
+#[tactic(auto, unfolding(crate::specs::Documents::read_document))]
+fn read_document(alloc: Global, document: &[u8]) -> Result<Result<Value, Flaw>, Refused>
+    ensures read { IfOk result (λ r. IfOk r (λ v. read_document document.now ≡ Some (view v))) }
+    ensures refused { IfOk result (λ r. IfErr r (λ flaw. IsUtf8 document.now
+        → (read_document document.now ≡ None) × (is_repeated_key flaw.kind ≡ is_some (read document.now)))) }
+{
+    let Ok(text) = str::from_utf8(document) else {
+        let kind = FaultKind::NotJson;
+        return Ok(Err(Flaw { kind, offset: 0 }));
+    };
+    let is_unique = has_unique_keys(alloc, text)?;
+    match Value::from_str(alloc, text) {
+        Ok(value) if is_unique => Ok(Ok(value)),
+        Ok(_) => {
+            let kind = FaultKind::RepeatedKey;
+            let offset = repeated_key(alloc, document)?;
+            Ok(Err(Flaw { kind, offset }))
+        }
+        Err(error) if error.is_memory() => Err(Refused::Memory),
+        Err(error) => Ok(Err(Flaw::of_error(document, &error))),
+    }
+}
+
 impl<'t> Reading<'t> {
     /// Reads one byte, with which the current document is `piece` so far.
     ///
     /// # Errors
-    /// The parser's error if a document ends here that isn't JSON.
+    /// What is wrong with the document that ends here, if it is refused.
     fn take(
         &mut self,
         alloc: Global,
         piece: &'t [u8],
         byte: u8,
-    ) -> Result<Result<(), Error>, Refused>
+    ) -> Result<Result<(), Flaw>, Refused>
         requires { piece.now ≡ self.old.piece.now ++ byte ∷ [] }
         ensures read { IfOk result (λ r. OnOk r ((text rest : List ℕ)
             → IsAt text self.old (byte ∷ rest) → IsAt text self.new rest)) }
         ensures piece { IfOk result (λ r. OnOk r
             ((self.new.piece.now ≡ piece.now) ⊎ (self.new.piece.now ≡ []))) }
-        ensures refused { IfOk result (λ r. OnErr r ((text rest : List ℕ) → IsAt text self.old (byte ∷ rest)
-            → (before : List ℕ) × IsFirstRefused text before piece.now rest)) }
+        ensures refused { IfOk result (λ r. IfErr r (λ flaw. (text rest : List ℕ) → IsAt text self.old (byte ∷ rest)
+            → (before : List ℕ) × IsFirstRefused text before piece.now rest
+            × (is_repeated_key flaw.kind ≡ is_some (read piece.now)))) }
     {
         let depth = self
             .mode
@@ -69,21 +99,21 @@ impl<'t> Reading<'t> {
     /// Ends the current document, if one has begun.
     ///
     /// # Errors
-    /// The parser's error if the document isn't JSON.
-    fn end(&mut self, alloc: Global) -> Result<Result<(), Error>, Refused>
+    /// What is wrong with the document, if it is refused.
+    fn end(&mut self, alloc: Global) -> Result<Result<(), Flaw>, Refused>
         ensures read { IfOk result (λ r. OnOk r ((rest : List (List ℕ))
             → with_documents (map view self.old.found.items) (all_read (with_piece self.old.piece.now rest))
             ≡ with_documents (map view self.new.found.items) (all_read rest))) }
         ensures begun { IfOk result (λ r. OnOk r ((self.new.mode ≡ Outside) × (self.new.depth ≡ 0)
             × (self.new.piece.now ≡ []))) }
-        ensures refused { IfOk result (λ r. OnErr r ((list_all is_space self.old.piece.now ≡ false)
-            × (IsUtf8 self.old.piece.now → read self.old.piece.now ≡ None))) }
+        ensures refused { IfOk result (λ r. IfErr r (λ flaw. (list_all is_space self.old.piece.now ≡ false)
+            × (IsUtf8 self.old.piece.now → (read_document self.old.piece.now ≡ None)
+            × (is_repeated_key flaw.kind ≡ is_some (read self.old.piece.now))))) }
     {
         if !is_blank(self.piece) {
-            match Value::from_slice(alloc, self.piece) {
+            match read_document(alloc, self.piece)? {
                 Ok(value) => self.found.push(value)?,
-                Err(error) if error.is_memory() => return Err(Refused::Memory),
-                Err(error) => return Ok(Err(error)),
+                Err(flaw) => return Ok(Err(flaw)),
             }
         }
         self.mode = Mode::Outside;
@@ -96,8 +126,8 @@ impl<'t> Reading<'t> {
 /// Parses the JSON documents that follow one another in a text.
 ///
 /// # Errors
-/// The place where the first malformed document isn't JSON. [`Refused`] if memory is refused or a
-/// number of open brackets overflows.
+/// The place of the first document that isn't JSON, or in which an object has a key twice.
+/// [`Refused`] if memory is refused or a number of open brackets overflows.
 pub fn documents_of(alloc: Global, text: &str) -> Result<Result<Vec<Value>, Fault>, Refused>
     ensures read { IfOk result (λ r. IfOk r (λ v. documents text.now ≡ Some (map view v.items))) }
     ensures refused { IfOk result (λ r. OnErr r (documents text.now ≡ None)) }
@@ -112,14 +142,14 @@ pub fn documents_of(alloc: Global, text: &str) -> Result<Result<Vec<Value>, Faul
     };
     for (i, byte) in bytes.iter().enumerate() {
         let piece = &bytes[i - reading.piece.len()..i + 1];
-        if let Err(error) = reading.take(alloc, piece, *byte)? {
-            let fault = fault_in(bytes, piece, i + 1, &error);
+        if let Err(flaw) = reading.take(alloc, piece, *byte)? {
+            let fault = fault_in(bytes, piece, i + 1, flaw);
             return Ok(Err(fault));
         }
     }
     let piece = reading.piece;
-    if let Err(error) = reading.end(alloc)? {
-        let fault = fault_in(bytes, piece, bytes.len(), &error);
+    if let Err(flaw) = reading.end(alloc)? {
+        let fault = fault_in(bytes, piece, bytes.len(), flaw);
         return Ok(Err(fault));
     }
     Ok(Ok(reading.found))

@@ -1,20 +1,39 @@
-//! Locates the place where a text isn't JSON.
+//! Locates the place where a text isn't JSON or has a key twice.
 ghost use Rattle.kubecel_io.specs.Documents.{IsFirstRefused};
-ghost use Rattle.kubecel_io.specs.Faults.{IsFault, column_behind, fault_text, fault_words, line_behind};
-ghost use Rattle.std.specs.Prelude.{◌≡◌, ◌≤◌, ◌+◌, ℕ, List, Some, length};
+ghost use Rattle.kubecel_io.specs.Faults.{IsFault, column_behind, fault_text, fault_words, is_repeated_key, line_behind};
+ghost use Rattle.serde_json.specs.Read.{read};
+ghost use Rattle.std.specs.Prelude.{◌≡◌, ◌≤◌, ◌+◌, ℕ, List, Some, false, is_some, length};
 
 use serde_json::Error;
 use std::fmt;
 
-/// The place where a text isn't JSON: within its first malformed document, or right after it.
+/// What is wrong with a document.
+#[derive(Clone, Copy, Drop)]
+pub enum FaultKind {
+    /// It isn't JSON.
+    NotJson,
+    /// It isn't JSON, because the text ends before the document does.
+    CutShort,
+    /// It is JSON, but an object in it has a key twice.
+    RepeatedKey,
+}
+
+/// What is wrong with a text, and the place: within its first document that isn't JSON or has a key
+/// twice, or right after that document.
 #[derive(Clone, Copy, Drop)]
 pub struct Fault {
     /// The line, counted from 1.
     pub line: usize,
     /// The byte in the line, counted from 1.
     pub column: usize,
-    /// Whether the text ends before the document does.
-    pub is_cut: bool,
+    pub kind: FaultKind,
+}
+
+/// What is wrong with a document, and the offset of the place in it.
+#[derive(Clone, Copy, Drop)]
+pub(crate) struct Flaw {
+    pub(crate) kind: FaultKind,
+    pub(crate) offset: usize,
 }
 
 /// Returns the place of the byte that follows a text: its line, and its position in bytes in that
@@ -54,31 +73,44 @@ fn offset_of(text: &[u8], line: usize, column: usize) -> usize
         .min(text.len())
 }
 
-/// Returns the place where a malformed document isn't JSON, given the parser's error. The document
-/// ends at the offset `end` of the text.
-pub(crate) fn fault_in(text: &[u8], document: &[u8], end: usize, error: &Error) -> Fault
-    ensures { (before behind : List ℕ) → IsFirstRefused text.now before document.now behind
-        → length before + length document.now ≡ end → IsFault text.now result }
-{
-    let begin = end.saturating_sub(document.len());
-    let within = offset_of(document, error.line(), error.column());
-    let offset = begin.saturating_add(within).min(text.len());
-    let (line, column) = place_behind(&text[..offset]);
-    Fault {
-        line,
-        column,
-        is_cut: error.is_eof(),
+impl Flaw {
+    /// Returns what is wrong with a document that isn't JSON, given the parser's error.
+    pub(crate) fn of_error(document: &[u8], error: &Error) -> Flaw
+        ensures { is_repeated_key result.kind ≡ false }
+    {
+        let kind = if error.is_eof() {
+            FaultKind::CutShort
+        } else {
+            FaultKind::NotJson
+        };
+        let offset = offset_of(document, error.line(), error.column());
+        Flaw { kind, offset }
     }
 }
 
-/// Returns a description of the fault.
-fn fault_words(is_cut: bool) -> &'static str
-    ensures { result.now ≡ fault_words is_cut }
+/// Returns what is wrong with a text, given what is wrong with its first refused document, which
+/// ends at the offset `end` of the text.
+pub(crate) fn fault_in(text: &[u8], document: &[u8], end: usize, flaw: Flaw) -> Fault
+    ensures { (before behind : List ℕ) → IsFirstRefused text.now before document.now behind
+        → is_repeated_key flaw.kind ≡ is_some (read document.now)
+        → length before + length document.now ≡ end → IsFault text.now result }
 {
-    if is_cut {
-        "unexpected end of JSON"
-    } else {
-        "invalid JSON"
+    let begin = end.saturating_sub(document.len());
+    let within = flaw.offset.min(document.len());
+    let offset = begin.saturating_add(within).min(text.len());
+    let (line, column) = place_behind(&text[..offset]);
+    let kind = flaw.kind;
+    Fault { line, column, kind }
+}
+
+/// Returns a description of a kind of fault.
+fn fault_words(kind: FaultKind) -> &'static str
+    ensures { result.now ≡ fault_words kind }
+{
+    match kind {
+        FaultKind::NotJson => "invalid JSON",
+        FaultKind::CutShort => "unexpected end of JSON",
+        FaultKind::RepeatedKey => "repeated key",
     }
 }
 
@@ -86,7 +118,7 @@ impl fmt::Display for Fault {
     ghost output = { λ f. Some (fault_text f) };
 
     fn fmt<W: fmt::Write>(&self, f: &mut fmt::Formatter<W>) -> fmt::Result {
-        let what = fault_words(self.is_cut);
+        let what = fault_words(self.kind);
         write!(f, "{}:{}: {what}", self.line, self.column)
     }
 }

@@ -8,15 +8,17 @@ mod escape;
 mod fault;
 mod item;
 mod json;
+mod keys;
 mod lines;
 mod objects;
 mod output;
 mod sources;
 mod subject;
 mod subjects;
+mod unique;
 
 pub use documents::documents_of;
-pub use fault::Fault;
+pub use fault::{Fault, FaultKind};
 pub use item::{Finding, Item, Verdict, status_of};
 pub use kube_types_refused::Refused;
 pub use objects::{Identity, objects_in};

@@ -61,8 +61,8 @@ pub struct Document {
 /// Reads the documents of the files at these paths, in order.
 ///
 /// # Errors
-/// The first file that can't be read, that isn't made of JSON documents, with the place where it
-/// isn't JSON, or that has no document.
+/// The first file that can't be read, that isn't made of JSON documents or has a key twice in an
+/// object, with the place, or that has no document.
 pub fn read_documents<S: Sources>(
     alloc: Global,
     paths: &[&str],
