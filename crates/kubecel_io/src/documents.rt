@@ -127,7 +127,8 @@ impl<'t> Reading<'t> {
 ///
 /// # Errors
 /// The place of the first document that isn't JSON, or in which an object has a key twice.
-/// [`Refused`] if memory is refused or a number of open brackets overflows.
+/// [`Refused`] if memory is refused, a document is too long, or a number of open brackets
+/// overflows.
 pub fn documents_of(alloc: Global, text: &str) -> Result<Result<Vec<Value>, Fault>, Refused>
     ensures read { IfOk result (λ r. IfOk r (λ v. documents text.now ≡ Some (map view v.items))) }
     ensures refused { IfOk result (λ r. OnErr r (documents text.now ≡ None)) }
