@@ -7,7 +7,7 @@ mod documents;
 mod escape;
 mod fault;
 mod item;
-mod json;
+mod json_report;
 mod keys;
 mod lines;
 mod objects;

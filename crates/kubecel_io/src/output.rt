@@ -8,7 +8,7 @@ ghost use Rattle.std.specs.List.{flat_map};
 ghost use Rattle.std.specs.Prelude.{◌≡◌, OnOk, length, map};
 
 use crate::item::Item;
-use crate::json::write_json_items;
+use crate::json_report::write_json_items;
 use crate::lines::{write_github_item, write_junit_item, write_number, write_text_item};
 use std::alloc::Global;
 use std::io;

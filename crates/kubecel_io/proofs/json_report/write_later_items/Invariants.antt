@@ -1,4 +1,4 @@
-use Rattle.kubecel_io.proofs.json.write_later_items.Given as goal
+use Rattle.kubecel_io.proofs.json_report.write_later_items.Given as goal
 use Rattle.kubecel_io.specs.Items.{item_view}
 use Rattle.kubecel_io.specs.Json.{later_item}
 use Rattle.std.proofs.Common.{map, take, flat_map}

@@ -1,4 +1,4 @@
-use Rattle.kubecel_io.proofs.json.write_later_findings.Given as goal
+use Rattle.kubecel_io.proofs.json_report.write_later_findings.Given as goal
 use Rattle.kubecel_io.specs.Items.{finding_view}
 use Rattle.kubecel_io.specs.Json.{later_finding}
 use Rattle.std.proofs.Common.{map, take, flat_map}

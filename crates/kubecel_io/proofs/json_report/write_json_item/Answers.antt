@@ -1,5 +1,5 @@
 use Rattle.kubecel_io.proofs.Writes.{then_last}
-use Rattle.kubecel_io.proofs.json.write_json_item.Goals as goal
+use Rattle.kubecel_io.proofs.json_report.write_json_item.Goals as goal
 use Rattle.kubecel_io.specs.Json.{json_item}
 
 pub returns : goal.returns
