@@ -13,10 +13,10 @@ use Rattle.kube_cel_walk.proofs.Entries.{names_of, keys_of_map, keys_of_none}
 use Rattle.kube_cel_walk.specs.Answers.{verdicts, answer, answer_if_reached, found_through}
 use Rattle.kube_cel_walk.specs.WalkAccessors.{WalkAccessors}
 use Rattle.serde_json.proofs.Views.{Entry, items_len-items_view}
-use Rattle.serde_json.specs.Data.{Data, null, boolean, number, string, array, object, Items, no_items}
+use Rattle.serde_json.specs.Data.{Data, null, boolean, number, string, array, object, Items, no_items, Members}
 use Rattle.serde_json.specs.declared.value.Value.{Value}
 use Rattle.serde_json.specs.Events.{items_len}
-use Rattle.serde_json.specs.Find.{get, at, get_item, as_array, as_object}
+use Rattle.serde_json.specs.Find.{get, at, get_item, get_member, as_array, as_object}
 use Rattle.serde_json.specs.View.{members_view, items_view}
 use Rattle.std.proofs.Common.{◌≡◌, ◌+◌, ℕ, suc, List, [], ◌∷◌, ◌++◌, map, length, Option, Some, None, option_and_then, unwrap_or, string_cmp, refl, sym, ap, ◌∙◌, append_assoc, append-nil, add-one}
 use Rattle.std.proofs.lemmas.List.{flat_map_more, map-append}
@@ -44,6 +44,14 @@ item_of i (number n) ds e = cc
 item_of i (string s) ds e = cc
 item_of i (object ms) ds e = cc
 item_of i (array cs) ds e = let same : ds ≡ cs = cc in ap (get_item i) (sym same)
+
+pub member_of : (k : List ℕ) (d : Data) (ms : Members) → Some ms ≡ as_object d → get k d ≡ get_member k ms
+member_of k null ms e = cc
+member_of k (boolean b) ms e = cc
+member_of k (number n) ms e = cc
+member_of k (string s) ms e = cc
+member_of k (array ds) ms e = cc
+member_of k (object ns) ms e = let same : ms ≡ ns = cc in ap (get_member k) (sym same)
 
 unless_none : {S : Type 0} (o : Option S) → unless_there o None ≡ None
 unless_none None = refl

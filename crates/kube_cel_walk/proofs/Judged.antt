@@ -11,7 +11,7 @@ use Rattle.kube_cel_walk.specs.Verdicts.{list_of_option, verdict, with_old, with
 use Rattle.kube_cel_walk.specs.Answers.{bound_at, place_bindings, rule_verdicts, verdicts}
 use Rattle.kube_cel_walk.specs.WalkAccessors.{WalkAccessors, is_none_of}
 use Rattle.kube_schema_rules.specs.Demands.{rules_read}
-use Rattle.std.proofs.Common.{◌≡◌, ◌==◌, ℕ, List, [], ◌∷◌, Bool, true, false, Option, option_map, codes, if◌then◌else◌, refl, sym, ap, ◌∙◌, arith}
+use Rattle.std.proofs.Common.{◌≡◌, ◌==◌, ℕ, List, [], ◌∷◌, Bool, true, false, Option, None, option_map, codes, if◌then◌else◌, refl, sym, ap, ◌∙◌, subst, arith}
 use Rattle.std.proofs.lemmas.Bool.Decides.{nat_tests}
 use Rattle.std.specs.List.{flat_map}
 
@@ -26,6 +26,14 @@ module _ {S : Type 0} (form : WalkAccessors S) where
   unfolding place_bindings
   placed read s e1 e2 h1 h2 = names_rooted read s.root e2 e1 (with_old (option_map (bound_at form s) s.old) ((codes "self", bound_at form s s.value) ∷ [])) h1 h2
 
+  -- `self` alone, where there are no other names
+  pub alone : (read : List ℕ → Option Part) (s : Visit S) (e : Bindings) → s.old ≡ None → s.root ≡ None
+      → NamesAlike read e ((codes "self", bound_at form s s.value) ∷ []) → NamesAlike read e (place_bindings form s)
+  unfolding place_bindings
+  alone read s e no_old no_root h =
+      subst (λ o. NamesAlike read e (with_root s.root (with_old (option_map (bound_at form s) o) ((codes "self", bound_at form s s.value) ∷ [])))) (sym no_old)
+      (subst (λ r. NamesAlike read e (with_root r ((codes "self", bound_at form s s.value) ∷ []))) (sym no_root) h)
+
   at_depth : Book → Visit S → Bool → List ErrorData
   at_depth b s t = if t then too_deep s.path ∷ [] else rule_verdicts form b (place_bindings form s) s
 
@@ -39,8 +47,11 @@ module _ {S : Type 0} (form : WalkAccessors S) where
   unfolding verdicts at_depth rule_verdicts
   none_found b s t n = ap (at_depth b s) t ∙ none_in (λ r. list_of_option (verdict b (place_bindings form s) s.old s.path r)) (form.rules s.node) n
 
-  pub rules_found : (b : Book) (s : Visit S) (e : Bindings) → (s.depth == 65) ≡ false → NamesAlike (λ x. rules_read x (form.rules s.node)) e (place_bindings form s)
-      → verdicts form b s ≡ flat_map (λ r. list_of_option (verdict b e s.old s.path r)) (form.rules s.node)
-  unfolding verdicts at_depth rule_verdicts
-  rules_found b s e t h =
-      ap (at_depth b s) t ∙ sym (verdicts_read b e (place_bindings form s) s.old s.path (form.rules s.node) h)
+  pub shallow_found : (b : Book) (s : Visit S) → (s.depth == 65) ≡ false → verdicts form b s ≡ rule_verdicts form b (place_bindings form s) s
+  unfolding verdicts at_depth
+  shallow_found b s t = ap (at_depth b s) t
+
+  pub rules_found : (b : Book) (s : Visit S) (e : Bindings) → NamesAlike (λ x. rules_read x (form.rules s.node)) e (place_bindings form s)
+      → flat_map (λ r. list_of_option (verdict b e s.old s.path r)) (form.rules s.node) ≡ rule_verdicts form b (place_bindings form s) s
+  unfolding rule_verdicts
+  rules_found b s e h = verdicts_read b e (place_bindings form s) s.old s.path (form.rules s.node) h

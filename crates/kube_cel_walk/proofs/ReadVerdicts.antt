@@ -11,12 +11,13 @@ use Rattle.cel_syntax_ast.specs.Term.{Term}
 use Rattle.cel_value.specs.Data.{Data, null, text}
 use Rattle.kube_schema_rules.specs.Visit.{Root}
 use Rattle.kube_cel_walk.specs.Verdicts.{is_applicable, is_old_null, list_of_option, outcome_in, failed_message, outcome_error, bound_verdict, rule_bindings, verdict, with_root}
+use Rattle.kube_cel_walk.specs.Kept.{AreSameOthers}
 use Rattle.kube_functions.specs.Kube.{all_library}
 use Rattle.kube_schema_rules.specs.Compilation.{Compiled, Malformed}
 use Rattle.kube_schema_rules.specs.Demands.{rule_read, rules_read}
 use Rattle.kube_schema_rules.specs.Reads.{texts_read}
 use Rattle.serde_json.specs.Data.{Data as Json}
-use Rattle.std.proofs.Common.{◌≡◌, ℕ, List, [], ◌∷◌, ◌++◌, codes, Bool, true, false, Option, Some, None, option_map, Result, Ok, Err, if◌then◌else◌, refl, sym, ap, ◌∙◌, subst, true≢false}
+use Rattle.std.proofs.Common.{◌≡◌, ℕ, List, [], ◌∷◌, ◌++◌, codes, Bool, true, false, Option, Some, None, is_some, option_map, Result, Ok, Err, if◌then◌else◌, refl, sym, ap, ◌∙◌, subst, true≢false}
 use Rattle.std.proofs.lemmas.Bool.{false_from_ne_true}
 use Rattle.std.proofs.lemmas.Slice.Eq.{bytes_eq-Decides}
 use Rattle.std.specs.List.{flat_map}
@@ -40,13 +41,17 @@ names_under read n v e f h x = same_more (read x) (bytes_eq x n) v (binding x e)
 other_name : (x n : List ℕ) → bytes_eq x n ≡ false → bytes_eq n x ≡ false
 other_name x n e = false_from_ne_true (bytes_eq n x) (λ k. true≢false (sym ((bytes_eq-Decides x n).1 (sym ((bytes_eq-Decides n x).0 k))) ∙ e))
 
-named_at : (read : List ℕ → Option Part) (n : List ℕ) (v : Data) (d e f : Bindings) → NamesAlike read e f → ReadAlike (read n) (binding n d) (Some v) → ((x : List ℕ) → bytes_eq n x ≡ false → binding x d ≡ binding x e)
+-- all other names are bound to values that are alike in what is read of them
+abbrev pub OthersAlike : List ℕ → (List ℕ → Option Part) → Bindings → Bindings → Type 0
+OthersAlike n read e f = (x : List ℕ) → bytes_eq n x ≡ false → ReadAlike (read x) (binding x e) (binding x f)
+
+named_at : (read : List ℕ → Option Part) (n : List ℕ) (v : Data) (d e f : Bindings) → OthersAlike n read e f → ReadAlike (read n) (binding n d) (Some v) → AreSameOthers n d e
     → (x : List ℕ) (b : Bool) → bytes_eq x n ≡ b → ReadAlike (read x) (binding x d) (if b then Some v else binding x f)
 named_at read n v d e f h here others x true is = subst (λ y. ReadAlike (read y) (binding y d) (Some v)) (sym ((bytes_eq-Decides x n).0 is)) here
-named_at read n v d e f h here others x false is = subst (λ o. ReadAlike (read x) o (binding x f)) (sym (others x (other_name x n is))) (h x)
+named_at read n v d e f h here others x false is = subst (λ o. ReadAlike (read x) o (binding x f)) (sym (others x (other_name x n is))) (h x (other_name x n is))
 
 -- bound in the first to as much as is read
-pub names_named : (read : List ℕ → Option Part) (n : List ℕ) (v : Data) (d e f : Bindings) → NamesAlike read e f → ReadAlike (read n) (binding n d) (Some v) → ((x : List ℕ) → bytes_eq n x ≡ false → binding x d ≡ binding x e)
+pub names_named : (read : List ℕ → Option Part) (n : List ℕ) (v : Data) (d e f : Bindings) → OthersAlike n read e f → ReadAlike (read n) (binding n d) (Some v) → AreSameOthers n d e
     → NamesAlike read d ((n, v) ∷ f)
 names_named read n v d e f h here others x = named_at read n v d e f h here others x (bytes_eq x n) refl
 
@@ -54,13 +59,18 @@ names_named read n v d e f h here others x = named_at read n v d e f h here othe
 pub named_new : (n : List ℕ) (v : Data) (e d : Bindings) → ((x : List ℕ) → binding x d ≡ (if bytes_eq n x then Some v else binding x e)) → binding n d ≡ Some v
 named_new n v e d h = h n ∙ ap (λ b. if b then Some v else binding n e) ((bytes_eq-Decides n n).1 refl)
 
-pub named_others : (n : List ℕ) (v : Data) (e d : Bindings) → ((x : List ℕ) → binding x d ≡ (if bytes_eq n x then Some v else binding x e)) → (x : List ℕ) → bytes_eq n x ≡ false → binding x d ≡ binding x e
+pub named_others : (n : List ℕ) (v : Data) (e d : Bindings) → ((x : List ℕ) → binding x d ≡ (if bytes_eq n x then Some v else binding x e)) → AreSameOthers n d e
 named_others n v e d h x other = h x ∙ ap (λ b. if b then Some v else binding x e) other
 
 -- no name is bound
 pub none_read : (p : Option Part) → ReadAlike p None None
 none_read None = tt
 none_read (Some p) = tt
+
+pub unbound_read : (p : Option Part) (o : Option Data) → is_some o ≡ false → ReadAlike p o None
+unbound_read None o h = tt
+unbound_read (Some p) None h = tt
+unbound_read (Some p) (Some v) h = true≢false h
 
 -- the names of the root context
 pub names_rooted : (read : List ℕ → Option Part) (root : Option Root) (d e f : Bindings) → NamesAlike read e f → ((x : List ℕ) → binding x d ≡ binding x (with_root root e)) → NamesAlike read d (with_root root f)

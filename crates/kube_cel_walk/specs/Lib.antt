@@ -10,3 +10,4 @@ pub mod WalkAccessors
 pub mod Visits
 pub mod Demands
 pub mod NoRules
+pub mod Kept

@@ -1,25 +1,27 @@
 //! The errors at one place.
-ghost use Rattle.cel_demand.specs.Alike.{NamesAlike};
+ghost use Rattle.cel_demand.specs.Alike.{NamesAlike, ReadAlike};
 ghost use Rattle.cel_demand.specs.Demand.{part_of};
 ghost use Rattle.cel_demand.specs.Part.{Part};
 ghost use Rattle.cel_patterns.specs.Book.{Extends, Book};
 ghost use Rattle.cel_patterns.specs.Entries.{entries_of};
-ghost use Rattle.cel_semantics.specs.Bindings.{Bindings, bindings_of};
+ghost use Rattle.cel_semantics.specs.Bindings.{Bindings, binding, bindings_of};
 ghost use Rattle.kube_cel_walk.specs.AddedErrors.{AreAdded};
-ghost use Rattle.kube_cel_walk.specs.Verdicts.{with_old};
-ghost use Rattle.kube_cel_walk.specs.Answers.{bound_at, place_bindings, verdicts};
+ghost use Rattle.kube_cel_walk.specs.Answers.{bound_at, place_bindings, rule_verdicts, verdicts};
 ghost use Rattle.kube_cel_walk.specs.Errors.{error_view};
+ghost use Rattle.kube_cel_walk.specs.Kept.{AreSameOthers};
 ghost use Rattle.kube_cel_walk.specs.RuleErrors.{too_deep};
-ghost use Rattle.kube_cel_walk.specs.Visits.{visit_at};
+ghost use Rattle.kube_cel_walk.specs.Verdicts.{with_old};
+ghost use Rattle.kube_cel_walk.specs.Visits.{IsAlone, visit_at};
 ghost use Rattle.kube_schema_values.specs.Conversion.{to_cel, levels};
 ghost use Rattle.kube_schema_rules.specs.Demands.{rules_read};
 ghost use Rattle.serde_json.specs.View.{view};
-ghost use Rattle.std.specs.Prelude.{◌≡◌, ◌∷◌, ◌++◌, [], codes, List, map, OnOk, Option, option_map, ℕ};
+ghost use Rattle.std.specs.Prelude.{◌≡◌, ◌∷◌, ◌++◌, [], codes, List, map, OnOk, Option, option_map, Some, ℕ};
 
 use crate::error::ValidationError;
+use crate::kept::KeptContext;
 use crate::node::Node;
 use crate::rule_error::deep_error;
-use crate::state::WalkState;
+use crate::state::{WalkState, is_alone};
 use crate::verdict::{Context, bind_root};
 use cel::PatternBook;
 use cel_demand::Demand;
@@ -31,6 +33,7 @@ use std::alloc::{AllocError, Global};
 pub(crate) const TOO_DEEP: usize = 65;
 
 /// Binds a name to the demanded part of a value at a node. Binds nothing if there is no demand.
+/// What other names are bound to stays the same, even if memory is refused.
 fn bind_name<N: Node>(
     alloc: Global,
     context: &mut Context<'_>,
@@ -40,10 +43,10 @@ fn bind_name<N: Node>(
     depth: usize,
     demand: &Option<Demand>,
 ) -> Result<(), Refused>
-    ensures bound { OnOk result ((read : List ℕ → Option Part) (f : Bindings)
-        → option_map part_of demand.now ≡ read name.now
-        → NamesAlike read (bindings_of context.old) f → NamesAlike read (bindings_of context.new)
-        ((name.now, to_cel N.form.conversion (levels depth) (N.seen node.now) (view value.now)) ∷ f)) }
+    ensures bound { OnOk result (ReadAlike (option_map part_of demand.now)
+        (binding name.now (bindings_of context.new))
+        (Some (to_cel N.form.conversion (levels depth) (N.seen node.now) (view value.now)))) }
+    ensures others { AreSameOthers name.now (bindings_of context.new) (bindings_of context.old) }
 {
     let Some(demand) = demand else {
         return Ok(());
@@ -104,6 +107,26 @@ fn bind_place<N: Node>(
     Ok(())
 }
 
+/// Binds `self` like [`bind_place`], in place of the value that the kept context binds it to.
+/// There is no other name to bind.
+fn bind_alone<N: Node>(
+    alloc: Global,
+    kept: &mut KeptContext<'_>,
+    state: &WalkState<'_, N>,
+) -> Result<(), Refused>
+    requires { IsAlone state.now }
+    ensures bound { OnOk result ((path : List ℕ)
+        → NamesAlike (λ x. rules_read x (N.form.rules (N.seen state.now.node)))
+        (bindings_of kept.new.context) (place_bindings N.form (visit_at N.seen state.now path))) }
+{
+    let known = state.node.demands(alloc)?;
+    let demand = &known.get().value;
+    let (node, value) = (&state.node, state.value);
+    let context = &mut kept.context;
+    bind_name(alloc, context, "self", node, value, state.depth, demand)?;
+    Ok(())
+}
+
 /// Adds the error of a place beyond the maximum depth.
 #[inline(never)]
 fn add_deep(path: &str, errors: &mut Vec<ValidationError>) -> Result<(), AllocError>
@@ -115,11 +138,56 @@ fn add_deep(path: &str, errors: &mut Vec<ValidationError>) -> Result<(), AllocEr
     Ok(())
 }
 
+/// Adds the errors of the rules at a place in a context of its own.
+#[inline(never)]
+fn add_anew<N: Node>(
+    state: &WalkState<'_, N>,
+    path: &str,
+    book: &mut PatternBook,
+    errors: &mut Vec<ValidationError>,
+) -> Result<(), Refused>
+    ensures keeps { (b : Book) → Extends b (entries_of book.new) → Extends b (entries_of book.old) }
+    ensures found { OnOk result (AreAdded (entries_of book.new) errors.old.items errors.new.items
+        (λ b. rule_verdicts N.form b (place_bindings N.form (visit_at N.seen state.now path.now))
+        (visit_at N.seen state.now path.now))) }
+{
+    let alloc = *errors.allocator();
+    let mut context = Context::default(alloc);
+    bind_place(alloc, &mut context, state)?;
+    state
+        .node
+        .add_verdicts(&context, state.old, path, book, errors)?;
+    Ok(())
+}
+
+/// Adds the errors of the rules at a place in the kept context.
+fn add_kept<N: Node>(
+    state: &WalkState<'_, N>,
+    path: &str,
+    kept: &mut KeptContext<'_>,
+    book: &mut PatternBook,
+    errors: &mut Vec<ValidationError>,
+) -> Result<(), Refused>
+    requires { IsAlone state.now }
+    ensures keeps { (b : Book) → Extends b (entries_of book.new) → Extends b (entries_of book.old) }
+    ensures found { OnOk result (AreAdded (entries_of book.new) errors.old.items errors.new.items
+        (λ b. rule_verdicts N.form b (place_bindings N.form (visit_at N.seen state.now path.now))
+        (visit_at N.seen state.now path.now))) }
+{
+    bind_alone(*errors.allocator(), kept, state)?;
+    let context = &kept.context;
+    state
+        .node
+        .add_verdicts(context, state.old, path, book, errors)?;
+    Ok(())
+}
+
 /// Adds the errors at one place. Names are bound once
 /// for all of its rules, and not at all if it has none.
 pub(crate) fn validate_at<N: Node>(
     state: &WalkState<'_, N>,
     path: &str,
+    kept: &mut KeptContext<'_>,
     book: &mut PatternBook,
     errors: &mut Vec<ValidationError>,
 ) -> Result<(), Refused>
@@ -134,11 +202,10 @@ pub(crate) fn validate_at<N: Node>(
     if state.node.is_without_rules() {
         return Ok(());
     }
-    let alloc = *errors.allocator();
-    let mut context = Context::default(alloc);
-    bind_place(alloc, &mut context, state)?;
-    state
-        .node
-        .add_verdicts(&context, state.old, path, book, errors)?;
+    if is_alone(state) {
+        add_kept(state, path, kept, book, errors)?;
+        return Ok(());
+    }
+    add_anew(state, path, book, errors)?;
     Ok(())
 }

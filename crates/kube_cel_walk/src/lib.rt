@@ -6,6 +6,7 @@ pub mod copy;
 pub mod demands;
 pub mod error;
 pub mod judge;
+pub mod kept;
 pub mod laws;
 pub mod node;
 pub mod path;
@@ -17,6 +18,7 @@ pub mod walk;
 
 pub use demands::NodeDemands;
 pub use error::{ErrorKind, ValidationError, ValidationErrors};
+pub use kept::KeptContext;
 pub use node::Node;
 pub use root::RootContext;
 pub use state::WalkState;

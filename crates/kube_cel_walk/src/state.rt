@@ -1,7 +1,8 @@
 //! The state of a walk at a place.
+ghost use Rattle.kube_cel_walk.specs.Visits.{IsAlone};
 ghost use Rattle.serde_json.specs.Find.{at, get};
 ghost use Rattle.serde_json.specs.View.{view};
-ghost use Rattle.std.specs.Prelude.{◌≡◌, option_and_then, option_map};
+ghost use Rattle.std.specs.Prelude.{◌≡◌, IsTrue, option_and_then, option_map};
 
 use crate::root::RootContext;
 use serde_json::Value;
@@ -19,6 +20,14 @@ pub struct WalkState<'a, N> {
     pub root: Option<&'a RootContext>,
     /// The number of steps from the root.
     pub depth: usize,
+}
+
+/// Reports whether there are neither an old counterpart nor a root
+/// context at a place. The contract only covers true.
+pub(crate) fn is_alone<N>(state: &WalkState<'_, N>) -> bool
+    ensures { IsTrue result → IsAlone state.now }
+{
+    state.old.is_none() && state.root.is_none()
 }
 
 /// The member of the old value at a key, if any.

@@ -12,6 +12,7 @@ ghost use Rattle.std.specs.Prelude.{◌≡◌, ◌≤◌, ◌-◌, None, OnOk, o
 
 use crate::error::ValidationError;
 use crate::judge::{TOO_DEEP, validate_at};
+use crate::kept::KeptContext;
 use crate::node::Node;
 use crate::path::{push_item, push_member};
 use crate::state::{WalkState, old_item, old_member};
@@ -25,6 +26,7 @@ use serde_json::Value;
 pub fn walk_node<N: Node>(
     state: &WalkState<'_, N>,
     path: &mut String,
+    kept: &mut KeptContext<'_>,
     book: &mut PatternBook,
     errors: &mut Vec<ValidationError>,
 ) -> Result<(), Refused>
@@ -34,19 +36,19 @@ pub fn walk_node<N: Node>(
     ensures path { OnOk result (string_bytes path.new ≡ string_bytes path.old) }
     ensures keeps { (b : Book) → Extends b (entries_of book.new) → Extends b (entries_of book.old) }
 {
-    validate_at(state, path.as_str(), book, errors)?;
+    validate_at(state, path.as_str(), kept, book, errors)?;
     if state.depth == TOO_DEEP {
         return Ok(());
     }
     if state.node.has_no_rules_below(TOO_DEEP - 1 - state.depth) {
         return Ok(());
     }
-    walk_properties(state, path, book, errors)?;
-    walk_items(state, path, book, errors)?;
-    walk_extras(state, path, book, errors)?;
-    walk_branches(BranchKind::AllOf, state, path, book, errors)?;
-    walk_branches(BranchKind::OneOf, state, path, book, errors)?;
-    walk_branches(BranchKind::AnyOf, state, path, book, errors)?;
+    walk_properties(state, path, kept, book, errors)?;
+    walk_items(state, path, kept, book, errors)?;
+    walk_extras(state, path, kept, book, errors)?;
+    walk_branches(BranchKind::AllOf, state, path, kept, book, errors)?;
+    walk_branches(BranchKind::OneOf, state, path, kept, book, errors)?;
+    walk_branches(BranchKind::AnyOf, state, path, kept, book, errors)?;
     Ok(())
 }
 
@@ -55,6 +57,7 @@ pub fn walk_node<N: Node>(
 fn walk_properties<N: Node>(
     state: &WalkState<'_, N>,
     path: &mut String,
+    kept: &mut KeptContext<'_>,
     book: &mut PatternBook,
     errors: &mut Vec<ValidationError>,
 ) -> Result<(), Refused>
@@ -68,10 +71,10 @@ fn walk_properties<N: Node>(
     let Some(members) = state.value.as_object() else {
         return Ok(());
     };
-    for (key, _member) in members.iter() {
+    for (key, member) in members.iter() {
         let name = key.as_str();
         let node = state.node.property(name);
-        walk_member(state, node, name, path, book, errors)?;
+        walk_member(state, node, name, member, path, kept, book, errors)?;
     }
     Ok(())
 }
@@ -81,6 +84,7 @@ fn walk_properties<N: Node>(
 fn walk_extras<N: Node>(
     state: &WalkState<'_, N>,
     path: &mut String,
+    kept: &mut KeptContext<'_>,
     book: &mut PatternBook,
     errors: &mut Vec<ValidationError>,
 ) -> Result<(), Refused>
@@ -97,21 +101,23 @@ fn walk_extras<N: Node>(
     let Some(members) = state.value.as_object() else {
         return Ok(());
     };
-    for (key, _member) in members.iter() {
+    for (key, member) in members.iter() {
         let name = key.as_str();
         let node = unless_declared(&state.node, name, other);
-        walk_member(state, node, name, path, book, errors)?;
+        walk_member(state, node, name, member, path, kept, book, errors)?;
     }
     Ok(())
 }
 
-/// Adds the errors found through one member, if there is a node for it and the value has it.
+/// Adds the errors found through one member, if there is a node for it.
 #[cycle(walk)]
-fn walk_member<N: Node>(
-    state: &WalkState<'_, N>,
+fn walk_member<'a, N: Node>(
+    state: &WalkState<'a, N>,
     node: Option<N>,
     key: &str,
+    value: &'a Value,
     path: &mut String,
+    kept: &mut KeptContext<'_>,
     book: &mut PatternBook,
     errors: &mut Vec<ValidationError>,
 ) -> Result<(), Refused>
@@ -119,15 +125,12 @@ fn walk_member<N: Node>(
     ensures found { OnOk result (AreAdded (entries_of book.new) errors.old.items errors.new.items
         (λ b. answer_if_reached N.form b (64 - state.now.depth)
         (further None state.now.depth (member_path (string_bytes path.old) key.now)
-        (option_map N.seen node) (get key.now (view state.now.value.now))
+        (option_map N.seen node) (Some (view value.now))
         (option_and_then (get key.now) (option_map (λ v. view v.now) state.now.old))))) }
     ensures path { OnOk result (string_bytes path.new ≡ string_bytes path.old) }
     ensures keeps { (b : Book) → Extends b (entries_of book.new) → Extends b (entries_of book.old) }
 {
     let Some(node) = node else {
-        return Ok(());
-    };
-    let Some(value) = state.value.get(key) else {
         return Ok(());
     };
     let member = WalkState {
@@ -139,7 +142,7 @@ fn walk_member<N: Node>(
     };
     let len = path.len();
     push_member(path, key)?;
-    walk_node(&member, path, book, errors)?;
+    walk_node(&member, path, kept, book, errors)?;
     path.truncate(len);
     Ok(())
 }
@@ -149,6 +152,7 @@ fn walk_member<N: Node>(
 fn walk_items<N: Node>(
     state: &WalkState<'_, N>,
     path: &mut String,
+    kept: &mut KeptContext<'_>,
     book: &mut PatternBook,
     errors: &mut Vec<ValidationError>,
 ) -> Result<(), Refused>
@@ -166,7 +170,7 @@ fn walk_items<N: Node>(
         return Ok(());
     };
     for index in 0..items.len() {
-        walk_item(state, node, index, &items[index], path, book, errors)?;
+        walk_item(state, node, index, &items[index], path, kept, book, errors)?;
     }
     Ok(())
 }
@@ -179,6 +183,7 @@ fn walk_item<'a, N: Node>(
     index: usize,
     value: &'a Value,
     path: &mut String,
+    kept: &mut KeptContext<'_>,
     book: &mut PatternBook,
     errors: &mut Vec<ValidationError>,
 ) -> Result<(), Refused>
@@ -200,7 +205,7 @@ fn walk_item<'a, N: Node>(
     };
     let len = path.len();
     push_item(path, index)?;
-    walk_node(&item, path, book, errors)?;
+    walk_node(&item, path, kept, book, errors)?;
     path.truncate(len);
     Ok(())
 }
@@ -212,6 +217,7 @@ fn walk_branches<N: Node>(
     kind: BranchKind,
     state: &WalkState<'_, N>,
     path: &mut String,
+    kept: &mut KeptContext<'_>,
     book: &mut PatternBook,
     errors: &mut Vec<ValidationError>,
 ) -> Result<(), Refused>
@@ -223,7 +229,7 @@ fn walk_branches<N: Node>(
     ensures keeps { (b : Book) → Extends b (entries_of book.new) → Extends b (entries_of book.old) }
 {
     for index in 0..state.node.branch_count(kind) {
-        walk_branch(kind, state, index, path, book, errors)?;
+        walk_branch(kind, state, index, path, kept, book, errors)?;
     }
     Ok(())
 }
@@ -235,6 +241,7 @@ fn walk_branch<N: Node>(
     state: &WalkState<'_, N>,
     index: usize,
     path: &mut String,
+    kept: &mut KeptContext<'_>,
     book: &mut PatternBook,
     errors: &mut Vec<ValidationError>,
 ) -> Result<(), Refused>
@@ -255,7 +262,7 @@ fn walk_branch<N: Node>(
         root: state.root,
         depth: state.depth + 1,
     };
-    walk_node(&branch, path, book, errors)?;
+    walk_node(&branch, path, kept, book, errors)?;
     Ok(())
 }
 

@@ -1,7 +1,6 @@
-use Rattle.cel_semantics.specs.Bindings.{bindings_of}
 use Rattle.kube_cel_walk.specs.Errors.{error_view}
 use Rattle.kube_cel_walk.proofs.judge.validate_at.Goals as goal
-use Rattle.kube_cel_walk.proofs.Judged.{deep_found, none_found, rules_found}
+use Rattle.kube_cel_walk.proofs.Judged.{deep_found, none_found, shallow_found}
 use Rattle.kube_cel_walk.specs.Visits.{visit_at}
 use Rattle.std.proofs.Common.{◌≡◌, ◌==◌, ◌++◌, map, false, sym, ap, ◌∙◌, arith, append-nil}
 use Rattle.std.proofs.lemmas.Bool.Decides.{nat_tests}
@@ -17,10 +16,14 @@ returns-then-is_without_rules-clause-found g c = λ b h.
     let old = map error_view c.args.errors.now.items in
     sym (ap (λ r. old ++ r) (none_found g.N.Node.form b (visit_at g.N.Node.seen c.args.state.now c.args.path.now) t (sym c.is_without_rules.ensures ∙ c.if-is_without_rules.true)) ∙ append-nil old)
 
+pub returns-then-is_alone-clause-found : goal.returns-then-is_alone-clause-found
+returns-then-is_alone-clause-found g c = λ b h.
+    let t : (c.args.state.now.depth == 65) ≡ false = grind (arith, nat_tests, c.if-state-eq-TOO_DEEP.false) in
+    c.in_ok-add_kept.ensures.found b h
+    ∙ sym (ap (λ r. map error_view c.args.errors.now.items ++ r) (shallow_found g.N.Node.form b (visit_at g.N.Node.seen c.args.state.now c.args.path.now) t))
+
 pub returns-clause-found : goal.returns-clause-found
 returns-clause-found g c = λ b h.
     let t : (c.args.state.now.depth == 65) ≡ false = grind (arith, nat_tests, c.if-state-eq-TOO_DEEP.false) in
-    let s = visit_at g.N.Node.seen c.args.state.now c.args.path.now in
-    c.in_ok-add_verdicts.ensures.found b h
-    ∙ sym (ap (λ r. map error_view c.args.errors.now.items ++ r)
-    (rules_found g.N.Node.form b s (bindings_of c.bind_place.new.context) t (c.in_ok-bind_place.ensures.bound c.args.path.now)))
+    c.in_ok-add_anew.ensures.found b h
+    ∙ sym (ap (λ r. map error_view c.args.errors.now.items ++ r) (shallow_found g.N.Node.form b (visit_at g.N.Node.seen c.args.state.now c.args.path.now) t))

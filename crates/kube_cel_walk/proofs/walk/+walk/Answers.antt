@@ -5,14 +5,13 @@ use Rattle.kube_schema_rules.specs.Visit.{visit, further, unless_there, member_p
 use Rattle.kube_schema_rules.specs.Step.{property, item, additional_property, branch}
 use Rattle.kube_cel_walk.specs.Roots.{root_view}
 use Rattle.kube_cel_walk.proofs.Cut.{member_path_cut, member_path_splits, item_path_cut, item_path_splits}
-use Rattle.kube_cel_walk.proofs.Entries.{names_of, names_more}
-use Rattle.kube_cel_walk.proofs.Gathered.{answer_last, gathered, through_none, no_item, no_additional_property, one_more, none_up, one_more_up, property_steps_none, property_steps_are, additional_steps_none, additional_steps_are, item_steps_none, item_steps_are, branch_steps_are, property_goes, additional_goes, item_goes, branch_goes}
+use Rattle.kube_cel_walk.proofs.Entries.{member_in_order, names_of, names_more}
+use Rattle.kube_cel_walk.proofs.Gathered.{answer_last, gathered, member_of, through_none, no_item, no_additional_property, one_more, none_up, one_more_up, property_steps_none, property_steps_are, additional_steps_none, additional_steps_are, item_steps_none, item_steps_are, branch_steps_are, property_goes, additional_goes, item_goes, branch_goes}
 use Rattle.kube_cel_walk.proofs.NoRules.{no_rules_below}
 use Rattle.kube_cel_walk.proofs.walk.+walk.Goals as goal
 use Rattle.kube_cel_walk.specs.Answers.{answer, answer_if_reached, verdicts, found_through, found_by}
 use Rattle.kube_cel_walk.specs.Visits.{visit_at}
 use Rattle.serde_json.proofs.Views.{Entry, get_item_within}
-use Rattle.serde_json.specs.Data.{Data}
 use Rattle.serde_json.specs.Find.{get, at}
 use Rattle.serde_json.specs.View.{view, members_view, items_view}
 use Rattle.std.proofs.Common.{rules, Option, ◌≡◌, ◌<◌, suc, ◌+◌, ◌-◌, [], ◌∷◌, ◌++◌, map, option_map, option_and_then, None, Some, refl, sym, ap, ◌∙◌, subst, append_assoc, append-nil, string_bytes, string_cmp, arith, length, take}
@@ -93,7 +92,7 @@ pub walk_properties-loop-key-preserved : goal.walk_properties-loop-key-preserved
 walk_properties-loop-key-preserved g t c =
     let l = c.loop-key in
     let done = l.invariant.done in
-    let e : Entry = (c.in-Some-2.key.now, c.in-Some-2._member.now) in
+    let e : Entry = (c.in-Some-2.key.now, c.in-Some-2.member.now) in
     let k = string_bytes e.0 in
     let left = c.next.new.self in
     let s = visit_at g.N.Node.seen c.args.state.now (string_bytes c.args.path.now) in
@@ -104,6 +103,8 @@ walk_properties-loop-key-preserved g t c =
     let had = map error_view l.errors.items in
     let joined : done ++ l.key-iterator ≡ done ++ e ∷ left = ap (λ es. done ++ es) c.in-Some-2.ensures.steps in
     let moved : done ++ l.key-iterator ≡ (done ++ e ∷ []) ++ left = joined ∙ sym (append_assoc done (e ∷ []) left) in
+    let m = view e.1 in
+    let here : get k v ≡ Some m = member_of k v (members_view (done ++ e ∷ left)) (ap (λ es. Some (members_view es)) (sym joined) ∙ l.invariant.all) ∙ member_in_order done e left (subst (λ es. IsStrictlySortedBy string_cmp (keys_of es)) joined l.invariant.ordered) in
     let form = g.N.Node.form in
     let node = g.N.Node.seen c.args.state.now.node in
     let goes_there = property_goes form.steps s k (form.steps.property k node) refl in
@@ -117,9 +118,10 @@ walk_properties-loop-key-preserved g t c =
           let name = c.as_str-name.result.now in
           let more : map error_view c.walk_member.new.errors.items ≡ had ++ answer_if_reached form b n (further None d (member_path (string_bytes c.args.path.now) k) (form.steps.property k node) (get k v) (option_and_then (get k) o)) =
           c.in_ok-walk_member.ensures.found b h
-          ∙ ap (λ w. had ++ answer_if_reached form b n (further None d (member_path (string_bytes l.path) name) w (get name v) (option_and_then (get name) o))) c.property-node.ensures
-          ∙ ap (λ q. had ++ answer_if_reached form b n (further None d (member_path (string_bytes l.path) q) (form.steps.property q node) (get q v) (option_and_then (get q) o))) c.as_str-name.ensures.value
-          ∙ ap (λ q. had ++ answer_if_reached form b n (further None d (member_path q k) (form.steps.property k node) (get k v) (option_and_then (get k) o))) l.invariant.path in
+          ∙ ap (λ w. had ++ answer_if_reached form b n (further None d (member_path (string_bytes l.path) name) w (Some m) (option_and_then (get name) o))) c.property-node.ensures
+          ∙ ap (λ q. had ++ answer_if_reached form b n (further None d (member_path (string_bytes l.path) q) (form.steps.property q node) (Some m) (option_and_then (get q) o))) c.as_str-name.ensures.value
+          ∙ ap (λ q. had ++ answer_if_reached form b n (further None d (member_path q k) (form.steps.property k node) (Some m) (option_and_then (get k) o))) l.invariant.path
+          ∙ ap (λ w. had ++ answer_if_reached form b n (further None d (member_path (string_bytes c.args.path.now) k) (form.steps.property k node) w (option_and_then (get k) o))) (sym here) in
           one_more form b n s property (names_of done) k (map error_view c.args.errors.now.items) had (map error_view c.walk_member.new.errors.items)
           (l.invariant.found b (c.in_ok-walk_member.ensures.keeps b h)) (more ∙ ap (λ r. had ++ answer_if_reached form b n r) (sym goes_there))
           ∙ ap (λ ks. map error_view c.args.errors.now.items ++ found_through form b n s (map property ks)) (sym (names_more done e));
@@ -158,7 +160,7 @@ pub walk_extras-loop-key-preserved : goal.walk_extras-loop-key-preserved
 walk_extras-loop-key-preserved g t c =
     let l = c.loop-key in
     let done = l.invariant.done in
-    let e : Entry = (c.in-Some-2.key.now, c.in-Some-2._member.now) in
+    let e : Entry = (c.in-Some-2.key.now, c.in-Some-2.member.now) in
     let k = string_bytes e.0 in
     let left = c.next.new.self in
     let s = visit_at g.N.Node.seen c.args.state.now (string_bytes c.args.path.now) in
@@ -170,6 +172,8 @@ walk_extras-loop-key-preserved g t c =
     let had = map error_view l.errors.items in
     let joined : done ++ l.key-iterator ≡ done ++ e ∷ left = ap (λ es. done ++ es) c.in-Some-2.ensures.steps in
     let moved : done ++ l.key-iterator ≡ (done ++ e ∷ []) ++ left = joined ∙ sym (append_assoc done (e ∷ []) left) in
+    let m = view e.1 in
+    let here : get k v ≡ Some m = member_of k v (members_view (done ++ e ∷ left)) (ap (λ es. Some (members_view es)) (sym joined) ∙ l.invariant.all) ∙ member_in_order done e left (subst (λ es. IsStrictlySortedBy string_cmp (keys_of es)) joined l.invariant.ordered) in
     let goes_there = additional_goes g.N.Node.form.steps s k other c.in-Some.ensures in
     record {
       done = done ++ e ∷ [];
@@ -182,9 +186,10 @@ walk_extras-loop-key-preserved g t c =
           let node = g.N.Node.seen c.args.state.now.node in
           let more : map error_view c.walk_member.new.errors.items ≡ had ++ answer_if_reached g.N.Node.form b n (further None d (member_path (string_bytes c.args.path.now) k) (unless_there (g.N.Node.form.steps.property k node) (Some other)) (get k v) (option_and_then (get k) o)) =
           c.in_ok-walk_member.ensures.found b h
-          ∙ ap (λ w. had ++ answer_if_reached g.N.Node.form b n (further None d (member_path (string_bytes l.path) name) w (get name v) (option_and_then (get name) o))) c.unless_declared-node.ensures
-          ∙ ap (λ q. had ++ answer_if_reached g.N.Node.form b n (further None d (member_path (string_bytes l.path) q) (unless_there (g.N.Node.form.steps.property q node) (Some other)) (get q v) (option_and_then (get q) o))) c.as_str-name.ensures.value
-          ∙ ap (λ q. had ++ answer_if_reached g.N.Node.form b n (further None d (member_path q k) (unless_there (g.N.Node.form.steps.property k node) (Some other)) (get k v) (option_and_then (get k) o))) l.invariant.path in
+          ∙ ap (λ w. had ++ answer_if_reached g.N.Node.form b n (further None d (member_path (string_bytes l.path) name) w (Some m) (option_and_then (get name) o))) c.unless_declared-node.ensures
+          ∙ ap (λ q. had ++ answer_if_reached g.N.Node.form b n (further None d (member_path (string_bytes l.path) q) (unless_there (g.N.Node.form.steps.property q node) (Some other)) (Some m) (option_and_then (get q) o))) c.as_str-name.ensures.value
+          ∙ ap (λ q. had ++ answer_if_reached g.N.Node.form b n (further None d (member_path q k) (unless_there (g.N.Node.form.steps.property k node) (Some other)) (Some m) (option_and_then (get k) o))) l.invariant.path
+          ∙ ap (λ w. had ++ answer_if_reached g.N.Node.form b n (further None d (member_path (string_bytes c.args.path.now) k) (unless_there (g.N.Node.form.steps.property k node) (Some other)) w (option_and_then (get k) o))) (sym here) in
           one_more g.N.Node.form b n s additional_property (names_of done) k (map error_view c.args.errors.now.items) had (map error_view c.walk_member.new.errors.items)
           (l.invariant.found b (c.in_ok-walk_member.ensures.keeps b h)) (more ∙ ap (λ r. had ++ answer_if_reached g.N.Node.form b n r) (sym goes_there))
           ∙ ap (λ ks. map error_view c.args.errors.now.items ++ found_through g.N.Node.form b n s (map additional_property ks)) (sym (names_more done e));
@@ -205,19 +210,9 @@ unfolding answer_if_reached
 walk_member-returns-in_default-clause-found g t c = λ b h.
     let old = map error_view c.args.errors.now.items in
     let k = c.args.key.now in
-    let there = λ (node : Option _). further None c.args.state.now.depth (member_path (string_bytes c.args.path.now) k) (option_map g.N.Node.seen node) (get k (view c.args.state.now.value.now))
+    let there = λ (node : Option _). further None c.args.state.now.depth (member_path (string_bytes c.args.path.now) k) (option_map g.N.Node.seen node) (Some (view c.args.value.now))
     (option_and_then (get k) (option_map (λ x. view x.now) c.args.state.now.old)) in
     sym (ap (λ (node : Option _). old ++ answer_if_reached g.N.Node.form b (64 - c.args.state.now.depth) (there node)) c.in_default.is ∙ append-nil old)
-
-pub walk_member-returns-in_default-get-clause-found : goal.walk_member-returns-in_default-get-clause-found
-unfolding answer_if_reached
-walk_member-returns-in_default-get-clause-found g t c = λ b h.
-    let old = map error_view c.args.errors.now.items in
-    let k = c.args.key.now in
-    let there = λ (node : Option _) (value : Option Data). further None c.args.state.now.depth (member_path (string_bytes c.args.path.now) k) (option_map g.N.Node.seen node) value
-    (option_and_then (get k) (option_map (λ x. view x.now) c.args.state.now.old)) in
-    sym (ap (λ (node : Option _). old ++ answer_if_reached g.N.Node.form b (64 - c.args.state.now.depth) (there node (get k (view c.args.state.now.value.now)))) c.in-Some.is
-    ∙ ap (λ (value : Option Data). old ++ answer_if_reached g.N.Node.form b (64 - c.args.state.now.depth) (there (Some c.in-Some.node) value)) (sym c.in_default-get.ensures) ∙ append-nil old)
 
 pub walk_member-truncate-requires : goal.walk_member-truncate-requires
 walk_member-truncate-requires g t c = λ _.
@@ -239,14 +234,13 @@ walk_member-returns-clause-found g t c = λ b h.
     let old = map error_view c.args.errors.now.items in
     let k = c.args.key.now in
     let p = g.N.Node.seen c.in-Some.node in
-    let m = view c.in-Some-get.value.now in
+    let m = view c.args.value.now in
     let o = option_map (λ x. view x.now) c.old_member.result in
     c.in_ok-walk_node.ensures.found b h
     ∙ ap (λ n. old ++ answer g.N.Node.form b n (visit p m o None (string_bytes c.push_member.new.path) (d + 1))) full
     ∙ ap (λ u. old ++ answer g.N.Node.form b (64 - d) (visit p m o None u (d + 1))) c.in_ok-push_member.ensures
     ∙ ap (λ o. old ++ answer g.N.Node.form b (64 - d) (visit p m o None (member_path (string_bytes c.args.path.now) k) (d + 1))) c.old_member.ensures
-    ∙ ap (λ v. old ++ answer_if_reached g.N.Node.form b (64 - d) (further None d (member_path (string_bytes c.args.path.now) k) (Some p) v (option_and_then (get k) (option_map (λ x. view x.now) c.args.state.now.old)))) c.in-Some-get.ensures
-    ∙ ap (λ (node : Option _). old ++ answer_if_reached g.N.Node.form b (64 - d) (further None d (member_path (string_bytes c.args.path.now) k) (option_map g.N.Node.seen node) (get k (view c.args.state.now.value.now)) (option_and_then (get k) (option_map (λ x. view x.now) c.args.state.now.old)))) (sym c.in-Some.is)
+    ∙ ap (λ (node : Option _). old ++ answer_if_reached g.N.Node.form b (64 - d) (further None d (member_path (string_bytes c.args.path.now) k) (option_map g.N.Node.seen node) (Some m) (option_and_then (get k) (option_map (λ x. view x.now) c.args.state.now.old)))) (sym c.in-Some.is)
 
 -- ---- items
 

@@ -1,0 +1,24 @@
+//! The context that a walk keeps from place to place.
+ghost use Rattle.cel_semantics.specs.Bindings.{bindings_of};
+ghost use Rattle.kube_cel_walk.specs.Kept.{BindsOnly};
+ghost use Rattle.std.specs.Prelude.{codes};
+
+use crate::verdict::Context;
+use std::alloc::Global;
+
+/// A context that is kept from place to place, so that it isn't allocated
+/// anew at each. No name but `self` is bound in it.
+#[derive(Drop)]
+pub struct KeptContext<'a> {
+    pub(crate) context: Context<'a>,
+    ghost only_self: { BindsOnly (codes "self") (bindings_of context) },
+}
+
+impl<'a> KeptContext<'a> {
+    /// Returns a context that binds no name yet. Allocates nothing.
+    pub fn new(alloc: Global) -> KeptContext<'a> {
+        KeptContext {
+            context: Context::default(alloc),
+        }
+    }
+}
