@@ -1,6 +1,6 @@
 -- Trusted by the headline.
 -- Keys as contracts see them, and the order of keys.
-use Rattle.std.specs.Prelude.{ℕ, ℤ, pos, List, [], true, false, string_bytes}
+use Rattle.std.specs.Prelude.{ℕ, ℤ, pos, List, [], true, false}
 use Rattle.std.specs.declared.cmp.Ordering.{Ordering}
 use Rattle.std.specs.Ordering.{nat_cmp, int_cmp, on, then_cmp, eq_by_cmp, match_ordering}
 use Rattle.std.specs.Cmp.{IsTotalOrder, IsEquivalence}
@@ -14,7 +14,7 @@ abbrev pub key_view : Key → KeyData
 key_view (key.Bool b) = bool_key b
 key_view (key.Int n) = int_key n
 key_view (key.Uint n) = uint_key n
-key_view (key.String s) = text_key (string_bytes s.value)
+key_view (key.String s) = text_key s
 
 -- bools, then numbers, then strings
 abbrev pub key_class : KeyData → ℕ

@@ -9,6 +9,7 @@ pub mod Levels
 pub mod Parts
 pub mod Same
 pub mod SameLaws
+pub mod Stored
 pub mod Texts
 pub mod View
 pub mod Weights

@@ -1,6 +1,6 @@
 -- Trusted by the headline.
 -- Values as contracts see them.
-use Rattle.std.specs.Prelude.{List, [], ◌∷◌, Option, Some, None, map, string_bytes}
+use Rattle.std.specs.Prelude.{List, [], ◌∷◌, Option, Some, None, map}
 use Rattle.std.specs.declared.alloc.Global.{Global}
 use Rattle.std.specs.declared.rc.Rc.{Rc}
 use Rattle.cel_value.specs.Keys.{key_view}
@@ -33,7 +33,7 @@ view (value.Bool b) = bool b
 view (value.Int n) = int n
 view (value.UInt n) = uint n
 view value.Float = double
-view (value.String s) = text (string_bytes s.value)
+view (value.String s) = text s
 view (value.Bytes s) = bytes s.value.items
 view (value.List v) = list v.value
 view (value.Map m) = map_of m.value

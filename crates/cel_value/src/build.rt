@@ -8,18 +8,32 @@ ghost use Rattle.cel_value.specs.View.{view, items_view, entries_view};
 
 use crate::error::ExecutionError;
 use crate::key::Key;
+use crate::string::Text;
 use crate::value::{Entries, List, Map, Value};
 use kube_types_refused::Refused;
 use std::alloc::Global;
 use std::rc::Rc;
 
 impl Value {
-    /// Returns the string value of a text. Returns `Refused` if there is no memory to share it.
+    /// Returns the string value of a text. Returns `Refused` if it is long and there is no memory to
+    /// share it.
     pub fn from_text(alloc: Global, chars: String) -> Result<Value, Refused>
         ensures value { IfOk result (λ v. view v ≡ text (string_bytes chars)) }
         ensures memory { IfErr result (λ e. e ≡ Refused.Memory) }
     {
-        Ok(Value::String(Rc::new(alloc, chars)?))
+        Ok(Value::String(Text::of(alloc, chars)?))
+    }
+
+    /// Returns the string value of a copy of a text. It allocates only if the text is longer than
+    /// 14 bytes.
+    ///
+    /// # Errors
+    /// [`Refused::Memory`] if there is no memory for a copy.
+    pub fn of_str(alloc: Global, chars: &str) -> Result<Value, Refused>
+        ensures value { IfOk result (λ v. view v ≡ text chars.now) }
+        ensures memory { IfErr result (λ e. e ≡ Refused.Memory) }
+    {
+        Ok(Value::String(Text::of_str(alloc, chars)?))
     }
 
     /// Returns the list of these items.

@@ -9,7 +9,7 @@ use crate::value::Value;
 use kube_types_refused::Refused;
 
 impl Key {
-    /// Returns a copy of the key. Its text is shared.
+    /// Returns a copy of the key. Its text is shared if it is long, so it allocates nothing.
     pub fn try_clone(&self) -> Result<Key, Refused>
         ensures value { IfOk result (λ k. key_view k ≡ key_view self.now) }
         ensures memory { IfErr result (λ e. e ≡ Refused.Memory) }

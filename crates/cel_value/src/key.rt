@@ -1,6 +1,6 @@
 //! The keys of maps.
+use crate::string::Text;
 use std::cmp::Ordering;
-use std::rc::Rc;
 
 /// The key of a map. Bools come first, then numbers, then
 /// strings by their bytes. 1 and 1u are the same key.
@@ -13,7 +13,7 @@ pub enum Key {
     /// An unsigned number.
     Uint(u64),
     /// A string.
-    String(Rc<String>),
+    String(Text),
 }
 
 impl Key {

@@ -1,9 +1,11 @@
 //! The values of CEL, of 18 kinds, with their equality and order, their texts, the
 //! keys of maps, and the errors of an execution.
 //!
-//! A [`Value`] takes 24 bytes and shares what is large, so copying it allocates nothing. Functions
-//! that make a value take an allocator first. They return [`Refused`] if there is no memory, or if
-//! the value would have more than 4,096 levels of nested lists, maps and optionals.
+//! A [`Value`] takes 24 bytes and shares what is large, so copying it allocates nothing. A
+//! [`Text`], as strings and keys have it, is held in the value itself up to 14 bytes, and shared if
+//! it is longer. Functions that make a value take an allocator first. They return [`Refused`] if
+//! there is no memory, or if the value would have more than 4,096 levels of nested lists, maps and
+//! optionals.
 //!
 //! ```rust
 //! use cel_value::{Refused, Value};
@@ -13,7 +15,7 @@
 //! fn pair(alloc: Global) -> Result<Value, Refused> {
 //!     let mut items = Vec::new(alloc);
 //!     items.push(Value::Int(1))?;
-//!     items.push(Value::from_text(alloc, String::from_str(alloc, "two")?)?)?;
+//!     items.push(Value::of_str(alloc, "two")?)?;
 //!     Value::from_items(alloc, items)
 //! }
 //! ```
@@ -32,6 +34,7 @@ pub mod kind;
 pub mod laws;
 pub mod parts;
 pub mod same;
+pub mod string;
 pub mod text;
 pub mod value;
 
@@ -40,4 +43,5 @@ pub use error::ExecutionError;
 pub use key::Key;
 pub use kind::Kind;
 pub use kube_types_refused::Refused;
+pub use string::Text;
 pub use value::{Entries, List, MAX_VALUE_LEVELS, Map, OptionalValue, Value};

@@ -1,6 +1,7 @@
 //! The values of CEL. What is large is shared, so copying a value allocates
-//! nothing. Lists, maps and optionals store whether they hold a double and how many
-//! levels they have, so neither has to be computed.
+//! nothing. Texts of up to 14 bytes are held in the value itself. Lists, maps and
+//! optionals store whether they hold a double and how many levels they have, so
+//! neither has to be computed.
 ghost use Rattle.std.specs.Prelude.{◌≡◌, ◌≤◌, suc, IfOk, IfErr};
 ghost use Rattle.cel_value.specs.Levels.{levels, max_levels};
 ghost use Rattle.cel_value.specs.Same.{has_double};
@@ -11,6 +12,7 @@ mod maps;
 mod optionals;
 
 use crate::key::Key;
+use crate::string::Text;
 use cel_value_times::{Duration, Timestamp};
 use kube_types_address::{KubeCIDR, KubeIP};
 use kube_types_formats::KubeFormat;
@@ -81,7 +83,7 @@ pub enum Value {
     /// A double. Its number is not kept.
     Float,
     /// A string.
-    String(Rc<String>),
+    String(Text),
     /// A sequence of bytes.
     Bytes(Rc<Vec<u8>>),
     /// A list.

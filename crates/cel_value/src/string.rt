@@ -1,0 +1,172 @@
+//! The texts of strings and of keys.
+ghost use Rattle.std.specs.Prelude.{◌≡◌, ◌<◌, ◌≤◌, length, take, IfOk, IfErr, MatchOption, string_bytes};
+
+use kube_types_refused::Refused;
+use std::alloc::{AllocError, Global};
+use std::fmt;
+use std::marker::Model;
+use std::rc::Rc;
+use std::str;
+
+/// The largest number of bytes that a text holds in itself.
+const SHORT_LEN: usize = 14;
+
+/// A text of up to 14 bytes. What lies behind its length is unused.
+#[derive(Drop)]
+struct ShortText {
+    len: u8,
+    bytes: [u8; 14],
+}
+
+impl Model for ShortText {
+    ghost use Rattle.std.specs.Prelude.{◌≤◌, ℕ, List, take, IsUtf8};
+
+    ghost Value = { List ℕ };
+
+    ghost view = { λ s. take s.len s.bytes };
+
+    ghost invariant = { λ s. (s.len ≤ 14) × ∥ IsUtf8 (take s.len s.bytes) ∥₁ };
+}
+
+/// Where the bytes of a text are.
+#[derive(Drop)]
+enum Stored {
+    /// In the text itself.
+    Short(ShortText),
+    /// Behind a shared pointer.
+    Long(Rc<String>),
+}
+
+/// The text of a string: up to 14 bytes are held in the value itself, more are shared.
+#[derive(Drop)]
+pub struct Text {
+    stored: Stored,
+}
+
+// A text is moved as two words.
+const _: () = prove!(size_of::<Text>() == 16);
+
+impl Model for Text {
+    ghost use Rattle.std.specs.Prelude.{ℕ, List};
+
+    ghost Value = { List ℕ };
+
+    ghost use Rattle.cel_value.specs.Stored.{stored_bytes};
+
+    ghost view = { λ t. stored_bytes t.stored };
+}
+
+impl ShortText {
+    /// A copy of a text, if it is short.
+    #[inline]
+    fn of(text: &str) -> Option<ShortText>
+        ensures { MatchOption result (14 < length text.now) (λ s. s ≡ text.now) }
+    {
+        let len = text.len();
+        if len > SHORT_LEN {
+            return None;
+        }
+        let mut bytes = [0; 14];
+        bytes[..len].copy_from_slice(text.as_bytes());
+        Some(ShortText {
+            len: len as u8,
+            bytes,
+        })
+    }
+
+    #[inline]
+    fn as_str(&self) -> &str
+        ensures { result.now ≡ self.now }
+    {
+        unsafe { str::from_utf8_unchecked(&self.bytes[..self.len as usize]) }
+    }
+
+    #[inline]
+    fn copied(&self) -> ShortText
+        ensures { result ≡ self.now }
+    {
+        ShortText {
+            len: self.len,
+            bytes: self.bytes,
+        }
+    }
+}
+
+impl Text {
+    /// The text.
+    #[inline]
+    pub fn as_str(&self) -> &str
+        ensures { result.now ≡ self.now }
+    {
+        match &self.stored {
+            Stored::Short(text) => text.as_str(),
+            Stored::Long(text) => text.as_str(),
+        }
+    }
+
+    /// Returns the text of a string. A string of up to 14 bytes is copied into the text, a longer
+    /// one is shared.
+    ///
+    /// # Errors
+    /// [`Refused::Memory`] if there is no memory to share it.
+    pub fn of(alloc: Global, text: String) -> Result<Text, Refused>
+        ensures value { IfOk result (λ t. t ≡ string_bytes text) }
+        ensures memory { IfErr result (λ e. e ≡ Refused.Memory) }
+    {
+        match ShortText::of(text.as_str()) {
+            Some(short) => Ok(Text {
+                stored: Stored::Short(short),
+            }),
+            None => Ok(Text::shared(Rc::new(alloc, text)?)),
+        }
+    }
+
+    /// Returns a copy of a text. It allocates only if the text is longer than 14 bytes.
+    ///
+    /// # Errors
+    /// [`Refused::Memory`] if there is no memory for a copy.
+    pub fn of_str(alloc: Global, text: &str) -> Result<Text, Refused>
+        ensures value { IfOk result (λ t. t ≡ text.now) }
+        ensures memory { IfErr result (λ e. e ≡ Refused.Memory) }
+    {
+        match ShortText::of(text) {
+            Some(short) => Ok(Text {
+                stored: Stored::Short(short),
+            }),
+            None => Ok(Text::shared(Rc::new(
+                alloc,
+                String::from_str(alloc, text)?,
+            )?)),
+        }
+    }
+
+    /// Shares a text that is shared already, of any length. It allocates nothing.
+    #[inline]
+    pub fn shared(text: Rc<String>) -> Text
+        ensures { result ≡ string_bytes text.value }
+    {
+        Text {
+            stored: Stored::Long(text),
+        }
+    }
+}
+
+/// Makes a copy. A long text is shared, so a copy allocates nothing.
+impl Clone for Text {
+    ghost is_clone = { λ text copy. copy ≡ text };
+
+    #[inline]
+    fn clone(&self) -> Result<Text, AllocError> {
+        let stored = match &self.stored {
+            Stored::Short(text) => Stored::Short(text.copied()),
+            Stored::Long(text) => Stored::Long(text.clone()?),
+        };
+        Ok(Text { stored })
+    }
+}
+
+impl fmt::Debug for Text {
+    fn fmt<W: fmt::Write>(&self, f: &mut fmt::Formatter<W>) -> fmt::Result {
+        fmt::Debug::fmt(&self.as_str(), f)
+    }
+}
