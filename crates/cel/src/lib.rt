@@ -38,7 +38,7 @@ pub use cel_syntax::{ParseErrors, References, laws as syntax_laws};
 pub use cel_syntax_ast::{BinaryOperator, Expr, MacroKind, UnaryOperator};
 pub use cel_value::{
     Duration, Entries, ExecutionError, Key, Kind, List, MAX_VALUE_LEVELS, Map, OptionalValue,
-    Refused, Timestamp, Value, laws as value_laws,
+    Refused, Text, Timestamp, Value, laws as value_laws,
 };
 pub use cel_vm::run_code;
 pub use cel_vm_code::{Instr, Operation, Test};

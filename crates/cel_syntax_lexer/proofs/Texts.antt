@@ -1,9 +1,5 @@
 -- Bytes that are UTF-8.
 use Rattle.std.proofs.Common.{◌≡◌, ℕ, refl, Bool, true, false, List}
-use Rattle.std.specs.Prelude.{string_bytes}
-use Rattle.cel_value.specs.Data.{text}
-use Rattle.cel_value.specs.View.{view}
-use Rattle.cel_value.specs.declared.value.Value.TheVariants as value
 use Rattle.std.specs.Str.{IsUtf8, is_utf8}
 use Rattle.std.proofs.lemmas.Str.{IsUtf8-from_is_utf8, is_utf8-from_IsUtf8}
 
@@ -16,6 +12,3 @@ not_utf8 w false e none = refl
 
 pub no_text : (w : List ℕ) → ¬ (IsUtf8 w) → is_utf8 w ≡ false
 no_text w none = not_utf8 w (is_utf8 w) refl none
-
-pub view_text : (s : _) → view (value.String s) ≡ text (string_bytes s.value)
-view_text s = refl

@@ -71,7 +71,7 @@ fn content_value(alloc: Global, content: Content, made: Vec<u8>) -> Result<Optio
 {
     match content {
         Content::Text => match String::from_utf8(made) {
-            Ok(text) => Ok(Some(Value::String(Rc::new(alloc, text)?))),
+            Ok(text) => Ok(Some(Value::from_text(alloc, text)?)),
             Err(_) => Ok(None),
         },
         Content::Bytes => Ok(Some(Value::Bytes(Rc::new(alloc, made)?))),

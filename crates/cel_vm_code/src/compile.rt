@@ -10,7 +10,7 @@ ghost use Rattle.cel_vm_code.specs.CodeViews.{variables, from_end, guard_to, ope
 
 use crate::instr::{Instr, Operation, Test};
 use cel_syntax_ast::{BinaryOperator, Expr, MacroKind};
-use cel_value::{Entries, Key, Refused, Value};
+use cel_value::{Entries, Key, Refused, Text, Value};
 use std::alloc::{AllocError, Global};
 use std::rc::Rc;
 
@@ -241,11 +241,11 @@ fn write_tree<'e>(
             Ok(())
         }
         Expr::Select(operand, name) => {
-            let key = Key::String(name.clone()?);
+            let key = Key::String(Text::shared(name.clone()?));
             write_part(alloc, names, Operation::Select(key), operand, code)
         }
         Expr::Has(operand, name) => {
-            let key = Key::String(name.clone()?);
+            let key = Key::String(Text::shared(name.clone()?));
             write_part(alloc, names, Operation::Has(key), operand, code)
         }
         Expr::Index(operand, index) => {

@@ -1,11 +1,10 @@
 //! Answers questions about values by their own methods, whatever their kinds.
 
-use cel::{Key, Kind, OptionalValue, Value};
+use cel::{Key, Kind, OptionalValue, Text, Value};
 use conformance_rows::texts::yes_or_no;
 use conformance_rows::{Found, Output, Stop};
 use std::alloc::Global;
 use std::cmp::Ordering;
-use std::rc::Rc;
 
 /// All kinds of values.
 const KINDS: [Kind; 18] = [
@@ -39,7 +38,7 @@ pub(crate) fn kinds(found: &mut Found) {
 
 /// Makes a key of a text.
 fn text_key(alloc: Global, text: &str) -> Result<Key, Stop> {
-    Ok(Key::String(Rc::new(alloc, String::from_str(alloc, text)?)?))
+    Ok(Key::String(Text::of_str(alloc, text)?))
 }
 
 /// Reports whether a key equals its copy.

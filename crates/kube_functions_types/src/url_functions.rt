@@ -14,7 +14,7 @@ ghost use Rattle.kube_functions_types.specs.Url as spec;
 
 use crate::answers::{refusal, text_answer, text_values, wrong_kind};
 use cel_semantics::Answer;
-use cel_value::{Entries, Key, Refused, Value};
+use cel_value::{Entries, Key, Refused, Text, Value};
 use kube_types::KubeUrl;
 use std::alloc::Global;
 use std::collections::BTreeMap;
@@ -149,7 +149,7 @@ fn add_values(
         ≡ put (plain.text_key (string_bytes name))
         (text_list (texts values)) (entries_view entries.old.entries)) }
 {
-    let name = Rc::new(alloc, name)?;
+    let name = Text::of(alloc, name)?;
     let items = text_values(alloc, values)?;
     let list = Value::from_items(alloc, items)?;
     entries.insert(Key::String(name), list)?;

@@ -17,7 +17,7 @@ ghost use Rattle.kube_schema_values.specs.Escape.{escape};
 ghost use Rattle.kube_schema_parts.specs.Parts.{AreOwnNames, AreParts, HasOwnNames, entries_at, is_embedded_at, is_map_at, items_node, key_at, node_of_member, scalar_of, value_at};
 
 use cel_demand::Demand;
-use cel_value::{Entries, Key, Refused, Value};
+use cel_value::{Entries, Key, Refused, Text, Value};
 use kube_schema_values::{
     MemberKeys, Node, bind_at, bind_number, bind_plain_with, is_its_own_escape,
 };
@@ -390,6 +390,6 @@ fn put_new(entries: &mut Entries, key: Rc<String>, value: Value) -> Result<bool,
         → find (text_key (string_bytes key.value)) (entries_view entries.old.entries) ≡ None) }
     ensures memory { IfErr result (λ e. e ≡ Refused.Memory) }
 {
-    let before = entries.insert(Key::String(key), value)?;
+    let before = entries.insert(Key::String(Text::shared(key)), value)?;
     Ok(before.is_none())
 }

@@ -9,7 +9,7 @@ ghost use Rattle.cel_value.specs.View.{view, items_view, entries_view};
 ghost use Rattle.kube_schema_values.specs.Plain.{plain, plain_number, plain_items, plain_entries};
 
 use crate::names::MemberKeys;
-use cel_value::{Entries, Key, Refused, Value};
+use cel_value::{Entries, Key, Refused, Text, Value};
 use serde_json::{Map as Members, Number, Value as Json};
 use std::alloc::Global;
 use std::rc::Rc;
@@ -74,7 +74,7 @@ pub fn bind_text(alloc: Global, chars: &str) -> Result<Value, Refused>
     ensures value { IfOk result (λ v. view v ≡ text chars.now) }
     ensures memory { IfErr result (λ e. e ≡ Refused.Memory) }
 {
-    Value::from_text(alloc, String::from_str(alloc, chars)?)
+    Value::of_str(alloc, chars)
 }
 
 #[cycle(plain)]
@@ -147,6 +147,6 @@ pub fn put_shared(entries: &mut Entries, key: Rc<String>, value: Value) -> Resul
     ensures unchanged { OnErr result (entries_view entries.new.entries ≡ entries_view entries.old.entries) }
     ensures memory { IfErr result (λ e. e ≡ Refused.Memory) }
 {
-    drop(entries.insert(Key::String(key), value)?);
+    drop(entries.insert(Key::String(Text::shared(key)), value)?);
     Ok(())
 }

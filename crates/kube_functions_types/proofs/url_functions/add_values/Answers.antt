@@ -10,5 +10,5 @@ pub returns : goal.returns
 returns c = record {
   written =
       inserted c.args.entries.now.entries c.insert.new.self.entries (key.String c.in_ok-name.name) c.in_ok-list.list (text_key (string_bytes c.args.name)) (text_list (texts c.args.values))
-      c.in_ok-insert.ensures.entries (ap (λ s. text_key (string_bytes s)) c.in_ok-name.ensures.ok) (c.in_ok-list.ensures.value ∙ ap list c.in_ok-items.ensures.value);
+      c.in_ok-insert.ensures.entries (ap text_key c.in_ok-name.ensures.value) (c.in_ok-list.ensures.value ∙ ap list c.in_ok-items.ensures.value);
 }
