@@ -1,4 +1,4 @@
--- Scaffolding: only proofs and private clauses cite it.
+-- Trusted by the clauses of other library calls.
 -- The bytes of a text, wherever they are stored.
 use Rattle.std.specs.Prelude.{ℕ, List, string_bytes}
 use Rattle.cel_value.specs.declared.string.Stored.{Stored}

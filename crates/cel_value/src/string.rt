@@ -1,12 +1,11 @@
 //! The texts of strings and of keys.
-ghost use Rattle.std.specs.Prelude.{◌≡◌, ◌<◌, ◌≤◌, length, take, IfOk, IfErr, MatchOption, string_bytes};
+ghost use Rattle.std.specs.Prelude.{◌≡◌, ◌<◌, length, IfOk, IfErr, MatchOption, string_bytes};
 
 use kube_types_refused::Refused;
 use std::alloc::{AllocError, Global};
-use std::fmt;
 use std::marker::Model;
 use std::rc::Rc;
-use std::str;
+use std::{fmt, str};
 
 /// The largest number of bytes that a text holds in itself.
 const SHORT_LEN: usize = 14;
@@ -133,10 +132,7 @@ impl Text {
             Some(short) => Ok(Text {
                 stored: Stored::Short(short),
             }),
-            None => Ok(Text::shared(Rc::new(
-                alloc,
-                String::from_str(alloc, text)?,
-            )?)),
+            None => Ok(Text::shared(Rc::new(alloc, String::from_str(alloc, text)?)?)),
         }
     }
 
