@@ -1,7 +1,6 @@
 //! The texts of strings and of keys.
-ghost use Rattle.std.specs.Prelude.{◌≡◌, ◌<◌, length, IfOk, IfErr, MatchOption, string_bytes};
+ghost use Rattle.std.specs.Prelude.{◌≡◌, ◌<◌, length, IfOk, MatchOption, string_bytes};
 
-use kube_types_refused::Refused;
 use std::alloc::{AllocError, Global};
 use std::marker::Model;
 use std::rc::Rc;
@@ -107,10 +106,9 @@ impl Text {
     /// one is shared.
     ///
     /// # Errors
-    /// [`Refused::Memory`] if there is no memory to share it.
-    pub fn of(alloc: Global, text: String) -> Result<Text, Refused>
+    /// [`AllocError`] if there is no memory to share it.
+    pub fn of(alloc: Global, text: String) -> Result<Text, AllocError>
         ensures value { IfOk result (λ t. t ≡ string_bytes text) }
-        ensures memory { IfErr result (λ e. e ≡ Refused.Memory) }
     {
         match ShortText::of(text.as_str()) {
             Some(short) => Ok(Text {
@@ -123,10 +121,9 @@ impl Text {
     /// Returns a copy of a text. It allocates only if the text is longer than 14 bytes.
     ///
     /// # Errors
-    /// [`Refused::Memory`] if there is no memory for a copy.
-    pub fn of_str(alloc: Global, text: &str) -> Result<Text, Refused>
+    /// [`AllocError`] if there is no memory for a copy.
+    pub fn of_str(alloc: Global, text: &str) -> Result<Text, AllocError>
         ensures value { IfOk result (λ t. t ≡ text.now) }
-        ensures memory { IfErr result (λ e. e ≡ Refused.Memory) }
     {
         match ShortText::of(text) {
             Some(short) => Ok(Text {
