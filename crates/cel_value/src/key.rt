@@ -18,7 +18,7 @@ pub enum Key {
 
 impl Key {
     ghost use Rattle.std.specs.Prelude.{◌≡◌};
-    ghost use Rattle.cel_value.specs.Keys.{key_view, key_class, key_number, key_text};
+    ghost use Rattle.cel_value.specs.Keys.{key_view, key_class, key_number, key_text, key_order};
 
     fn class(&self) -> u8
         ensures { result ≡ key_class (key_view self.now) }
@@ -51,6 +51,23 @@ impl Key {
             Key::Int(_) => "",
             Key::Uint(_) => "",
             Key::String(text) => text.as_str(),
+        }
+    }
+
+    /// The order of two keys. It is a call, so that the order of two numbers stays short enough to
+    /// be inlined where keys are compared.
+    #[inline(never)]
+    #[tactic(auto, using(crate::proofs::KeyOrder::then_equal))]
+    fn compare(&self, other: &Key) -> Ordering
+        ensures { result ≡ key_order (key_view self.now) (key_view other.now) }
+    {
+        match (self, other) {
+            (Key::String(a), Key::String(b)) => a.as_str().cmp(b.as_str()),
+            _ => self
+                .class()
+                .cmp(&other.class())
+                .then(self.number().cmp(&other.number()))
+                .then(self.text().cmp(other.text())),
         }
     }
 }
@@ -91,14 +108,9 @@ impl Ord for Key {
     #[tactic(auto, using(crate::proofs::KeyOrder::then_equal))]
     fn cmp(&self, other: &Key) -> Ordering {
         match (self, other) {
-            (Key::String(a), Key::String(b)) => a.as_str().cmp(b.as_str()),
             (Key::Int(a), Key::Int(b)) => a.cmp(b),
             (Key::Uint(a), Key::Uint(b)) => a.cmp(b),
-            _ => self
-                .class()
-                .cmp(&other.class())
-                .then(self.number().cmp(&other.number()))
-                .then(self.text().cmp(other.text())),
+            _ => self.compare(other),
         }
     }
 }
