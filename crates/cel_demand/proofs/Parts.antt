@@ -1,6 +1,8 @@
 -- Values that are alike in the union of two parts are alike in each.
-use Rattle.std.proofs.Common.{◌≡◌, ℕ, List, [], ◌∷◌, Bool, true, false, Option, Some, None, if◌then◌else◌, refl, sym, subst, inl, inr}
-use Rattle.std.proofs.lemmas.Slice.Eq.{bytes_eq-Decides}
+use Rattle.std.proofs.Common.{◌≡◌, ℕ, List, [], ◌∷◌, Bool, true, false, Option, Some, None, if◌then◌else◌, Ordering, Less, Equal, Greater, refl, sym, subst, inl, inr}
+use Rattle.std.proofs.lemmas.Map.Lookups.{exact_bytes}
+use Rattle.std.specs.Cmp.Lexicographic.{slice_cmp}
+use Rattle.std.specs.Ordering.{nat_cmp, match_ordering}
 use Rattle.std.specs.Str.{bytes_eq}
 use Rattle.cel_semantics.specs.Bindings.{Bindings, binding}
 use Rattle.cel_value.specs.Data.{Data, list, map_of, text_key, Items, Entries}
@@ -52,19 +54,21 @@ lists_split R S T f (v ∷ vs) (w ∷ ws) h =
     let ks = lists_split R S T f vs ws h.1 in
     ((k.0, ks.0), (k.1, ks.1))
 
--- both cases: the name is already there, or it isn't
-added : (b : Bool) (x y : List ℕ) → (b ≡ true → x ≡ y) → (p q j : Part) → Splits (Alike p) (Alike q) (Alike j) → (ns rest : Members) (g h : Names) → (MembersAlike rest g h → OptionsAlike (Alike p) (g x) (h x) × MembersAlike ns g h) → MembersAlike (if b then member y j ns else member y q rest) g h → OptionsAlike (Alike p) (g x) (h x) × (OptionsAlike (Alike q) (g y) (h y) × MembersAlike ns g h)
-added true x y same p q j f ns rest g h more k =
+-- each case: the name comes before the first, is its name, or comes after it
+added : (o : Ordering) (x y : List ℕ) → (o ≡ Equal → x ≡ y) → (p q j : Part) → Splits (Alike p) (Alike q) (Alike j) → (ns rest : Members) (g h : Names) → (MembersAlike rest g h → OptionsAlike (Alike p) (g x) (h x) × MembersAlike ns g h)
+    → MembersAlike (match_ordering o (member x p (member y q ns)) (member y j ns) (member y q rest)) g h → OptionsAlike (Alike p) (g x) (h x) × (OptionsAlike (Alike q) (g y) (h y) × MembersAlike ns g h)
+added Less x y same p q j f ns rest g h more k = k
+added Equal x y same p q j f ns rest g h more k =
     let ks = options_split (Alike p) (Alike q) (Alike j) f (g y) (h y) k.0 in
     (subst (λ z. OptionsAlike (Alike p) (g z) (h z)) (sym (same refl)) ks.0, (ks.1, k.1))
-added false x y same p q j f ns rest g h more k =
+added Greater x y same p q j f ns rest g h more k =
     let ks = more k.1 in
     (ks.0, (k.0, ks.1))
 
 pub with_member_alike : (x : List ℕ) (p : Part) (joined : Part → Part) → ((q : Part) → Splits (Alike p) (Alike q) (Alike (joined q))) → (ns : Members) (g h : Names) → MembersAlike (with_member x p joined ns) g h → OptionsAlike (Alike p) (g x) (h x) × MembersAlike ns g h
 with_member_alike x p joined f no_members g h k = k
 with_member_alike x p joined f (member y q ns) g h k =
-    added (bytes_eq x y) x y ((bytes_eq-Decides x y).0) p q (joined q) (f q) ns (with_member x p joined ns) g h (with_member_alike x p joined f ns g h) k
+    added (slice_cmp nat_cmp x y) x y (exact_bytes x y) p q (joined q) (f q) ns (with_member x p joined ns) g h (with_member_alike x p joined f ns g h) k
 
 mutual
   pub both_alike : (p q : Part) (v w : Data) → Alike (both p q) v w → Alike p v w × Alike q v w

@@ -1,11 +1,10 @@
 -- Members in a list: one more member, or another demand at an index.
-use Rattle.std.proofs.Common.{◌≡◌, ℕ, zero, suc, ◌+◌, ◌<◌, ◌≤◌, List, [], ◌∷◌, ◌++◌, Bool, true, false, ◌||◌, map, take, drop, length, get_or, if◌then◌else◌, refl, sym, ap, ◌∙◌, arith, drop-cons, true≢false}
-use Rattle.std.specs.Prelude.{slice_set}
-use Rattle.std.specs.Str.{bytes_eq}
-use Rattle.std.proofs.lemmas.List.{take_more, take_all}
+use Rattle.std.proofs.Common.{◌≡◌, ℕ, zero, suc, ◌<◌, ◌≤◌, List, [], ◌∷◌, map, drop, length, get_or, Ordering, Less, Equal, Greater, refl, sym, ap, ◌∙◌, arith, drop-cons}
+use Rattle.std.specs.Prelude.{insert, slice_set}
+use Rattle.std.specs.Ordering.{match_ordering}
 use Rattle.cel_demand.specs.Demand.{part_of, members_view}
 use Rattle.cel_demand.specs.Part.{Part, Members, no_members, member, with_member}
-use Rattle.cel_demand.specs.Places.{Entry, name_of, is_named, IsFirst}
+use Rattle.cel_demand.specs.Places.{Entry, name_of, order_to, IsAfter, IsAt, BelongsAt}
 use Rattle.cel_demand.specs.declared.demand.Demand.{Demand}
 
 -- ---- copies
@@ -27,27 +26,30 @@ same_members es fs h = view_listed es ∙ ap listed h ∙ sym (view_listed fs)
 
 -- ---- one more member
 
-split_or : (a b : Bool) → (a || b) ≡ false → (a ≡ false) × (b ≡ false)
-split_or true b h = absurd (true≢false h)
-split_or false b h = (refl, h)
+-- where the order of the name and the first member's is known
+with_first : (x : List ℕ) (p : Part) (joined : Part → Part) (f : Entry) (fs : List Entry) (o : Ordering) → order_to x f ≡ o
+    → match_ordering o (member x p (members_view (f ∷ fs))) (member (name_of f) (joined (part_of f.1)) (members_view fs)) (member (name_of f) (part_of f.1) (with_member x p joined (members_view fs)))
+    ≡ with_member x p joined (members_view (f ∷ fs))
+with_first x p joined f fs o h =
+    ap (λ o. match_ordering o (member x p (members_view (f ∷ fs))) (member (name_of f) (joined (part_of f.1)) (members_view fs)) (member (name_of f) (part_of f.1) (with_member x p joined (members_view fs)))) (sym h)
 
-pub added_last : (x : List ℕ) (p : Part) (joined : Part → Part) (es : List Entry) (e : Entry) → is_named x es ≡ false → name_of e ≡ x → part_of e.1 ≡ p → members_view (es ++ e ∷ []) ≡ with_member x p joined (members_view es)
-added_last x p joined [] e none name part = λ i. member (name i) (part i) no_members
-added_last x p joined (f ∷ fs) e none name part =
-    let h = split_or (bytes_eq x (name_of f)) (is_named x fs) none in
-    ap (member (name_of f) (part_of f.1)) (added_last x p joined fs e h.1 name part)
-    ∙ ap (λ b. if b then member (name_of f) (joined (part_of f.1)) (members_view fs) else member (name_of f) (part_of f.1) (with_member x p joined (members_view fs))) (sym h.0)
+-- a new member at the index at which it belongs
+pub inserted : (x : List ℕ) (p : Part) (joined : Part → Part) (es : List Entry) (i : ℕ) (e : Entry) → BelongsAt x es i → name_of e ≡ x → part_of e.1 ≡ p → members_view (insert es i e) ≡ with_member x p joined (members_view es)
+inserted x p joined [] zero e place name part = λ k. member (name k) (part k) no_members
+inserted x p joined [] (suc i) e place name part = absurd place
+inserted x p joined (f ∷ fs) zero e place name part =
+    (λ k. member (name k) (part k) (members_view (f ∷ fs))) ∙ with_first x p joined f fs Less place
+inserted x p joined (f ∷ fs) (suc i) e place name part =
+    ap (member (name_of f) (part_of f.1)) (inserted x p joined fs i e place.1 name part) ∙ with_first x p joined f fs Greater place.0
 
--- another demand at the first member with a name
-pub set_first : (x : List ℕ) (p : Part) (joined : Part → Part) (es : List Entry) (i : ℕ) (e : Entry) (d : Demand) → IsFirst x es i → e ≡ get_or es i e → part_of d ≡ joined (part_of e.1)
+-- another demand at the member with a name
+pub set_there : (x : List ℕ) (p : Part) (joined : Part → Part) (es : List Entry) (i : ℕ) (e : Entry) (d : Demand) → IsAt x es i → e ≡ get_or es i e → part_of d ≡ joined (part_of e.1)
     → members_view (slice_set es i (e.0, d)) ≡ with_member x p joined (members_view es)
-set_first x p joined [] i e d first is part = absurd first
-set_first x p joined (f ∷ fs) zero e d first is part =
-    (λ i. member (name_of (is i)) ((part ∙ ap (λ g. joined (part_of g.1)) is) i) (members_view fs))
-    ∙ ap (λ b. if b then member (name_of f) (joined (part_of f.1)) (members_view fs) else member (name_of f) (part_of f.1) (with_member x p joined (members_view fs))) (sym first)
-set_first x p joined (f ∷ fs) (suc i) e d first is part =
-    ap (member (name_of f) (part_of f.1)) (set_first x p joined fs i e d first.1 is part)
-    ∙ ap (λ b. if b then member (name_of f) (joined (part_of f.1)) (members_view fs) else member (name_of f) (part_of f.1) (with_member x p joined (members_view fs))) (sym first.0)
+set_there x p joined [] i e d place is part = absurd place
+set_there x p joined (f ∷ fs) zero e d place is part =
+    (λ k. member (name_of (is k)) ((part ∙ ap (λ g. joined (part_of g.1)) is) k) (members_view fs)) ∙ with_first x p joined f fs Equal place
+set_there x p joined (f ∷ fs) (suc i) e d place is part =
+    ap (member (name_of f) (part_of f.1)) (set_there x p joined fs i e d place.1 is part) ∙ with_first x p joined f fs Greater place.0
 
 -- ---- the member at an index
 
@@ -56,31 +58,28 @@ same_entry [] i e r lt is at = absurd (omega arith)
 same_entry (f ∷ fs) zero e r lt is at = is ∙ sym at
 same_entry (f ∷ fs) (suc i) e r lt is at = same_entry fs i e r (omega (arith, lt)) is at
 
--- ---- the first member with a name
+-- ---- where a name is, or else where it belongs
 
-or_false : (a b : Bool) → a ≡ false → b ≡ false → (a || b) ≡ false
-or_false true b h k = absurd (true≢false h)
-or_false false b h k = k
+pub after_next : (x : List ℕ) (es : List Entry) (i : ℕ) (e : Entry) → i < length es → e ≡ get_or es i e → order_to x e ≡ Greater → IsAfter x es i → IsAfter x es (suc i)
+after_next x [] i e lt is order after = absurd (omega (arith, lt))
+after_next x (f ∷ fs) zero e lt is order after = (ap (order_to x) (sym is) ∙ order, tt)
+after_next x (f ∷ fs) (suc i) e lt is order after = (after.0, after_next x fs i e (omega (arith, lt)) is order after.1)
 
-named_last : (x : List ℕ) (es : List Entry) (e : Entry) → is_named x es ≡ false → bytes_eq x (name_of e) ≡ false → is_named x (es ++ e ∷ []) ≡ false
-named_last x [] e none other = or_false (bytes_eq x (name_of e)) false other refl
-named_last x (f ∷ fs) e none other =
-    let h = split_or (bytes_eq x (name_of f)) (is_named x fs) none in
-    or_false (bytes_eq x (name_of f)) (is_named x (fs ++ e ∷ [])) h.0 (named_last x fs e h.1 other)
+pub at_this : (x : List ℕ) (es : List Entry) (i : ℕ) (e : Entry) → i < length es → e ≡ get_or es i e → order_to x e ≡ Equal → IsAfter x es i → IsAt x es i
+at_this x [] i e lt is order after = absurd (omega (arith, lt))
+at_this x (f ∷ fs) zero e lt is order after = ap (order_to x) (sym is) ∙ order
+at_this x (f ∷ fs) (suc i) e lt is order after = (after.0, at_this x fs i e (omega (arith, lt)) is order after.1)
 
-pub not_yet : (x : List ℕ) (es : List Entry) (i : ℕ) (e : Entry) → i < length es → e ≡ get_or es i e → bytes_eq x (name_of e) ≡ false → is_named x (take i es) ≡ false → is_named x (take (i + 1) es) ≡ false
-not_yet x es i e lt is other none =
-    ap (is_named x) (take_more es i e lt ∙ ap (λ y. take i es ++ y ∷ []) (sym is)) ∙ named_last x (take i es) e none other
+pub before_this : (x : List ℕ) (es : List Entry) (i : ℕ) (e : Entry) → i < length es → e ≡ get_or es i e → order_to x e ≡ Less → IsAfter x es i → BelongsAt x es i
+before_this x [] i e lt is order after = absurd (omega (arith, lt))
+before_this x (f ∷ fs) zero e lt is order after = ap (order_to x) (sym is) ∙ order
+before_this x (f ∷ fs) (suc i) e lt is order after = (after.0, before_this x fs i e (omega (arith, lt)) is order after.1)
 
-pub nowhere : (x : List ℕ) (es : List Entry) (i : ℕ) → length es ≤ i → is_named x (take i es) ≡ false → is_named x es ≡ false
-nowhere x es i le none = ap (is_named x) (sym (take_all i es le)) ∙ none
-
-pub first_here : (x : List ℕ) (es : List Entry) (i : ℕ) (e : Entry) → i < length es → e ≡ get_or es i e → is_named x (take i es) ≡ false → bytes_eq x (name_of e) ≡ true → IsFirst x es i
-first_here x [] i e lt is none here = absurd (omega arith)
-first_here x (f ∷ fs) zero e lt is none here = ap (λ g. bytes_eq x (name_of g)) (sym is) ∙ here
-first_here x (f ∷ fs) (suc i) e lt is none here =
-    let h = split_or (bytes_eq x (name_of f)) (is_named x (take i fs)) none in
-    (h.0, first_here x fs i e (omega (arith, lt)) is h.1 here)
+pub after_all : (x : List ℕ) (es : List Entry) (i : ℕ) → length es ≤ i → IsAfter x es i → BelongsAt x es i
+after_all x [] zero le after = tt
+after_all x [] (suc i) le after = absurd after
+after_all x (f ∷ fs) zero le after = absurd (omega (arith, le))
+after_all x (f ∷ fs) (suc i) le after = (after.0, after_all x fs i (omega (arith, le)) after.1)
 
 -- ---- the demand on a name
 

@@ -2,6 +2,8 @@
 -- A part of a value: what an expression needs to know of it,
 -- if it goes on by selecting members and iterating over items.
 use Rattle.std.specs.Prelude.{ℕ, List, Bool, false, ◌||◌, Option, Some, None, if◌then◌else◌}
+use Rattle.std.specs.Cmp.Lexicographic.{slice_cmp}
+use Rattle.std.specs.Ordering.{nat_cmp, match_ordering}
 use Rattle.std.specs.Str.{bytes_eq}
 
 mutual
@@ -19,11 +21,13 @@ mutual
     no_members : Members
     member : List ℕ → Part → Members → Members
 
--- one more member; if it is already there, the parts are joined
+-- one more member, before the first whose name comes after
+-- its name; if it is already there, the parts are joined
 abbrev pub with_member : List ℕ → Part → (Part → Part) → Members → Members
 with_member x p joined no_members = member x p no_members
 with_member x p joined (member y q ms) =
-    if bytes_eq x y then member y (joined q) ms else member y q (with_member x p joined ms)
+    match_ordering (slice_cmp nat_cmp x y)
+    (member x p (member y q ms)) (member y (joined q) ms) (member y q (with_member x p joined ms))
 
 abbrev mutual
   -- the union of two parts. A list has no members and a map

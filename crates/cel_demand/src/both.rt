@@ -1,19 +1,18 @@
 //! The union of demands.
-ghost use Rattle.std.specs.Prelude.{ℕ, List, get_or, ◌≡◌, ◌<◌, false, length, IfSome, IfOk, IfErr, OnOk, MatchOption, option_map, string_bytes};
+ghost use Rattle.std.specs.Prelude.{ℕ, List, get_or, ◌≡◌, ◌<◌, ◌≤◌, length, IfOk, OnOk, MatchResult, option_map};
 ghost use Rattle.cel_demand.specs.Demand.{part_of, members_view};
-ghost use Rattle.cel_demand.specs.Part.{Part, both, both_read, all_members, with_member, part_at, part_read, without, in_items};
-ghost use Rattle.cel_demand.specs.Places.{Entry, is_named, IsFirst};
+ghost use Rattle.cel_demand.specs.Part.{Part, both, both_read, all_members, with_member, part_at, has_name, part_read, without, in_items};
+ghost use Rattle.cel_demand.specs.Places.{Entry, IsAt, BelongsAt};
 
 use crate::demand::{Demand, copy_members};
-use cel_value::Refused;
-use std::alloc::Global;
-use std::rc::Rc;
+use cel_value::Text;
+use std::alloc::{AllocError, Global};
+use std::cmp::Ordering;
 
 /// Returns what at least one of two demands needs.
 #[cycle(both)]
-pub(crate) fn both(alloc: Global, first: &Demand, second: &Demand) -> Result<Demand, Refused>
+pub(crate) fn both(alloc: Global, first: &Demand, second: &Demand) -> Result<Demand, AllocError>
     ensures both { IfOk result (λ d. part_of d ≡ both (part_of first.now) (part_of second.now)) }
-    ensures memory { IfErr result (λ e. e ≡ Refused.Memory) }
 {
     match first {
         Demand::Nothing => second.copy(alloc),
@@ -41,80 +40,111 @@ pub(crate) fn both(alloc: Global, first: &Demand, second: &Demand) -> Result<Dem
 #[cycle(both)]
 fn both_members(
     alloc: Global,
-    members: &Vec<(Rc<String>, Demand)>,
-    others: &Vec<(Rc<String>, Demand)>,
-) -> Result<Vec<(Rc<String>, Demand)>, Refused>
+    members: &Vec<(Text, Demand)>,
+    others: &Vec<(Text, Demand)>,
+) -> Result<Vec<(Text, Demand)>, AllocError>
     ensures all { IfOk result (λ es. members_view es.items
         ≡ all_members (members_view members.now.items) (members_view others.now.items)) }
-    ensures memory { IfErr result (λ e. e ≡ Refused.Memory) }
 {
     let mut all = copy_members(alloc, others)?;
     for member in members {
-        match index_of(&all, member.0.as_str()) {
-            Some(index) => {
+        match place_of(&all, member.0.as_str()) {
+            Ok(index) => {
                 let joined = both(alloc, &member.1, &all[index].1)?;
                 set_demand(&mut all, index, joined);
             }
-            None => all.push((member.0.clone()?, member.1.copy(alloc)?))?,
+            Err(index) => insert_member(alloc, &mut all, index, &member.0, &member.1)?,
         }
     }
     Ok(all)
 }
 
-/// Adds a member, or joins its demand with that of the member that is already there.
+/// Adds a member at its place in the order of names, or joins its
+/// demand with that of the member that is already there.
 pub(crate) fn add_member(
     alloc: Global,
-    members: &mut Vec<(Rc<String>, Demand)>,
-    name: &Rc<String>,
+    members: &mut Vec<(Text, Demand)>,
+    name: &Text,
     demand: &Demand,
-) -> Result<(), Refused>
+) -> Result<(), AllocError>
     ensures added { OnOk result (members_view members.new.items
-        ≡ with_member (string_bytes name.now.value) (part_of demand.now) (both (part_of demand.now))
+        ≡ with_member name.now (part_of demand.now) (both (part_of demand.now))
         (members_view members.old.items)) }
-    ensures memory { IfErr result (λ e. e ≡ Refused.Memory) }
 {
-    match index_of(members, name.as_str()) {
-        Some(index) => {
+    match place_of(members, name.as_str()) {
+        Ok(index) => {
             let joined = both(alloc, demand, &members[index].1)?;
             set_demand(members, index, joined);
         }
-        None => members.push((name.clone()?, demand.copy(alloc)?))?,
+        Err(index) => insert_member(alloc, members, index, name, demand)?,
     }
     Ok(())
 }
 
 /// Replaces the demand on the member at an index.
-fn set_demand(members: &mut Vec<(Rc<String>, Demand)>, index: usize, demand: Demand)
+fn set_demand(members: &mut Vec<(Text, Demand)>, index: usize, demand: Demand)
     requires { index < length members.old.items }
-    ensures { (name : List ℕ) (part : Part) (joined : Part → Part) → IsFirst name members.old.items index
+    ensures { (name : List ℕ) (part : Part) (joined : Part → Part) → IsAt name members.old.items index
         → ((e : Entry) → e ≡ get_or members.old.items index e → part_of demand ≡ joined (part_of e.1))
         → members_view members.new.items ≡ with_member name part joined (members_view members.old.items) }
 {
     members[index].1 = demand;
 }
 
-/// The index of the first member with this name; None if there is none.
-fn index_of(members: &Vec<(Rc<String>, Demand)>, name: &str) -> Option<usize>
-    ensures first { MatchOption result (is_named name.now members.now.items ≡ false)
-        (λ i. IsFirst name.now members.now.items i) }
-    ensures within { IfSome result (λ i. i < length members.now.items) }
+/// Adds a member before the one at an index, or behind all.
+fn insert_member(
+    alloc: Global,
+    members: &mut Vec<(Text, Demand)>,
+    index: usize,
+    name: &Text,
+    demand: &Demand,
+) -> Result<(), AllocError>
+    requires { index ≤ length members.old.items }
+    ensures added { OnOk result ((joined : Part → Part) → BelongsAt name.now members.old.items index
+        → members_view members.new.items
+        ≡ with_member name.now (part_of demand.now) joined (members_view members.old.items)) }
+{
+    members.insert(index, (name.clone()?, demand.copy(alloc)?))?;
+    Ok(())
+}
+
+/// The index of the member with this name, or else the
+/// index at which it belongs, in the order of names.
+fn place_of(members: &Vec<(Text, Demand)>, name: &str) -> Result<usize, usize>
+    ensures place { MatchResult result
+        (λ i. IsAt name.now members.now.items i) (λ i. BelongsAt name.now members.now.items i) }
+    ensures within { MatchResult result
+        (λ i. i < length members.now.items) (λ i. i ≤ length members.now.items) }
 {
     for index in 0..members.len() {
-        if name == members[index].0.as_str() {
-            return Some(index);
+        match name.cmp(members[index].0.as_str()) {
+            Ordering::Less => return Err(index),
+            Ordering::Equal => return Ok(index),
+            Ordering::Greater => {}
         }
     }
-    None
+    Err(members.len())
+}
+
+/// Whether one of the members has this name.
+fn has_name(members: &Vec<(Text, Demand)>, name: &str) -> bool
+    ensures named { result ≡ has_name name.now (members_view members.now.items) }
+{
+    for member in members {
+        if member.0.as_str() == name {
+            return true;
+        }
+    }
+    false
 }
 
 /// Returns the demand that these members put on a name; [`Demand::Nothing`] if it isn't among them.
 pub(crate) fn demand_at(
     alloc: Global,
     name: &str,
-    members: &Vec<(Rc<String>, Demand)>,
-) -> Result<Demand, Refused>
+    members: &Vec<(Text, Demand)>,
+) -> Result<Demand, AllocError>
     ensures at { IfOk result (λ d. part_of d ≡ part_at name.now (members_view members.now.items)) }
-    ensures memory { IfErr result (λ e. e ≡ Refused.Memory) }
 {
     let mut demand = Demand::Nothing;
     let mut left = members.len();
@@ -131,19 +161,18 @@ pub(crate) fn demand_at(
 ///
 /// # Errors
 ///
-/// Only [`Refused::Memory`], if memory is refused.
+/// [`AllocError`] if memory is refused.
 pub fn demand_on(
     alloc: Global,
     name: &str,
-    members: &Vec<(Rc<String>, Demand)>,
-) -> Result<Option<Demand>, Refused>
+    members: &Vec<(Text, Demand)>,
+) -> Result<Option<Demand>, AllocError>
     ensures on { IfOk result
         (λ o. option_map part_of o ≡ part_read name.now (members_view members.now.items)) }
-    ensures memory { IfErr result (λ e. e ≡ Refused.Memory) }
 {
-    let Some(_index) = index_of(members, name) else {
+    if !has_name(members, name) {
         return Ok(None);
-    };
+    }
     let demand = demand_at(alloc, name, members)?;
     Ok(Some(demand))
 }
@@ -152,15 +181,14 @@ pub fn demand_on(
 ///
 /// # Errors
 ///
-/// Only [`Refused::Memory`], if memory is refused.
+/// [`AllocError`] if memory is refused.
 pub fn both_demands(
     alloc: Global,
     first: &Option<Demand>,
     second: &Option<Demand>,
-) -> Result<Option<Demand>, Refused>
+) -> Result<Option<Demand>, AllocError>
     ensures both { IfOk result (λ o. option_map part_of o
         ≡ both_read (option_map part_of first.now) (option_map part_of second.now)) }
-    ensures memory { IfErr result (λ e. e ≡ Refused.Memory) }
 {
     match (first, second) {
         (None, None) => Ok(None),
@@ -173,13 +201,12 @@ pub fn both_demands(
 /// Adds more members, except those with this name.
 pub(crate) fn add_others(
     alloc: Global,
-    members: &mut Vec<(Rc<String>, Demand)>,
+    members: &mut Vec<(Text, Demand)>,
     name: &str,
-    more: &Vec<(Rc<String>, Demand)>,
-) -> Result<(), Refused>
+    more: &Vec<(Text, Demand)>,
+) -> Result<(), AllocError>
     ensures added { OnOk result (members_view members.new.items
         ≡ all_members (without name.now (members_view more.now.items)) (members_view members.old.items)) }
-    ensures memory { IfErr result (λ e. e ≡ Refused.Memory) }
 {
     for member in more {
         if member.0.as_str() != name {
@@ -190,9 +217,8 @@ pub(crate) fn add_others(
 }
 
 /// Returns the demand on each item, from the demand on the list.
-pub(crate) fn in_items(alloc: Global, demand: &Demand) -> Result<Demand, Refused>
+pub(crate) fn in_items(alloc: Global, demand: &Demand) -> Result<Demand, AllocError>
     ensures item { IfOk result (λ d. part_of d ≡ in_items (part_of demand.now)) }
-    ensures memory { IfErr result (λ e. e ≡ Refused.Memory) }
 {
     match demand {
         Demand::Nothing => Ok(Demand::Nothing),

@@ -1,11 +1,10 @@
 //! Which part of a value an expression needs.
-ghost use Rattle.std.specs.Prelude.{◌≡◌, IfOk, IfErr, string_bytes};
+ghost use Rattle.std.specs.Prelude.{◌≡◌, IfOk};
 ghost use Rattle.cel_demand.specs.Part.{member, no_members};
 ghost use Rattle.cel_demand.specs.Demand.{part_of, members_view};
 
-use cel_value::Refused;
-use std::alloc::Global;
-use std::rc::Rc;
+use cel_value::Text;
+use std::alloc::{AllocError, Global};
 
 /// The part of a value that an expression needs.
 #[derive(Debug, Drop)]
@@ -17,7 +16,7 @@ pub enum Demand {
     /// The number of items of a list, and this part of each of them.
     Items(Box<Demand>),
     /// Which of these members a map has, and these parts of them.
-    Members(Vec<(Rc<String>, Demand)>),
+    Members(Vec<(Text, Demand)>),
 }
 
 impl Demand {
@@ -25,11 +24,10 @@ impl Demand {
     ///
     /// # Errors
     ///
-    /// Only [`Refused::Memory`], if memory is refused.
+    /// [`AllocError`] if memory is refused.
     #[cycle(copies)]
-    pub fn copy(&self, alloc: Global) -> Result<Demand, Refused>
+    pub fn copy(&self, alloc: Global) -> Result<Demand, AllocError>
         ensures same { IfOk result (λ d. part_of d ≡ part_of self.now) }
-        ensures memory { IfErr result (λ e. e ≡ Refused.Memory) }
     {
         match self {
             Demand::Nothing => Ok(Demand::Nothing),
@@ -44,10 +42,9 @@ impl Demand {
 #[cycle(copies)]
 pub(crate) fn copy_members(
     alloc: Global,
-    members: &Vec<(Rc<String>, Demand)>,
-) -> Result<Vec<(Rc<String>, Demand)>, Refused>
+    members: &Vec<(Text, Demand)>,
+) -> Result<Vec<(Text, Demand)>, AllocError>
     ensures same { IfOk result (λ es. members_view es.items ≡ members_view members.now.items) }
-    ensures memory { IfErr result (λ e. e ≡ Refused.Memory) }
 {
     let mut copies = Vec::with_capacity(alloc, members.len())?;
     for member in members {
@@ -59,12 +56,11 @@ pub(crate) fn copy_members(
 /// Returns a list of one member.
 pub(crate) fn one_member(
     alloc: Global,
-    name: &Rc<String>,
+    name: &Text,
     demand: Demand,
-) -> Result<Vec<(Rc<String>, Demand)>, Refused>
+) -> Result<Vec<(Text, Demand)>, AllocError>
     ensures one { IfOk result (λ es. members_view es.items
-        ≡ member (string_bytes name.now.value) (part_of demand) no_members) }
-    ensures memory { IfErr result (λ e. e ≡ Refused.Memory) }
+        ≡ member name.now (part_of demand) no_members) }
 {
     let mut members = Vec::new(alloc);
     members.push((name.clone()?, demand))?;

@@ -1,5 +1,5 @@
 //! What an expression reads of the values of its free names.
-ghost use Rattle.std.specs.Prelude.{◌≡◌, IfOk, IfErr, OnOk, map};
+ghost use Rattle.std.specs.Prelude.{◌≡◌, IfOk, OnOk, map};
 ghost use Rattle.cel_syntax_ast.specs.Term.{term, terms_of, pairs_of};
 ghost use Rattle.cel_demand.specs.Demand.{part_of, members_view};
 ghost use Rattle.cel_demand.specs.Part.{each_item, both, part_at};
@@ -8,18 +8,17 @@ ghost use Rattle.cel_demand.specs.Reads.{reads, all_reads, pair_reads, reads_of,
 use crate::both::{add_member, add_others, both, demand_at, in_items};
 use crate::demand::{Demand, one_member};
 use cel_syntax_ast::{Expr, MacroKind};
-use cel_value::Refused;
-use std::alloc::Global;
-use std::rc::Rc;
+use cel_value::Text;
+use std::alloc::{AllocError, Global};
 
-/// Returns the free names of an expression, each once, with the demands on their values.
+/// Returns the free names of an expression, each once and in the
+/// order of their bytes, with the demands on their values.
 ///
 /// # Errors
 ///
-/// Only [`Refused::Memory`], if memory is refused.
-pub fn demands_of(alloc: Global, expr: &Expr) -> Result<Vec<(Rc<String>, Demand)>, Refused>
+/// [`AllocError`] if memory is refused.
+pub fn demands_of(alloc: Global, expr: &Expr) -> Result<Vec<(Text, Demand)>, AllocError>
     ensures names { IfOk result (λ es. members_view es.items ≡ reads_of (term expr.now)) }
-    ensures memory { IfErr result (λ e. e ≡ Refused.Memory) }
 {
     let mut names = Vec::new(alloc);
     add_reads(alloc, expr, &Demand::Whole, &mut names)?;
@@ -28,9 +27,8 @@ pub fn demands_of(alloc: Global, expr: &Expr) -> Result<Vec<(Rc<String>, Demand)
 
 /// Returns the demand on each item that a macro puts
 /// into its result, from the demand on the result.
-fn kept_demand(alloc: Global, kind: MacroKind, demand: &Demand) -> Result<Demand, Refused>
+fn kept_demand(alloc: Global, kind: MacroKind, demand: &Demand) -> Result<Demand, AllocError>
     ensures kept { IfOk result (λ d. part_of d ≡ kept_part kind (part_of demand.now)) }
-    ensures memory { IfErr result (λ e. e ≡ Refused.Memory) }
 {
     match kind {
         MacroKind::Filter => in_items(alloc, demand),
@@ -41,9 +39,8 @@ fn kept_demand(alloc: Global, kind: MacroKind, demand: &Demand) -> Result<Demand
 }
 
 /// Returns the demand on the value of a macro's body, from the demand on the macro's result.
-fn body_demand(alloc: Global, kind: MacroKind, demand: &Demand) -> Result<Demand, Refused>
+fn body_demand(alloc: Global, kind: MacroKind, demand: &Demand) -> Result<Demand, AllocError>
     ensures body { IfOk result (λ d. part_of d ≡ body_part kind (part_of demand.now)) }
-    ensures memory { IfErr result (λ e. e ≡ Refused.Memory) }
 {
     match kind {
         MacroKind::Map => in_items(alloc, demand),
@@ -59,11 +56,10 @@ fn range_demand(
     alloc: Global,
     kept: &Demand,
     variable: &str,
-    inside: &Vec<(Rc<String>, Demand)>,
-) -> Result<Demand, Refused>
+    inside: &Vec<(Text, Demand)>,
+) -> Result<Demand, AllocError>
     ensures range { IfOk result (λ d. part_of d
         ≡ each_item (both (part_of kept.now) (part_at variable.now (members_view inside.now.items)))) }
-    ensures memory { IfErr result (λ e. e ≡ Refused.Memory) }
 {
     let item = demand_at(alloc, variable, inside)?;
     Ok(Demand::Items(Box::new(alloc, both(alloc, kept, &item)?)?))
@@ -75,11 +71,10 @@ fn add_reads(
     alloc: Global,
     expr: &Expr,
     demand: &Demand,
-    names: &mut Vec<(Rc<String>, Demand)>,
-) -> Result<(), Refused>
+    names: &mut Vec<(Text, Demand)>,
+) -> Result<(), AllocError>
     ensures added { OnOk result (members_view names.new.items
         ≡ reads (term expr.now) (part_of demand.now) (members_view names.old.items)) }
-    ensures memory { IfErr result (λ e. e ≡ Refused.Memory) }
 {
     match expr {
         Expr::Literal(_) => Ok(()),
@@ -145,11 +140,10 @@ fn add_reads(
 fn add_all_reads(
     alloc: Global,
     items: &Vec<Expr>,
-    names: &mut Vec<(Rc<String>, Demand)>,
-) -> Result<(), Refused>
+    names: &mut Vec<(Text, Demand)>,
+) -> Result<(), AllocError>
     ensures added { OnOk result (members_view names.new.items
         ≡ all_reads (terms_of (map term items.now.items)) (members_view names.old.items)) }
-    ensures memory { IfErr result (λ e. e ≡ Refused.Memory) }
 {
     for item in items {
         add_reads(alloc, item, &Demand::Whole, names)?;
@@ -162,12 +156,11 @@ fn add_all_reads(
 fn add_pair_reads(
     alloc: Global,
     pairs: &Vec<(Expr, Expr)>,
-    names: &mut Vec<(Rc<String>, Demand)>,
-) -> Result<(), Refused>
+    names: &mut Vec<(Text, Demand)>,
+) -> Result<(), AllocError>
     ensures added { OnOk result (members_view names.new.items
         ≡ pair_reads (pairs_of (map (λ p. (term p.0, term p.1)) pairs.now.items))
         (members_view names.old.items)) }
-    ensures memory { IfErr result (λ e. e ≡ Refused.Memory) }
 {
     for pair in pairs {
         add_reads(alloc, &pair.0, &Demand::Whole, names)?;

@@ -8,7 +8,7 @@ ghost use Rattle.cel_patterns.specs.Extensions.{HoldsForExtensions};
 
 use crate::pattern::Pattern;
 use kube_types_refused::Refused;
-use std::alloc::Global;
+use std::alloc::{AllocError, Global};
 use std::collections::BTreeMap;
 
 /// The largest number of patterns that a book keeps.
@@ -66,11 +66,10 @@ impl PatternBook {
 
     /// Stores a pattern and returns its slot. If there are too many already, or they would be
     /// too large together, it drops the others first.
-    fn keep(&mut self, pattern: Pattern) -> Result<usize, Refused>
+    fn keep(&mut self, pattern: Pattern) -> Result<usize, AllocError>
         ensures slot { IfOk result (λ slot.
             IsStoredAt self.new.patterns.items slot (string_bytes pattern.text)) }
         ensures same { self.new.answers ≡ self.old.answers }
-        ensures memory { IfErr result (λ e. e ≡ Refused.Memory) }
     {
         let weight = pattern.weight();
         if self.patterns.len() >= MOST_PATTERNS || self.weight.saturating_add(weight) > MOST_BYTES {
@@ -86,23 +85,16 @@ impl PatternBook {
     /// Builds the pattern of a text and returns its slot, or `None` if the text is refused.
     ///
     /// `again` says that the text was built before. A refusal is then reported as a lack of memory.
-    fn slot_of(&mut self, pattern: &str, again: bool) -> Result<Option<usize>, Refused>
+    fn slot_of(&mut self, pattern: &str, again: bool) -> Result<Option<usize>, AllocError>
         ensures slot { IfOk result (λ found.
             IfSome found (λ slot. IsStoredAt self.new.patterns.items slot pattern.now)) }
         ensures reads { IfOk result (λ found. IsSome found → IsSome (pattern_of_text pattern.now)) }
         ensures again { IfOk result (λ found. IsTrue again → IsSome found) }
         ensures same { self.new.answers ≡ self.old.answers }
-        ensures memory { IfErr result (λ e. e ≡ Refused.Memory) }
     {
         match Pattern::new(self.alloc, pattern)? {
             Some(built) => Ok(Some(self.keep(built)?)),
-            None => {
-                if again {
-                    Err(Refused::Memory)
-                } else {
-                    Ok(None)
-                }
-            }
+            None => { if again { Err(AllocError) } else { Ok(None) } }
         }
     }
 
@@ -110,7 +102,7 @@ impl PatternBook {
     // Not inlined, since a pattern is large and a
     // function pays at entry for the size of its locals.
     #[inline(never)]
-    fn build(&mut self, pattern: &str, again: bool) -> Result<Option<usize>, Refused>
+    fn build(&mut self, pattern: &str, again: bool) -> Result<Option<usize>, AllocError>
         requires { entries_of self.old pattern.now ≡ (if again then Some true else None) }
         ensures kept { Extends (entries_of self.new) (entries_of self.old) }
         ensures others { (text : List ℕ) → text ≢ pattern.now
@@ -118,7 +110,6 @@ impl PatternBook {
         ensures answer { IfOk result (λ found. entries_of self.new pattern.now ≡ Some (is_some found)) }
         ensures slot { IfOk result (λ found.
             IfSome found (λ slot. IsStoredAt self.new.patterns.items slot pattern.now)) }
-        ensures memory { IfErr result (λ e. e ≡ Refused.Memory) }
     {
         let slot = self.slot_of(pattern, again)?;
         let key = String::from_str(self.alloc, pattern)?;
@@ -127,14 +118,13 @@ impl PatternBook {
     }
 
     /// Returns the slot of the pattern of a text, or `None` if the text is refused.
-    fn ask(&mut self, pattern: &str) -> Result<Option<usize>, Refused>
+    fn ask(&mut self, pattern: &str) -> Result<Option<usize>, AllocError>
         ensures kept { Extends (entries_of self.new) (entries_of self.old) }
         ensures others { (text : List ℕ) → text ≢ pattern.now
             → entries_of self.new text ≡ entries_of self.old text }
         ensures answer { IfOk result (λ found. entries_of self.new pattern.now ≡ Some (is_some found)) }
         ensures slot { IfOk result (λ found.
             IfSome found (λ slot. IsStoredAt self.new.patterns.items slot pattern.now)) }
-        ensures memory { IfErr result (λ e. e ≡ Refused.Memory) }
     {
         match self.answers.get(pattern) {
             Some(None) => Ok(None),
@@ -151,12 +141,11 @@ impl PatternBook {
     }
 
     /// Reports whether the pattern in the slot matches anywhere in the text.
-    fn is_match_at(&mut self, slot: usize, text: &str) -> Result<bool, Refused>
+    fn is_match_at(&mut self, slot: usize, text: &str) -> Result<bool, AllocError>
         requires { slot < vec_len self.old.patterns }
         ensures found { IfOk result (λ found. (pattern : List ℕ)
             → IsStoredAt self.old.patterns.items slot pattern → IsMatchAnswer pattern text.now found) }
         ensures same { self.new.answers ≡ self.old.answers }
-        ensures memory { IfErr result (λ e. e ≡ Refused.Memory) }
     {
         self.patterns[slot].is_match(self.alloc, text)
     }
@@ -168,13 +157,12 @@ impl PatternBook {
         slot: usize,
         text: &str,
         limit: Option<usize>,
-    ) -> Result<Vec<(usize, usize)>, Refused>
+    ) -> Result<Vec<(usize, usize)>, AllocError>
         requires { slot < vec_len self.old.patterns }
         ensures found { IfOk result (λ v. (pattern : List ℕ)
             → IsStoredAt self.old.patterns.items slot pattern → FindsAll pattern text.now limit v.items) }
         ensures within { IfOk result (λ v. All (IsSpanIn text.now) v.items) }
         ensures same { self.new.answers ≡ self.old.answers }
-        ensures memory { IfErr result (λ e. e ≡ Refused.Memory) }
     {
         self.patterns[slot].find_all(self.alloc, text, limit)
     }

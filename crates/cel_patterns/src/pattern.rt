@@ -1,5 +1,5 @@
 //! A built pattern, with the tables that its searches fill.
-ghost use Rattle.std.specs.Prelude.{◌≡◌, All, IfErr, IfOk, IfSome, IsSome, string_bytes};
+ghost use Rattle.std.specs.Prelude.{◌≡◌, All, IfOk, IfSome, IsSome, string_bytes};
 ghost use Rattle.regex_compile.specs.Implements.{Implements};
 ghost use Rattle.regex_dfa.specs.Search.{IsForwardFor};
 ghost use Rattle.regex_hir.specs.Meaning.{meaning};
@@ -8,13 +8,12 @@ ghost use Rattle.cel_patterns.specs.Book.{IsSpanIn};
 ghost use Rattle.cel_patterns.specs.Built.{FindsAll, IsDfaOf, IsRegexOf, IsMatchAnswer};
 
 use crate::spans::spans_in;
-use kube_types_refused::Refused;
 use regex::Regex;
 use regex_dfa::{Dfa, End, Forward};
 use regex_hir::Hir;
 use regex_nfa::BuildError;
 use regex_syntax::{Config, ErrorKind};
-use std::alloc::Global;
+use std::alloc::{AllocError, Global};
 
 /// The number of bytes that the tables of a pattern may take, as for `Regex::new`.
 const MOST_BYTES: usize = 10 << 20;
@@ -23,48 +22,45 @@ const MOST_BYTES: usize = 10 << 20;
 const STORED_BYTES: usize = 1 << 18;
 
 /// Returns the states that search for what the tree means, or `None` if they would be too large.
-fn states_of(alloc: Global, tree: &Hir, groups: usize) -> Result<Option<Dfa>, Refused>
+fn states_of(alloc: Global, tree: &Hir, groups: usize) -> Result<Option<Dfa>, AllocError>
     ensures states { IfOk result (λ found. IfSome found (λ dfa. Implements dfa.nfa (meaning tree.now))) }
-    ensures memory { IfErr result (λ e. e ≡ Refused.Memory) }
 {
     let Ok(groups) = u32::try_from(groups) else {
         return Ok(None);
     };
     let nfa = match regex_compile::compile(alloc, tree, groups, MOST_BYTES) {
         Ok(nfa) => nfa,
-        Err(regex_compile::Error::OutOfMemory) => return Err(Refused::Memory),
+        Err(regex_compile::Error::OutOfMemory) => return Err(AllocError),
         Err(_) => return Ok(None),
     };
     match Dfa::new(alloc, nfa) {
         Ok(dfa) => Ok(Some(dfa)),
-        Err(BuildError::OutOfMemory) => Err(Refused::Memory),
+        Err(BuildError::OutOfMemory) => Err(AllocError),
         Err(_) => Ok(None),
     }
 }
 
 /// Returns the states of a pattern text, or `None` if the
 /// text is refused for another reason than memory.
-fn dfa_of(alloc: Global, text: &str) -> Result<Option<Dfa>, Refused>
+fn dfa_of(alloc: Global, text: &str) -> Result<Option<Dfa>, AllocError>
     ensures built { IfOk result (λ found. IfSome found (IsDfaOf text.now)) }
-    ensures memory { IfErr result (λ e. e ≡ Refused.Memory) }
 {
     match regex_syntax::parse(alloc, text, &Config::default()) {
         Ok(parsed) => states_of(alloc, &parsed.hir, parsed.names.len()),
         Err(error) => match error.kind {
-            ErrorKind::OutOfMemory => Err(Refused::Memory),
+            ErrorKind::OutOfMemory => Err(AllocError),
             _ => Ok(None),
         },
     }
 }
 
 /// Returns the regex of a text that was built before. It can only fail for lack of memory.
-fn regex_of(alloc: Global, text: &str) -> Result<Regex, Refused>
+fn regex_of(alloc: Global, text: &str) -> Result<Regex, AllocError>
     ensures built { IfOk result (IsRegexOf text.now) }
-    ensures memory { IfErr result (λ e. e ≡ Refused.Memory) }
 {
     match Regex::new(alloc, text) {
         Ok(regex) => Ok(regex),
-        Err(_) => Err(Refused::Memory),
+        Err(_) => Err(AllocError),
     }
 }
 
@@ -86,9 +82,8 @@ pub(crate) struct Pattern {
 impl Pattern {
     /// Builds the pattern of a text, or returns `None` if the
     /// text is refused for another reason than memory.
-    pub(crate) fn new(alloc: Global, text: &str) -> Result<Option<Pattern>, Refused>
+    pub(crate) fn new(alloc: Global, text: &str) -> Result<Option<Pattern>, AllocError>
         ensures text { IfOk result (λ found. IfSome found (λ p. string_bytes p.text ≡ text.now)) }
-        ensures memory { IfErr result (λ e. e ≡ Refused.Memory) }
     {
         let Some(dfa) = dfa_of(alloc, text)? else {
             return Ok(None);
@@ -131,10 +126,9 @@ impl Pattern {
     }
 
     /// Makes the regex if there is none yet.
-    fn prepare(&mut self, alloc: Global) -> Result<(), Refused>
+    fn prepare(&mut self, alloc: Global) -> Result<(), AllocError>
         ensures ready { IfOk result (λ _. IsSome self.new.regex) }
         ensures text { self.new.text ≡ self.old.text }
-        ensures memory { IfErr result (λ e. e ≡ Refused.Memory) }
     {
         if self.regex.is_none() {
             self.regex = Some(regex_of(alloc, self.text.as_str())?);
@@ -146,9 +140,8 @@ impl Pattern {
     // Not inlined, since a matcher is large and a
     // function pays at entry for the size of its locals.
     #[inline(never)]
-    fn searched(&mut self, alloc: Global, text: &str) -> Result<bool, Refused>
+    fn searched(&mut self, alloc: Global, text: &str) -> Result<bool, AllocError>
         ensures found { IfOk result (IsMatchAnswer (string_bytes self.old.text) text.now) }
-        ensures memory { IfErr result (λ e. e ≡ Refused.Memory) }
     {
         self.prepare(alloc)?;
         match &self.regex {
@@ -161,12 +154,8 @@ impl Pattern {
     }
 
     /// Reports whether the pattern matches anywhere in the text.
-    ///
-    /// # Errors
-    /// Only [`Refused::Memory`], if memory is refused.
-    pub(crate) fn is_match(&mut self, alloc: Global, text: &str) -> Result<bool, Refused>
+    pub(crate) fn is_match(&mut self, alloc: Global, text: &str) -> Result<bool, AllocError>
         ensures found { IfOk result (IsMatchAnswer (string_bytes self.old.text) text.now) }
-        ensures memory { IfErr result (λ e. e ≡ Refused.Memory) }
     {
         match self.tabled(text) {
             Some(found) => Ok(found),
@@ -175,18 +164,14 @@ impl Pattern {
     }
 
     /// Returns the byte spans where the pattern matches: the first `limit` of them, or all.
-    ///
-    /// # Errors
-    /// Only [`Refused::Memory`], if memory is refused.
     pub(crate) fn find_all(
         &mut self,
         alloc: Global,
         text: &str,
         limit: Option<usize>,
-    ) -> Result<Vec<(usize, usize)>, Refused>
+    ) -> Result<Vec<(usize, usize)>, AllocError>
         ensures found { IfOk result (λ v. FindsAll (string_bytes self.old.text) text.now limit v.items) }
         ensures within { IfOk result (λ v. All (IsSpanIn text.now) v.items) }
-        ensures memory { IfErr result (λ e. e ≡ Refused.Memory) }
     {
         self.prepare(alloc)?;
         match &self.regex {

@@ -1,11 +1,11 @@
 //! The variables of one scope.
-ghost use Rattle.std.specs.Prelude.{◌≡◌, ◌<◌, [], ℕ, List, length, IfSome, Some, None, IfErr, OnOk, OnErr, MatchOption, option_map, if◌then◌else◌};
+ghost use Rattle.std.specs.Prelude.{◌≡◌, ◌<◌, [], ℕ, List, length, IfSome, Some, None, OnOk, OnErr, MatchOption, option_map, if◌then◌else◌};
 ghost use Rattle.std.specs.Str.{bytes_eq};
 ghost use Rattle.cel_value.specs.View.{view};
 ghost use Rattle.cel_semantics.specs.Bindings.{binding, named_bindings, names_of, IsFirst};
 
-use cel_value::{Refused, Value};
-use std::alloc::Global;
+use cel_value::Value;
+use std::alloc::{AllocError, Global};
 use std::collections::BTreeMap;
 
 /// The number of names that are searched one by one.
@@ -42,14 +42,11 @@ impl Names {
 
     /// Binds a name to a value, replacing an earlier binding. No other name changes.
     ///
-    /// # Errors
-    /// Only [`Refused::Memory`], if memory is refused. The
-    /// value is then dropped, and no name has changed.
-    pub(crate) fn set(&mut self, alloc: Global, name: &str, value: Value) -> Result<(), Refused>
+    /// If memory is refused, the value is dropped, and no name has changed.
+    pub(crate) fn set(&mut self, alloc: Global, name: &str, value: Value) -> Result<(), AllocError>
         ensures bound { OnOk result ((x : List ℕ) → binding x (names_of self.new)
             ≡ (if bytes_eq name.now x then Some (view value) else binding x (names_of self.old))) }
         ensures refused { OnErr result (names_of self.new ≡ names_of self.old) }
-        ensures memory { IfErr result (λ e. e ≡ Refused.Memory) }
     {
         match index_of(&self.first, name) {
             Some(slot) => {
@@ -61,12 +58,11 @@ impl Names {
     }
 
     /// Binds a name that isn't in the list.
-    fn add(&mut self, alloc: Global, name: &str, value: Value) -> Result<(), Refused>
+    fn add(&mut self, alloc: Global, name: &str, value: Value) -> Result<(), AllocError>
         requires { binding name.now (named_bindings self.old.first.items) ≡ None }
         ensures bound { OnOk result ((x : List ℕ) → binding x (names_of self.new)
             ≡ (if bytes_eq name.now x then Some (view value) else binding x (names_of self.old))) }
         ensures refused { OnErr result (names_of self.new ≡ names_of self.old) }
-        ensures memory { IfErr result (λ e. e ≡ Refused.Memory) }
     {
         let key = String::from_str(alloc, name)?;
         if self.first.len() < FEW {

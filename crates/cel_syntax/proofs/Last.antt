@@ -1,8 +1,7 @@
 -- Parsing all the tokens.
 use Rattle.std.proofs.Common.{◌≡◌, ℕ, ◌<◌, zero, suc, refl, sym, arith, cond, Option, Some, None, List, [], ◌∷◌, length}
-use Rattle.std.specs.Prelude.{nat_le, Result, Ok, Err, MatchResult, MatchOption, option_map}
-use Rattle.kube_types_refused.specs.declared.Refused.{Refused}
-use Rattle.kube_types_refused.specs.declared.Refused.TheVariants.{Memory}
+use Rattle.std.specs.Prelude.{nat_le, Result, Ok, Err, IfOk, MatchOption, option_map}
+use Rattle.std.specs.declared.alloc.AllocError.{AllocError}
 use Rattle.cel_syntax_lexer.specs.Token.{Token}
 use Rattle.cel_syntax_ast.specs.Term.{Term, term}
 use Rattle.cel_syntax_ast.specs.declared.expr.Expr.{Expr}
@@ -30,7 +29,7 @@ pub derives_of : (ts : List Token) (o : Option Expr) → option_map term o ≡ t
 derives_of ts None e = λ t d. absurd (cc (complete_parse ts t d))
 derives_of ts (Some x) e = sound_parse ts (term x) (sym e)
 
-pub answer_of : (ts : List Token) (r : Result (Option Expr) Refused) → MatchResult r (λ o. option_map term o ≡ tree_of_tokens ts) (λ e. e ≡ Memory)
-    → MatchResult r (λ o. MatchOption o ((t : Term) → Derives ts t → ⊥) (λ e. Derives ts (term e))) (λ e. e ≡ Memory)
+pub answer_of : (ts : List Token) (r : Result (Option Expr) AllocError) → IfOk r (λ o. option_map term o ≡ tree_of_tokens ts)
+    → IfOk r (λ o. MatchOption o ((t : Term) → Derives ts t → ⊥) (λ e. Derives ts (term e)))
 answer_of ts (Ok o) h = derives_of ts o h
 answer_of ts (Err e) h = h

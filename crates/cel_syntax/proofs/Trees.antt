@@ -1,15 +1,13 @@
 -- The tree computed from a text is the one that it derives.
 use Rattle.std.proofs.Common.{◌≡◌, ℕ, refl, sym, ◌∙◌, Option, Some, None, List}
-use Rattle.std.specs.Prelude.{Result, Ok, Err, IfOk, MatchResult, MatchOption, option_map}
-use Rattle.kube_types_refused.specs.declared.Refused.{Refused}
-use Rattle.kube_types_refused.specs.declared.Refused.TheVariants.{Memory}
+use Rattle.std.specs.Prelude.{Result, Ok, Err, IfOk, option_map}
+use Rattle.std.specs.declared.alloc.AllocError.{AllocError}
 use Rattle.cel_syntax_lexer.specs.Token.{Token}
 use Rattle.cel_syntax_lexer.specs.Tokens.{CutsInto, CutsIntoNone}
 use Rattle.cel_syntax_lexer.specs.Cut.{tokens_of_text}
 use Rattle.cel_syntax_lexer.proofs.CutOf.{cuts_of_cut, cut_of_cuts}
 use Rattle.cel_syntax_ast.specs.Term.{Term, term}
 use Rattle.cel_syntax_ast.specs.declared.expr.Expr.{Expr}
-use Rattle.cel_syntax.specs.Grammar.{Derives}
 use Rattle.cel_syntax.specs.Parser.{tree_of_tokens}
 use Rattle.cel_syntax.proofs.Complete.{complete_parse}
 use Rattle.cel_syntax.proofs.Sound.{sound_parse}
@@ -54,8 +52,7 @@ pub none_derives : (z : List ℕ) → None ≡ tree_of z → (t : Term) → Text
 none_derives z e t d = absurd (cc (complete_text z t d))
 
 -- the answer of the parser, as that of the text
-pub reported : (z : List ℕ) (ts : List Token) (r : Result (Option Expr) Refused) → CutsInto z ts
-    → MatchResult r (λ o. MatchOption o ((t : Term) → Derives ts t → ⊥) (λ e. Derives ts (term e))) (λ e. e ≡ Memory)
-    → IfOk r (λ o. option_map term o ≡ tree_of_tokens ts) → MatchResult r (λ o. option_map term o ≡ tree_of z) (λ e. e ≡ Memory)
-reported z ts (Ok o) cuts m reads = reads ∙ of_tokens z ts cuts
-reported z ts (Err e) cuts m reads = m
+pub reported : (z : List ℕ) (ts : List Token) (r : Result (Option Expr) AllocError) → CutsInto z ts
+    → IfOk r (λ o. option_map term o ≡ tree_of_tokens ts) → IfOk r (λ o. option_map term o ≡ tree_of z)
+reported z ts (Ok o) cuts reads = reads ∙ of_tokens z ts cuts
+reported z ts (Err e) cuts reads = reads

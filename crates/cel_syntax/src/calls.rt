@@ -1,14 +1,12 @@
 //! The names of the functions that an expression calls.
-ghost use Rattle.std.specs.Prelude.{◌≡◌, ◌||◌, ℕ, List, OnOk, IfErr, map};
+ghost use Rattle.std.specs.Prelude.{◌≡◌, ◌||◌, ℕ, List, OnOk, map};
 ghost use Rattle.std.specs.BTreeSet.{contains_text};
-ghost use Rattle.kube_types_refused.specs.declared.Refused.TheVariants.{Memory};
 ghost use Rattle.cel_syntax_ast.specs.Term.{term, terms_of, pairs_of};
 ghost use Rattle.cel_syntax.specs.CallNames.{is_called, is_called_in_any, is_called_in_pairs};
 
 use crate::names::add;
 use cel_syntax_ast::Expr;
-use kube_types_refused::Refused;
-use std::alloc::Global;
+use std::alloc::{AllocError, Global};
 use std::collections::BTreeSet;
 
 /// Adds the names of the functions that an expression calls.
@@ -17,10 +15,9 @@ pub(crate) fn add_calls(
     alloc: Global,
     expr: &Expr,
     names: &mut BTreeSet<String>,
-) -> Result<(), Refused>
+) -> Result<(), AllocError>
     ensures added { OnOk result ((x : List ℕ)
         → contains_text names.new x ≡ (contains_text names.old x || is_called x (term expr.now))) }
-    ensures memory { IfErr result (λ e. e ≡ Memory) }
 {
     match expr {
         Expr::Literal(_) => Ok(()),
@@ -76,10 +73,9 @@ fn add_from_all(
     alloc: Global,
     items: &Vec<Expr>,
     names: &mut BTreeSet<String>,
-) -> Result<(), Refused>
+) -> Result<(), AllocError>
     ensures added { OnOk result ((x : List ℕ) → contains_text names.new x
         ≡ (contains_text names.old x || is_called_in_any x (terms_of (map term items.now.items)))) }
-    ensures memory { IfErr result (λ e. e ≡ Memory) }
 {
     for item in items {
         add_calls(alloc, item, names)?;
@@ -93,11 +89,10 @@ fn add_from_pairs(
     alloc: Global,
     pairs: &Vec<(Expr, Expr)>,
     names: &mut BTreeSet<String>,
-) -> Result<(), Refused>
+) -> Result<(), AllocError>
     ensures added { OnOk result ((x : List ℕ) → contains_text names.new x
         ≡ (contains_text names.old x
         || is_called_in_pairs x (pairs_of (map (λ p. (term p.0, term p.1)) pairs.now.items)))) }
-    ensures memory { IfErr result (λ e. e ≡ Memory) }
 {
     for pair in pairs {
         add_calls(alloc, &pair.0, names)?;

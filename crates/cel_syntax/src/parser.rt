@@ -1,7 +1,6 @@
 //! Parses tokens to trees.
 
-ghost use Rattle.std.specs.Prelude.{◌≡◌, MatchResult, MatchOption, IfOk, map, option_map};
-ghost use Rattle.kube_types_refused.specs.declared.Refused.TheVariants.{Memory};
+ghost use Rattle.std.specs.Prelude.{◌≡◌, MatchOption, IfOk, map, option_map};
 ghost use Rattle.cel_syntax_lexer.specs.Token.{token_of};
 ghost use Rattle.cel_syntax_ast.specs.Term.{Term, term};
 ghost use Rattle.cel_syntax.specs.Grammar.{Derives};
@@ -12,16 +11,14 @@ use crate::grammar::expr;
 use crate::syntax_error::SyntaxError;
 use cel_syntax_ast::Expr;
 use cel_syntax_lexer::token::Token;
-use kube_types_refused::Refused;
-use std::alloc::Global;
+use std::alloc::{AllocError, Global};
 
 /// The largest level of a tree that is parsed.
 const MAX_LEVEL: u8 = 250;
 
 #[tactic(auto, using(crate::proofs::Last::if_none_left, crate::proofs::Last::if_some_left), unfolding(crate::specs::Parser::tree_of_tokens))]
-fn read(alloc: Global, tokens: &[Token<'_>]) -> Result<Option<Expr>, Refused>
-    ensures { MatchResult result (λ answer. option_map term answer ≡ tree_of_tokens (map token_of tokens.now))
-        (λ refused. refused ≡ Memory) }
+fn read(alloc: Global, tokens: &[Token<'_>]) -> Result<Option<Expr>, AllocError>
+    ensures { IfOk result (λ answer. option_map term answer ≡ tree_of_tokens (map token_of tokens.now)) }
 {
     let mut cursor = Cursor { rest: tokens };
     match expr(alloc, &mut cursor, MAX_LEVEL) {
@@ -31,19 +28,17 @@ fn read(alloc: Global, tokens: &[Token<'_>]) -> Result<Option<Expr>, Refused>
             None
         }),
         Err(SyntaxError::Invalid) => Ok(None),
-        Err(SyntaxError::Memory) => Err(Refused::Memory),
+        Err(SyntaxError::Memory) => Err(AllocError),
     }
 }
 
 /// Returns the tree that the tokens derive, or `None` if they derive none.
 ///
-/// The tree may nest up to level 250. The only error is [`Refused::Memory`]. Source: the
-/// section "Syntax" of the CEL language definition.
-pub fn parse_tokens(alloc: Global, tokens: &[Token<'_>]) -> Result<Option<Expr>, Refused>
-    ensures grammar { MatchResult result
+/// The tree may nest up to level 250. Source: the section "Syntax" of the CEL language definition.
+pub fn parse_tokens(alloc: Global, tokens: &[Token<'_>]) -> Result<Option<Expr>, AllocError>
+    ensures grammar { IfOk result
         (λ answer. MatchOption answer ((t : Term) → Derives (map token_of tokens.now) t → ⊥)
-        (λ e. Derives (map token_of tokens.now) (term e)))
-        (λ refused. refused ≡ Memory) }
+        (λ e. Derives (map token_of tokens.now) (term e))) }
     ensures reads { IfOk result
         (λ answer. option_map term answer ≡ tree_of_tokens (map token_of tokens.now)) }
 {

@@ -10,13 +10,12 @@ use crate::parser::parse_tokens;
 use cel_syntax_ast::Expr;
 use cel_syntax_lexer::lexer::tokens;
 use kube_types_refused::Refused;
-use std::alloc::Global;
+use std::alloc::{AllocError, Global};
 
 /// Returns the tree that a text derives, or `None` if it derives none.
 #[tactic(auto, using(crate::proofs::Trees::of_no_tokens))]
-fn read(alloc: Global, text: &[u8]) -> Result<Option<Expr>, Refused>
-    ensures { MatchResult result (λ answer. option_map term answer ≡ tree_of text.now)
-        (λ refused. refused ≡ Memory) }
+fn read(alloc: Global, text: &[u8]) -> Result<Option<Expr>, AllocError>
+    ensures { IfOk result (λ answer. option_map term answer ≡ tree_of text.now) }
 {
     match tokens(alloc, text)? {
         Some(found) => parse_tokens(alloc, &found),

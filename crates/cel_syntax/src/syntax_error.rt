@@ -4,7 +4,7 @@ ghost use Rattle.std.specs.Prelude.{◌≡◌};
 ghost use Rattle.cel_syntax.specs.declared.syntax_error.SyntaxError.TheVariants.{Memory};
 
 use kube_types_refused::Refused;
-use std::alloc::AllocFailed;
+use std::alloc::{AllocError, AllocFailed};
 
 #[derive(Clone, Copy, Debug, PartialEq, Eq)]
 pub enum SyntaxError {
@@ -18,6 +18,14 @@ impl<T: Drop> From<AllocFailed<T>> for SyntaxError {
     ghost from_gives = { λ _ e. e ≡ Memory };
 
     fn from(_error: AllocFailed<T>) -> SyntaxError {
+        SyntaxError::Memory
+    }
+}
+
+impl From<AllocError> for SyntaxError {
+    ghost from_gives = { λ _ e. e ≡ Memory };
+
+    fn from(_error: AllocError) -> SyntaxError {
         SyntaxError::Memory
     }
 }

@@ -1,7 +1,6 @@
 //! The free names of an expression.
-ghost use Rattle.std.specs.Prelude.{◌≡◌, ◌||◌, ℕ, List, OnOk, IfErr, map};
+ghost use Rattle.std.specs.Prelude.{◌≡◌, ◌||◌, ℕ, List, OnOk, map};
 ghost use Rattle.std.specs.BTreeSet.{contains_text};
-ghost use Rattle.kube_types_refused.specs.declared.Refused.TheVariants.{Memory};
 ghost use Rattle.cel_syntax_ast.specs.Term.{ident, term, terms_of, pairs_of};
 ghost use Rattle.cel_syntax.specs.Bound.{bound_names};
 ghost use Rattle.cel_syntax.specs.Outside.{is_read, is_read_in_any, is_read_in_pairs};
@@ -9,8 +8,7 @@ ghost use Rattle.cel_syntax.specs.Outside.{is_read, is_read_in_any, is_read_in_p
 use crate::bound::Bound;
 use crate::names::add;
 use cel_syntax_ast::Expr;
-use kube_types_refused::Refused;
-use std::alloc::Global;
+use std::alloc::{AllocError, Global};
 use std::collections::BTreeSet;
 
 /// Adds a name, unless an enclosing macro binds it.
@@ -19,10 +17,9 @@ fn add_unbound(
     name: &str,
     bound: &Bound<'_>,
     names: &mut BTreeSet<String>,
-) -> Result<(), Refused>
+) -> Result<(), AllocError>
     ensures added { OnOk result ((x : List ℕ) → contains_text names.new x
         ≡ (contains_text names.old x || is_read x (bound_names bound.now) (ident name.now))) }
-    ensures memory { IfErr result (λ e. e ≡ Memory) }
 {
     if bound.has(name) {
         return Ok(());
@@ -37,10 +34,9 @@ pub(crate) fn add_variables(
     expr: &Expr,
     bound: &Bound<'_>,
     names: &mut BTreeSet<String>,
-) -> Result<(), Refused>
+) -> Result<(), AllocError>
     ensures added { OnOk result ((x : List ℕ) → contains_text names.new x
         ≡ (contains_text names.old x || is_read x (bound_names bound.now) (term expr.now))) }
-    ensures memory { IfErr result (λ e. e ≡ Memory) }
 {
     match expr {
         Expr::Literal(_) => Ok(()),
@@ -98,11 +94,10 @@ fn add_from_all(
     items: &Vec<Expr>,
     bound: &Bound<'_>,
     names: &mut BTreeSet<String>,
-) -> Result<(), Refused>
+) -> Result<(), AllocError>
     ensures added { OnOk result ((x : List ℕ) → contains_text names.new x
         ≡ (contains_text names.old x
         || is_read_in_any x (bound_names bound.now) (terms_of (map term items.now.items)))) }
-    ensures memory { IfErr result (λ e. e ≡ Memory) }
 {
     for item in items {
         add_variables(alloc, item, bound, names)?;
@@ -117,11 +112,10 @@ fn add_from_pairs(
     pairs: &Vec<(Expr, Expr)>,
     bound: &Bound<'_>,
     names: &mut BTreeSet<String>,
-) -> Result<(), Refused>
+) -> Result<(), AllocError>
     ensures added { OnOk result ((x : List ℕ) → contains_text names.new x
         ≡ (contains_text names.old x || is_read_in_pairs x (bound_names bound.now)
         (pairs_of (map (λ p. (term p.0, term p.1)) pairs.now.items)))) }
-    ensures memory { IfErr result (λ e. e ≡ Memory) }
 {
     for pair in pairs {
         add_variables(alloc, &pair.0, bound, names)?;

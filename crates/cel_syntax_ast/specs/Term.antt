@@ -1,6 +1,6 @@
 -- Trusted by the headline.
 -- The tree of an expression as contracts see it (abstract syntax of the CEL language definition).
-use Rattle.std.specs.Prelude.{ℕ, suc, zero, List, [], ◌∷◌, Option, Some, None, string_bytes, Box, Bool, true, false}
+use Rattle.std.specs.Prelude.{ℕ, suc, zero, List, [], ◌∷◌, Option, Some, None, Box, Bool, true, false}
 use Rattle.std.specs.declared.alloc.Global.{Global}
 use Rattle.cel_value.specs.Data.{Data}
 use Rattle.cel_value.specs.View.{view}
@@ -62,18 +62,18 @@ count_of (term_and t ts) = suc (count_of ts)
 -- the node of an expression, given the terms of its parts
 abbrev pub term_step : Expr-F Term → Term
 term_step (Expr-F.Literal v) = literal (view v)
-term_step (Expr-F.Ident x) = ident (string_bytes x.value)
-term_step (Expr-F.Select a x) = select a.value (string_bytes x.value)
-term_step (Expr-F.Has a x) = has a.value (string_bytes x.value)
+term_step (Expr-F.Ident x) = ident x
+term_step (Expr-F.Select a x) = select a.value x
+term_step (Expr-F.Has a x) = has a.value x
 term_step (Expr-F.Index a b) = index a.value b.value
 term_step (Expr-F.Unary op a) = unary op a.value
 term_step (Expr-F.Binary op a b) = binary op a.value b.value
 term_step (Expr-F.Cond a b c) = conditional a.value b.value c.value
 term_step (Expr-F.List ts) = list_of (terms_of ts.items)
 term_step (Expr-F.Map ps) = map_with (pairs_of ps.items)
-term_step (Expr-F.Call a x ts) = call (one_of a) (string_bytes x.value) (terms_of ts.items)
-term_step (Expr-F.Qualified x ts) = qualified (string_bytes x.value) (terms_of ts.items)
-term_step (Expr-F.Macro k r x f b) = macro k r.value (string_bytes x.value) (one_of f) b.value
+term_step (Expr-F.Call a x ts) = call (one_of a) x (terms_of ts.items)
+term_step (Expr-F.Qualified x ts) = qualified x (terms_of ts.items)
+term_step (Expr-F.Macro k r x f b) = macro k r.value x (one_of f) b.value
 
 -- the term of an expression
 abbrev pub term : Expr → Term

@@ -1,7 +1,6 @@
 //! The tree of an expression.
 
-use cel_value::Value;
-use std::rc::Rc;
+use cel_value::{Text, Value};
 
 /// A unary operator.
 #[derive(Clone, Copy, Debug, PartialEq, Eq)]
@@ -66,11 +65,11 @@ pub enum Expr {
     /// A literal.
     Literal(Value),
     /// An identifier.
-    Ident(Rc<String>),
+    Ident(Text),
     /// The selection of a member of a map.
-    Select(Box<Expr>, Rc<String>),
+    Select(Box<Expr>, Text),
     /// The macro `has`: whether a map has a member.
-    Has(Box<Expr>, Rc<String>),
+    Has(Box<Expr>, Text),
     /// An index expression: the operand, then the index or key.
     Index(Box<Expr>, Box<Expr>),
     /// A unary operator with its operand.
@@ -86,19 +85,19 @@ pub enum Expr {
     /// A call, on a target if there is one.
     Call {
         target: Option<Box<Expr>>,
-        name: Rc<String>,
+        name: Text,
         args: Vec<Expr>,
     },
     /// A call of a function whose name contains a dot.
     Qualified {
-        name: Rc<String>,
+        name: Text,
         args: Vec<Expr>,
     },
     /// A macro. It binds its variable in the filter and the body. Only `map(x, p, f)` has a filter.
     Macro {
         kind: MacroKind,
         range: Box<Expr>,
-        variable: Rc<String>,
+        variable: Text,
         filter: Option<Box<Expr>>,
         body: Box<Expr>,
     },

@@ -1,16 +1,14 @@
 //! The escapes of quoted literals.
 
 ghost use Rattle.std.specs.Option.{option_and_then};
-ghost use Rattle.std.specs.Prelude.{◌≡◌, ◌≤◌, ◌<◌, ◌++◌, IfErr, MatchResult, OnOk, drop, length, option_map};
-ghost use Rattle.kube_types_refused.specs.declared.Refused.TheVariants.{Memory};
+ghost use Rattle.std.specs.Prelude.{◌≡◌, ◌≤◌, ◌<◌, ◌++◌, OnOk, drop, length, option_map, IfOk};
 ghost use Rattle.cel_syntax_lexer.specs.declared.content.Content.TheVariants.{Bytes};
 ghost use Rattle.cel_syntax_lexer.specs.Escape as spec;
 ghost use Rattle.cel_syntax_lexer.specs.Number.{of_64_bits};
 
 use crate::content::Content;
 use crate::number_value::natural;
-use kube_types_refused::Refused;
-use std::alloc::Global;
+use std::alloc::{AllocError, Global};
 
 /// The character that an escape of one letter denotes.
 #[tactic(auto, unfolding(crate::specs::Escape::letter_code))]
@@ -101,10 +99,9 @@ fn escape(content: Content, text: &[u8]) -> Option<(char, usize)>
 
 /// Appends a code: as a code point in UTF-8 to a string, as a byte to bytes.
 #[tactic(auto, unfolding(crate::specs::Escape::code_bytes))]
-fn push_code(made: &mut Vec<u8>, content: Content, code: char) -> Result<(), Refused>
+fn push_code(made: &mut Vec<u8>, content: Content, code: char) -> Result<(), AllocError>
     requires { content ≡ Bytes → code < 256 }
     ensures made { OnOk result (made.new.items ≡ made.old.items ++ spec.code_bytes content code) }
-    ensures memory { IfErr result (λ refused. refused ≡ Memory) }
 {
     match content {
         Content::Text => {
@@ -128,10 +125,9 @@ pub(crate) fn unescape(
     alloc: Global,
     content: Content,
     body: &[u8],
-) -> Result<Option<Vec<u8>>, Refused>
-    ensures { MatchResult result
-        (λ made. option_map (λ bytes. bytes.items) made ≡ spec.unescaped_bytes content body.now)
-        (λ refused. refused ≡ Memory) }
+) -> Result<Option<Vec<u8>>, AllocError>
+    ensures { IfOk result
+        (λ made. option_map (λ bytes. bytes.items) made ≡ spec.unescaped_bytes content body.now) }
 {
     let mut made = Vec::new(alloc);
     let mut rest = body;

@@ -1,7 +1,6 @@
 //! Splits a text into tokens.
 
-ghost use Rattle.std.specs.Prelude.{◌≡◌, ℕ, length, MatchOption, MatchResult, map};
-ghost use Rattle.kube_types_refused.specs.declared.Refused.TheVariants.{Memory};
+ghost use Rattle.std.specs.Prelude.{◌≡◌, ℕ, length, MatchOption, map, IfOk};
 ghost use Rattle.cel_syntax_lexer.specs.Token.{Token as SpecToken, token_of};
 ghost use Rattle.cel_syntax_lexer.specs.Tokens as spec;
 ghost use Rattle.cel_syntax_lexer.specs.Tokens.{Longest, CutsInto, CutsIntoNone};
@@ -11,8 +10,7 @@ use crate::number::number_length;
 use crate::punctuator::Punctuator;
 use crate::string_literal::{prefixed_length, string_length};
 use crate::token::Token;
-use kube_types_refused::Refused;
-use std::alloc::Global;
+use std::alloc::{AllocError, Global};
 
 #[tactic(auto, unfolding(crate::specs::Tokens::one_byte))]
 fn one_byte(byte: u8) -> Option<Punctuator>
@@ -115,13 +113,11 @@ fn first_token(text: &[u8]) -> Option<(Token<'_>, usize)>
 ///
 /// Each token is the longest possible one. Between tokens there may be white space (tab, newline,
 /// form feed, carriage return, space) and comments (from `//` to the newline or the end of the
-/// text). A string with an invalid escape is a token, too. The only error is [`Refused::Memory`].
-/// Source: the section "Syntax" of the CEL language definition.
-pub fn tokens(alloc: Global, text: &[u8]) -> Result<Option<Vec<Token<'_>>>, Refused>
-    ensures { MatchResult result
+/// text). A string with an invalid escape is a token, too. Source: the section "Syntax" of the CEL language definition.
+pub fn tokens(alloc: Global, text: &[u8]) -> Result<Option<Vec<Token<'_>>>, AllocError>
+    ensures { IfOk result
         (λ answer. MatchOption answer (CutsIntoNone text.now)
-        (λ found. CutsInto text.now (map token_of found.items)))
-        (λ refused. refused ≡ Memory) }
+        (λ found. CutsInto text.now (map token_of found.items))) }
 {
     let mut found = Vec::new(alloc);
     let mut rest = text;

@@ -1,6 +1,6 @@
 //! The values of strings and bytes.
 
-ghost use Rattle.std.specs.Prelude.{◌≡◌, MatchResult, option_map};
+ghost use Rattle.std.specs.Prelude.{◌≡◌, MatchResult, option_map, IfOk};
 ghost use Rattle.kube_types_refused.specs.declared.Refused.TheVariants.{Memory};
 ghost use Rattle.cel_value.specs.View.{view};
 ghost use Rattle.cel_syntax_lexer.specs.StringValues as spec;
@@ -9,7 +9,7 @@ use crate::content::Content;
 use crate::escape::unescape;
 use cel_value::Value;
 use kube_types_refused::Refused;
-use std::alloc::Global;
+use std::alloc::{AllocError, Global};
 use std::rc::Rc;
 
 /// The part of a spelling between these quotes.
@@ -45,10 +45,9 @@ fn content_bytes(
     alloc: Global,
     content: Content,
     spelling: &[u8],
-) -> Result<Option<Vec<u8>>, Refused>
-    ensures { MatchResult result
-        (λ made. option_map (λ bytes. bytes.items) made ≡ spec.content_bytes content spelling.now)
-        (λ refused. refused ≡ Memory) }
+) -> Result<Option<Vec<u8>>, AllocError>
+    ensures { IfOk result
+        (λ made. option_map (λ bytes. bytes.items) made ≡ spec.content_bytes content spelling.now) }
 {
     match spelling {
         [b'r' | b'R', raw @ ..] => match body_of(raw) {

@@ -1,23 +1,20 @@
 //! The kinds of calls: macros, functions whose names contain a dot, and ordinary calls.
 
-ghost use Rattle.std.specs.Prelude.{◌≡◌, map, string_bytes, option_map, MatchResult};
-ghost use Rattle.kube_types_refused.specs.declared.Refused.TheVariants.{Memory};
+ghost use Rattle.std.specs.Prelude.{◌≡◌, map, option_map, IfOk};
 ghost use Rattle.cel_syntax_ast.specs.Term as tree;
 ghost use Rattle.cel_syntax_ast.specs.Term.{term, terms_of};
 ghost use Rattle.cel_syntax_nodes.specs.Calls as spec;
 
 use crate::macros::{has, kind_of, macro_of, one};
-use crate::nodes::shared;
 use crate::qualified::qualified_name;
 use crate::words::is_word;
 use cel_syntax_ast::Expr;
-use kube_types_refused::Refused;
-use std::alloc::Global;
-use std::rc::Rc;
+use cel_value::Text;
+use std::alloc::{AllocError, Global};
 
-fn call_on(target: Box<Expr>, name: Rc<String>, args: Vec<Expr>) -> Expr
+fn call_on(target: Box<Expr>, name: Text, args: Vec<Expr>) -> Expr
     ensures { term result ≡ tree.call (tree.term_and (term target.value) tree.no_terms)
-        (string_bytes name.value) (terms_of (map term args.items)) }
+        name (terms_of (map term args.items)) }
 {
     Expr::Call {
         target: Some(target),
@@ -26,19 +23,24 @@ fn call_on(target: Box<Expr>, name: Rc<String>, args: Vec<Expr>) -> Expr
     }
 }
 
-fn method_call(alloc: Global, target: Expr, name: &str, args: Vec<Expr>) -> Result<Expr, Refused>
-    ensures { MatchResult result (λ e. term e ≡ tree.call (tree.term_and (term target) tree.no_terms)
-        name.now (terms_of (map term args.items))) (λ refused. refused ≡ Memory) }
+fn method_call(alloc: Global, target: Expr, name: &str, args: Vec<Expr>) -> Result<Expr, AllocError>
+    ensures { IfOk result (λ e. term e ≡ tree.call (tree.term_and (term target) tree.no_terms)
+        name.now (terms_of (map term args.items))) }
 {
-    let name = shared(alloc, name)?;
+    let name = Text::of_str(alloc, name)?;
     let target = Box::new(alloc, target)?;
     Ok(call_on(target, name, args))
 }
 
 #[tactic(auto, unfolding(crate::specs::Calls::plain_method))]
-fn plain_method(alloc: Global, target: Expr, name: &str, args: Vec<Expr>) -> Result<Expr, Refused>
-    ensures { MatchResult result (λ e. term e
-        ≡ spec.plain_method (term target) name.now (map term args.items)) (λ refused. refused ≡ Memory) }
+fn plain_method(
+    alloc: Global,
+    target: Expr,
+    name: &str,
+    args: Vec<Expr>,
+) -> Result<Expr, AllocError>
+    ensures { IfOk result (λ e. term e
+        ≡ spec.plain_method (term target) name.now (map term args.items)) }
 {
     match qualified_name(alloc, &target, name)? {
         Some(name) => Ok(Expr::Qualified { name, args }),
@@ -53,9 +55,9 @@ pub fn method(
     target: Expr,
     name: &str,
     args: Vec<Expr>,
-) -> Result<Option<Expr>, Refused>
-    ensures { MatchResult result (λ answer. option_map term answer
-        ≡ spec.method_of (term target) name.now (map term args.items)) (λ refused. refused ≡ Memory) }
+) -> Result<Option<Expr>, AllocError>
+    ensures { IfOk result (λ answer. option_map term answer
+        ≡ spec.method_of (term target) name.now (map term args.items)) }
 {
     match kind_of(name.as_bytes(), args.len()) {
         Some(kind) => macro_of(alloc, kind, target, args),
@@ -65,16 +67,16 @@ pub fn method(
 
 /// Returns the node of a global function call, or `None` if it is a malformed macro.
 #[tactic(auto, using(crate::proofs::Arguments::length_terms), unfolding(crate::specs::Calls::call_of))]
-pub fn call(alloc: Global, name: &str, args: Vec<Expr>) -> Result<Option<Expr>, Refused>
-    ensures { MatchResult result (λ answer. option_map term answer
-        ≡ spec.call_of name.now (map term args.items)) (λ refused. refused ≡ Memory) }
+pub fn call(alloc: Global, name: &str, args: Vec<Expr>) -> Result<Option<Expr>, AllocError>
+    ensures { IfOk result (λ answer. option_map term answer
+        ≡ spec.call_of name.now (map term args.items)) }
 {
     if is_word(name.as_bytes(), b"has") && args.len() == 1 {
         return Ok(has(one(args)));
     }
     Ok(Some(Expr::Call {
         target: None,
-        name: shared(alloc, name)?,
+        name: Text::of_str(alloc, name)?,
         args,
     }))
 }

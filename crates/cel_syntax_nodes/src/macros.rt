@@ -1,16 +1,14 @@
 //! Macros, recognized by their names and numbers of arguments.
 
-ghost use Rattle.std.specs.Prelude.{◌≡◌, ◌∷◌, [], map, vec_len, string_bytes, option_map, MatchOption, MatchResult, Some, None};
-ghost use Rattle.kube_types_refused.specs.declared.Refused.TheVariants.{Memory};
+ghost use Rattle.std.specs.Prelude.{◌≡◌, ◌∷◌, [], map, vec_len, option_map, MatchOption, Some, None, IfOk};
 ghost use Rattle.cel_syntax_ast.specs.Term as tree;
 ghost use Rattle.cel_syntax_ast.specs.Term.{term};
 ghost use Rattle.cel_syntax_nodes.specs.Calls as spec;
 
 use crate::words::is_word;
 use cel_syntax_ast::{Expr, MacroKind};
-use kube_types_refused::Refused;
-use std::alloc::Global;
-use std::rc::Rc;
+use cel_value::Text;
+use std::alloc::{AllocError, Global};
 
 #[tactic(auto, unfolding(crate::specs::Calls::kind_of_two))]
 fn kind_of_two(name: &[u8]) -> Option<MacroKind>
@@ -78,9 +76,9 @@ fn three(mut args: Vec<Expr>) -> (Expr, Expr, Expr)
 }
 
 /// Returns the name of a macro's variable, or None if the tree isn't a plain identifier.
-fn variable_of(tree: Expr) -> Option<Rc<String>>
+fn variable_of(tree: Expr) -> Option<Text>
     ensures { MatchOption result (spec.identifier_of (term tree) ≡ None)
-        (λ name. spec.identifier_of (term tree) ≡ Some (string_bytes name.value)) }
+        (λ name. spec.identifier_of (term tree) ≡ Some name) }
 {
     match tree {
         Expr::Ident(name) => Some(name),
@@ -89,17 +87,17 @@ fn variable_of(tree: Expr) -> Option<Rc<String>>
 }
 
 /// Moves both trees into boxes.
-fn boxed(alloc: Global, first: Expr, second: Expr) -> Result<(Box<Expr>, Box<Expr>), Refused>
-    ensures { MatchResult result (λ both. (term both.0.value ≡ term first)
-        × (term both.1.value ≡ term second)) (λ refused. refused ≡ Memory) }
+fn boxed(alloc: Global, first: Expr, second: Expr) -> Result<(Box<Expr>, Box<Expr>), AllocError>
+    ensures { IfOk result (λ both. (term both.0.value ≡ term first)
+        × (term both.1.value ≡ term second)) }
 {
     let first = Box::new(alloc, first)?;
     Ok((first, Box::new(alloc, second)?))
 }
 
-fn unfiltered(kind: MacroKind, range: Box<Expr>, variable: Rc<String>, body: Box<Expr>) -> Expr
+fn unfiltered(kind: MacroKind, range: Box<Expr>, variable: Text, body: Box<Expr>) -> Expr
     ensures { term result
-        ≡ tree.macro kind (term range.value) (string_bytes variable.value) tree.no_terms (term body.value) }
+        ≡ tree.macro kind (term range.value) variable tree.no_terms (term body.value) }
 {
     Expr::Macro {
         kind,
@@ -113,11 +111,11 @@ fn unfiltered(kind: MacroKind, range: Box<Expr>, variable: Rc<String>, body: Box
 fn filtered(
     kind: MacroKind,
     range: Box<Expr>,
-    variable: Rc<String>,
+    variable: Text,
     filter: Box<Expr>,
     body: Box<Expr>,
 ) -> Expr
-    ensures { term result ≡ tree.macro kind (term range.value) (string_bytes variable.value)
+    ensures { term result ≡ tree.macro kind (term range.value) variable
         (tree.term_and (term filter.value) tree.no_terms) (term body.value) }
 {
     Expr::Macro {
@@ -133,11 +131,11 @@ fn macro_of_two(
     alloc: Global,
     kind: MacroKind,
     range: Expr,
-    variable: Rc<String>,
+    variable: Text,
     body: Expr,
-) -> Result<Expr, Refused>
-    ensures { MatchResult result (λ e. term e ≡ tree.macro kind (term range)
-        (string_bytes variable.value) tree.no_terms (term body)) (λ refused. refused ≡ Memory) }
+) -> Result<Expr, AllocError>
+    ensures { IfOk result (λ e. term e ≡ tree.macro kind (term range)
+        variable tree.no_terms (term body)) }
 {
     let (range, body) = boxed(alloc, range, body)?;
     Ok(unfiltered(kind, range, variable, body))
@@ -147,14 +145,13 @@ fn macro_of_three(
     alloc: Global,
     kind: MacroKind,
     range: Expr,
-    variable: Rc<String>,
+    variable: Text,
     filter: Expr,
     body: Expr,
-) -> Result<Expr, Refused>
-    ensures { MatchResult result
-        (λ e. term e ≡ tree.macro kind (term range) (string_bytes variable.value)
-        (tree.term_and (term filter) tree.no_terms) (term body))
-        (λ refused. refused ≡ Memory) }
+) -> Result<Expr, AllocError>
+    ensures { IfOk result
+        (λ e. term e ≡ tree.macro kind (term range) variable
+        (tree.term_and (term filter) tree.no_terms) (term body)) }
 {
     let filter = Box::new(alloc, filter)?;
     let (range, body) = boxed(alloc, range, body)?;
@@ -166,11 +163,10 @@ fn with_body(
     kind: MacroKind,
     range: Expr,
     args: (Expr, Expr),
-) -> Result<Option<Expr>, Refused>
-    ensures { MatchResult result
+) -> Result<Option<Expr>, AllocError>
+    ensures { IfOk result
         (λ answer. option_map term answer
-        ≡ spec.macro_with kind (term range) (spec.identifier_of (term args.0)) tree.no_terms (term args.1))
-        (λ refused. refused ≡ Memory) }
+        ≡ spec.macro_with kind (term range) (spec.identifier_of (term args.0)) tree.no_terms (term args.1)) }
 {
     let (name, body) = args;
     match variable_of(name) {
@@ -184,12 +180,11 @@ fn with_filter(
     kind: MacroKind,
     range: Expr,
     args: (Expr, Expr, Expr),
-) -> Result<Option<Expr>, Refused>
-    ensures { MatchResult result
+) -> Result<Option<Expr>, AllocError>
+    ensures { IfOk result
         (λ answer. option_map term answer
         ≡ spec.macro_with kind (term range) (spec.identifier_of (term args.0))
-        (tree.term_and (term args.1) tree.no_terms) (term args.2))
-        (λ refused. refused ≡ Memory) }
+        (tree.term_and (term args.1) tree.no_terms) (term args.2)) }
 {
     let (name, filter, body) = args;
     match variable_of(name) {
@@ -204,9 +199,9 @@ pub(crate) fn macro_of(
     kind: MacroKind,
     range: Expr,
     args: Vec<Expr>,
-) -> Result<Option<Expr>, Refused>
-    ensures { MatchResult result (λ answer. option_map term answer
-        ≡ spec.macro_of kind (term range) (map term args.items)) (λ refused. refused ≡ Memory) }
+) -> Result<Option<Expr>, AllocError>
+    ensures { IfOk result (λ answer. option_map term answer
+        ≡ spec.macro_of kind (term range) (map term args.items)) }
 {
     match args.len() {
         2 => with_body(alloc, kind, range, two(args)),

@@ -1,15 +1,13 @@
 //! Functions whose names contain a dot, between the name of a library and that of the function.
 
-ghost use Rattle.std.specs.Prelude.{◌≡◌, ◌∷◌, ◌++◌, IfOk, MatchOption, MatchResult, Some, None, map, string_bytes};
-ghost use Rattle.kube_types_refused.specs.declared.Refused.TheVariants.{Memory};
+ghost use Rattle.std.specs.Prelude.{◌≡◌, ◌∷◌, ◌++◌, IfOk, MatchOption, Some, None, map};
 ghost use Rattle.cel_syntax_ast.specs.Term.{term};
 ghost use Rattle.cel_syntax_nodes.specs.Calls as spec;
 
 use crate::words::{is_one_of, is_word};
 use cel_syntax_ast::Expr;
-use kube_types_refused::Refused;
+use cel_value::Text;
 use std::alloc::{AllocError, Global};
-use std::rc::Rc;
 
 const OF_LISTS: [&[u8]; 1] = [b"range"];
 
@@ -87,19 +85,19 @@ fn is_qualified(library: &[u8], function: &[u8]) -> bool
 }
 
 /// Joins the two names with a dot.
-fn dotted(alloc: Global, library: &str, function: &str) -> Result<Rc<String>, AllocError>
-    ensures { IfOk result (λ name. string_bytes name.value ≡ library.now ++ (46 ∷ function.now)) }
+fn dotted(alloc: Global, library: &str, function: &str) -> Result<Text, AllocError>
+    ensures { IfOk result (λ name. name ≡ library.now ++ (46 ∷ function.now)) }
 {
     let mut name = String::from_str(alloc, library)?;
     name.push('.')?;
     name.push_str(function)?;
-    Ok(Rc::new(alloc, name)?)
+    Text::of(alloc, name)
 }
 
 /// The name, if the tree is a plain identifier.
-fn identifier_of(tree: &Expr) -> Option<&Rc<String>>
+fn identifier_of(tree: &Expr) -> Option<&Text>
     ensures { MatchOption result (spec.identifier_of (term tree.now) ≡ None)
-        (λ name. spec.identifier_of (term tree.now) ≡ Some (string_bytes name.now.value)) }
+        (λ name. spec.identifier_of (term tree.now) ≡ Some name.now) }
 {
     match tree {
         Expr::Ident(name) => Some(name),
@@ -113,15 +111,14 @@ pub(crate) fn qualified_name(
     alloc: Global,
     target: &Expr,
     name: &str,
-) -> Result<Option<Rc<String>>, Refused>
-    ensures { MatchResult result
+) -> Result<Option<Text>, AllocError>
+    ensures { IfOk result
         (λ answer. MatchOption answer (spec.dotted_by (spec.identifier_of (term target.now)) name.now ≡ None)
         (λ whole. spec.dotted_by (spec.identifier_of (term target.now)) name.now
-        ≡ Some (string_bytes whole.value)))
-        (λ refused. refused ≡ Memory) }
+        ≡ Some whole)) }
 {
     match identifier_of(target) {
-        Some(library) if is_qualified(library.as_bytes(), name.as_bytes()) => {
+        Some(library) if is_qualified(library.as_str().as_bytes(), name.as_bytes()) => {
             Ok(Some(dotted(alloc, library.as_str(), name)?))
         }
         _ => Ok(None),

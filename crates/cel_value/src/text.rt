@@ -10,7 +10,7 @@ use crate::key::Key;
 use crate::kind::Kind;
 use crate::value::{List, Map, Value};
 use kube_types_refused::Refused;
-use std::alloc::Global;
+use std::alloc::{AllocError, Global};
 use std::fmt;
 use std::fmt::Write;
 
@@ -120,10 +120,9 @@ fn find_textless_entry(entries: &Map) -> Option<Kind>
     None
 }
 
-fn write_quoted(text: &str, out: &mut String) -> Result<(), Refused>
+fn write_quoted(text: &str, out: &mut String) -> Result<(), AllocError>
     ensures written { OnOk result (string_bytes out.new
         ≡ string_bytes out.old ++ quoted_if true text.now) }
-    ensures memory { IfErr result (λ e. e ≡ Refused.Memory) }
 {
     out.push_str("\"")?;
     out.push_str(text)?;
@@ -132,10 +131,9 @@ fn write_quoted(text: &str, out: &mut String) -> Result<(), Refused>
 }
 
 // Writes a key as it appears in the text of a map.
-fn write_key(key: &Key, out: &mut String) -> Result<(), Refused>
+fn write_key(key: &Key, out: &mut String) -> Result<(), AllocError>
     ensures written { OnOk result (string_bytes out.new
         ≡ string_bytes out.old ++ key_form true (key_view key.now)) }
-    ensures memory { IfErr result (λ e. e ≡ Refused.Memory) }
 {
     match key {
         Key::Bool(b) => write!(out, "{b}")?,
@@ -147,10 +145,9 @@ fn write_key(key: &Key, out: &mut String) -> Result<(), Refused>
 }
 
 #[cycle(write)]
-fn write_value(value: &Value, inner: bool, out: &mut String) -> Result<(), Refused>
+fn write_value(value: &Value, inner: bool, out: &mut String) -> Result<(), AllocError>
     ensures written { OnOk result (string_bytes out.new
         ≡ string_bytes out.old ++ text_form inner (view value.now)) }
-    ensures memory { IfErr result (λ e. e ≡ Refused.Memory) }
 {
     match value {
         Value::Null => Ok(out.push_str("null")?),
@@ -181,10 +178,9 @@ fn write_value(value: &Value, inner: bool, out: &mut String) -> Result<(), Refus
 }
 
 #[cycle(write)]
-fn write_items(items: &List, out: &mut String) -> Result<(), Refused>
+fn write_items(items: &List, out: &mut String) -> Result<(), AllocError>
     ensures written { OnOk result (string_bytes out.new
         ≡ string_bytes out.old ++ (91 ∷ items_text false items.now)) }
-    ensures memory { IfErr result (λ e. e ≡ Refused.Memory) }
 {
     out.push_str("[")?;
     let mut later = false;
@@ -200,10 +196,9 @@ fn write_items(items: &List, out: &mut String) -> Result<(), Refused>
 }
 
 #[cycle(write)]
-fn write_entries(entries: &Map, out: &mut String) -> Result<(), Refused>
+fn write_entries(entries: &Map, out: &mut String) -> Result<(), AllocError>
     ensures written { OnOk result (string_bytes out.new
         ≡ string_bytes out.old ++ (123 ∷ entries_text false entries.now)) }
-    ensures memory { IfErr result (λ e. e ≡ Refused.Memory) }
 {
     out.push_str("{")?;
     let mut later = false;

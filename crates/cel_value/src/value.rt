@@ -2,7 +2,7 @@
 //! nothing. Texts of up to 14 bytes are held in the value itself. Lists, maps and
 //! optionals store whether they hold a double and how many levels they have, so
 //! neither has to be computed.
-ghost use Rattle.std.specs.Prelude.{◌≡◌, ◌≤◌, suc, IfOk, IfErr};
+ghost use Rattle.std.specs.Prelude.{◌≡◌, ◌≤◌, suc, IfOk};
 ghost use Rattle.cel_value.specs.Levels.{levels, max_levels};
 ghost use Rattle.cel_value.specs.Same.{has_double};
 ghost use Rattle.cel_value.specs.View.{view};
@@ -17,9 +17,9 @@ use cel_value_times::{Duration, Timestamp};
 use kube_types_address::{KubeCIDR, KubeIP};
 use kube_types_formats::KubeFormat;
 use kube_types_quantity::KubeQuantity;
-use kube_types_refused::Refused;
 use kube_types_semver::KubeSemver;
 use kube_types_url::KubeUrl;
+use std::alloc::AllocError;
 use std::collections::BTreeMap;
 use std::marker::Model;
 use std::rc::Rc;
@@ -218,15 +218,14 @@ impl Model for OptionalValue {
 /// Returns the number of levels of a list, map or optional whose contents have `inner` levels.
 ///
 /// # Errors
-/// [`Refused::Memory`] if there are more than [`MAX_VALUE_LEVELS`].
-fn level_around(inner: u16) -> Result<u16, Refused>
+/// [`AllocError`] if there are more than [`MAX_VALUE_LEVELS`].
+fn level_around(inner: u16) -> Result<u16, AllocError>
     ensures value { IfOk result (λ n. (n ≡ suc inner) × (n ≤ max_levels)) }
-    ensures memory { IfErr result (λ e. e ≡ Refused.Memory) }
 {
     if inner < MAX_VALUE_LEVELS {
         Ok(inner + 1)
     } else {
-        Err(Refused::Memory)
+        Err(AllocError)
     }
 }
 

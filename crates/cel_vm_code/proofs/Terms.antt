@@ -1,14 +1,14 @@
 -- The term of each kind of tree.
-use Rattle.std.proofs.Common.{◌≡◌, Some, None, Box, map, sym, ap, ◌∙◌, string_bytes}
+use Rattle.std.proofs.Common.{◌≡◌, Some, None, Box, map, sym, ap, ◌∙◌}
 use Rattle.std.specs.declared.alloc.Global.{Global}
 use Rattle.cel_syntax_ast.specs.Term.{Term, select, has, index, unary, binary, conditional, list_of, map_with, macro, no_terms, term_and, term, term_step, terms_of, pairs_of}
 use Rattle.cel_syntax_ast.specs.declared.expr.Expr.{Expr, Expr-F, fold-roll-Expr}
 use Rattle.cel_syntax_ast.specs.declared.expr.Expr.TheVariants as expr
 
-pub is_select : (a : _) (x : _) → term (expr.Select a x) ≡ select (term a.value) (string_bytes x.value)
+pub is_select : (a : _) (x : _) → term (expr.Select a x) ≡ select (term a.value) x
 is_select a x = ap term (sym (expr.rolls-Select a x)) ∙ fold-roll-Expr Term term_step (Expr-F.Select a x)
 
-pub is_has : (a : _) (x : _) → term (expr.Has a x) ≡ has (term a.value) (string_bytes x.value)
+pub is_has : (a : _) (x : _) → term (expr.Has a x) ≡ has (term a.value) x
 is_has a x = ap term (sym (expr.rolls-Has a x)) ∙ fold-roll-Expr Term term_step (Expr-F.Has a x)
 
 pub is_index : (a : _) (b : _) → term (expr.Index a b) ≡ index (term a.value) (term b.value)
@@ -29,8 +29,8 @@ is_list ts = ap term (sym (expr.rolls-List ts)) ∙ fold-roll-Expr Term term_ste
 pub is_map : (ps : _) → term (expr.Map ps) ≡ map_with (pairs_of (map (λ p. (term p.0, term p.1)) ps.items))
 is_map ps = ap term (sym (expr.rolls-Map ps)) ∙ fold-roll-Expr Term term_step (Expr-F.Map ps)
 
-pub is_macro_alone : (k : _) (r : _) (x : _) (b : _) → term (expr.Macro k r x None b) ≡ macro k (term r.value) (string_bytes x.value) no_terms (term b.value)
+pub is_macro_alone : (k : _) (r : _) (x : _) (b : _) → term (expr.Macro k r x None b) ≡ macro k (term r.value) x no_terms (term b.value)
 is_macro_alone k r x b = ap term (sym (expr.rolls-Macro k r x None b)) ∙ fold-roll-Expr Term term_step (Expr-F.Macro k r x None b)
 
-pub is_macro_with : (k : _) (r : _) (x : _) (f : Box Expr Global) (b : _) → term (expr.Macro k r x (Some f) b) ≡ macro k (term r.value) (string_bytes x.value) (term_and (term f.value) no_terms) (term b.value)
+pub is_macro_with : (k : _) (r : _) (x : _) (f : Box Expr Global) (b : _) → term (expr.Macro k r x (Some f) b) ≡ macro k (term r.value) x (term_and (term f.value) no_terms) (term b.value)
 is_macro_with k r x f b = ap term (sym (expr.rolls-Macro k r x (Some f) b)) ∙ fold-roll-Expr Term term_step (Expr-F.Macro k r x (Some f) b)

@@ -1,6 +1,6 @@
 //! Compiles trees to code. The code is written from its end to its start, into one list that holds it
 //! in reverse: so the lengths that jumps need are known when a jump is written.
-ghost use Rattle.std.specs.Prelude.{◌≡◌, ◌≤◌, ◌<◌, ◌-◌, true, false, [], ◌∷◌, ◌++◌, IfOk, IfErr, IfSome, OnOk, map, length, option_map, string_bytes, codes};
+ghost use Rattle.std.specs.Prelude.{◌≡◌, ◌≤◌, ◌<◌, ◌-◌, true, false, [], ◌∷◌, ◌++◌, IfOk, IfErr, IfSome, OnOk, map, length, option_map, codes};
 ghost use Rattle.cel_value.specs.Data.{map_of, no_entries};
 ghost use Rattle.cel_value.specs.View.{view};
 ghost use Rattle.cel_syntax_ast.specs.Term.{call, qualified, no_terms, term_and, term, terms_of, pairs_of};
@@ -12,7 +12,6 @@ use crate::instr::{Instr, Operation, Test};
 use cel_syntax_ast::{BinaryOperator, Expr, MacroKind};
 use cel_value::{Entries, Key, Refused, Text, Value};
 use std::alloc::{AllocError, Global};
-use std::rc::Rc;
 
 /// Compiles a tree.
 pub fn compile_tree(alloc: Global, expr: &Expr) -> Result<Vec<Instr>, Refused>
@@ -48,9 +47,9 @@ fn loop_index(names: &[&str], name: &str) -> Option<usize>
 }
 
 /// Returns the instruction that loads a name inside loops over these variables.
-fn load(names: &[&str], name: &Rc<String>) -> Result<Instr, AllocError>
-    ensures { IfOk result (λ i. op i ≡ load_of (string_bytes name.now.value)
-        (loop_index (string_bytes name.now.value) (variables names.now))) }
+fn load(names: &[&str], name: &Text) -> Result<Instr, AllocError>
+    ensures { IfOk result (λ i. op i ≡ load_of name.now
+        (loop_index name.now (variables names.now))) }
 {
     match loop_index(names, name.as_str()) {
         Some(outward) => Ok(Instr::LoadItem(outward)),
@@ -113,8 +112,8 @@ fn empty_map(alloc: Global) -> Result<Instr, Refused>
 }
 
 /// Returns the instruction of a call.
-fn call_instr(name: &Rc<String>, receiver: bool, count: usize) -> Result<Instr, AllocError>
-    ensures { IfOk result (λ i. op i ≡ invoke (string_bytes name.now.value) (receivers receiver) count) }
+fn call_instr(name: &Text, receiver: bool, count: usize) -> Result<Instr, AllocError>
+    ensures { IfOk result (λ i. op i ≡ invoke name.now (receivers receiver) count) }
 {
     Ok(Instr::Call {
         name: name.clone()?,
@@ -160,14 +159,14 @@ fn write_guard(
 
 /// Writes the instruction that tests a call's form. It jumps to where the code is `end` long.
 fn write_form(
-    name: &Rc<String>,
+    name: &Text,
     receiver: bool,
     count: usize,
     end: usize,
     code: &mut Vec<Instr>,
 ) -> Result<(), AllocError>
     ensures { OnOk result (from_end code.new.items
-        ≡ form (string_bytes name.now.value) receiver count (length (from_end code.old.items) - end)
+        ≡ form name.now receiver count (length (from_end code.old.items) - end)
         ∷ from_end code.old.items) }
 {
     let name = name.clone()?;
@@ -241,11 +240,11 @@ fn write_tree<'e>(
             Ok(())
         }
         Expr::Select(operand, name) => {
-            let key = Key::String(Text::shared(name.clone()?));
+            let key = Key::String(name.clone()?);
             write_part(alloc, names, Operation::Select(key), operand, code)
         }
         Expr::Has(operand, name) => {
-            let key = Key::String(Text::shared(name.clone()?));
+            let key = Key::String(name.clone()?);
             write_part(alloc, names, Operation::Has(key), operand, code)
         }
         Expr::Index(operand, index) => {
@@ -481,13 +480,13 @@ fn write_choice<'e>(
 fn write_function<'e>(
     alloc: Global,
     names: &[&'e str],
-    name: &Rc<String>,
+    name: &Text,
     args: &'e Vec<Expr>,
     code: &mut Vec<Instr>,
 ) -> Result<(), Refused>
     ensures value { OnOk result (from_end code.new.items
         ≡ code_in (variables names.now)
-        (qualified (string_bytes name.now.value) (terms_of (map term args.now.items)))
+        (qualified name.now (terms_of (map term args.now.items)))
         ++ from_end code.old.items) }
     ensures memory { IfErr result (λ e. e ≡ Refused.Memory) }
 {
@@ -503,13 +502,13 @@ fn write_method<'e>(
     alloc: Global,
     names: &[&'e str],
     target: &'e Expr,
-    name: &Rc<String>,
+    name: &Text,
     args: &'e Vec<Expr>,
     code: &mut Vec<Instr>,
 ) -> Result<(), Refused>
     ensures value { OnOk result (from_end code.new.items
         ≡ code_in (variables names.now) (call (term_and (term target.now) no_terms)
-        (string_bytes name.now.value) (terms_of (map term args.now.items))) ++ from_end code.old.items) }
+        name.now (terms_of (map term args.now.items))) ++ from_end code.old.items) }
     ensures memory { IfErr result (λ e. e ≡ Refused.Memory) }
 {
     let count = args.len();

@@ -1,8 +1,7 @@
 //! The instructions of the machine.
 
 use cel_syntax_ast::{BinaryOperator, MacroKind, UnaryOperator};
-use cel_value::{Key, Value};
-use std::rc::Rc;
+use cel_value::{Key, Text, Value};
 
 /// What a branch tests: a condition, or the filter of a macro. Errors refer to it by its name.
 #[derive(Clone, Copy, Debug, PartialEq, Eq)]
@@ -40,7 +39,7 @@ pub enum Instr {
     /// Pushes a value.
     Push(Value),
     /// Pushes the value that the context binds to a name, or an error if it binds none.
-    Load(Rc<String>),
+    Load(Text),
     /// Pushes the item of the loop this many levels out; the innermost loop is 0.
     LoadItem(usize),
     /// If an error is on top, drops `depth` values below it and jumps over `offset` instructions.
@@ -53,14 +52,14 @@ pub enum Instr {
     /// Tests whether a name may be called in this form: with a receiver or without, and with
     /// `count` arguments. If not, pushes an error and jumps over `offset` instructions.
     Form {
-        name: Rc<String>,
+        name: Text,
         receiver: bool,
         count: usize,
         offset: usize,
     },
     /// Calls a function with a receiver or without, and with `count` arguments.
     Call {
-        name: Rc<String>,
+        name: Text,
         receiver: bool,
         count: usize,
     },

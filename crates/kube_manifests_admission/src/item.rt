@@ -4,14 +4,13 @@ ghost use Rattle.kube_manifests_admission.specs.Faults.{pointer_at};
 ghost use Rattle.serde_json.specs.Find.{get};
 ghost use Rattle.serde_json.specs.View.{items_view, view};
 ghost use Rattle.std.specs.List.{list_any};
-ghost use Rattle.std.specs.Prelude.{◌≡◌, [], IfErr, IfOk, length, map, option_map};
+ghost use Rattle.std.specs.Prelude.{◌≡◌, [], IfOk, length, map, option_map};
 ghost use Rattle.std.specs.Str.{bytes_eq};
 
 use crate::fault::{FaultKind, Found};
 use crate::location::Location;
-use kube_types_refused::Refused;
 use serde_json::Value;
-use std::alloc::Global;
+use std::alloc::{AllocError, Global};
 
 /// A list of a policy's `spec`.
 #[derive(Clone, Copy, Drop)]
@@ -221,10 +220,9 @@ pub(crate) fn entries_of<'v>(
     alloc: Global,
     list: PolicyList,
     values: &'v [Value],
-) -> Result<Result<Vec<Item<'v>>, Found<'v>>, Refused>
+) -> Result<Result<Vec<Item<'v>>, Found<'v>>, AllocError>
     ensures entries { IfOk result (λ r. reading_view (λ v. map item_view v.items) r
         ≡ entries_after list [] (items_view values.now)) }
-    ensures memory { IfErr result (λ e. e ≡ Refused.Memory) }
 {
     let mut items = Vec::with_capacity(alloc, values.len())?;
     for value in values {

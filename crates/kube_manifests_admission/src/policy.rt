@@ -12,7 +12,7 @@ use crate::item::{Item, PolicyList, entries_of, required_text_at, text_at};
 use crate::location::Location;
 use kube_types_refused::Refused;
 use serde_json::Value;
-use std::alloc::Global;
+use std::alloc::{AllocError, Global};
 
 /// The contents of a policy's document.
 #[derive(Drop)]
@@ -154,10 +154,9 @@ fn list_of<'v>(
     alloc: Global,
     list: PolicyList,
     spec: &'v Value,
-) -> Result<Result<Vec<Item<'v>>, Found<'v>>, Refused>
+) -> Result<Result<Vec<Item<'v>>, Found<'v>>, AllocError>
     ensures entries { IfOk result (λ r. reading_view (λ v. map item_view v.items) r
         ≡ entries_of list (view spec.now)) }
-    ensures memory { IfErr result (λ e. e ≡ Refused.Memory) }
 {
     match spec.get(list.keyword()) {
         None | Some(Value::Null) => Ok(Ok(Vec::new(alloc))),
@@ -184,9 +183,8 @@ fn unless_empty(policy: Policy<'_>) -> Result<Policy<'_>, Found<'_>>
 
 /// Reads a `spec`.
 #[tactic(auto, unfolding(crate::specs::Policies::spec_of))]
-fn spec_of(alloc: Global, spec: &Value) -> Result<Result<Policy<'_>, Found<'_>>, Refused>
+fn spec_of(alloc: Global, spec: &Value) -> Result<Result<Policy<'_>, Found<'_>>, AllocError>
     ensures policy { IfOk result (λ r. reading_view policy_view r ≡ spec_of (view spec.now)) }
-    ensures memory { IfErr result (λ e. e ≡ Refused.Memory) }
 {
     let ignores = match ignores_in(spec) {
         Ok(ignores) => ignores,
@@ -228,7 +226,10 @@ pub fn policy_of(alloc: Global, document: &Value) -> Result<Result<Policy<'_>, F
     ensures memory { IfErr result (λ e. e ≡ Refused.Memory) }
 {
     match spec_in(document) {
-        Ok(spec) => spec_of(alloc, spec),
+        Ok(spec) => {
+            let policy = spec_of(alloc, spec)?;
+            Ok(policy)
+        }
         Err(found) => Ok(Err(found)),
     }
 }

@@ -239,10 +239,9 @@ fn parts_of(request: &Value) -> Result<Parts<'_>, Found<'_>>
 }
 
 /// Reads the strings of the user's groups.
-fn texts_of(alloc: Global, items: &[Value]) -> Result<Result<Vec<String>, Found<'_>>, Refused>
+fn texts_of(alloc: Global, items: &[Value]) -> Result<Result<Vec<String>, Found<'_>>, AllocError>
     ensures texts { IfOk result (λ r. reading_view (λ v. map string_bytes v.items) r
         ≡ texts_after [] (items_view items.now)) }
-    ensures memory { IfErr result (λ e. e ≡ Refused.Memory) }
 {
     let mut texts = Vec::with_capacity(alloc, items.len())?;
     for item in items {
@@ -304,9 +303,8 @@ fn request_from(
 fn request_of(
     alloc: Global,
     request: &Value,
-) -> Result<Result<AdmissionRequest, Found<'_>>, Refused>
+) -> Result<Result<AdmissionRequest, Found<'_>>, AllocError>
     ensures request { IfOk result (λ r. reading_view request_view r ≡ request_of (view request.now)) }
-    ensures memory { IfErr result (λ e. e ≡ Refused.Memory) }
 {
     let parts = match parts_of(request) {
         Ok(parts) => parts,
@@ -401,10 +399,9 @@ fn value_or_null(value: Option<&Value>) -> Result<Value, AllocError>
 fn inputs_with<'v>(
     document: &'v Value,
     request: AdmissionRequest,
-) -> Result<Result<PolicyInputs, Found<'v>>, Refused>
+) -> Result<Result<PolicyInputs, Found<'v>>, AllocError>
     ensures inputs { IfOk result (λ r. reading_view inputs_view r
         ≡ inputs_with (view document.now) (request_view request)) }
-    ensures memory { IfErr result (λ e. e ≡ Refused.Memory) }
 {
     match objects_of(request.operation.as_str(), document) {
         Err(found) => Ok(Err(found)),
@@ -422,9 +419,8 @@ fn inputs_with<'v>(
 fn inputs_in<'v>(
     alloc: Global,
     request: &'v Value,
-) -> Result<Result<PolicyInputs, Found<'v>>, Refused>
+) -> Result<Result<PolicyInputs, Found<'v>>, AllocError>
     ensures inputs { IfOk result (λ r. reading_view inputs_view r ≡ inputs_in (view request.now)) }
-    ensures memory { IfErr result (λ e. e ≡ Refused.Memory) }
 {
     match request_of(alloc, request)? {
         Err(found) => Ok(Err(found)),
@@ -434,9 +430,8 @@ fn inputs_in<'v>(
 
 /// Reads the inputs that a review carries, or its first fault.
 #[tactic(auto, unfolding(crate::specs::Reviews::review_of))]
-fn review_of(alloc: Global, document: &Value) -> Result<Result<PolicyInputs, Found<'_>>, Refused>
+fn review_of(alloc: Global, document: &Value) -> Result<Result<PolicyInputs, Found<'_>>, AllocError>
     ensures inputs { IfOk result (λ r. reading_view inputs_view r ≡ review_of (view document.now)) }
-    ensures memory { IfErr result (λ e. e ≡ Refused.Memory) }
 {
     match request_in(document) {
         Ok(request) => inputs_in(alloc, request),

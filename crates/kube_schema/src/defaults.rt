@@ -32,6 +32,7 @@ pub fn fill_node(alloc: Global, node: &SchemaNode<'_>, value: &Value) -> Result<
 
 // Returns the value filled with the defaults of this number of levels.
 #[cycle(fill)]
+#[tactic(auto, using(kube_schema_values::proofs::Filling::levels), unfolding(crate::specs::CompiledDefaults::tree_accessors))]
 pub(crate) fn fill(
     alloc: Global,
     node: &SchemaNode<'_>,
@@ -96,6 +97,7 @@ fn fill_members(
 }
 
 #[cycle(fill)]
+#[tactic(auto, using(kube_schema_values::proofs::Fills::member_none, kube_schema_values::proofs::Fills::member_some))]
 fn fill_member(
     alloc: Global,
     node: &SchemaNode<'_>,
@@ -136,6 +138,7 @@ fn add_defaults(
 }
 
 #[cycle(fill)]
+#[tactic(auto, using(kube_schema_values::proofs::Filling::defaults))]
 fn add_default(
     alloc: Global,
     key: &str,

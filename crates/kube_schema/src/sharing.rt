@@ -51,6 +51,7 @@ fn is_filled(node: &SchemaNode<'_>, value: &Value) -> bool
 
 // Reports whether a value has the defaults of this number of levels. The contract only covers true.
 #[cycle(has)]
+#[tactic(auto, using(kube_schema_values::proofs::Whole::whole_levels), unfolding(crate::specs::CompiledDefaults::tree_accessors))]
 fn has_defaults(node: &SchemaNode<'_>, value: &Value, levels: usize) -> bool
     ensures { IsTrue result → defaulted_value tree_accessors levels (node_tree node.now) (view value.now)
         ≡ view value.now }
@@ -85,6 +86,7 @@ fn items_have_defaults(node: &SchemaNode<'_>, items: &Vec<Value>, levels: usize)
 }
 
 #[cycle(has)]
+#[tactic(auto, using(kube_schema_values::proofs::Whole::stays))]
 fn members_have_defaults(node: &SchemaNode<'_>, members: &Map<String, Value>, levels: usize) -> bool
     ensures { IsTrue result
         → map_members (member_by tree_accessors (defaulted_value tree_accessors levels) (node_tree node.now))
@@ -99,6 +101,7 @@ fn members_have_defaults(node: &SchemaNode<'_>, members: &Map<String, Value>, le
 }
 
 #[cycle(has)]
+#[tactic(auto, using(kube_schema_values::proofs::Fills::member_none, kube_schema_values::proofs::Fills::member_some))]
 fn member_has_defaults(node: &SchemaNode<'_>, key: &str, member: &Value, levels: usize) -> bool
     ensures { IsTrue result
         → member_by tree_accessors (defaulted_value tree_accessors levels)
@@ -129,6 +132,7 @@ fn lacks_no_key(node: &SchemaNode<'_>, members: &Map<String, Value>) -> bool
 }
 
 // Reports whether a key is present or has no default. The contract only covers true.
+#[tactic(auto, using(kube_schema_values::proofs::Filling::default_there))]
 fn lacks_no_default(key: &str, property: &SchemaNode<'_>, members: &Map<String, Value>) -> bool
     ensures { IsTrue result → (f : Data → Data)
         → members_view members.now.entries

@@ -1,5 +1,5 @@
 //! Conversion of the part of a JSON value that is read.
-ghost use Rattle.std.specs.Prelude.{◌≡◌, ◌≤◌, ◌-◌, ◌++◌, ◌∷◌, [], List, true, None, Some, IfErr, IfOk, IfSome, OnOk, map, option_map, string_bytes};
+ghost use Rattle.std.specs.Prelude.{◌≡◌, ◌≤◌, ◌-◌, ◌++◌, ◌∷◌, [], List, true, None, Some, IfErr, IfOk, IfSome, OnOk, map, option_map};
 ghost use Rattle.serde_json.specs.Data.{array, object};
 ghost use Rattle.serde_json.specs.Find.{get_member};
 ghost use Rattle.serde_json.specs.View.{view as json_view, items_view, members_view};
@@ -22,8 +22,7 @@ use kube_schema_values::{
     MemberKeys, Node, bind_at, bind_number, bind_plain_with, is_its_own_escape,
 };
 use serde_json::{Map as Members, Value as Json};
-use std::alloc::Global;
-use std::rc::Rc;
+use std::alloc::{AllocError, Global};
 
 /// The greatest depth at which parts are converted; deeper values are converted whole.
 const MAX_DEPTH: usize = 64;
@@ -146,7 +145,7 @@ fn map_part<N: Node>(
     node: Option<N>,
     value: &Json,
     depth: usize,
-    members: &Vec<(Rc<String>, Demand)>,
+    members: &Vec<(Text, Demand)>,
     own: bool,
     keys: &mut MemberKeys,
 ) -> Result<Value, Refused>
@@ -173,7 +172,7 @@ fn member_parts<N: Node>(
     node: Option<N>,
     object: &Members<String, Json>,
     depth: usize,
-    members: &Vec<(Rc<String>, Demand)>,
+    members: &Vec<(Text, Demand)>,
     own: bool,
     keys: &mut MemberKeys,
 ) -> Result<Option<Entries>, Refused>
@@ -202,7 +201,7 @@ fn add_part<N: Node>(
     node: Option<N>,
     object: &Members<String, Json>,
     depth: usize,
-    member: &(Rc<String>, Demand),
+    member: &(Text, Demand),
     own: bool,
     parts: &mut Entries,
     keys: &mut MemberKeys,
@@ -276,7 +275,7 @@ fn has_own_names(demand: &Demand) -> bool
 }
 
 // Reports whether each name is known to be its own escape. The contract only covers true.
-fn are_own_names(members: &Vec<(Rc<String>, Demand)>) -> bool
+fn are_own_names(members: &Vec<(Text, Demand)>) -> bool
     ensures { result ≡ true → AreOwnNames members.now.items }
 {
     for member in members {
@@ -383,13 +382,12 @@ fn member_of<'a>(object: &'a Members<String, Json>, name: &str) -> Option<&'a Js
 }
 
 // Inserts a value into a map at a shared string. Returns whether the key is new.
-fn put_new(entries: &mut Entries, key: Rc<String>, value: Value) -> Result<bool, Refused>
+fn put_new(entries: &mut Entries, key: Text, value: Value) -> Result<bool, AllocError>
     ensures entered { OnOk result (entries_view entries.new.entries
-        ≡ put (text_key (string_bytes key.value)) (view value) (entries_view entries.old.entries)) }
+        ≡ put (text_key key) (view value) (entries_view entries.old.entries)) }
     ensures new { IfOk result (λ is_new. is_new ≡ true
-        → find (text_key (string_bytes key.value)) (entries_view entries.old.entries) ≡ None) }
-    ensures memory { IfErr result (λ e. e ≡ Refused.Memory) }
+        → find (text_key key) (entries_view entries.old.entries) ≡ None) }
 {
-    let before = entries.insert(Key::String(Text::shared(key)), value)?;
+    let before = entries.insert(Key::String(key), value)?;
     Ok(before.is_none())
 }

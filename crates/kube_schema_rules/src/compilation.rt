@@ -12,7 +12,7 @@ use crate::rule::{Rule, RuleFault, rule_values};
 use cel::{Expr, ParseErrors, Program};
 use kube_types_refused::Refused;
 use serde_json::Value;
-use std::alloc::Global;
+use std::alloc::{AllocError, Global};
 use std::fmt;
 
 /// The reason why a rule doesn't compile.
@@ -162,10 +162,9 @@ fn with_programs(
     rule: Rule,
     program: Program,
     message_program: Option<Program>,
-) -> Result<CompilationResult, Refused>
+) -> Result<CompilationResult, AllocError>
     ensures rule { IfOk result (λ r. result_view r
         ≡ with_trees (rule_view rule) (program_term program) (option_map program_term message_program)) }
-    ensures memory { IfErr result (λ e. e ≡ Refused.Memory) }
 {
     let is_transition_rule = program.expression().has_free_name("oldSelf");
     let demands = text_demands(alloc, program.expression(), expression_of(&message_program))?;

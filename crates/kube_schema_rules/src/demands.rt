@@ -13,7 +13,7 @@ use crate::result::CompilationResult;
 use cel::Expr;
 use cel_demand::{Demand, both_demands, demand_on, demands_of};
 use kube_types_refused::Refused;
-use std::alloc::Global;
+use std::alloc::{AllocError, Global};
 
 /// How much rules read of `self` and of `oldSelf`; None for a name that they don't read.
 #[derive(Debug, Drop)]
@@ -35,9 +35,8 @@ pub fn no_demands() -> Demands
 }
 
 /// Returns what an expression reads.
-fn expression_demands(alloc: Global, expression: &Expr) -> Result<Demands, Refused>
+fn expression_demands(alloc: Global, expression: &Expr) -> Result<Demands, AllocError>
     ensures demands { IfOk result (λ d. AreDemands d (λ x. part_read x (reads_of (term expression.now)))) }
-    ensures memory { IfErr result (λ e. e ≡ Refused.Memory) }
 {
     let names = demands_of(alloc, expression)?;
     let value = demand_on(alloc, "self", &names)?;
@@ -46,12 +45,11 @@ fn expression_demands(alloc: Global, expression: &Expr) -> Result<Demands, Refus
 }
 
 /// Returns what at least one of two demands reads.
-fn joined(alloc: Global, first: &Demands, second: &Demands) -> Result<Demands, Refused>
+fn joined(alloc: Global, first: &Demands, second: &Demands) -> Result<Demands, AllocError>
     ensures value { IfOk result (λ d. option_map part_of d.value
         ≡ both_read (option_map part_of first.now.value) (option_map part_of second.now.value)) }
     ensures old { IfOk result (λ d. option_map part_of d.old
         ≡ both_read (option_map part_of first.now.old) (option_map part_of second.now.old)) }
-    ensures memory { IfErr result (λ e. e ≡ Refused.Memory) }
 {
     let value = both_demands(alloc, &first.value, &second.value)?;
     let old = both_demands(alloc, &first.old, &second.old)?;
@@ -63,10 +61,9 @@ pub(crate) fn text_demands(
     alloc: Global,
     text: &Expr,
     message: Option<&Expr>,
-) -> Result<Demands, Refused>
+) -> Result<Demands, AllocError>
     ensures demands { IfOk result (λ d. AreDemands d
         (λ x. texts_read x (term text.now) (option_map (λ e. term e.now) message.entry))) }
-    ensures memory { IfErr result (λ e. e ≡ Refused.Memory) }
 {
     let of_text = expression_demands(alloc, text)?;
     let Some(message) = message else {

@@ -105,8 +105,9 @@ not_kept (Some d) a b h = cc
 pub put_none : (k : List ℕ) (g : Data → Data) (o : Option Data) (ms : Members) → None ≡ o → ms ≡ put_new k (option_map g o) ms
 put_none k g o ms e = ap (λ o. put_new k (option_map g o) ms) e
 
-pub put_there : (k : List ℕ) (g : Data → Data) (o : Option Data) (x : Data) (ms : Members) → Some x ≡ o → is_some (get_member k ms) ≡ true → ms ≡ put_new k (option_map g o) ms
-put_there k g o x ms e there = sym (kept (get_member k ms) ms (put k (g x) ms) there) ∙ ap (λ o. put_new k (option_map g o) ms) e
+pub put_there : (k : List ℕ) (o : Option Data) (ms : Members) → is_some (get_member k ms) ≡ true → ms ≡ put_new k o ms
+put_there k None ms there = refl
+put_there k (Some d) ms there = sym (kept (get_member k ms) ms (put k d ms) there)
 
 pub put_here : (k : List ℕ) (g : Data → Data) (o : Option Data) (x : Data) (ms : Members) → Some x ≡ o → is_some (get_member k ms) ≡ false → put k (g x) ms ≡ put_new k (option_map g o) ms
 put_here k g o x ms e new = sym (not_kept (get_member k ms) ms (put k (g x) ms) new) ∙ ap (λ o. put_new k (option_map g o) ms) e

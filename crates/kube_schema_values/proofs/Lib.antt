@@ -4,6 +4,9 @@ pub mod Members
 pub mod Twice
 pub mod Keeping
 pub mod Whole
+pub mod Filling
+pub mod Declared
+pub mod Behind
 pub mod Without
 pub mod Bounds
 pub mod Fields

@@ -15,12 +15,12 @@ use Rattle.kube_schema_values.proofs.Members.{is_key, if_key, get_member-with_de
 
 -- ---- members that stay as they are
 
-abbrev pub Fixed : (List ℕ → Data → Data) → Members → Type 0
+abbrev Fixed : (List ℕ → Data → Data) → Members → Type 0
 Fixed f no_members = ⊤
 Fixed f (member k d ms) = (f k d ≡ d) × Fixed f ms
 
 module _ (f : List ℕ → Data → Data) where
-  pub fixed_same : (ms : Members) → Fixed f ms → map_members f ms ≡ ms
+  fixed_same : (ms : Members) → Fixed f ms → map_members f ms ≡ ms
   fixed_same no_members h = refl
   fixed_same (member k d ms) h = ap (λ x. member k x (map_members f ms)) h.0 ∙ ap (member k d) (fixed_same ms h.1)
 
@@ -53,11 +53,11 @@ module _ (f : List ℕ → Data → Data) where
 -- ---- members that lack no default
 
 module _ (default : List ℕ → Option Data) where
-  abbrev pub Stable : List (List ℕ) → Members → Type 0
+  abbrev Stable : List (List ℕ) → Members → Type 0
   Stable [] ms = ⊤
   Stable (k ∷ ks) ms = (put_new k (default k) ms ≡ ms) × Stable ks ms
 
-  pub stable_same : (ks : List (List ℕ)) (ms : Members) → Stable ks ms → with_defaults default ks ms ≡ ms
+  stable_same : (ks : List (List ℕ)) (ms : Members) → Stable ks ms → with_defaults default ks ms ≡ ms
   unfolding with_defaults
   stable_same [] ms h = refl
   stable_same (k ∷ ks) ms h = ap (with_defaults default ks) h.0 ∙ stable_same ks ms h.1

@@ -1,6 +1,6 @@
 //! Conversion of JSON values to CEL by a schema (Kubernetes documentation, "Use CEL
 //! validation rules", the CEL types of schema types and the escaping of property names).
-ghost use Rattle.std.specs.Prelude.{◌≡◌, ◌≤◌, ◌-◌, IfErr, IfOk, string_bytes};
+ghost use Rattle.std.specs.Prelude.{◌≡◌, ◌≤◌, ◌-◌, IfErr, IfOk};
 ghost use Rattle.serde_json.specs.View.{view as json_view, items_view as json_items_view, members_view};
 ghost use Rattle.cel_value.specs.View.{view, items_view, entries_view};
 ghost use Rattle.kube_schema_values.specs.Conversion.{to_cel, to_cel_by, entries_by, items_by, key_in, levels, member_by, member_key, object_by, raw};
@@ -10,10 +10,9 @@ use crate::names::MemberKeys;
 use crate::node::{JsonNode, Node};
 use crate::resource::put_resource_fields;
 use crate::values::{bind_number, bind_plain_with, put_shared};
-use cel_value::{Entries, Refused, Value};
+use cel_value::{Entries, Refused, Text, Value};
 use serde_json::{Map as Members, Value as Json};
 use std::alloc::Global;
-use std::rc::Rc;
 
 /// The greatest depth at which a schema is read.
 const MAX_DEPTH: usize = 64;
@@ -184,8 +183,8 @@ fn bind_members<N: Node>(
 }
 
 // Returns the key of a member: its name if `keeps_keys`, as for a map node, else its escaped name.
-fn bind_key(keeps_keys: bool, name: &str, keys: &mut MemberKeys) -> Result<Rc<String>, Refused>
-    ensures key { IfOk result (λ s. string_bytes s.value ≡ key_in keeps_keys name.now) }
+fn bind_key(keeps_keys: bool, name: &str, keys: &mut MemberKeys) -> Result<Text, Refused>
+    ensures key { IfOk result (λ s. s ≡ key_in keeps_keys name.now) }
     ensures memory { IfErr result (λ e. e ≡ Refused.Memory) }
 {
     if keeps_keys {

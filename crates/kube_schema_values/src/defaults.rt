@@ -35,6 +35,7 @@ pub fn apply_defaults(alloc: Global, schema: &Value, value: &Value) -> Result<Va
 
 // Returns the value filled with the defaults of this number of levels.
 #[cycle(fill)]
+#[tactic(auto, using(crate::proofs::Filling::levels), unfolding(crate::specs::DefaultsAccessors::raw))]
 pub(crate) fn fill(
     alloc: Global,
     schema: &Value,
@@ -96,6 +97,7 @@ fn fill_members(
 }
 
 #[cycle(fill)]
+#[tactic(auto, using(crate::proofs::Fills::member_none, crate::proofs::Fills::member_some))]
 fn fill_member(
     alloc: Global,
     schema: &Value,
@@ -136,6 +138,7 @@ fn add_defaults(
 }
 
 #[cycle(fill)]
+#[tactic(auto, using(crate::proofs::Filling::defaults))]
 fn add_default(
     alloc: Global,
     key: &str,

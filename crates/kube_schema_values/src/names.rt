@@ -3,9 +3,8 @@ ghost use Rattle.std.specs.Prelude.{◌≡◌, IfErr, IfOk, IfSome, string_bytes
 ghost use Rattle.kube_schema_values.specs.Escape.{escape};
 
 use crate::escaping::{escape_field_name, is_its_own_escape};
-use cel_value::Refused;
+use cel_value::{Refused, Text};
 use std::alloc::{AllocError, Global};
-use std::rc::Rc;
 
 /// The greatest number of names that are cached. Other names are allocated anew each time.
 const MAX_NAMES: usize = 32;
@@ -18,8 +17,8 @@ const MAX_MISSES: usize = 64;
 #[derive(Drop)]
 struct EscapedName {
     name: String,
-    escaped: Rc<String>,
-    ghost right: { string_bytes escaped.value ≡ escape (string_bytes name) },
+    escaped: Text,
+    ghost right: { escaped ≡ escape (string_bytes name) },
 }
 
 /// A cache of the keys of members, so that a recurring name shares its string.
@@ -54,14 +53,14 @@ impl MemberKeys {
     /// # Errors
     ///
     /// [`Refused`] if memory is refused.
-    pub fn escaped(&mut self, name: &str) -> Result<Rc<String>, Refused>
-        ensures key { IfOk result (λ s. string_bytes s.value ≡ escape name.now) }
+    pub fn escaped(&mut self, name: &str) -> Result<Text, Refused>
+        ensures key { IfOk result (λ s. s ≡ escape name.now) }
         ensures memory { IfErr result (λ e. e ≡ Refused.Memory) }
     {
         if let Some(found) = self.find(name)? {
             return Ok(found);
         }
-        let escaped = Rc::new(self.alloc, escape_field_name(self.alloc, name)?)?;
+        let escaped = Text::of(self.alloc, escape_field_name(self.alloc, name)?)?;
         self.keep(name, &escaped)?;
         Ok(escaped)
     }
@@ -71,21 +70,21 @@ impl MemberKeys {
     /// # Errors
     ///
     /// [`Refused`] if memory is refused.
-    pub fn unescaped(&mut self, name: &str) -> Result<Rc<String>, Refused>
-        ensures key { IfOk result (λ s. string_bytes s.value ≡ name.now) }
+    pub fn unescaped(&mut self, name: &str) -> Result<Text, Refused>
+        ensures key { IfOk result (λ s. s ≡ name.now) }
         ensures memory { IfErr result (λ e. e ≡ Refused.Memory) }
     {
         if self.keeps && is_its_own_escape(name) {
             let escaped = self.escaped(name)?;
             return Ok(escaped);
         }
-        Ok(Rc::new(self.alloc, String::from_str(self.alloc, name)?)?)
+        Ok(Text::of_str(self.alloc, name)?)
     }
 
     // Finds the escape of a cached name. Objects of one kind have their members
     // in one order, so the name after the one found last is tried first.
-    fn find(&mut self, name: &str) -> Result<Option<Rc<String>>, AllocError>
-        ensures { IfOk result (λ found. IfSome found (λ s. string_bytes s.value ≡ escape name.now)) }
+    fn find(&mut self, name: &str) -> Result<Option<Text>, AllocError>
+        ensures { IfOk result (λ found. IfSome found (λ s. s ≡ escape name.now)) }
     {
         if let Some(found) = self.at(self.next, name)? {
             self.next = self.next.saturating_add(1);
@@ -106,8 +105,8 @@ impl MemberKeys {
     }
 
     // Returns the escape of the cached name at an index, if it is this name.
-    fn at(&self, index: usize, name: &str) -> Result<Option<Rc<String>>, AllocError>
-        ensures { IfOk result (λ found. IfSome found (λ s. string_bytes s.value ≡ escape name.now)) }
+    fn at(&self, index: usize, name: &str) -> Result<Option<Text>, AllocError>
+        ensures { IfOk result (λ found. IfSome found (λ s. s ≡ escape name.now)) }
     {
         match self.names.get(index) {
             Some(entry) => {
@@ -122,8 +121,8 @@ impl MemberKeys {
     }
 
     // Caches a name, if names are kept and there is room.
-    fn keep(&mut self, name: &str, escaped: &Rc<String>) -> Result<(), AllocError>
-        requires { string_bytes escaped.now.value ≡ escape name.now }
+    fn keep(&mut self, name: &str, escaped: &Text) -> Result<(), AllocError>
+        requires { escaped.now ≡ escape name.now }
     {
         if !self.keeps || self.names.len() == MAX_NAMES {
             return Ok(());

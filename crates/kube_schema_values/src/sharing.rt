@@ -37,6 +37,7 @@ pub fn filled_value<'v>(
 
 // Reports whether a value has the defaults of this number of levels. The contract only covers true.
 #[cycle(has)]
+#[tactic(auto, using(crate::proofs::Whole::whole_levels), unfolding(crate::specs::DefaultsAccessors::raw))]
 fn has_defaults(schema: &Value, value: &Value, levels: usize) -> bool
     ensures { IsTrue result → defaulted_value raw levels (view schema.now) (view value.now) ≡ view value.now }
 {
@@ -69,6 +70,7 @@ fn items_have_defaults(schema: &Value, items: &Vec<Value>, levels: usize) -> boo
 }
 
 #[cycle(has)]
+#[tactic(auto, using(crate::proofs::Whole::stays))]
 fn members_have_defaults(schema: &Value, members: &Map<String, Value>, levels: usize) -> bool
     ensures { IsTrue result
         → map_members (member_by raw (defaulted_value raw levels) (view schema.now))
@@ -83,6 +85,7 @@ fn members_have_defaults(schema: &Value, members: &Map<String, Value>, levels: u
 }
 
 #[cycle(has)]
+#[tactic(auto, using(crate::proofs::Fills::member_none, crate::proofs::Fills::member_some))]
 fn member_has_defaults(schema: &Value, key: &str, member: &Value, levels: usize) -> bool
     ensures { IsTrue result → member_by raw (defaulted_value raw levels)
         (view schema.now) key.now (view member.now) ≡ view member.now }
@@ -112,6 +115,7 @@ fn lacks_no_key(schema: &Value, members: &Map<String, Value>) -> bool
 }
 
 // Reports whether a key is present or has no default. The contract only covers true.
+#[tactic(auto, using(crate::proofs::Filling::default_there))]
 fn lacks_no_default(key: &str, property: &Value, members: &Map<String, Value>) -> bool
     ensures { IsTrue result → (f : Data → Data)
         → members_view members.now.entries

@@ -12,7 +12,6 @@ use crate::names::MemberKeys;
 use cel_value::{Entries, Key, Refused, Text, Value};
 use serde_json::{Map as Members, Number, Value as Json};
 use std::alloc::Global;
-use std::rc::Rc;
 
 /// Converts a JSON value to CEL without a schema. A number becomes an int if it fits
 /// `i64`, else a uint if it fits `u64`, else a double. An object becomes a map whose
@@ -131,7 +130,7 @@ pub fn put_entry(
     ensures unchanged { OnErr result (entries_view entries.new.entries ≡ entries_view entries.old.entries) }
     ensures memory { IfErr result (λ e. e ≡ Refused.Memory) }
 {
-    let key = Rc::new(alloc, key)?;
+    let key = Text::of(alloc, key)?;
     put_shared(entries, key, value)?;
     Ok(())
 }
@@ -141,12 +140,12 @@ pub fn put_entry(
 /// # Errors
 ///
 /// [`Refused`] if memory is refused; the value is dropped, and the map is as it was.
-pub fn put_shared(entries: &mut Entries, key: Rc<String>, value: Value) -> Result<(), Refused>
+pub fn put_shared(entries: &mut Entries, key: Text, value: Value) -> Result<(), Refused>
     ensures entered { OnOk result (entries_view entries.new.entries
-        ≡ put (text_key (string_bytes key.value)) (view value) (entries_view entries.old.entries)) }
+        ≡ put (text_key key) (view value) (entries_view entries.old.entries)) }
     ensures unchanged { OnErr result (entries_view entries.new.entries ≡ entries_view entries.old.entries) }
     ensures memory { IfErr result (λ e. e ≡ Refused.Memory) }
 {
-    drop(entries.insert(Key::String(Text::shared(key)), value)?);
+    drop(entries.insert(Key::String(key), value)?);
     Ok(())
 }

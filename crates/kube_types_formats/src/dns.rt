@@ -1,5 +1,5 @@
 //! DNS labels and subdomains, by RFC 1035 and RFC 1123.
-ghost use Rattle.std.specs.Prelude.{ℕ, List, ◌≡◌, ◌<◌, ◌++◌, length, nat_lt, OnOk, IfOk, IfErr};
+ghost use Rattle.std.specs.Prelude.{ℕ, List, ◌≡◌, ◌<◌, ◌++◌, length, nat_lt, OnOk, IfOk};
 ghost use Rattle.std.specs.List.{list_all};
 ghost use Rattle.kube_types_formats.specs.Found.{faults_found, texts_of};
 ghost use Rattle.kube_types_formats.specs.Labels.{is_label_byte, first_byte, last_byte, empty_fault, end_tests, label_faults, subdomain_faults, parts_of, faults_of_parts};
@@ -7,7 +7,7 @@ ghost use Rattle.kube_types_formats.specs.Labels.{is_label_byte, first_byte, las
 use crate::fault::Fault;
 use crate::offsets::{cut, first_offset};
 use crate::report::Report;
-use kube_types_refused::Refused;
+use std::alloc::AllocError;
 
 /// The maximum length of a label in bytes.
 pub(crate) const LABEL_LIMIT: usize = 63;
@@ -72,12 +72,11 @@ pub(crate) fn too_long(limit: usize, text: &[u8]) -> (bool, Fault)
 impl Report {
     /// Adds the faults at both ends of a label.
     #[tactic(auto, unfolding(crate::specs::Labels::end_tests))]
-    fn add_end_faults(&mut self, label: Label, prefix: &str, text: &[u8]) -> Result<(), Refused>
+    fn add_end_faults(&mut self, label: Label, prefix: &str, text: &[u8]) -> Result<(), AllocError>
         requires { 0 < length text.now }
         ensures added { OnOk result
             (texts_of self.new ≡ texts_of self.old
             ++ faults_found prefix.now (end_tests label text.now)) }
-        ensures memory { IfErr result (λ e. e ≡ Refused.Memory) }
     {
         let hyphen_first = first_byte(text) == b'-';
         let hyphen_last = last_byte(text) == b'-';
@@ -110,10 +109,9 @@ impl Report {
         label: Label,
         prefix: &str,
         text: &[u8],
-    ) -> Result<(), Refused>
+    ) -> Result<(), AllocError>
         ensures added { OnOk result
             (texts_of self.new ≡ texts_of self.old ++ label_faults label prefix.now text.now) }
-        ensures memory { IfErr result (λ e. e ≡ Refused.Memory) }
     {
         if text.is_empty() {
             return self.add_found(prefix, empty_fault(label));
@@ -127,12 +125,11 @@ impl Report {
     }
 
     /// Adds the faults of each part before the last dot, and returns the text after it.
-    fn add_front_parts<'a>(&mut self, prefix: &str, text: &'a [u8]) -> Result<&'a [u8], Refused>
+    fn add_front_parts<'a>(&mut self, prefix: &str, text: &'a [u8]) -> Result<&'a [u8], AllocError>
         ensures added { IfOk result (λ last_part.
             (last : List ℕ → List (List ℕ)) → texts_of self.new ++ last last_part.now
             ≡ texts_of self.old
             ++ faults_of_parts (label_faults Label.Rfc1123 prefix.now) last (parts_of text.now)) }
-        ensures memory { IfErr result (λ e. e ≡ Refused.Memory) }
     {
         let mut rest = text;
         while let Some(dot) = first_offset(b".", rest) {
@@ -150,10 +147,9 @@ impl Report {
         last: Label,
         prefix: &str,
         text: &[u8],
-    ) -> Result<(), Refused>
+    ) -> Result<(), AllocError>
         ensures added { OnOk result
             (texts_of self.new ≡ texts_of self.old ++ subdomain_faults last prefix.now text.now) }
-        ensures memory { IfErr result (λ e. e ≡ Refused.Memory) }
     {
         if text.is_empty() {
             return self.add(prefix, Fault::Empty);

@@ -13,7 +13,7 @@ use crate::kind::FormatKind;
 use crate::report::Report;
 use crate::uris::uri_fault;
 use kube_types_refused::Refused;
-use std::alloc::Global;
+use std::alloc::{AllocError, Global};
 
 /// A named format.
 #[derive(Clone, Copy, Debug, PartialEq, Eq)]
@@ -65,10 +65,9 @@ impl KubeFormat {
 impl Report {
     /// Adds the faults of a text in the format of a kind.
     #[tactic(auto, unfolding(crate::specs::Formats::faults_of))]
-    fn add_faults(&mut self, kind: FormatKind, text: &[u8]) -> Result<(), Refused>
+    fn add_faults(&mut self, kind: FormatKind, text: &[u8]) -> Result<(), AllocError>
         ensures added { OnOk result
             (texts_of self.new ≡ texts_of self.old ++ faults_of kind text.now) }
-        ensures memory { IfErr result (λ e. e ≡ Refused.Memory) }
     {
         match kind {
             FormatKind::Dns1123Label => self.add_label(Label::Rfc1123, "", text),

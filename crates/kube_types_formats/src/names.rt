@@ -1,5 +1,5 @@
 //! Kubernetes' qualified names and label values.
-ghost use Rattle.std.specs.Prelude.{◌≡◌, ◌++◌, OnOk, IfErr};
+ghost use Rattle.std.specs.Prelude.{◌≡◌, ◌++◌, OnOk};
 ghost use Rattle.std.specs.List.{list_all};
 ghost use Rattle.kube_types_formats.specs.Found.{texts_of};
 ghost use Rattle.kube_types_formats.specs.Names.{is_name_byte, name_faults, name_prefix_faults, label_value_faults, qualified_name_faults};
@@ -8,7 +8,7 @@ use crate::dns::{LABEL_LIMIT, Label, first_byte, last_byte, too_long};
 use crate::fault::Fault;
 use crate::offsets::{cut, last_offset};
 use crate::report::Report;
-use kube_types_refused::Refused;
+use std::alloc::AllocError;
 
 /// Reports whether all bytes are letters, digits, hyphens, underscores or dots.
 fn is_name_text(text: &[u8]) -> bool
@@ -20,10 +20,9 @@ fn is_name_text(text: &[u8]) -> bool
 impl Report {
     /// Adds the faults of a name.
     #[tactic(auto, unfolding(crate::specs::Names::name_faults))]
-    fn add_name(&mut self, prefix: &str, text: &[u8]) -> Result<(), Refused>
+    fn add_name(&mut self, prefix: &str, text: &[u8]) -> Result<(), AllocError>
         ensures added { OnOk result
             (texts_of self.new ≡ texts_of self.old ++ name_faults prefix.now text.now) }
-        ensures memory { IfErr result (λ e. e ≡ Refused.Memory) }
     {
         if text.is_empty() {
             return self.add(prefix, Fault::Empty);
@@ -43,10 +42,9 @@ impl Report {
 
     /// Adds the faults of the part before the slash of a qualified name.
     #[tactic(auto, unfolding(crate::specs::Names::name_prefix_faults))]
-    fn add_name_prefix(&mut self, prefix: &[u8]) -> Result<(), Refused>
+    fn add_name_prefix(&mut self, prefix: &[u8]) -> Result<(), AllocError>
         ensures added { OnOk result
             (texts_of self.new ≡ texts_of self.old ++ name_prefix_faults prefix.now) }
-        ensures memory { IfErr result (λ e. e ≡ Refused.Memory) }
     {
         if prefix.is_empty() {
             return self.add("", Fault::EmptyPrefix);
@@ -56,10 +54,9 @@ impl Report {
 
     /// Adds the faults of a qualified name.
     #[tactic(auto, unfolding(crate::specs::Names::qualified_name_faults, crate::specs::Names::faults_around))]
-    pub(crate) fn add_qualified_name(&mut self, text: &[u8]) -> Result<(), Refused>
+    pub(crate) fn add_qualified_name(&mut self, text: &[u8]) -> Result<(), AllocError>
         ensures added { OnOk result
             (texts_of self.new ≡ texts_of self.old ++ qualified_name_faults text.now) }
-        ensures memory { IfErr result (λ e. e ≡ Refused.Memory) }
     {
         if text.is_empty() {
             return self.add("", Fault::Empty);
@@ -76,10 +73,9 @@ impl Report {
 
     /// Adds the faults of a label value.
     #[tactic(auto, unfolding(crate::specs::Names::label_value_faults))]
-    pub(crate) fn add_label_value(&mut self, text: &[u8]) -> Result<(), Refused>
+    pub(crate) fn add_label_value(&mut self, text: &[u8]) -> Result<(), AllocError>
         ensures added { OnOk result
             (texts_of self.new ≡ texts_of self.old ++ label_value_faults text.now) }
-        ensures memory { IfErr result (λ e. e ≡ Refused.Memory) }
     {
         if text.is_empty() {
             return Ok(());

@@ -1,11 +1,9 @@
 //! The texts of the faults found so far, in order.
-ghost use Rattle.std.specs.Prelude.{◌≡◌, [], ◌∷◌, ◌++◌, OnOk, IfErr, map, string_bytes};
+ghost use Rattle.std.specs.Prelude.{◌≡◌, [], ◌∷◌, ◌++◌, OnOk, map, string_bytes};
 ghost use Rattle.kube_types_formats.specs.Found.{fault_line, faults_found, only, texts_of};
-ghost use Rattle.kube_types_refused.specs.declared.Refused.{Refused};
 
 use crate::fault::Fault;
-use kube_types_refused::Refused;
-use std::alloc::Global;
+use std::alloc::{AllocError, Global};
 
 /// The texts of the faults found so far.
 #[derive(Drop)]
@@ -34,10 +32,9 @@ impl Report {
 
     /// Adds the text of a fault. The prefix names the part of the
     /// text that the fault is in; it is empty for the whole text.
-    pub(crate) fn add(&mut self, prefix: &str, fault: Fault) -> Result<(), Refused>
+    pub(crate) fn add(&mut self, prefix: &str, fault: Fault) -> Result<(), AllocError>
         ensures added { OnOk result
             (texts_of self.new ≡ texts_of self.old ++ (fault_line prefix.now fault ∷ [])) }
-        ensures memory { IfErr result (λ e. e ≡ Refused.Memory) }
     {
         let text = format!(in self.alloc; "{prefix}{fault}")?;
         self.texts.push(text)?;
@@ -45,10 +42,9 @@ impl Report {
     }
 
     /// Adds the fault, if there is one.
-    pub(crate) fn add_found(&mut self, prefix: &str, fault: Option<Fault>) -> Result<(), Refused>
+    pub(crate) fn add_found(&mut self, prefix: &str, fault: Option<Fault>) -> Result<(), AllocError>
         ensures added { OnOk result
             (texts_of self.new ≡ texts_of self.old ++ only prefix.now fault) }
-        ensures memory { IfErr result (λ e. e ≡ Refused.Memory) }
     {
         match fault {
             Some(fault) => self.add(prefix, fault),
@@ -58,10 +54,9 @@ impl Report {
 
     /// Adds the fault if its test found it.
     #[tactic(auto, unfolding(crate::specs::Found::faults_found))]
-    fn add_if(&mut self, prefix: &str, found: bool, fault: Fault) -> Result<(), Refused>
+    fn add_if(&mut self, prefix: &str, found: bool, fault: Fault) -> Result<(), AllocError>
         ensures added { OnOk result
             (texts_of self.new ≡ texts_of self.old ++ faults_found prefix.now ((found, fault) ∷ [])) }
-        ensures memory { IfErr result (λ e. e ≡ Refused.Memory) }
     {
         if found {
             self.add(prefix, fault)
@@ -75,10 +70,9 @@ impl Report {
         &mut self,
         prefix: &str,
         rules: &[(bool, Fault)],
-    ) -> Result<(), Refused>
+    ) -> Result<(), AllocError>
         ensures added { OnOk result
             (texts_of self.new ≡ texts_of self.old ++ faults_found prefix.now rules.now) }
-        ensures memory { IfErr result (λ e. e ≡ Refused.Memory) }
     {
         for rule in rules {
             let (found, fault) = *rule;

@@ -2,28 +2,25 @@
 ghost use Rattle.semver.specs.Order.{parts as parts_between_dots};
 ghost use Rattle.std.specs.List.{list_all};
 ghost use Rattle.std.specs.Option.{option_map};
-ghost use Rattle.std.specs.Prelude.{◌≡◌, map, IfOk, IfErr, IsOk, string_bytes};
-ghost use Rattle.kube_types_refused.specs.declared.Refused.TheVariants.{Memory};
+ghost use Rattle.std.specs.Prelude.{◌≡◌, map, IfOk, IsOk, string_bytes};
 ghost use Rattle.kube_types_semver.specs.Reading.{core_of, tail_of, without_v, is_number, number_text, full_text, normal_text, strictly, IsPlain};
 ghost use Rattle.kube_types_semver.specs.Shown.{parts};
 
 use crate::version::KubeSemver;
-use kube_types_refused::Refused;
 use semver::Version;
 use std::alloc::{AllocError, Global};
 
 /// Parses a version by SemVer 2.0, or returns None if the text isn't one.
 #[tactic(auto, unfolding(crate::specs::Reading::strictly), using(crate::proofs::Texts::plain_read))]
-pub(crate) fn strict_version(alloc: Global, text: &str) -> Result<Option<KubeSemver>, Refused>
+pub(crate) fn strict_version(alloc: Global, text: &str) -> Result<Option<KubeSemver>, AllocError>
     ensures answer { IfOk result (λ version. option_map parts version ≡ strictly text.now) }
     ensures plain { IsPlain (strictly text.now) → IsOk result }
-    ensures memory { IfErr result (λ e. e ≡ Memory) }
 {
     match Version::parse(alloc, text) {
         Ok(version) => Ok(Some(KubeSemver { version })),
         Err(error) => {
             if error == semver::Error::from(AllocError) {
-                Err(Refused::Memory)
+                Err(AllocError)
             } else {
                 Ok(None)
             }
@@ -114,9 +111,8 @@ fn full_text(alloc: Global, parts: &[&str], tail: &str) -> Result<Option<String>
 /// The text with three numbers in full if the part before its first
 /// hyphen is numbers separated by dots, or else the text itself. None
 /// if there are more than three numbers. The text has no leading `v`.
-pub(crate) fn normal_text(alloc: Global, text: &str) -> Result<Option<String>, Refused>
+pub(crate) fn normal_text(alloc: Global, text: &str) -> Result<Option<String>, AllocError>
     ensures answer { IfOk result (λ full. option_map string_bytes full ≡ normal_text text.now) }
-    ensures memory { IfErr result (λ e. e ≡ Memory) }
 {
     let (core, tail) = split_at_hyphen(text);
     let parts = parts_of(alloc, core)?;

@@ -35,10 +35,14 @@ impl KubeSemver {
         ensures memory { IfErr result (λ e. e ≡ Memory) }
     {
         if !lenient {
-            return strict_version(alloc, text);
+            let version = strict_version(alloc, text)?;
+            return Ok(version);
         }
         match normal_text(alloc, without_v(text))? {
-            Some(full) => strict_version(alloc, full.as_str()),
+            Some(full) => {
+                let version = strict_version(alloc, full.as_str())?;
+                Ok(version)
+            }
             None => Ok(None),
         }
     }

@@ -156,7 +156,8 @@ impl KubeUrl {
         ensures memory { IfErr result (λ e. e ≡ Memory) }
     {
         let pairs = pairs(alloc, self.url.query().unwrap_or(""))?;
-        grouped(alloc, pairs)
+        let query = grouped(alloc, pairs)?;
+        Ok(query)
     }
 
     /// Returns a copy of this URL.

@@ -3,13 +3,11 @@ ghost use Rattle.form_urlencoded.specs.Form.{decode};
 ghost use Rattle.std.specs.BTreeMap.{get_by_text};
 ghost use Rattle.std.specs.List.{slice_split};
 ghost use Rattle.std.specs.Option.{option_map};
-ghost use Rattle.std.specs.Prelude.{◌≡◌, ◌==◌, ◌++◌, ◌∷◌, [], ℕ, List, map, IfOk, IfErr, OnOk, Some, string_bytes, if◌then◌else◌};
+ghost use Rattle.std.specs.Prelude.{◌≡◌, ◌==◌, ◌++◌, ◌∷◌, [], ℕ, List, map, IfOk, OnOk, Some, string_bytes, if◌then◌else◌};
 ghost use Rattle.std.specs.Str.{bytes_eq};
-ghost use Rattle.kube_types_refused.specs.declared.Refused.TheVariants.{Memory};
 ghost use Rattle.kube_types_url.specs.Query.{decoded_text, name_of, value_of, pairs_of, values_of, values_or_none};
 ghost use Rattle.kube_types_url.specs.Shown.{pair_texts, texts};
 
-use kube_types_refused::Refused;
 use std::alloc::{AllocError, Global};
 use std::collections::BTreeMap;
 
@@ -40,9 +38,8 @@ fn name_and_value(piece: &str) -> (&str, &str)
 }
 
 /// The names and values of a query, decoded and in order.
-pub(crate) fn pairs(alloc: Global, query: &str) -> Result<Vec<(String, String)>, Refused>
+pub(crate) fn pairs(alloc: Global, query: &str) -> Result<Vec<(String, String)>, AllocError>
     ensures answer { IfOk result (λ pairs. map pair_texts pairs.items ≡ pairs_of query.now) }
-    ensures memory { IfErr result (λ e. e ≡ Memory) }
 {
     let pieces = pieces(alloc, query)?;
     let mut pairs = Vec::new(alloc);
@@ -61,12 +58,11 @@ fn add_value(
     alloc: Global,
     name: String,
     value: String,
-) -> Result<(), Refused>
+) -> Result<(), AllocError>
     ensures answer { OnOk result ((other : List ℕ) → option_map texts (get_by_text query.new other)
         ≡ (if bytes_eq other (string_bytes name)
         then Some (values_or_none (option_map texts (get_by_text query.old other)) ++ string_bytes value ∷ [])
         else option_map texts (get_by_text query.old other))) }
-    ensures memory { IfErr result (λ e. e ≡ Memory) }
 {
     query.entry(name)?.or_insert(Vec::new(alloc)).push(value)?;
     Ok(())
@@ -76,10 +72,9 @@ fn add_value(
 pub(crate) fn grouped(
     alloc: Global,
     pairs: Vec<(String, String)>,
-) -> Result<BTreeMap<String, Vec<String>>, Refused>
+) -> Result<BTreeMap<String, Vec<String>>, AllocError>
     ensures answer { IfOk result (λ query. (name : List ℕ)
         → option_map texts (get_by_text query name) ≡ values_of (map pair_texts pairs.items) name) }
-    ensures memory { IfErr result (λ e. e ≡ Memory) }
 {
     let mut query = BTreeMap::new(alloc);
     for (name, value) in pairs {

@@ -6,7 +6,7 @@ ghost use Rattle.kube_types_refused.specs.declared.Refused.TheVariants.{Memory, 
 ghost use Rattle.kube_types_url.specs.Reading.{full_text, refusal_of};
 
 use kube_types_refused::Refused;
-use std::alloc::Global;
+use std::alloc::{AllocError, Global};
 use url::{ParseError, Url};
 
 /// The refusal for an error of the parser, or None if the error isn't a refusal.
@@ -37,9 +37,8 @@ fn exact_refusal(refused: Refused, length: usize) -> Refused
 }
 
 /// The text that is parsed: for a path, `http://localhost` is put in front of it.
-pub(crate) fn full_text(alloc: Global, text: &str) -> Result<String, Refused>
+pub(crate) fn full_text(alloc: Global, text: &str) -> Result<String, AllocError>
     ensures answer { IfOk result (λ full. string_bytes full ≡ full_text text.now) }
-    ensures memory { IfErr result (λ e. e ≡ Memory) }
 {
     if text.starts_with('/') {
         Ok(format!(in alloc; "http://localhost{text}")?)

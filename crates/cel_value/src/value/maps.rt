@@ -11,7 +11,7 @@ ghost use Rattle.cel_value.specs.View.{view, entries_view};
 use super::{Entries, Map, Value, level_around};
 use crate::key::Key;
 use kube_types_refused::Refused;
-use std::alloc::Global;
+use std::alloc::{AllocError, Global};
 use std::collections::BTreeMap;
 use std::collections::btree_map::Iter;
 
@@ -21,11 +21,10 @@ fn deeper(levels: u16, others: u16) -> u16
     if levels < others { others } else { levels }
 }
 
-fn put_into(entries: &mut Entries, key: Key, value: Value) -> Result<(), Refused>
+fn put_into(entries: &mut Entries, key: Key, value: Value) -> Result<(), AllocError>
     ensures added { OnOk result (entries_view entries.new.entries
         ≡ put (key_view key) (view value) (entries_view entries.old.entries)) }
     ensures unchanged { OnErr result (entries.new.entries ≡ entries.old.entries) }
-    ensures memory { IfErr result (λ e. e ≡ Refused.Memory) }
 {
     drop(entries.insert(key, value)?);
     Ok(())
@@ -73,14 +72,13 @@ impl Map {
     /// Adds an entry whose key isn't there yet.
     ///
     /// # Errors
-    /// [`Refused::Memory`] if memory is refused, or if the map would have more levels than
+    /// [`AllocError`] if memory is refused, or if the map would have more levels than
     /// [`MAX_VALUE_LEVELS`](super::MAX_VALUE_LEVELS).
     #[tactic(auto, using(crate::proofs::Members::more_doubles, crate::proofs::Members::more_levels))]
-    pub(crate) fn insert_new(&mut self, key: Key, value: Value) -> Result<(), Refused>
+    pub(crate) fn insert_new(&mut self, key: Key, value: Value) -> Result<(), AllocError>
         requires { find (key_view key) self.now ≡ None }
         ensures added { OnOk result (self.new ≡ put (key_view key) (view value) self.old) }
         ensures unchanged { OnErr result (self.new ≡ self.old) }
-        ensures memory { IfErr result (λ e. e ≡ Refused.Memory) }
     {
         let doubles = value.holds_double();
         let levels = deeper(self.levels, level_around(value.levels())?);

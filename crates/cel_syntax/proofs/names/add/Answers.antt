@@ -2,9 +2,11 @@ use Rattle.std.proofs.Common.{string_bytes, sym, ◌∙◌}
 use Rattle.cel_syntax.proofs.Sets.{already_there, inserted}
 use Rattle.cel_syntax.proofs.names.add.Goals as goal
 
-pub returns-then-contains-clause-added : goal.returns-then-contains-clause-added
-returns-then-contains-clause-added c = already_there c.args.name.now c.args.names.now (sym c.contains.ensures ∙ c.if-contains.true)
+pub returns-then-contains : goal.returns-then-contains
+returns-then-contains c = record { added = already_there c.args.name.now c.args.names.now (sym c.contains.ensures ∙ c.if-contains.true) }
 
-pub returns-clause-added : goal.returns-clause-added
-returns-clause-added c = λ x.
-    inserted c.args.name.now c.args.names.now c.insert.new.self (string_bytes c.in_ok-from_str.field-0) c.in_ok-from_str.ensures.ok c.in_ok-_is_new.ensures.updates x
+pub returns : goal.returns
+returns c = record {
+  added = λ x.
+      inserted c.args.name.now c.args.names.now c.insert.new.self (string_bytes c.in_ok-from_str.field-0) c.in_ok-from_str.ensures.ok c.in_ok-_is_new.ensures.updates x;
+}

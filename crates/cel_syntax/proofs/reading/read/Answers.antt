@@ -6,4 +6,4 @@ use Rattle.cel_syntax.proofs.reading.read.Goals as goal
 pub returns-in-Some : goal.returns-in-Some
 returns-in-Some c =
     let cuts = rw c.in-Some.is at c.in_ok-found.ensures in
-    reported c.args.text.now (map token_of c.deref.result.now) c.parse_tokens.result (rw c.deref.ensures.value cuts) c.parse_tokens.ensures.grammar c.parse_tokens.ensures.reads
+    reported c.args.text.now (map token_of c.deref.result.now) c.parse_tokens.result (rw c.deref.ensures.value cuts) c.parse_tokens.ensures.reads

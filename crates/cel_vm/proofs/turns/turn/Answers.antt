@@ -1,5 +1,4 @@
 use Rattle.std.proofs.Common.{sym, ap, ◌∙◌, true≢false}
-use Rattle.std.specs.Prelude.{string_bytes}
 use Rattle.cel_semantics.specs.Bindings.{bindings_of, functions_of}
 use Rattle.cel_vm.specs.Machine.{may_lead_to}
 use Rattle.cel_vm_code.specs.Op.{op}
@@ -17,6 +16,5 @@ returns-in-Apply-clause-value g c =
 pub test_form-requires-clause-found : goal.test_form-requires-clause-found
 test_form-requires-clause-found g c = λ found.
     ap (λ f. (g.F.Functions.library f).form_of c.as_str-in-Form.result.now c.in-Form.receiver c.in-Form.count) c.functions.ensures
-    ∙ ap (λ x. (g.F.Functions.library (functions_of c.args.context.now)).form_of x c.in-Form.receiver c.in-Form.count) c.as_str-in-Form.ensures.value
-    ∙ ap (λ s. (g.F.Functions.library (functions_of c.args.context.now)).form_of (string_bytes s) c.in-Form.receiver c.in-Form.count) c.deref-in-Form.ensures
-    ∙ c.requires.found (string_bytes c.in-Form.name.value) c.in-Form.receiver c.in-Form.count c.in-Form.offset found (ap op c.in-Form.is)
+    ∙ ap (λ x. (g.F.Functions.library (functions_of c.args.context.now)).form_of x c.in-Form.receiver c.in-Form.count) c.as_str-in-Form.ensures
+    ∙ c.requires.found c.in-Form.name c.in-Form.receiver c.in-Form.count c.in-Form.offset found (ap op c.in-Form.is)

@@ -1,5 +1,4 @@
 use Rattle.std.proofs.Common.{◌≡◌, false, true, [], ◌∷◌, ◌++◌, map, length, refl, sym, ap, ◌∙◌, arith, rules}
-use Rattle.std.specs.Prelude.{string_bytes}
 use Rattle.cel_value.specs.Data.{map_of, no_entries}
 use Rattle.cel_syntax_ast.specs.Term.{count_of, term, terms_of, pairs_of}
 use Rattle.cel_vm_code.specs.Code.{operand, operands, macro_code, entries_code, code_in, codes_in, pairs_in}
@@ -47,7 +46,7 @@ write_parts-returns-clause-value t c =
 pub write_function-returns-clause-value : goal.write_function-returns-clause-value
 write_function-returns-clause-value t c =
     let cs = codes_in (variables c.args.names.now) (terms_of (map term c.args.args.now.items)) in
-    let x = string_bytes c.args.name.now.value in
+    let x = c.args.name.now in
     let n = count_of (terms_of (map term c.args.args.now.items)) in
     let r = from_end c.args.code.now.items in
     let counted : c.len-count.result ≡ n = c.len-count.ensures ∙ c.args.args.now.ok.0 ∙ sym (count_terms c.args.args.now.items) in
@@ -61,7 +60,7 @@ write_method-returns-clause-value t c =
     let xs = variables c.args.names.now in
     let cs = codes_in xs (terms_of (map term c.args.args.now.items)) in
     let a = code_in xs (term c.args.target.now) in
-    let x = string_bytes c.args.name.now.value in
+    let x = c.args.name.now in
     let n = count_of (terms_of (map term c.args.args.now.items)) in
     let r = from_end c.args.code.now.items in
     let counted : c.len-count.result ≡ n = c.len-count.ensures ∙ c.args.args.now.ok.0 ∙ sym (count_terms c.args.args.now.items) in
@@ -104,7 +103,7 @@ write_tree-returns-in-None-filter-clause-value t c =
     let whole = code_in xs (term c.args.expr.now) in
     let range = code_in xs (term c.deref-in-None-filter-2.result.now) in
     let b = code_in (variables c.as_slice.result.now) (term c.deref-in-None-filter.result.now) in
-    let x = string_bytes c.in-Macro.variable.value in
+    let x = c.in-Macro.variable in
     let v : variables c.as_slice.result.now ≡ x ∷ xs = search rules in
     let d : c.in-Macro.range.value ≡ c.deref-in-None-filter-2.result.now = search rules in
     let g : c.in-Macro.body.value ≡ c.deref-in-None-filter.result.now = search rules in
@@ -123,7 +122,7 @@ write_tree-returns-clause-value t c =
     let range = code_in xs (term c.deref-in-Some-filter-3.result.now) in
     let b = code_in (variables c.as_slice-in-Some-filter.result.now) (term c.deref-in-Some-filter-2.result.now) in
     let f = code_in (variables c.as_slice-in-Some-filter.result.now) (term c.deref-in-Some-filter.result.now) in
-    let x = string_bytes c.in-Macro.variable.value in
+    let x = c.in-Macro.variable in
     let v : variables c.as_slice-in-Some-filter.result.now ≡ x ∷ xs = search rules in
     let d : c.in-Macro.range.value ≡ c.deref-in-Some-filter-3.result.now = search rules in
     let g : c.in-Macro.body.value ≡ c.deref-in-Some-filter-2.result.now = search rules in

@@ -7,19 +7,21 @@ use Rattle.serde_json.specs.View.{items_view, view}
 use Rattle.std.proofs.Common.{◌<◌, ◌+◌, List, [], ◌∷◌, ◌++◌, Result, length, map, drop, arith, sym, ap, ◌∙◌}
 use Rattle.std.proofs.lemmas.List.{length-map, map-append}
 
-pub returns-in-Err-clause-entries : goal.returns-in-Err-clause-entries
-returns-in-Err-clause-entries c =
-    let list = c.args.list in
-    let vs = c.args.values.now in
-    let i = c.loop-value.value-index in
-    let items = c.loop-value.items.items in
-    let done = map item_view items in
-    let v = c.value-item.result in
-    let below : i < length vs = omega arith in
-    let then : ItemData → Result (List ItemData) FaultData = λ x. entries_after list (done ++ x ∷ []) (items_view (drop (i + 1) vs)) in
-    let here = c.next_entry.ensures ∙ (λ j. next_entry list (map item_view (c.as_slice.ensures.value j)) (length (c.as_slice.ensures.value j)) (view v))
-    ∙ ap (λ n. next_entry list done n (view v)) (sym (length-map items item_view)) in
-    sym (c.loop-value.invariant ∙ one_read list done vs i v below c.value-item.is ∙ ap (λ r. r >>= then) (sym (sym (ap (reading_view item_view) c.in-Err.is) ∙ here)))
+pub returns-in-Err : goal.returns-in-Err
+returns-in-Err c = record {
+  entries =
+      let list = c.args.list in
+      let vs = c.args.values.now in
+      let i = c.loop-value.value-index in
+      let items = c.loop-value.items.items in
+      let done = map item_view items in
+      let v = c.value-item.result in
+      let below : i < length vs = omega arith in
+      let then : ItemData → Result (List ItemData) FaultData = λ x. entries_after list (done ++ x ∷ []) (items_view (drop (i + 1) vs)) in
+      let here = c.next_entry.ensures ∙ (λ j. next_entry list (map item_view (c.as_slice.ensures.value j)) (length (c.as_slice.ensures.value j)) (view v))
+      ∙ ap (λ n. next_entry list done n (view v)) (sym (length-map items item_view)) in
+      sym (c.loop-value.invariant ∙ one_read list done vs i v below c.value-item.is ∙ ap (λ r. r >>= then) (sym (sym (ap (reading_view item_view) c.in-Err.is) ∙ here)));
+}
 
 pub loop-value-preserved : goal.loop-value-preserved
 loop-value-preserved c =
@@ -37,6 +39,8 @@ loop-value-preserved c =
     c.loop-value.invariant ∙ one_read list done vs i v below c.value-item.is ∙ ap (λ r. r >>= then) (sym (sym (ap (reading_view item_view) c.in-Ok.is) ∙ here))
     ∙ ap (λ xs. entries_after list xs (items_view (drop (i + 1) vs))) (sym pushed)
 
-pub returns-clause-entries : goal.returns-clause-entries
-returns-clause-entries c =
-    sym (c.loop-value.invariant ∙ all_read c.args.list (map item_view c.loop-value.items.items) c.args.values.now c.loop-value.value-index c.loop-value-test.false)
+pub returns : goal.returns
+returns c = record {
+  entries =
+      sym (c.loop-value.invariant ∙ all_read c.args.list (map item_view c.loop-value.items.items) c.args.values.now c.loop-value.value-index c.loop-value-test.false);
+}

@@ -1,10 +1,10 @@
-use Rattle.std.proofs.Common.{◌≡◌, ◌+◌, ◌*◌, List, ◌++◌, take, drop, map}
+use Rattle.std.proofs.Common.{◌≡◌, ◌+◌, ◌*◌, take, drop, map}
 use Rattle.serde_json.specs.View.{view, members_view}
-use Rattle.serde_json.proofs.Views.{Entry}
 use Rattle.kube_schema.specs.CompiledDefaults.{tree_accessors}
 use Rattle.kube_schema.specs.Shown.{node_tree}
 use Rattle.kube_schema.specs.Tree.{named_of, names}
-use Rattle.kube_schema_values.specs.Defaults.{defaulted_value, member_by, map_members, default_by, with_defaults}
+use Rattle.kube_schema_values.specs.Defaults.{defaulted_value, member_by, default_by, with_defaults}
+use Rattle.kube_schema_values.proofs.Filling.{Mapped}
 use Rattle.kube_schema.proofs.defaults.+fill.Given as goal
 
 abbrev pub decreases-fill : goal.decreases-fill
@@ -29,11 +29,7 @@ abbrev pub invariant-fill_items-loop-item : goal.invariant-fill_items-loop-item
 invariant-fill_items-loop-item l = map view l.filled.items ≡ map (λ v. defaulted_value tree_accessors l.levels (node_tree l.node) (view v)) (take l.item-index l.item-items)
 
 abbrev pub invariant-fill_members-loop-key : goal.invariant-fill_members-loop-key
-invariant-fill_members-loop-key l = record {
-  done : List Entry;
-  all : l.members.entries ≡ done ++ l.key-iterator;
-  same : members_view l.filled.entries ≡ map_members (member_by tree_accessors (defaulted_value tree_accessors l.levels) (node_tree l.node)) (members_view done);
-}
+invariant-fill_members-loop-key l = Mapped (member_by tree_accessors (defaulted_value tree_accessors l.levels) (node_tree l.node)) l.members.entries l.key-iterator (members_view l.filled.entries)
 
 abbrev pub invariant-add_defaults-loop-index : goal.invariant-add_defaults-loop-index
 invariant-add_defaults-loop-index l =

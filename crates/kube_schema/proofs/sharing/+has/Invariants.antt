@@ -1,10 +1,9 @@
-use Rattle.std.proofs.Common.{◌≡◌, ◌+◌, ◌*◌, List, ◌++◌, take, map}
-use Rattle.serde_json.specs.View.{view, members_view}
-use Rattle.serde_json.proofs.Views.{Entry}
+use Rattle.std.proofs.Common.{◌≡◌, ◌+◌, ◌*◌, take, map}
+use Rattle.serde_json.specs.View.{view}
 use Rattle.kube_schema.specs.CompiledDefaults.{tree_accessors}
 use Rattle.kube_schema.specs.Shown.{node_tree}
 use Rattle.kube_schema_values.specs.Defaults.{defaulted_value, member_by}
-use Rattle.kube_schema_values.proofs.Twice.{Fixed}
+use Rattle.kube_schema_values.proofs.Whole.{Stay}
 use Rattle.kube_schema.proofs.sharing.+has.Given as goal
 
 abbrev pub decreases-has_defaults : goal.decreases-has_defaults
@@ -23,8 +22,4 @@ abbrev pub invariant-items_have_defaults-loop-item : goal.invariant-items_have_d
 invariant-items_have_defaults-loop-item l = map (λ v. defaulted_value tree_accessors l.levels (node_tree l.node) (view v)) (take l.item-index l.item-items) ≡ map view (take l.item-index l.item-items)
 
 abbrev pub invariant-members_have_defaults-loop-key : goal.invariant-members_have_defaults-loop-key
-invariant-members_have_defaults-loop-key l = record {
-  done : List Entry;
-  all : l.members.entries ≡ done ++ l.key-iterator;
-  same : Fixed (member_by tree_accessors (defaulted_value tree_accessors l.levels) (node_tree l.node)) (members_view done);
-}
+invariant-members_have_defaults-loop-key l = Stay (member_by tree_accessors (defaulted_value tree_accessors l.levels) (node_tree l.node)) l.key-iterator → Stay (member_by tree_accessors (defaulted_value tree_accessors l.levels) (node_tree l.node)) l.members.entries

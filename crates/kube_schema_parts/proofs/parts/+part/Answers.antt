@@ -1,4 +1,4 @@
-use Rattle.std.proofs.Common.{arith, ◌≡◌, [], ◌∷◌, ◌++◌, ◌+◌, ◌-◌, ◌<◌, ◌≤◌, suc, length, take, take_all, map, option_map, string_bytes, refl, sym, ap, ◌∙◌, subst, inr}
+use Rattle.std.proofs.Common.{arith, ◌≡◌, [], ◌∷◌, ◌++◌, ◌+◌, ◌-◌, ◌<◌, ◌≤◌, suc, length, take, take_all, map, option_map, refl, sym, ap, ◌∙◌, subst, inr}
 use Rattle.std.proofs.lemmas.List.{take_more}
 use Rattle.std.specs.Prelude.{IfSome}
 use Rattle.serde_json.specs.Find.{get_member}
@@ -118,9 +118,9 @@ member_parts-returns-clause-members g t c =
 
 pub add_part-returns-in_default-clause-added : goal.add_part-returns-in_default-clause-added
 add_part-returns-in_default-clause-added g t c = λ h bound is done k.
-    let n = string_bytes c.args.member.now.0.value in
+    let n = c.args.member.now.0 in
     let o = option_map g.N.Node.seen c.args.node in
-    let name = c.as_str-name.ensures.value ∙ ap (λ z. string_bytes z) c.deref.ensures in
+    let name = c.as_str-name.ensures in
     let key = subst (λ y. key_at g.N.Node.accessors o y ≡ y) name (c.in_ok-is_found.ensures.found c.if-not-is_found.false) in
     let none = c.in_default.ensures ∙ ap (λ y. get_member y (members_view c.args.object.now.entries)) name in
     part_missing done c.args.member.now (entries_view c.args.parts.now.entries) bound
@@ -128,19 +128,19 @@ add_part-returns-in_default-clause-added g t c = λ h bound is done k.
 
 pub add_part-returns-clause-added : goal.add_part-returns-clause-added
 add_part-returns-clause-added g t c = λ h bound is done k.
-    let n = string_bytes c.args.member.now.0.value in
+    let n = c.args.member.now.0 in
     let o = option_map g.N.Node.seen c.args.node in
     let l = 64 - c.args.depth in
     let d = json_view c.in-Some.value.now in
     let part = view c.in_ok-part.part in
-    let name = c.as_str-name.ensures.value ∙ ap (λ z. string_bytes z) c.deref.ensures in
+    let name = c.as_str-name.ensures in
     let key = subst (λ y. key_at g.N.Node.accessors o y ≡ y) name (c.in_ok-is_found.ensures.found c.if-not-is_found.false) in
     let there = c.in-Some.ensures ∙ ap (λ y. get_member y (members_view c.args.object.now.entries)) name in
     let same : 65 - (c.args.depth + 1) ≡ l = omega arith in
     let inner = c.node_of_member-inner.ensures ∙ ap (node_of_member g.N.Node.accessors o) name in
     let alike = subst (λ p. Alike (part_of c.args.member.now.1) part (value_at g.N.Node.accessors l p d)) inner
     (subst (λ m. Alike (part_of c.args.member.now.1) part (value_at g.N.Node.accessors m (option_map g.N.Node.seen c.node_of_member-inner.result) d)) same c.in_ok-part.ensures.value) in
-    let copied = ap (λ z. string_bytes z) c.in_ok-clone.ensures.cases in
+    let copied = c.in_ok-clone.ensures.cases in
     part_put done c.args.member.now part (value_at g.N.Node.accessors l (node_of_member g.N.Node.accessors o n) d) (entries_view c.args.parts.now.entries) bound (entries_view c.put_new.new.entries.entries)
     (ap (λ y. find (text_key y) (entries_view c.args.parts.now.entries)) (sym copied) ∙ c.in_ok-is_new.ensures.new h)
     (ap (find (text_key n)) is ∙ member_there g.N.Node.accessors l o (members_view c.args.object.now.entries) n key d there) alike

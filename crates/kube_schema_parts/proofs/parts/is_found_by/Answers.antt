@@ -1,4 +1,4 @@
-use Rattle.std.proofs.Common.{◌≡◌, option_map, string_bytes, sym, ap, ◌∙◌}
+use Rattle.std.proofs.Common.{◌≡◌, option_map, sym, ap, ◌∙◌}
 use Rattle.std.proofs.lemmas.Slice.Eq.{bytes_eq-Decides}
 use Rattle.kube_schema_values.specs.Conversion.{key_in}
 use Rattle.kube_schema_parts.specs.Parts.{is_map_at}
@@ -19,6 +19,6 @@ returns-then-is_map-clause-found g c = λ h.
 
 pub returns-clause-found : goal.returns-clause-found
 returns-clause-found g c = λ h.
-    let text : c.as_str.result.now ≡ string_bytes c.in_ok-key.key.value = c.as_str.ensures.value ∙ ap (λ z. string_bytes z) c.deref.ensures in
+    let text : c.as_str.result.now ≡ c.in_ok-key.key = c.as_str.ensures in
     let same : c.as_str.result.now ≡ c.args.name.now = (bytes_eq-Decides c.as_str.result.now c.args.name.now).0 (sym c.eq.ensures ∙ h) in
     ap (λ b. key_in b c.args.name.now) (sym c.is_map.ensures ∙ c.if-is_map.false) ∙ sym c.in_ok-key.ensures.key ∙ sym text ∙ same

@@ -1,7 +1,4 @@
 use Rattle.std.proofs.Common.{not, option_map, sym, ap, ◌∙◌}
-use Rattle.cel_value.specs.Data.{text_key}
-use Rattle.cel_value.specs.Find.{find}
-use Rattle.cel_value.specs.Keys.{put}
 use Rattle.cel_value.specs.View.{view, entries_view}
 use Rattle.cel_value.specs.declared.key.Key.TheVariants as key
 use Rattle.cel_value.proofs.Entries.{entries_view-insert_entry, find-lookup}
@@ -10,12 +7,8 @@ use Rattle.kube_schema_parts.proofs.parts.put_new.Goals as goal
 
 pub returns-clause-entered : goal.returns-clause-entered
 returns-clause-entered c =
-    let before = c.args.entries.now.entries in
-    ap entries_view c.in_ok-before.ensures.entries ∙ entries_view-insert_entry before (key.String c.shared.result) c.args.value
-    ∙ ap (λ s. put (text_key s) (view c.args.value) (entries_view before)) c.shared.ensures
+    ap entries_view c.in_ok-before.ensures.entries ∙ entries_view-insert_entry c.args.entries.now.entries (key.String c.args.key) c.args.value
 
 pub returns-clause-new : goal.returns-clause-new
 returns-clause-new c = λ h.
-    let before = c.args.entries.now.entries in
-    ap (λ s. find (text_key s) (entries_view before)) (sym c.shared.ensures)
-    ∙ sym (find-lookup (key.String c.shared.result) before) ∙ ap (option_map view) (sym c.in_ok-before.ensures.old) ∙ none_seen c.in_ok-before.before (c.is_none.ensures ∙ ap not h)
+    sym (find-lookup (key.String c.args.key) c.args.entries.now.entries) ∙ ap (option_map view) (sym c.in_ok-before.ensures.old) ∙ none_seen c.in_ok-before.before (c.is_none.ensures ∙ ap not h)

@@ -1,8 +1,8 @@
-use Rattle.std.proofs.Common.{◌≡◌, ◌+◌, ◌*◌, ◌-◌, List, ◌++◌, take, map}
-use Rattle.serde_json.specs.View.{view as json_view, members_view}
-use Rattle.serde_json.proofs.Views.{Entry}
+use Rattle.std.proofs.Common.{◌≡◌, ◌+◌, ◌*◌, ◌-◌, take, map}
+use Rattle.serde_json.specs.View.{view as json_view}
 use Rattle.cel_value.specs.View.{view, entries_view}
 use Rattle.kube_schema_values.specs.Conversion.{to_cel, entries_by, member_by, member_key}
+use Rattle.kube_schema_values.proofs.Behind.{Behind}
 use Rattle.kube_schema_values.proofs.binding.+bind.Given as goal
 
 abbrev pub decreases-bind_with : goal.decreases-bind_with
@@ -27,8 +27,5 @@ abbrev pub invariant-bind_items-loop-item : goal.invariant-bind_items-loop-item
 invariant-bind_items-loop-item g l = map view l.bound.items ≡ map (λ v. to_cel g.N.Node.accessors (65 - l.depth) (g.N.Node.seen l.node) (json_view v)) (take l.item-index l.item-items)
 
 abbrev pub invariant-bind_members-loop-key : goal.invariant-bind_members-loop-key
-invariant-bind_members-loop-key g l = record {
-  done : List Entry;
-  all : l.members.entries ≡ l.key-iterator.iter ++ done;
-  same : entries_view l.bound.entries ≡ entries_by (member_key g.N.Node.accessors (g.N.Node.seen l.node)) (member_by g.N.Node.accessors (to_cel g.N.Node.accessors (64 - l.depth)) (g.N.Node.seen l.node)) (members_view done);
-}
+invariant-bind_members-loop-key g l =
+    Behind (entries_by (member_key g.N.Node.accessors (g.N.Node.seen l.node)) (member_by g.N.Node.accessors (to_cel g.N.Node.accessors (64 - l.depth)) (g.N.Node.seen l.node))) l.members.entries l.key-iterator.iter (entries_view l.bound.entries)

@@ -1,10 +1,9 @@
-use Rattle.std.proofs.Common.{◌≡◌, ◌+◌, ◌*◌, List, ◌++◌, take, map, string_cmp}
-use Rattle.std.specs.List.Sorted.{IsStrictlySortedBy}
-use Rattle.std.specs.Map.{keys_of}
+use Rattle.std.proofs.Common.{◌≡◌, ◌+◌, ◌*◌, take, map}
 use Rattle.serde_json.specs.View.{view, members_view}
-use Rattle.serde_json.proofs.Views.{Entry}
 use Rattle.kube_schema_values.specs.DefaultsAccessors.{raw, declared_properties, members_or_none, keys_in}
-use Rattle.kube_schema_values.specs.Defaults.{defaulted_value, member_by, map_members, default_by, with_defaults}
+use Rattle.kube_schema_values.specs.Defaults.{defaulted_value, member_by, default_by, with_defaults}
+use Rattle.kube_schema_values.proofs.Declared.{Declares}
+use Rattle.kube_schema_values.proofs.Filling.{Mapped}
 use Rattle.kube_schema_values.proofs.defaults.+fill.Given as goal
 
 abbrev pub decreases-fill : goal.decreases-fill
@@ -29,17 +28,11 @@ abbrev pub invariant-fill_items-loop-item : goal.invariant-fill_items-loop-item
 invariant-fill_items-loop-item l = map view l.filled.items ≡ map (λ v. defaulted_value raw l.levels (view l.schema) (view v)) (take l.item-index l.item-items)
 
 abbrev pub invariant-fill_members-loop-key : goal.invariant-fill_members-loop-key
-invariant-fill_members-loop-key l = record {
-  done : List Entry;
-  all : l.members.entries ≡ done ++ l.key-iterator;
-  same : members_view l.filled.entries ≡ map_members (member_by raw (defaulted_value raw l.levels) (view l.schema)) (members_view done);
-}
+invariant-fill_members-loop-key l = Mapped (member_by raw (defaulted_value raw l.levels) (view l.schema)) l.members.entries l.key-iterator (members_view l.filled.entries)
 
 abbrev pub invariant-add_defaults-loop-key : goal.invariant-add_defaults-loop-key
 invariant-add_defaults-loop-key l = record {
-  done : List Entry;
-  all : members_or_none (declared_properties (view l.schema)) ≡ members_view (done ++ l.key-iterator);
-  ordered : IsStrictlySortedBy string_cmp (keys_of (done ++ l.key-iterator));
+  declares : Declares (view l.schema) l.key-iterator;
   same : with_defaults (default_by raw (defaulted_value raw l.levels) (view l.schema)) (keys_in (members_view l.key-iterator)) (members_view l.target.entries)
       ≡ with_defaults (default_by raw (defaulted_value raw l.levels) (view l.schema)) (keys_in (members_or_none (declared_properties (view l.schema)))) (members_view l.fn.target.entries);
 }
