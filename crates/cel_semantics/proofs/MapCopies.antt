@@ -14,7 +14,7 @@ use Rattle.cel_value.specs.Keys.{key_view, put, key_total}
 use Rattle.cel_value.specs.View.{view, entries_view}
 use Rattle.cel_value.specs.declared.key.Key.{Key}
 use Rattle.cel_value.specs.declared.value.Value.{Value}
-use Rattle.cel_value.proofs.Entries.{key_cmp, entries_view-insert_entry}
+use Rattle.cel_value.proofs.MapEntries.{key_cmp, entries_view-insert_entry}
 use Rattle.cel_semantics.proofs.Lookups.{Entry}
 use Rattle.cel_semantics.specs.Members.{key_of, not_key, map_indexed, new_entry, put_in}
 

@@ -1,6 +1,7 @@
 -- Scaffolding: only proofs and private clauses cite it.
 -- Lists and maps as a flat list of marks, from which they can be restored.
 use Rattle.std.specs.Prelude.{ℕ, ℤ, List, [], ◌∷◌, ◌≡◌, Bool, refl}
+use Rattle.std.specs.Coded.{Coded, codes, code_by}
 use Rattle.kube_types_address.specs.Addresses.{Address}
 use Rattle.kube_types_address.specs.Prefixes.{Network}
 use Rattle.kube_types_formats.specs.declared.kind.FormatKind.{FormatKind}
@@ -170,3 +171,9 @@ items_back ds = rw (items_read ds [])
 
 pub entries_back : (es : Entries) → entries_from (entries_to es) ≡ es
 entries_back es = rw (entries_read es [])
+
+pub items_code : Coded Items
+items_code = code_by Marks (Prim.hlevel codes) items_to items_from items_back
+
+pub entries_code : Coded Entries
+entries_code = code_by Marks (Prim.hlevel codes) entries_to entries_from entries_back

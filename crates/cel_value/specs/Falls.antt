@@ -1,16 +1,22 @@
 -- Scaffolding: only proofs and private clauses cite it.
 -- Each part of a value has a smaller weight than the whole.
-use Rattle.std.specs.Prelude.{◌≤◌, List, [], ◌∷◌, Option, Some, None, map}
-use Rattle.std.proofs.Common.{arith}
+use Rattle.std.specs.Prelude.{◌≡◌, ◌≤◌, ℕ, suc, max, ◌+◌, List, [], ◌∷◌, ◌++◌, Option, Some, None, map}
+use Rattle.std.proofs.Common.{arith, ap}
 use Rattle.std.specs.declared.alloc.Global.{Global}
 use Rattle.std.specs.declared.rc.Rc.{Rc}
-use Rattle.cel_value.specs.Weights.{weight, items_weight, entries_weight, held_weight}
+use Rattle.std.specs.Global.{Vec, Box}
+use Rattle.std.specs.BTreeMap.{BTreeMap}
+use Rattle.cel_value.specs.Weights.{weight, items_weight, entries_weight, held_weight, listed_weight}
+use Rattle.cel_value.specs.StoredEntries.{AreStored, all_entries, tree_entries}
 use Rattle.cel_value.specs.View.{view, items_view, entries_view, alone, held_view}
 use Rattle.cel_value.specs.declared.key.Key.{Key}
 use Rattle.cel_value.specs.declared.value.Value.{Value}
 use Rattle.cel_value.specs.declared.value.Value.TheVariants as value
-use Rattle.cel_value.specs.declared.value.Held.TheDeep.{deep-Value, deep-Held, deep-List, deep-Map, deep-OptionalValue}
+use Rattle.cel_value.specs.declared.value.Entries.TheDeep.{deep-Value, deep-Entries, deep-Held, deep-List, deep-Map, deep-OptionalValue}
 use Rattle.cel_value.specs.declared.value.Held.{Held}
+use Rattle.cel_value.specs.declared.value.Entries.TheInside as listings
+use Rattle.cel_value.specs.declared.value.Entries.TheShapes as shapes
+use Rattle.cel_value.specs.Data.{Entries, no_entries, entry}
 use Rattle.cel_value.specs.declared.value.Held.TheInside as holds
 use Rattle.cel_value.specs.declared.value.List.TheInside as lists
 use Rattle.cel_value.specs.declared.value.Map.TheInside as maps
@@ -44,13 +50,57 @@ most_items (v ∷ vs) = omega (arith, lighter v, most_items vs)
 pub items_fall : (a : lists.Inside) → deep-List a ≤ items_weight (items_view a.items.items)
 items_fall a = omega (arith, most_items a.items.items)
 
+entry_falls : (e : Key × Value)
+    → shapes.weighed-Entries-rest-at-2.weight Value deep-Value e ≤ weight (view e.1)
+entry_falls e = omega (arith, lighter e.1)
+
 most_entries : (es : List (Key × Value))
-    → most (λ v. deep-Value v) (map (λ e. e.1) es) ≤ entries_weight (entries_view es)
+    → suc (most (λ e. shapes.weighed-Entries-rest-at-2.weight Value deep-Value e) es) ≤ entries_weight (entries_view es)
 most_entries [] = omega arith
-most_entries (e ∷ es) = omega (arith, lighter e.1, most_entries es)
+most_entries (e ∷ es) = omega (arith, entry_falls e, most_entries es)
+
+rest_falls : (v : Vec (Key × Value))
+    → suc (shapes.weighed-Entries-rest.weight Value deep-Value v) ≤ entries_weight (entries_view v.items)
+rest_falls v = most_entries v.items
+
+most_values : (es : List (Key × Value))
+    → suc (most (λ v. deep-Value v) (map (λ e. e.1) es)) ≤ entries_weight (entries_view es)
+most_values [] = omega arith
+most_values (e ∷ es) = omega (arith, lighter e.1, most_values es)
+
+no_more : (m n : ℕ) → suc m ≤ n → suc (max m 0) ≤ n
+no_more m n h = omega (arith, h)
+
+tail_falls : (t : Option (Box (BTreeMap Key Value)))
+    → suc (shapes.weighed-Entries-tail.weight Value deep-Value t) ≤ entries_weight (entries_view (tree_entries t))
+tail_falls None = omega arith
+tail_falls (Some tree) =
+    no_more (most (λ v. deep-Value v) (map (λ e. e.1) tree.value.entries)) (entries_weight (entries_view tree.value.entries)) (most_values tree.value.entries)
+
+first_falls : (e : Key × Value)
+    → shapes.weighed-Entries-first.weight Value deep-Value (Some e) ≤ weight (view e.1)
+first_falls e = omega (arith, lighter e.1)
+
+joined_weight : (es fs : List (Key × Value))
+    → suc (entries_weight (entries_view (es ++ fs))) ≡ entries_weight (entries_view es) + entries_weight (entries_view fs)
+joined_weight [] fs = omega arith
+joined_weight (e ∷ es) fs = omega (arith, joined_weight es fs)
+
+all_fall : (o : Option (Key × Value)) (v : Vec (Key × Value)) (t : Option (Box (BTreeMap Key Value))) → AreStored o (v.items ++ tree_entries t)
+    → deep-Entries (record { first = o; rest = v; tail = t }) ≤ listed_weight (record { entries = all_entries o (v.items ++ tree_entries t) })
+all_fall None v t h = omega (arith, rest_falls v, tail_falls t, joined_weight v.items (tree_entries t), ap (λ es. entries_weight (entries_view es)) h)
+all_fall (Some e) v t h = omega (arith, first_falls e, rest_falls v, tail_falls t, joined_weight v.items (tree_entries t))
+
+pub listed_falls : (a : listings.Inside) → AreStored a.first (a.rest.items ++ tree_entries a.tail)
+    → deep-Entries a ≤ listed_weight (record { entries = all_entries a.first (a.rest.items ++ tree_entries a.tail) })
+listed_falls a h = all_fall a.first a.rest a.tail h
+
+some_weight : (es : Entries) → 1 ≤ entries_weight es
+some_weight no_entries = omega arith
+some_weight (entry k d es) = omega (arith, some_weight es)
 
 pub entries_fall : (a : maps.Inside) → deep-Map a ≤ entries_weight (entries_view a.entries.entries)
-entries_fall a = omega (arith, most_entries a.entries.entries)
+entries_fall a = omega (arith, some_weight (entries_view a.entries.entries))
 
 pub held_falls : (a : holds.Inside) → deep-Held a ≤ items_weight (alone (view a.value))
 held_falls a = omega (arith, lighter a.value)

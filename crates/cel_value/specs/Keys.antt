@@ -44,6 +44,9 @@ pub key_order_total : IsTotalOrder key_order
 key_order_total = then_total (on_total key_class nat_cmp_total)
     (then_total (on_total key_number int_cmp_total) (on_total key_text nat_list_cmp_total))
 
+abbrev pub key_cmp : Key → Key → Ordering
+key_cmp a b = key_order (key_view a) (key_view b)
+
 pub key_total : IsTotalOrder (λ (a : Key) (b : Key). key_order (key_view a) (key_view b))
 key_total = on_total key_view key_order_total
 

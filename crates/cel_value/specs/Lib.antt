@@ -6,10 +6,12 @@ pub mod Find
 pub mod Keys
 pub mod Kinds
 pub mod Levels
+pub mod Listed
 pub mod Parts
 pub mod Same
 pub mod SameLaws
 pub mod Stored
+pub mod StoredEntries
 pub mod Texts
 pub mod View
 pub mod Weights

@@ -1,7 +1,9 @@
 -- Scaffolding: only proofs and private clauses cite it.
 -- The number of parts of a value. It decreases in recursion over a value.
-use Rattle.std.specs.Prelude.{ℕ, suc, ◌+◌}
+use Rattle.std.specs.Prelude.{ℕ, suc, ◌+◌, ◌-◌}
 use Rattle.cel_value.specs.Data.{Data, list, map_of, optional, Items, no_items, item, Entries, no_entries, entry}
+use Rattle.cel_value.specs.Listed.{Listed}
+use Rattle.cel_value.specs.View.{entries_view}
 
 abbrev mutual
   pub weight : Data → ℕ
@@ -21,3 +23,7 @@ abbrev mutual
 -- the weight of an optional without its kind
 abbrev pub held_weight : Items → ℕ
 held_weight ds = suc (items_weight ds)
+
+-- the weight of the entries that are stored for a map
+abbrev pub listed_weight : Listed → ℕ
+listed_weight l = entries_weight (entries_view l.entries) - 1

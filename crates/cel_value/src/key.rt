@@ -82,7 +82,10 @@ impl PartialEq for Key {
     ghost laws = { partial_equiv_from_equiv key_equiv };
 
     fn eq(&self, other: &Key) -> bool {
-        matches!(self.cmp(other), Ordering::Equal)
+        match (self, other) {
+            (Key::String(a), Key::String(b)) => a.as_str() == b.as_str(),
+            _ => matches!(self.cmp(other), Ordering::Equal),
+        }
     }
 }
 

@@ -10,6 +10,7 @@ ghost use Rattle.cel_value.specs.View.{view};
 mod lists;
 mod maps;
 mod optionals;
+mod stored;
 
 use crate::key::Key;
 use crate::string::Text;
@@ -23,6 +24,7 @@ use std::alloc::AllocError;
 use std::collections::BTreeMap;
 use std::marker::Model;
 use std::rc::Rc;
+pub use stored::EntriesIter;
 
 /// The largest number of levels of a value: lists, maps and optionals nested in one another.
 ///
@@ -31,8 +33,20 @@ use std::rc::Rc;
 /// levels is refused as if there were no memory.
 pub const MAX_VALUE_LEVELS: u16 = 4096;
 
-/// The entries of a map that is being built, in key order.
-pub type Entries = BTreeMap<Key, Value>;
+/// The entries of a map, in key order.
+#[derive(Debug, Drop)]
+#[cycle(values)]
+pub struct Entries {
+    // The entry of the least key.
+    first: Option<(Key, Value)>,
+    // Those that follow, up to some number. There are none if there is no first one.
+    rest: Vec<(Key, Value)>,
+    // The others, if there are any.
+    tail: Option<Tree>,
+}
+
+/// The entries of a large map that follow those of its vector.
+type Tree = Box<BTreeMap<Key, Value>>;
 
 /// The items of a list.
 #[derive(Debug, Drop)]
@@ -47,7 +61,7 @@ pub struct List {
 #[derive(Debug, Drop)]
 #[cycle(values)]
 pub struct Map {
-    entries: BTreeMap<Key, Value>,
+    entries: Entries,
     doubles: bool,
     levels: u16,
 }
@@ -112,6 +126,32 @@ pub enum Value {
 
 // A value is moved as its kind and two words.
 const _: () = prove!(size_of::<Value>() == 24);
+
+const _: () = prove!(size_of::<Map>() <= 104);
+
+impl Model for Entries {
+    ghost use Rattle.std.specs.Coded.{codes, code_by};
+    ghost use Rattle.cel_value.specs.Coded.{items_code, entries_code};
+    ghost use Rattle.std.specs.Prelude.{List, ◌++◌};
+    ghost use Rattle.cel_value.specs.Listed.{Entry, Listed, listed_to, listed_from, listed_back};
+
+    ghost Value = { Listed };
+
+    ghost coded = { code_by (List Entry) (Prim.hlevel (codes, items_code, entries_code)) listed_to listed_from listed_back };
+
+    ghost use Rattle.cel_value.specs.StoredEntries.{AreFew, AreStored, all_entries, tree_entries};
+    ghost use Rattle.cel_value.specs.Weights.{listed_weight};
+
+    ghost view = { λ a. record { entries = all_entries a.first (a.rest.items ++ tree_entries a.tail) } };
+
+    ghost invariant = { λ a. AreStored a.first (a.rest.items ++ tree_entries a.tail) × AreFew a.rest.items };
+
+    ghost size = { λ l. listed_weight l };
+
+    ghost use Rattle.cel_value.specs.Falls.{listed_falls};
+
+    ghost size_decreases = { λ a h. listed_falls a h.0 };
+}
 
 impl Model for List {
     ghost use Rattle.std.specs.Coded.{codes, code_by};

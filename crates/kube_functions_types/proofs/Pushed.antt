@@ -7,7 +7,7 @@ use Rattle.cel_value.specs.Keys.{key_view, put}
 use Rattle.cel_value.specs.View.{view, entries_view}
 use Rattle.cel_value.specs.declared.key.Key.{Key}
 use Rattle.cel_value.specs.declared.value.Value.{Value}
-use Rattle.cel_value.proofs.Entries.{Entry, key_cmp, entries_view-insert_entry}
+use Rattle.cel_value.proofs.MapEntries.{Entry, key_cmp, entries_view-insert_entry}
 
 -- one more string
 pub pushed : (vs ws : List Value) (v : Value) (ss : List (String Global)) (s : String Global) → map view vs ≡ map text (map string_bytes ss) → view v ≡ text (string_bytes s) → ws ≡ vs ++ v ∷ []

@@ -162,7 +162,7 @@ fn map_of(alloc: Global, query: BTreeMap<String, Vec<String>>) -> Result<Entries
         → ((name : List ℕ) → option_map texts (get_by_text query name) ≡ values_of pairs name)
         → entries_view m.entries ≡ spec.entries_among pairs pairs) }
 {
-    let mut entries = BTreeMap::new(alloc);
+    let mut entries = Entries::new(alloc);
     for (name, values) in query {
         add_values(&mut entries, alloc, name, values)?;
     }

@@ -22,7 +22,7 @@ use kube_schema_values::{
     MemberKeys, Node, bind_at, bind_number, bind_plain_with, is_its_own_escape,
 };
 use serde_json::{Map as Members, Value as Json};
-use std::alloc::{AllocError, Global};
+use std::alloc::Global;
 
 /// The greatest depth at which parts are converted; deeper values are converted whole.
 const MAX_DEPTH: usize = 64;
@@ -183,7 +183,7 @@ fn member_parts<N: Node>(
         (entries_at N.accessors (64 - depth) (option_map N.seen node) (members_view object.now.entries)))) }
     ensures memory { IfErr result (λ e. e ≡ Refused.Memory) }
 {
-    let mut parts = Entries::new(alloc);
+    let mut parts = Entries::with_capacity(alloc, members.len())?;
     for member in members {
         if !add_part(alloc, node, object, depth, member, own, &mut parts, keys)? {
             return Ok(None);
@@ -382,11 +382,12 @@ fn member_of<'a>(object: &'a Members<String, Json>, name: &str) -> Option<&'a Js
 }
 
 // Inserts a value into a map at a shared string. Returns whether the key is new.
-fn put_new(entries: &mut Entries, key: Text, value: Value) -> Result<bool, AllocError>
+fn put_new(entries: &mut Entries, key: Text, value: Value) -> Result<bool, Refused>
     ensures entered { OnOk result (entries_view entries.new.entries
         ≡ put (text_key key) (view value) (entries_view entries.old.entries)) }
     ensures new { IfOk result (λ is_new. is_new ≡ true
         → find (text_key key) (entries_view entries.old.entries) ≡ None) }
+    ensures memory { IfErr result (λ e. e ≡ Refused.Memory) }
 {
     let before = entries.insert(Key::String(key), value)?;
     Ok(before.is_none())

@@ -22,6 +22,9 @@ struct EscapedName {
 }
 
 /// A cache of the keys of members, so that a recurring name shares its string.
+///
+/// No contract says which names it holds. Instead, each entry carries the
+/// proof that it is the escape of its own name, so every answer is right.
 #[derive(Drop)]
 pub struct MemberKeys {
     alloc: Global,

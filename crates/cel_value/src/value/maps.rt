@@ -8,12 +8,10 @@ ghost use Rattle.std.specs.Map.{keys_of};
 ghost use Rattle.cel_value.specs.Same.{entries_have_double};
 ghost use Rattle.cel_value.specs.View.{view, entries_view};
 
-use super::{Entries, Map, Value, level_around};
+use super::{Entries, EntriesIter, Map, Value, level_around};
 use crate::key::Key;
 use kube_types_refused::Refused;
-use std::alloc::{AllocError, Global};
-use std::collections::BTreeMap;
-use std::collections::btree_map::Iter;
+use std::alloc::Global;
 
 fn deeper(levels: u16, others: u16) -> u16
     ensures { result ≡ max levels others }
@@ -21,10 +19,11 @@ fn deeper(levels: u16, others: u16) -> u16
     if levels < others { others } else { levels }
 }
 
-fn put_into(entries: &mut Entries, key: Key, value: Value) -> Result<(), AllocError>
+fn put_into(entries: &mut Entries, key: Key, value: Value) -> Result<(), Refused>
     ensures added { OnOk result (entries_view entries.new.entries
         ≡ put (key_view key) (view value) (entries_view entries.old.entries)) }
     ensures unchanged { OnErr result (entries.new.entries ≡ entries.old.entries) }
+    ensures memory { IfErr result (λ e. e ≡ Refused.Memory) }
 {
     drop(entries.insert(key, value)?);
     Ok(())
@@ -36,7 +35,7 @@ impl Map {
         ensures { result ≡ no_entries }
     {
         Map {
-            entries: BTreeMap::new(alloc),
+            entries: Entries::new(alloc),
             doubles: false,
             levels: 1,
         }
@@ -47,6 +46,7 @@ impl Map {
     /// # Errors
     /// [`Refused::Memory`] if it would have more levels than
     /// [`MAX_VALUE_LEVELS`](super::MAX_VALUE_LEVELS).
+    #[inline(always)]
     pub fn of(entries: Entries) -> Result<Map, Refused>
         ensures value { IfOk result (λ m. m ≡ entries_view entries.entries) }
         ensures memory { IfErr result (λ e. e ≡ Refused.Memory) }
@@ -72,13 +72,14 @@ impl Map {
     /// Adds an entry whose key isn't there yet.
     ///
     /// # Errors
-    /// [`AllocError`] if memory is refused, or if the map would have more levels than
+    /// [`Refused::Memory`] if memory is refused, or if the map would have more levels than
     /// [`MAX_VALUE_LEVELS`](super::MAX_VALUE_LEVELS).
     #[tactic(auto, using(crate::proofs::Members::more_doubles, crate::proofs::Members::more_levels))]
-    pub(crate) fn insert_new(&mut self, key: Key, value: Value) -> Result<(), AllocError>
+    pub(crate) fn insert_new(&mut self, key: Key, value: Value) -> Result<(), Refused>
         requires { find (key_view key) self.now ≡ None }
         ensures added { OnOk result (self.new ≡ put (key_view key) (view value) self.old) }
         ensures unchanged { OnErr result (self.new ≡ self.old) }
+        ensures memory { IfErr result (λ e. e ≡ Refused.Memory) }
     {
         let doubles = value.holds_double();
         let levels = deeper(self.levels, level_around(value.levels())?);
@@ -104,7 +105,7 @@ impl Map {
     }
 
     /// Iterates over the entries in key order.
-    pub fn iter(&self) -> Iter<'_, Key, Value>
+    pub fn iter(&self) -> EntriesIter<'_>
         ensures value { entries_view result ≡ self.now }
         ensures ordered { IsStrictlySortedBy
             (λ (a b : Key). key_order (key_view a) (key_view b)) (keys_of result) }

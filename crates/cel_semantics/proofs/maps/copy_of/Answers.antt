@@ -2,7 +2,7 @@ use Rattle.std.proofs.Common.{[], ◌∷◌, ◌++◌, refl, sym, ap, ◌∙◌,
 use Rattle.std.specs.List.Sorted.{IsStrictlySortedBy}
 use Rattle.std.specs.Map.{keys_of}
 use Rattle.cel_value.specs.View.{entries_view}
-use Rattle.cel_value.proofs.Entries.{key_cmp}
+use Rattle.cel_value.proofs.MapEntries.{key_cmp}
 use Rattle.cel_semantics.proofs.Lookups.{Entry}
 use Rattle.cel_semantics.proofs.MapCopies.{copied_entry}
 use Rattle.cel_semantics.proofs.maps.copy_of.Goals as goal

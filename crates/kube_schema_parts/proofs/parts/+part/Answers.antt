@@ -97,7 +97,7 @@ map_part-returns-clause-value g t c = alike_equal (some_members (demands_view c.
 pub member_parts-loop-member-init : goal.member_parts-loop-member-init
 member_parts-loop-member-init g t c =
     let bound = entries_at g.N.Node.accessors (64 - c.args.depth) (option_map g.N.Node.seen c.args.node) (members_view c.args.object.now.entries) in
-    no_parts (entries_view c.new-parts.result.entries) bound (ap entries_view c.new-parts.ensures.empty)
+    no_parts (entries_view c.in_ok-parts.parts.entries) bound (ap entries_view c.in_ok-parts.ensures.empty)
 
 pub member_parts-loop-member-preserved : goal.member_parts-loop-member-preserved
 member_parts-loop-member-preserved g t c =

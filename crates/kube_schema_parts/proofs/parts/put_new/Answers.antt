@@ -1,7 +1,7 @@
 use Rattle.std.proofs.Common.{not, option_map, sym, ap, ◌∙◌}
 use Rattle.cel_value.specs.View.{view, entries_view}
 use Rattle.cel_value.specs.declared.key.Key.TheVariants as key
-use Rattle.cel_value.proofs.Entries.{entries_view-insert_entry, find-lookup}
+use Rattle.cel_value.proofs.MapEntries.{entries_view-insert_entry, find-lookup}
 use Rattle.kube_schema_parts.proofs.Bound.{none_seen}
 use Rattle.kube_schema_parts.proofs.parts.put_new.Goals as goal
 

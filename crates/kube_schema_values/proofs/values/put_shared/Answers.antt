@@ -1,7 +1,7 @@
 use Rattle.std.proofs.Common.{ap, ◌∙◌}
 use Rattle.cel_value.specs.View.{entries_view}
 use Rattle.cel_value.specs.declared.key.Key.TheVariants as key
-use Rattle.cel_value.proofs.Entries.{entries_view-insert_entry}
+use Rattle.cel_value.proofs.MapEntries.{entries_view-insert_entry}
 use Rattle.kube_schema_values.proofs.values.put_shared.Goals as goal
 
 pub returns-clause-entered : goal.returns-clause-entered

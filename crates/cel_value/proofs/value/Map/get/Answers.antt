@@ -2,7 +2,7 @@ use Rattle.std.proofs.Common.{option_map, ap, ◌∙◌}
 use Rattle.cel_value.specs.Find.{find}
 use Rattle.cel_value.specs.Keys.{key_view}
 use Rattle.cel_value.specs.View.{view}
-use Rattle.cel_value.proofs.Entries.{find-lookup, view-copied}
+use Rattle.cel_value.proofs.MapEntries.{find-lookup, view-copied}
 use Rattle.cel_value.proofs.value.Map.get.Goals as goal
 
 pub returns : goal.returns

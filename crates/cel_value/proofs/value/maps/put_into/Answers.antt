@@ -1,6 +1,6 @@
 use Rattle.std.proofs.Common.{ap, ◌∙◌}
 use Rattle.cel_value.specs.View.{entries_view}
-use Rattle.cel_value.proofs.Entries.{entries_view-insert_entry}
+use Rattle.cel_value.proofs.MapEntries.{entries_view-insert_entry}
 use Rattle.cel_value.proofs.value.maps.put_into.Goals as goal
 
 pub returns-clause-added : goal.returns-clause-added

@@ -5,16 +5,14 @@ use Rattle.std.specs.Ordering.{match_ordering}
 use Rattle.std.specs.BTreeMap.{insert_entry, is_at}
 use Rattle.cel_value.specs.Data.{Data}
 use Rattle.cel_value.specs.Find.{find}
-use Rattle.cel_value.specs.Keys.{key_view, key_order, put}
+use Rattle.cel_value.specs.Keys.{key_view, put}
+pub use Rattle.cel_value.specs.Keys.{key_cmp}
 use Rattle.cel_value.specs.View.{view, entries_view}
 use Rattle.cel_value.specs.declared.key.Key.{Key}
 use Rattle.cel_value.specs.declared.value.Value.{Value}
 
 abbrev pub Entry : Type 0
 Entry = Key × Value
-
-abbrev pub key_cmp : Key → Key → Ordering
-key_cmp a b = key_order (key_view a) (key_view b)
 
 entries_view-match_ordering : (o : Ordering) (a b c : List Entry) → entries_view (match_ordering o a b c) ≡ match_ordering o (entries_view a) (entries_view b) (entries_view c)
 entries_view-match_ordering Less a b c = refl
