@@ -22,7 +22,7 @@ use cel_demand::Demand;
 use cel_value::Value as CelValue;
 use kube_cel_walk::verdict::{Context, add_verdict};
 use kube_cel_walk::{Node, NodeDemands, ValidationError};
-use kube_schema::{Demands, bind, rule_values};
+use kube_schema::{Demands, bind_part, rule_values};
 use kube_schema_rules::{BranchKind, no_demands, with_rule};
 use kube_types::Refused;
 use serde_json::Value;
@@ -213,10 +213,10 @@ impl Node for JsonNode<'_> {
         alloc: Global,
         value: &Value,
         depth: usize,
-        _demand: &Demand,
+        demand: &Demand,
     ) -> Result<CelValue, Refused> {
-        let whole = bind(alloc, self.schema, value, depth)?;
-        Ok(whole)
+        let part = bind_part(alloc, self.schema, value, depth, demand)?;
+        Ok(part)
     }
 
     #[tactic(auto, unfolding(crate::specs::Raw::raw_accessors, kube_schema_rules::specs::Raw::raw_steps))]

@@ -5,7 +5,7 @@ ghost use Rattle.serde_json.specs.View.{view as json_view};
 ghost use Rattle.cel_demand.specs.Alike.{Alike};
 ghost use Rattle.cel_demand.specs.Demand.{part_of};
 ghost use Rattle.cel_value.specs.View.{view};
-ghost use Rattle.kube_schema_values.specs.Conversion.{to_cel, levels, member_node};
+ghost use Rattle.kube_schema_values.specs.Conversion.{to_cel, levels, member_node, raw};
 ghost use Rattle.kube_schema.specs.Shown.{node_tree};
 ghost use Rattle.kube_schema.specs.CompiledConversion.{tree_accessors};
 
@@ -13,7 +13,7 @@ use crate::node::SchemaNode;
 use cel_demand::Demand;
 use cel_value::{Refused, Value};
 use kube_schema_parts::bind_part_at;
-use kube_schema_values::{Node, SchemaFormat, bind_at};
+use kube_schema_values::{JsonNode, Node, SchemaFormat, bind_at};
 use serde_json::Value as Json;
 use std::alloc::Global;
 
@@ -101,6 +101,27 @@ pub fn bind_node_part(
     ensures memory { IfErr result (λ e. e ≡ Refused.Memory) }
 {
     let part = bind_part_at(alloc, CompiledNode { node: *node }, value, depth, demand)?;
+    Ok(part)
+}
+
+/// Converts the demanded part of a JSON value to CEL by a schema as JSON,
+/// `depth` steps below the root. What isn't demanded may be missing.
+///
+/// # Errors
+///
+/// [`Refused`] if memory is refused.
+pub fn bind_part(
+    alloc: Global,
+    schema: &Json,
+    value: &Json,
+    depth: usize,
+    demand: &Demand,
+) -> Result<Value, Refused>
+    ensures value { IfOk result (λ v. Alike (part_of demand.now) (view v)
+        (to_cel raw (levels depth) (json_view schema.now) (json_view value.now))) }
+    ensures memory { IfErr result (λ e. e ≡ Refused.Memory) }
+{
+    let part = bind_part_at(alloc, JsonNode { schema }, value, depth, demand)?;
     Ok(part)
 }
 

@@ -22,7 +22,7 @@ pub use escaping::{escape_field_name, is_its_own_escape};
 pub use format::SchemaFormat;
 pub use kube_types_refused::Refused;
 pub use names::MemberKeys;
-pub use node::Node;
+pub use node::{JsonNode, Node};
 pub use sharing::filled_value;
 pub use unescaping::unescape_field_name;
 pub use values::{bind_number, bind_plain, bind_plain_with, bind_text, put_entry, put_shared};

@@ -40,8 +40,9 @@ pub trait Node: Copy {
 
 /// A node of a schema as JSON.
 #[derive(Clone, Copy)]
-pub(crate) struct JsonNode<'a> {
-    pub(crate) schema: &'a Value,
+pub struct JsonNode<'a> {
+    /// The schema.
+    pub schema: &'a Value,
 }
 
 impl Node for JsonNode<'_> {
