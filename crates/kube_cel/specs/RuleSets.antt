@@ -1,7 +1,7 @@
 -- Scaffolding: only proofs and private clauses cite it.
 -- Compiled rules form a set: any two proofs of an equation between two of
 -- them are equal. So a struct can hold such an equation in a ghost field.
-use Rattle.std.proofs.Common.{◌≡◌, ℕ, List, [], ◌∷◌, Bool, Option, Some, None, Result, Ok, Err, refl, ap}
+use Rattle.std.proofs.Common.{◌≡◌, ℕ, List, [], ◌∷◌, Option, Some, None, Result, Ok, Err, refl, ap}
 use Rattle.std.proofs.Math.Bool.{Bool-set}
 use Rattle.std.proofs.Math.Nat.{ℕ_set}
 use Rattle.std.specs.Coded.{Coded-set}

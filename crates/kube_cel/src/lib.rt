@@ -36,6 +36,7 @@ mod errors;
 pub mod laws;
 mod raw;
 pub mod validation;
+mod weight;
 
 pub use cel;
 pub use kube_cel_analysis::{

@@ -15,9 +15,10 @@ use crate::cache::RuleCache;
 use crate::compiled::CompiledNode;
 use crate::errors::validation_of;
 use crate::raw::JsonNode;
+use crate::weight::is_lighter;
 use cel::PatternBook;
 use kube_cel_walk::{RootContext, ValidationErrors};
-use kube_schema::{CompiledSchema, filled_by_node, filled_value};
+use kube_schema::{CompiledSchema, compile_schema, filled_by_node, filled_value};
 use kube_types::Refused;
 use serde_json::Value;
 use std::alloc::Global;
@@ -95,18 +96,12 @@ impl Validator {
         ensures places { IfOk result (λ r. (b : Book) → Extends b (entries_of book.new)
             → IsAnswer raw_accessors b (call_start schema.now object.now old.entry root.entry) (found_in r)) }
     {
-        let object = filled_value(alloc, schema, object)?;
-        let cache = RuleCache::new(alloc);
-        let node = JsonNode {
-            schema,
-            cache: &cache,
-        };
-        let Some(old) = old else {
-            let answer = validation_of(alloc, node, &object, None, root, book)?;
+        if is_lighter(schema, object) {
+            let compiled = compile_schema(alloc, schema)?;
+            let answer = self.validate_compiled_in(alloc, &compiled, object, old, root, book)?;
             return Ok(answer);
-        };
-        let old = filled_value(alloc, schema, old)?;
-        let answer = validation_of(alloc, node, &object, Some(&old), root, book)?;
+        }
+        let answer = validate_as_json(alloc, schema, object, old, root, book)?;
         Ok(answer)
     }
 
@@ -224,6 +219,38 @@ impl Validator {
     {
         self.validate_with_context(alloc, schema, object, old, root)
     }
+}
+
+/// Validates like [`Validator::validate_in`], without compiling
+/// the schema. Compiles only the rules of places that there are.
+fn validate_as_json(
+    alloc: Global,
+    schema: &Value,
+    object: &Value,
+    old: Option<&Value>,
+    root: Option<&RootContext>,
+    book: &mut PatternBook,
+) -> Result<Result<(), ValidationErrors>, Refused>
+    ensures kept { Extends (entries_of book.new) (entries_of book.old) }
+    ensures answer { IfOk result (λ r. (b : Book) → Extends b (entries_of book.new)
+        → answer_view r ≡ report_of
+        (answer raw_accessors b 65 (call_start schema.now object.now old.entry root.entry))) }
+    ensures places { IfOk result (λ r. (b : Book) → Extends b (entries_of book.new)
+        → IsAnswer raw_accessors b (call_start schema.now object.now old.entry root.entry) (found_in r)) }
+{
+    let object = filled_value(alloc, schema, object)?;
+    let cache = RuleCache::new(alloc);
+    let node = JsonNode {
+        schema,
+        cache: &cache,
+    };
+    let Some(old) = old else {
+        let answer = validation_of(alloc, node, &object, None, root, book)?;
+        return Ok(answer);
+    };
+    let old = filled_value(alloc, schema, old)?;
+    let answer = validation_of(alloc, node, &object, Some(&old), root, book)?;
+    Ok(answer)
 }
 
 /// Validates an object by the rules of a schema, like [`Validator::validate`].

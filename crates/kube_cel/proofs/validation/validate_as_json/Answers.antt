@@ -1,6 +1,6 @@
 use Rattle.kube_cel.proofs.RawNodes.{raw_accessors_counts_all}
 use Rattle.kube_cel.proofs.Reports.{filled_alike, is_answer, reported_found}
-use Rattle.kube_cel.proofs.validation.Validator.validate_in.Goals as goal
+use Rattle.kube_cel.proofs.validation.validate_as_json.Goals as goal
 use Rattle.kube_cel.specs.Answers.{found_in, report_of}
 use Rattle.kube_cel.specs.Starts.{with_schema_defaults}
 use Rattle.kube_cel_walk.specs.Roots.{root_view}
