@@ -7,7 +7,9 @@ use serde_json::{Map, Value};
 /// The most that a schema may weigh to be compiled for a single validation.
 const MOST: usize = 100_000;
 
-/// The number of levels of a value that are weighed.
+/// The number of levels of a value that are weighed. Rules are looked for
+/// at 65 levels of a schema, and each takes at most two levels of JSON,
+/// such as `properties` and the property.
 const LEVELS: usize = 130;
 
 /// Reports whether a schema weighs less than an object: then
@@ -48,7 +50,7 @@ fn left_after_items(items: &Vec<Value>, with_texts: bool, levels: usize, left: u
 }
 
 /// Takes the weights of these members from `left`, down to
-/// zero. Descriptions aren't compiled, and weigh nothing.
+/// zero. A text under `description` isn't compiled, and weighs nothing.
 #[cycle(weigh)]
 fn left_after_members(
     members: &Map<String, Value>,
@@ -61,7 +63,8 @@ fn left_after_members(
         if left == 0 {
             return 0;
         }
-        if key.as_str() != "description" {
+        let describes = key.as_str() == "description" && matches!(member, Value::String(_));
+        if !describes {
             left = left_after(member, with_texts, levels, left);
         }
     }
