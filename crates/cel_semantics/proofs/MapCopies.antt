@@ -1,36 +1,20 @@
 -- Maps copied entry by entry, starting at the least key, and their new entries.
-use Rattle.std.proofs.Common.{◌≡◌, Option, Some, None, IsSome, Ok, Err, List, [], ◌∷◌, ◌++◌, Less, Greater, refl, ap, ◌∙◌, subst}
-use Rattle.std.specs.List.{AllByRecursion}
+use Rattle.std.proofs.Common.{◌≡◌, Option, Some, None, IsSome, Ok, Err, List, [], ◌∷◌, ◌++◌, refl, ap, ◌∙◌, subst}
 use Rattle.std.specs.List.Sorted.{IsStrictlySortedBy}
 use Rattle.std.specs.Map.{keys_of}
-use Rattle.std.specs.Ordering.{ordering_reverse}
 use Rattle.std.specs.BTreeMap.{insert_entry}
-use Rattle.std.proofs.lemmas.Map.Keys.{sorted_head, sorted_tail}
 use Rattle.std.specs.Option.{option_map_or}
 use Rattle.cel_value.specs.Data.{KeyData, bool_key, int_key, uint_key, text_key, Data, null, bool, int, uint, double, text, bytes, list, map_of, timestamp, duration, optional, ip, cidr, quantity, semver, url, format, Entries, entry}
 use Rattle.cel_value.specs.Faults.{no_key, duplicate_key}
 use Rattle.cel_value.specs.Find.{find}
-use Rattle.cel_value.specs.Keys.{key_view, put, key_total}
+use Rattle.cel_value.specs.Keys.{key_view, put}
 use Rattle.cel_value.specs.View.{view, entries_view}
 use Rattle.cel_value.specs.declared.key.Key.{Key}
 use Rattle.cel_value.specs.declared.value.Value.{Value}
 use Rattle.cel_value.proofs.MapEntries.{key_cmp, entries_view-insert_entry}
+use Rattle.cel_value.proofs.Shared.{put_last}
 use Rattle.cel_semantics.proofs.Lookups.{Entry}
 use Rattle.cel_semantics.specs.Members.{key_of, not_key, map_indexed, new_entry, put_in}
-
-below_all : (k : Key) (done : List Entry) (e : Entry) (rest : List Entry) → AllByRecursion (λ l. key_cmp k l ≡ Less) (keys_of (done ++ e ∷ rest)) → key_cmp k e.0 ≡ Less
-below_all k [] e rest h = h.0
-below_all k (f ∷ done) e rest h = below_all k done e rest h.1
-
-above : (k l : Key) → key_cmp k l ≡ Less → key_cmp l k ≡ Greater
-above k l h = key_total.antisymm l k ∙ ap ordering_reverse h
-
--- an entry whose key is greater than all others goes to the end
-put_last : (done : List Entry) (e : Entry) (rest : List Entry) → IsStrictlySortedBy key_cmp (keys_of (done ++ e ∷ rest)) → put (key_view e.0) (view e.1) (entries_view done) ≡ entries_view (done ++ e ∷ [])
-put_last [] e rest sorted = refl
-put_last (f ∷ done) e rest sorted =
-    rw (above f.0 e.0 (below_all f.0 done e rest (sorted_head key_cmp f.0 (keys_of (done ++ e ∷ rest)) sorted)))
-    (ap (entry (key_view f.0) (view f.1)) (put_last done e rest (sorted_tail key_cmp f.0 (keys_of (done ++ e ∷ rest)) sorted)))
 
 -- one more entry is copied
 pub copied_entry : (whole done : List Entry) (e : Entry) (rest old new : List Entry) → IsStrictlySortedBy key_cmp (keys_of whole) → whole ≡ done ++ e ∷ rest

@@ -55,7 +55,7 @@ before k [] m d l h = absurd (omega (arith, l))
 before k (e ∷ es) zero d l h = subst (IsBetween 0 0) (sym (place_step k e es Less h)) (omega arith, omega arith)
 before k (e ∷ es) (suc m) d l h = step_within m (key_cmp k e.0) (place_of k es) (before k es m d (omega (arith, l)) h)
 
-above : (k l : Key) → key_cmp k l ≡ Less → key_cmp l k ≡ Greater
+pub above : (k l : Key) → key_cmp k l ≡ Less → key_cmp l k ≡ Greater
 above k l h = key_total.antisymm l k ∙ ap ordering_reverse h
 
 under : (k l : Key) → key_cmp k l ≡ Greater → key_cmp l k ≡ Less

@@ -1,18 +1,19 @@
 -- Scaffolding: only proofs and private clauses cite it.
 -- Each part of a value has a smaller weight than the whole.
-use Rattle.std.specs.Prelude.{◌≡◌, ◌≤◌, ℕ, suc, max, ◌+◌, List, [], ◌∷◌, ◌++◌, Option, Some, None, map}
+use Rattle.std.specs.Prelude.{◌≡◌, ◌≤◌, ℕ, suc, max, ◌+◌, List, [], ◌∷◌, ◌++◌, Option, Some, None, length, map, zip}
 use Rattle.std.proofs.Common.{arith, ap}
 use Rattle.std.specs.declared.alloc.Global.{Global}
 use Rattle.std.specs.declared.rc.Rc.{Rc}
 use Rattle.std.specs.Global.{Vec, Box}
 use Rattle.std.specs.BTreeMap.{BTreeMap}
-use Rattle.cel_value.specs.Weights.{weight, items_weight, entries_weight, held_weight, listed_weight}
+use Rattle.cel_value.specs.Weights.{weight, items_weight, entries_weight, map_weight, held_weight, listed_weight, shared_weight}
+use Rattle.cel_value.specs.SharedEntries.{map_entries, values_of}
 use Rattle.cel_value.specs.StoredEntries.{AreStored, all_entries, tree_entries}
 use Rattle.cel_value.specs.View.{view, items_view, entries_view, alone, held_view}
 use Rattle.cel_value.specs.declared.key.Key.{Key}
 use Rattle.cel_value.specs.declared.value.Value.{Value}
 use Rattle.cel_value.specs.declared.value.Value.TheVariants as value
-use Rattle.cel_value.specs.declared.value.Entries.TheDeep.{deep-Value, deep-Entries, deep-Held, deep-List, deep-Map, deep-OptionalValue}
+use Rattle.cel_value.specs.declared.value.Entries.TheDeep.{deep-Value, deep-Entries, deep-Held, deep-List, deep-Map, deep-MapEntries, deep-OptionalValue, deep-SharedEntries, deep-Values}
 use Rattle.cel_value.specs.declared.value.Held.{Held}
 use Rattle.cel_value.specs.declared.value.Entries.TheInside as listings
 use Rattle.cel_value.specs.declared.value.Entries.TheShapes as shapes
@@ -20,6 +21,11 @@ use Rattle.cel_value.specs.Data.{Entries, no_entries, entry}
 use Rattle.cel_value.specs.declared.value.Held.TheInside as holds
 use Rattle.cel_value.specs.declared.value.List.TheInside as lists
 use Rattle.cel_value.specs.declared.value.Map.TheInside as maps
+use Rattle.cel_value.specs.declared.value.MapEntries.{MapEntries}
+use Rattle.cel_value.specs.declared.value.MapEntries.TheVariants as map_entry
+use Rattle.cel_value.specs.declared.value.SharedEntries.TheInside as sharings
+use Rattle.cel_value.specs.declared.value.Values.{Values}
+use Rattle.cel_value.specs.declared.value.Values.TheVariants as values
 use Rattle.cel_value.specs.declared.value.OptionalValue.TheInside as optionals
 use denote.Param.Weighed.{most}
 
@@ -43,7 +49,7 @@ lighter (value.Semver v) = omega arith
 lighter (value.Url u) = omega arith
 lighter (value.Format f) = omega arith
 
-most_items : (vs : List Value) → most (λ v. deep-Value v) vs ≤ items_weight (items_view vs)
+most_items : (vs : List Value) → suc (most (λ v. deep-Value v) vs) ≤ items_weight (items_view vs)
 most_items [] = omega arith
 most_items (v ∷ vs) = omega (arith, lighter v, most_items vs)
 
@@ -99,8 +105,31 @@ some_weight : (es : Entries) → 1 ≤ entries_weight es
 some_weight no_entries = omega arith
 some_weight (entry k d es) = omega (arith, some_weight es)
 
-pub entries_fall : (a : maps.Inside) → deep-Map a ≤ entries_weight (entries_view a.entries.entries)
-entries_fall a = omega (arith, some_weight (entries_view a.entries.entries))
+-- the values of shared entries, which are no more than the keys
+zipped : (ks : List Key) (vs : List Value) → length vs ≤ length ks
+    → items_weight (items_view vs) ≤ entries_weight (entries_view (zip ks vs))
+zipped [] [] h = omega arith
+zipped [] (v ∷ vs) h = absurd (omega (arith, h))
+zipped (k ∷ ks) [] h = omega arith
+zipped (k ∷ ks) (v ∷ vs) h = omega (arith, zipped ks vs (omega (arith, h)))
+
+values_fall : (vs : Values) → suc (deep-Values vs) ≤ items_weight (items_view (values_of vs))
+values_fall values.Empty = omega arith
+values_fall (values.One a) = omega (arith, lighter a)
+values_fall (values.Two a b) = omega (arith, lighter a, lighter b)
+values_fall (values.Three a b c) = omega (arith, lighter a, lighter b, lighter c)
+values_fall (values.Many vs) = no_more (most (λ v. deep-Value v) vs.items) (items_weight (items_view vs.items)) (most_items vs.items)
+
+pub shared_falls : (a : sharings.Inside) → length (values_of a.values) ≤ length a.keys.value.items
+    → deep-SharedEntries a ≤ shared_weight (record { keys = a.keys.value.items; values = values_of a.values })
+shared_falls a h = omega (arith, values_fall a.values, zipped a.keys.value.items (values_of a.values) h)
+
+map_entries_fall : (m : MapEntries) → deep-MapEntries m ≤ entries_weight (entries_view (map_entries m))
+map_entries_fall (map_entry.Own e) = omega (arith, some_weight (entries_view e.entries))
+map_entries_fall (map_entry.Shared s) = omega (arith, some_weight (entries_view (zip s.keys s.values)))
+
+pub entries_fall : (a : maps.Inside) → deep-Map a ≤ map_weight (entries_view (map_entries a.entries))
+entries_fall a = omega (arith, map_entries_fall a.entries)
 
 pub held_falls : (a : holds.Inside) → deep-Held a ≤ items_weight (alone (view a.value))
 held_falls a = omega (arith, lighter a.value)

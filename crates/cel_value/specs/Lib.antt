@@ -5,11 +5,14 @@ pub mod Faults
 pub mod Find
 pub mod Keys
 pub mod Kinds
+pub mod LeftBehind
 pub mod Levels
 pub mod Listed
 pub mod Parts
 pub mod Same
 pub mod SameLaws
+pub mod Shared
+pub mod SharedEntries
 pub mod Stored
 pub mod StoredEntries
 pub mod Texts

@@ -3,12 +3,13 @@
 use Rattle.std.specs.Prelude.{ℕ, suc, ◌+◌, ◌-◌}
 use Rattle.cel_value.specs.Data.{Data, list, map_of, optional, Items, no_items, item, Entries, no_entries, entry}
 use Rattle.cel_value.specs.Listed.{Listed}
+use Rattle.cel_value.specs.Shared.{Shared, shared_entries}
 use Rattle.cel_value.specs.View.{entries_view}
 
 abbrev mutual
   pub weight : Data → ℕ
   weight (list ds) = suc (items_weight ds)
-  weight (map_of es) = suc (entries_weight es)
+  weight (map_of es) = suc (suc (entries_weight es))
   weight (optional ds) = suc (suc (items_weight ds))
   weight _ = 1
 
@@ -24,6 +25,13 @@ abbrev mutual
 abbrev pub held_weight : Items → ℕ
 held_weight ds = suc (items_weight ds)
 
+-- the weight of a map without its kind
+abbrev pub map_weight : Entries → ℕ
+map_weight es = suc (entries_weight es)
+
 -- the weight of the entries that are stored for a map
 abbrev pub listed_weight : Listed → ℕ
 listed_weight l = entries_weight (entries_view l.entries) - 1
+
+abbrev pub shared_weight : Shared → ℕ
+shared_weight s = entries_weight (entries_view (shared_entries s)) - 1

@@ -4,12 +4,13 @@ ghost use Rattle.cel_value.specs.Data.{list, map_of, text};
 ghost use Rattle.cel_value.specs.Faults.{fault_view, duplicate_key};
 ghost use Rattle.cel_value.specs.Find.{find};
 ghost use Rattle.cel_value.specs.Keys.{key_view, put};
+ghost use Rattle.cel_value.specs.Shared.{shared_entries};
 ghost use Rattle.cel_value.specs.View.{view, items_view, entries_view};
 
 use crate::error::ExecutionError;
 use crate::key::Key;
 use crate::string::Text;
-use crate::value::{Entries, List, Map, Value};
+use crate::value::{Entries, List, Map, SharedEntries, Value};
 use kube_types_refused::Refused;
 use std::alloc::Global;
 use std::rc::Rc;
@@ -58,6 +59,18 @@ impl Value {
         ensures memory { IfErr result (λ e. e ≡ Refused.Memory) }
     {
         Ok(Value::Map(Rc::new(alloc, Map::of(entries)?)?))
+    }
+
+    /// Returns the map of entries that share their keys.
+    ///
+    /// # Errors
+    /// [`Refused::Memory`] if memory is refused, or if the map would have more levels than
+    /// [`MAX_VALUE_LEVELS`](crate::value::MAX_VALUE_LEVELS).
+    pub fn from_shared(alloc: Global, entries: SharedEntries) -> Result<Value, Refused>
+        ensures value { IfOk result (λ v. view v ≡ map_of (entries_view (shared_entries entries))) }
+        ensures memory { IfErr result (λ e. e ≡ Refused.Memory) }
+    {
+        Ok(Value::Map(Rc::new(alloc, Map::of_shared(entries)?)?))
     }
 }
 

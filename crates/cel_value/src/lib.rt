@@ -44,4 +44,6 @@ pub use key::Key;
 pub use kind::Kind;
 pub use kube_types_refused::Refused;
 pub use string::Text;
-pub use value::{Entries, List, MAX_VALUE_LEVELS, Map, OptionalValue, Value};
+pub use value::{
+    Entries, List, MAX_VALUE_LEVELS, Map, MapKeys, OptionalValue, SharedEntries, Value,
+};

@@ -10,6 +10,7 @@ ghost use Rattle.cel_value.specs.View.{view};
 mod lists;
 mod maps;
 mod optionals;
+mod shared;
 mod stored;
 
 use crate::key::Key;
@@ -48,6 +49,32 @@ pub struct Entries {
 /// The entries of a large map that follow those of its vector.
 type Tree = Box<BTreeMap<Key, Value>>;
 
+/// Keys that maps share: at most 8, in key order.
+#[derive(Debug, Drop)]
+pub struct MapKeys {
+    keys: Rc<Vec<Key>>,
+}
+
+/// The values at the first of some keys, in order. Up to three need no block of their own.
+#[derive(Debug, Drop)]
+#[cycle(values)]
+enum Values {
+    Empty,
+    One(Value),
+    Two(Value, Value),
+    Three(Value, Value, Value),
+    Many(Vec<Value>),
+}
+
+/// The entries of a map whose keys are shared with other maps. There are values for the first of
+/// the keys, and entries as many as values.
+#[derive(Debug, Drop)]
+#[cycle(values)]
+pub struct SharedEntries {
+    keys: Rc<Vec<Key>>,
+    values: Values,
+}
+
 /// The items of a list.
 #[derive(Debug, Drop)]
 #[cycle(values)]
@@ -57,11 +84,19 @@ pub struct List {
     levels: u16,
 }
 
+/// The entries of a map, with keys of their own or with keys that other maps share.
+#[derive(Debug, Drop)]
+#[cycle(values)]
+enum MapEntries {
+    Own(Entries),
+    Shared(SharedEntries),
+}
+
 /// The entries of a map, in key order.
 #[derive(Debug, Drop)]
 #[cycle(values)]
 pub struct Map {
-    entries: Entries,
+    entries: MapEntries,
     doubles: bool,
     levels: u16,
 }
@@ -127,7 +162,7 @@ pub enum Value {
 // A value is moved as its kind and two words.
 const _: () = prove!(size_of::<Value>() == 24);
 
-const _: () = prove!(size_of::<Map>() <= 104);
+const _: () = prove!(size_of::<Map>() <= 112);
 
 impl Model for Entries {
     ghost use Rattle.std.specs.Coded.{codes, code_by};
@@ -151,6 +186,48 @@ impl Model for Entries {
     ghost use Rattle.cel_value.specs.Falls.{listed_falls};
 
     ghost size_decreases = { λ a h. listed_falls a h.0 };
+}
+
+impl Model for SharedEntries {
+    ghost use Rattle.std.specs.Coded.{codes, code_by};
+    ghost use Rattle.cel_value.specs.Coded.{items_code, entries_code};
+    ghost use Rattle.cel_value.specs.Shared.{Shared, Columns, shared_to, shared_from, shared_back};
+
+    ghost Value = { Shared };
+
+    ghost coded = { code_by Columns (Prim.hlevel (codes, items_code, entries_code))
+        shared_to shared_from shared_back };
+
+    ghost use Rattle.std.specs.Prelude.{◌≤◌, length};
+    ghost use Rattle.std.specs.List.Sorted.{IsStrictlySortedBy};
+    ghost use Rattle.cel_value.specs.Keys.{key_cmp};
+    ghost use Rattle.cel_value.specs.SharedEntries.{Suits, values_of};
+    ghost use Rattle.cel_value.specs.Weights.{shared_weight};
+
+    ghost view = { λ a. record { keys = a.keys.value.items; values = values_of a.values } };
+
+    ghost invariant = { λ a. IsStrictlySortedBy key_cmp a.keys.value.items
+        × (length (values_of a.values) ≤ length a.keys.value.items) × Suits a.keys.value.items a.values };
+
+    ghost size = { λ s. shared_weight s };
+
+    ghost use Rattle.cel_value.specs.Falls.{shared_falls};
+
+    ghost size_decreases = { λ a h. shared_falls a h.1 };
+}
+
+impl Model for MapKeys {
+    ghost use Rattle.std.specs.Prelude.{List, ◌≤◌, length};
+    ghost use Rattle.std.specs.List.Sorted.{IsStrictlySortedBy};
+    ghost use Rattle.cel_value.specs.Keys.{key_cmp};
+    ghost use Rattle.cel_value.specs.declared.key.Key.{Key};
+
+    ghost Value = { List Key };
+
+    ghost view = { λ k. k.keys.value.items };
+
+    ghost invariant = { λ k. IsStrictlySortedBy key_cmp k.keys.value.items
+        × (length k.keys.value.items ≤ 8) };
 }
 
 impl Model for List {
@@ -193,14 +270,16 @@ impl Model for Map {
     ghost use Rattle.cel_value.specs.Levels.{entries_levels, max_levels};
     ghost use Rattle.cel_value.specs.Same.{entries_have_double};
     ghost use Rattle.cel_value.specs.View.{entries_view};
-    ghost use Rattle.cel_value.specs.Weights.{entries_weight};
+    ghost use Rattle.cel_value.specs.Weights.{map_weight};
+    ghost use Rattle.cel_value.specs.SharedEntries.{map_entries};
 
-    ghost view = { λ a. entries_view a.entries.entries };
+    ghost view = { λ a. entries_view (map_entries a.entries) };
 
-    ghost invariant = { λ a. (a.doubles ≡ entries_have_double (entries_view a.entries.entries))
-        × (a.levels ≡ suc (entries_levels (entries_view a.entries.entries))) × (a.levels ≤ max_levels) };
+    ghost invariant = { λ a. (a.doubles ≡ entries_have_double (entries_view (map_entries a.entries)))
+        × (a.levels ≡ suc (entries_levels (entries_view (map_entries a.entries))))
+        × (a.levels ≤ max_levels) };
 
-    ghost size = { entries_weight };
+    ghost size = { map_weight };
 
     ghost use Rattle.cel_value.specs.Falls.{entries_fall};
 

@@ -1,8 +1,10 @@
 -- A bound object or list is alike to its converted parts, in what is demanded of it.
-use Rattle.std.proofs.Common.{◌≡◌, ℕ, zero, suc, Box, ◌+◌, ◌<◌, List, [], ◌∷◌, ◌++◌, map, length, take, get_or, Bool, true, false, not, Bor, Option, Some, None, is_some, option_copied, option_map, refl, sym, ap, ◌∙◌, subst, true≢false}
+use Rattle.std.proofs.Common.{◌≡◌, ℕ, zero, suc, Box, ◌+◌, ◌<◌, List, [], ◌∷◌, ◌++◌, map, length, take, get_or, Bool, true, false, not, Bor, Option, Some, None, is_some, option_copied, option_map, refl, sym, ap, ◌∙◌, subst, true≢false, arith}
 use Rattle.std.proofs.lemmas.Map.Text.{is_eq-slice_cmp}
 use Rattle.std.proofs.lemmas.Slice.Eq.{bytes_eq-Decides}
 use Rattle.std.proofs.lemmas.List.{map-append, take_more}
+use Rattle.std.proofs.lemmas.List.Elements.{All-get_or}
+use Rattle.std.specs.Prelude.{slice_get, zip}
 use Rattle.std.specs.Option.{option_map_or}
 use Rattle.std.specs.Ordering.{eq_by_cmp}
 use Rattle.std.specs.Str.{bytes_eq}
@@ -20,7 +22,9 @@ use Rattle.cel_demand.specs.Places.{Entry, name_of}
 use Rattle.cel_value.specs.Data.{Data, Entries, no_entries, list, map_of, text_key}
 use Rattle.cel_value.specs.Find.{find}
 use Rattle.cel_value.specs.Keys.{key_order, put}
-use Rattle.cel_value.specs.View.{view, items_of}
+use Rattle.cel_value.specs.View.{view, entries_view, items_of}
+use Rattle.cel_value.specs.declared.key.Key.{Key}
+use Rattle.cel_value.specs.declared.key.Key.TheVariants as key
 use Rattle.cel_value.specs.declared.value.Value.{Value}
 use Rattle.kube_schema_values.proofs.Bounds.{bound_past, bound_within, items_by_is}
 use Rattle.kube_schema_values.proofs.Fields.{found_in_object}
@@ -30,7 +34,7 @@ use Rattle.kube_schema_values.specs.Conversion.{ConversionAccessors, items_by, k
 use Rattle.kube_schema_values.specs.Escape.{escape}
 use Rattle.kube_schema_values.specs.Fields.{field_besides}
 use Rattle.kube_schema_values.specs.Plain.{plain}
-use Rattle.kube_schema_parts.specs.Parts.{AreParts, entries_at, is_embedded_at, items_node, key_at, node_of_member, scalar_of, value_at}
+use Rattle.kube_schema_parts.specs.Parts.{AreOwnNames, AreParts, entries_at, is_embedded_at, items_node, key_at, name_keys, node_of_member, scalar_of, value_at}
 
 -- ---- look-ups
 
@@ -151,6 +155,32 @@ part_missing done m es fs none k =
       members_last done m (λ x. find (text_key x) es) (λ x. find (text_key x) fs) k.0 (neither (part_of m.1) (find (text_key n) es) (find (text_key n) fs) (k.1 n none) none),
       k.1,
     )
+
+-- the names of members, as keys, are as many, and each is that of the member at its index
+pub names_length : (es : List Entry) → length (name_keys es) ≡ length es
+names_length [] = refl
+names_length (e ∷ es) = ap suc (names_length es)
+
+pub name_at : (es : List Entry) (i : ℕ) (m : Entry) → i < length es → m ≡ get_or es i m → slice_get (name_keys es) i ≡ Some (key.String (name_of m))
+name_at [] i m lt is = absurd (omega (arith, lt))
+name_at (e ∷ es) zero m lt is = ap (λ x. Some (key.String (name_of x))) (sym is)
+name_at (e ∷ es) (suc i) m lt is = name_at es i m (omega (arith, lt)) is
+
+pub names_more : (es : List Entry) (i : ℕ) (m : Entry) (ks : List Key) (k : Key) → i < length es → m ≡ get_or es i m → ks ≡ name_keys (take i es) → k ≡ key.String (name_of m) → ks ++ k ∷ [] ≡ name_keys (take (i + 1) es)
+names_more es i m ks k lt is before here =
+    let next : take (i + 1) es ≡ take i es ++ m ∷ [] = take_more es i m lt ∙ ap (λ y. take i es ++ y ∷ []) (sym is) in
+    (λ j. before j ++ here j ∷ []) ∙ sym (map-append (λ e. key.String (name_of e)) (take i es) (m ∷ [])) ∙ ap name_keys (sym next)
+
+none_shared : (ks : List Key) → entries_view (zip {K = Key} {X = Value} ks []) ≡ no_entries
+none_shared [] = refl
+none_shared (k ∷ ks) = refl
+
+pub no_shared : (ks : List Key) (vs : List Value) → vs ≡ [] → entries_view (zip ks vs) ≡ no_entries
+no_shared ks vs e = ap (λ xs. entries_view (zip ks xs)) e ∙ none_shared ks
+
+-- the name of a member is its own escape, if those of all are
+pub own_at : (es : List Entry) (i : ℕ) (m : Entry) → i < length es → m ≡ get_or es i m → AreOwnNames es → escape (name_of m) ≡ name_of m
+own_at es i m lt is own = subst (λ x. escape (name_of x) ≡ name_of x) (sym is) (All-get_or (λ e. escape (name_of e) ≡ name_of e) es i m lt own)
 
 pub no_parts : (es fs : Entries) → es ≡ no_entries → AreParts no_members es fs
 no_parts es fs e = (tt, λ x h. ap (find (text_key x)) e)

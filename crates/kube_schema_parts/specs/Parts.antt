@@ -1,7 +1,7 @@
 -- Scaffolding: only proofs and private clauses cite it.
 -- Conversion by a node of a schema if there is one, and
 -- plainly if not; and the parts of members converted so far.
-use Rattle.std.specs.Prelude.{◌≡◌, ℕ, List, All, Bool, false, Option, Some, None, option_and_then}
+use Rattle.std.specs.Prelude.{◌≡◌, ℕ, List, All, map, Bool, false, Option, Some, None, option_and_then}
 use Rattle.std.specs.Option.{option_map_or}
 use Rattle.serde_json.specs.Data as json
 use Rattle.cel_demand.specs.Alike.{MembersAlike}
@@ -11,6 +11,8 @@ use Rattle.cel_demand.specs.declared.demand.Demand.{Demand}
 use Rattle.cel_demand.specs.declared.demand.Demand.TheVariants as demand
 use Rattle.cel_value.specs.Data.{Data, Entries, null, bool, text_key}
 use Rattle.cel_value.specs.Find.{find}
+use Rattle.cel_value.specs.declared.key.Key.{Key}
+use Rattle.cel_value.specs.declared.key.Key.TheVariants as key
 use Rattle.kube_schema_values.specs.Conversion.{ConversionAccessors, key_in, member_node, object_by, to_cel}
 use Rattle.kube_schema_values.specs.Escape.{escape}
 use Rattle.kube_schema_values.specs.Plain.{plain, plain_entries, plain_number}
@@ -64,3 +66,11 @@ AreOwnNames es = All (λ e. escape (name_of e) ≡ name_of e) es
 -- the same of the members that are demanded, if some are
 abbrev pub HasOwnNames : Demand → Type 0
 HasOwnNames d = (ms : _) → d ≡ demand.Members ms → AreOwnNames ms.items
+
+-- the names of members, as keys of a map
+abbrev pub name_keys : List Entry → List Key
+name_keys es = map (λ e. key.String (name_of e)) es
+
+-- they are those of the members that are demanded, each its own escape
+abbrev pub AreNamesIn : Demand → List Key → Type 0
+AreNamesIn d ks = (ms : _) → d ≡ demand.Members ms → (ks ≡ name_keys ms.items) × AreOwnNames ms.items

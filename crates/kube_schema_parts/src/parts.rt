@@ -1,5 +1,5 @@
 //! Conversion of the part of a JSON value that is read.
-ghost use Rattle.std.specs.Prelude.{◌≡◌, ◌≤◌, ◌-◌, ◌++◌, ◌∷◌, [], List, true, None, Some, IfErr, IfOk, IfSome, OnOk, map, option_map};
+ghost use Rattle.std.specs.Prelude.{◌≡◌, ◌≤◌, ◌-◌, ◌++◌, ◌∷◌, [], List, true, None, Some, IfErr, IfOk, IfSome, OnOk, map, option_copied, option_map};
 ghost use Rattle.serde_json.specs.Data.{array, object};
 ghost use Rattle.serde_json.specs.Find.{get_member};
 ghost use Rattle.serde_json.specs.View.{view as json_view, items_view, members_view};
@@ -8,16 +8,17 @@ ghost use Rattle.cel_demand.specs.Demand.{part_of, members_view as demands_view}
 ghost use Rattle.cel_demand.specs.Part.{each_item, some_members};
 ghost use Rattle.cel_demand.specs.Places.{Entry, name_of};
 ghost use Rattle.cel_value.specs.Data as bound_data;
-ghost use Rattle.cel_value.specs.Data.{text_key};
+ghost use Rattle.cel_value.specs.Data.{Data, text_key};
 ghost use Rattle.cel_value.specs.Find.{find};
 ghost use Rattle.cel_value.specs.Keys.{put};
+ghost use Rattle.cel_value.specs.Shared.{shared_entries};
 ghost use Rattle.cel_value.specs.View.{view, entries_view};
 ghost use Rattle.kube_schema_values.specs.Conversion.{to_cel, levels};
 ghost use Rattle.kube_schema_values.specs.Escape.{escape};
-ghost use Rattle.kube_schema_parts.specs.Parts.{AreOwnNames, AreParts, HasOwnNames, entries_at, is_embedded_at, is_map_at, items_node, key_at, node_of_member, scalar_of, value_at};
+ghost use Rattle.kube_schema_parts.specs.Parts.{AreNamesIn, AreOwnNames, AreParts, HasOwnNames, entries_at, name_keys, is_embedded_at, is_map_at, items_node, key_at, node_of_member, scalar_of, value_at};
 
 use cel_demand::Demand;
-use cel_value::{Entries, Key, Refused, Text, Value};
+use cel_value::{Entries, Key, MapKeys, Refused, SharedEntries, Text, Value};
 use kube_schema_values::{
     MemberKeys, Node, bind_at, bind_number, bind_plain_with, is_its_own_escape,
 };
@@ -128,12 +129,169 @@ fn item_parts<N: Node>(
         keys.keep_names();
     }
     let own = has_own_names(item);
+    let made = shared_names(alloc, item)?;
+    let names = made.as_ref();
     let mut parts = Vec::with_capacity(alloc, items.len())?;
     for value in items {
-        let part = part_with(alloc, node, value, depth, item, own, keys)?;
+        let part = item_part(alloc, node, value, depth, item, own, names, keys)?;
         parts.push(part)?;
     }
     Ok(parts)
+}
+
+// Converts the part of an item. If it is a map that has all members that are
+// demanded, it shares their names with the other items.
+#[cycle(part)]
+#[inline(always)]
+fn item_part<N: Node>(
+    alloc: Global,
+    node: Option<N>,
+    value: &Json,
+    depth: usize,
+    item: &Demand,
+    own: bool,
+    names: Option<&MapKeys>,
+    keys: &mut MemberKeys,
+) -> Result<Value, Refused>
+    requires own { own ≡ true → HasOwnNames item.now }
+    requires names { IfSome (option_copied names) (λ ks. AreNamesIn item.now ks) }
+    ensures value { IfOk result (λ v. Alike (part_of item.now) (view v)
+        (value_at N.accessors (levels depth) (option_map N.seen node) (json_view value.now))) }
+    ensures memory { IfErr result (λ e. e ≡ Refused.Memory) }
+{
+    match (item, names) {
+        (Demand::Members(members), Some(names)) => {
+            let found = shared_part(alloc, node, value, depth, members, names, keys)?;
+            match found {
+                Some(part) => Ok(part),
+                None => part_with(alloc, node, value, depth, item, own, keys),
+            }
+        }
+        _ => part_with(alloc, node, value, depth, item, own, keys),
+    }
+}
+
+// Converts some members of a map, which share their names with other maps. Returns
+// None if the value isn't an object whose members can be found, or if it lacks one.
+#[cycle(part)]
+fn shared_part<N: Node>(
+    alloc: Global,
+    node: Option<N>,
+    value: &Json,
+    depth: usize,
+    members: &Vec<(Text, Demand)>,
+    names: &MapKeys,
+    keys: &mut MemberKeys,
+) -> Result<Option<Value>, Refused>
+    requires own { AreOwnNames members.now.items }
+    requires names { names.now ≡ name_keys members.now.items }
+    ensures value { IfOk result (λ found. IfSome found (λ v.
+        Alike (some_members (demands_view members.now.items)) (view v)
+        (value_at N.accessors (levels depth) (option_map N.seen node) (json_view value.now)))) }
+    ensures memory { IfErr result (λ e. e ≡ Refused.Memory) }
+{
+    let Some(object) = object_of(value, depth) else {
+        return Ok(None);
+    };
+    let found = shared_members(alloc, node, object, depth, members, names, keys)?;
+    match found {
+        Some(parts) => {
+            let map = Value::from_shared(alloc, parts)?;
+            Ok(Some(map))
+        }
+        None => Ok(None),
+    }
+}
+
+// Converts the parts of members, if the object has all of them.
+#[cycle(part)]
+fn shared_members<N: Node>(
+    alloc: Global,
+    node: Option<N>,
+    object: &Members<String, Json>,
+    depth: usize,
+    members: &Vec<(Text, Demand)>,
+    names: &MapKeys,
+    keys: &mut MemberKeys,
+) -> Result<Option<SharedEntries>, Refused>
+    requires within { depth ≤ 64 }
+    requires own { AreOwnNames members.now.items }
+    requires names { names.now ≡ name_keys members.now.items }
+    ensures members { IfOk result (λ found. IfSome found (λ parts. AreParts (demands_view members.now.items)
+        (entries_view (shared_entries parts))
+        (entries_at N.accessors (64 - depth) (option_map N.seen node) (members_view object.now.entries)))) }
+    ensures memory { IfErr result (λ e. e ≡ Refused.Memory) }
+{
+    let mut parts = SharedEntries::new(alloc, names)?;
+    for member in members {
+        let found = member_part(alloc, node, object, depth, member, keys)?;
+        let Some(part) = found else {
+            return Ok(None);
+        };
+        parts = parts.with_value(part)?;
+    }
+    Ok(Some(parts))
+}
+
+// Converts the part of a member whose name is its own escape, if the object has it.
+#[cycle(part)]
+#[inline(always)]
+fn member_part<N: Node>(
+    alloc: Global,
+    node: Option<N>,
+    object: &Members<String, Json>,
+    depth: usize,
+    member: &(Text, Demand),
+    keys: &mut MemberKeys,
+) -> Result<Option<Value>, Refused>
+    requires within { depth ≤ 64 }
+    requires own { escape (name_of member.now) ≡ name_of member.now }
+    ensures part { IfOk result (λ found. IfSome found (λ v. (w : Data) × (find (text_key (name_of member.now))
+        (entries_at N.accessors (64 - depth) (option_map N.seen node)
+        (members_view object.now.entries)) ≡ Some w)
+        × Alike (part_of member.now.1) (view v) w)) }
+    ensures memory { IfErr result (λ e. e ≡ Refused.Memory) }
+{
+    let name = member.0.as_str();
+    let Some(value) = member_of(object, name) else {
+        return Ok(None);
+    };
+    let inner = node_of_member(node, name);
+    let part = part_with(alloc, inner, value, depth + 1, &member.1, false, keys)?;
+    Ok(Some(part))
+}
+
+// The names of the demanded members as keys that maps can share, if each is known to
+// be its own escape. The contract only covers names that are returned.
+fn shared_names(alloc: Global, item: &Demand) -> Result<Option<MapKeys>, Refused>
+    ensures names { IfOk result (λ made. IfSome made (λ ks. AreNamesIn item.now ks)) }
+    ensures memory { IfErr result (λ e. e ≡ Refused.Memory) }
+{
+    match item {
+        Demand::Nothing => Ok(None),
+        Demand::Whole => Ok(None),
+        Demand::Items(_) => Ok(None),
+        Demand::Members(members) => {
+            if !are_own_names(members) {
+                return Ok(None);
+            }
+            let names = member_names(alloc, members)?;
+            let made = MapKeys::of(alloc, names)?;
+            Ok(made)
+        }
+    }
+}
+
+// The names of members as keys.
+fn member_names(alloc: Global, members: &Vec<(Text, Demand)>) -> Result<Vec<Key>, Refused>
+    ensures names { IfOk result (λ ks. ks.items ≡ name_keys members.now.items) }
+    ensures memory { IfErr result (λ e. e ≡ Refused.Memory) }
+{
+    let mut names = Vec::with_capacity(alloc, members.len())?;
+    for member in members {
+        names.push(Key::String(member.0.clone()?))?;
+    }
+    Ok(names)
 }
 
 // Converts some members of a map, if the value is an object whose

@@ -6,12 +6,15 @@ ghost use Rattle.cel_value.specs.Keys.{key_order, key_view, put};
 ghost use Rattle.std.specs.List.Sorted.{IsStrictlySortedBy};
 ghost use Rattle.std.specs.Map.{keys_of};
 ghost use Rattle.cel_value.specs.Same.{entries_have_double};
+ghost use Rattle.cel_value.specs.Shared.{shared_entries};
+ghost use Rattle.cel_value.specs.SharedEntries.{map_entries};
 ghost use Rattle.cel_value.specs.View.{view, entries_view};
 
-use super::{Entries, EntriesIter, Map, Value, level_around};
+use super::{Entries, EntriesIter, Map, MapEntries, SharedEntries, Value, level_around};
 use crate::key::Key;
 use kube_types_refused::Refused;
 use std::alloc::Global;
+use std::mem;
 
 fn deeper(levels: u16, others: u16) -> u16
     ensures { result ≡ max levels others }
@@ -19,7 +22,7 @@ fn deeper(levels: u16, others: u16) -> u16
     if levels < others { others } else { levels }
 }
 
-fn put_into(entries: &mut Entries, key: Key, value: Value) -> Result<(), Refused>
+pub(super) fn put_into(entries: &mut Entries, key: Key, value: Value) -> Result<(), Refused>
     ensures added { OnOk result (entries_view entries.new.entries
         ≡ put (key_view key) (view value) (entries_view entries.old.entries)) }
     ensures unchanged { OnErr result (entries.new.entries ≡ entries.old.entries) }
@@ -29,13 +32,31 @@ fn put_into(entries: &mut Entries, key: Key, value: Value) -> Result<(), Refused
     Ok(())
 }
 
+// Adds an entry to those of a map. If it shares its keys, it has keys of its own from then on.
+fn put_in_map(entries: &mut MapEntries, key: Key, value: Value) -> Result<(), Refused>
+    ensures added { OnOk result (entries_view (map_entries entries.new)
+        ≡ put (key_view key) (view value) (entries_view (map_entries entries.old))) }
+    ensures unchanged { OnErr result (map_entries entries.new ≡ map_entries entries.old) }
+    ensures memory { IfErr result (λ e. e ≡ Refused.Memory) }
+{
+    match entries {
+        MapEntries::Own(own) => put_into(own, key, value),
+        MapEntries::Shared(shared) => {
+            let mut own = shared.to_entries()?;
+            put_into(&mut own, key, value)?;
+            drop(mem::replace(entries, MapEntries::Own(own)));
+            Ok(())
+        }
+    }
+}
+
 impl Map {
     /// Returns an empty map.
     pub fn new(alloc: Global) -> Map
         ensures { result ≡ no_entries }
     {
         Map {
-            entries: Entries::new(alloc),
+            entries: MapEntries::Own(Entries::new(alloc)),
             doubles: false,
             levels: 1,
         }
@@ -51,19 +72,29 @@ impl Map {
         ensures value { IfOk result (λ m. m ≡ entries_view entries.entries) }
         ensures memory { IfErr result (λ e. e ≡ Refused.Memory) }
     {
-        let mut doubles = false;
-        let mut inner = 0;
-        for (_key, value) in entries.iter() {
-            if value.holds_double() {
-                doubles = true;
-            }
-            if inner < value.levels() {
-                inner = value.levels();
-            }
-        }
+        let (doubles, inner) = entries.doubles_and_levels();
         let levels = level_around(inner)?;
         Ok(Map {
-            entries,
+            entries: MapEntries::Own(entries),
+            doubles,
+            levels,
+        })
+    }
+
+    /// Returns the map of entries that share their keys.
+    ///
+    /// # Errors
+    /// [`Refused::Memory`] if it would have more levels than
+    /// [`MAX_VALUE_LEVELS`](super::MAX_VALUE_LEVELS).
+    #[inline(always)]
+    pub fn of_shared(entries: SharedEntries) -> Result<Map, Refused>
+        ensures value { IfOk result (λ m. m ≡ entries_view (shared_entries entries)) }
+        ensures memory { IfErr result (λ e. e ≡ Refused.Memory) }
+    {
+        let (doubles, inner) = entries.doubles_and_levels();
+        let levels = level_around(inner)?;
+        Ok(Map {
+            entries: MapEntries::Shared(entries),
             doubles,
             levels,
         })
@@ -83,7 +114,7 @@ impl Map {
     {
         let doubles = value.holds_double();
         let levels = deeper(self.levels, level_around(value.levels())?);
-        put_into(&mut self.entries, key, value)?;
+        put_in_map(&mut self.entries, key, value)?;
         self.doubles = self.doubles || doubles;
         self.levels = levels;
         Ok(())
@@ -93,7 +124,10 @@ impl Map {
     pub fn get(&self, key: &Key) -> Option<&Value>
         ensures { option_map (λ v. view v.now) result ≡ find (key_view key.now) self.now }
     {
-        self.entries.get(key)
+        match &self.entries {
+            MapEntries::Own(entries) => entries.get(key),
+            MapEntries::Shared(entries) => entries.get(key),
+        }
     }
 
     /// The number of entries.
@@ -101,7 +135,10 @@ impl Map {
     pub fn len(&self) -> usize
         ensures { result ≡ length (list_of_entries self.now) }
     {
-        self.entries.len()
+        match &self.entries {
+            MapEntries::Own(entries) => entries.len(),
+            MapEntries::Shared(entries) => entries.len(),
+        }
     }
 
     /// Iterates over the entries in key order.
@@ -110,7 +147,10 @@ impl Map {
         ensures ordered { IsStrictlySortedBy
             (λ (a b : Key). key_order (key_view a) (key_view b)) (keys_of result) }
     {
-        self.entries.iter()
+        match &self.entries {
+            MapEntries::Own(entries) => entries.iter(),
+            MapEntries::Shared(entries) => EntriesIter::of_shared(entries.iter()),
+        }
     }
 
     /// Reports whether the map contains a double, at any depth.

@@ -1,12 +1,17 @@
 //! The entries of a map: the first one needs no memory of its own, the next are in a vector, and
 //! those of a large map that follow are in a tree.
-ghost use Rattle.std.specs.Prelude.{◌≡◌, ◌∷◌, ◌++◌, ◌<◌, ◌≤◌, ◌^◌, [], suc, IfOk, IfErr, OnOk, OnErr, length, insert, option_copied, unwrap_or};
+ghost use Rattle.std.specs.Prelude.{◌≡◌, ◌∷◌, ◌++◌, ◌<◌, ◌≤◌, ◌^◌, [], suc, IfOk, IfErr, OnOk, OnErr, length, insert, max, option_copied, ◌||◌};
 ghost use Rattle.std.specs.BTreeMap.{insert_entry, is_at};
 ghost use Rattle.std.specs.List.Sorted.{IsStrictlySortedBy};
 ghost use Rattle.std.specs.Map.{keys_of, lookup};
 ghost use Rattle.cel_value.specs.Keys.{key_cmp};
+ghost use Rattle.cel_value.specs.LeftBehind.{left_behind};
+ghost use Rattle.cel_value.specs.Levels.{entries_levels};
+ghost use Rattle.cel_value.specs.Same.{entries_have_double};
 ghost use Rattle.cel_value.specs.StoredEntries.{AreFew, AreSorted, AreStored, all_entries, place_of, tree_entries};
+ghost use Rattle.cel_value.specs.View.{entries_view};
 
+use super::shared::{SharedIter, joined};
 use super::{Entries, Tree, Value};
 use crate::key::Key;
 use kube_types_refused::Refused;
@@ -24,6 +29,9 @@ const FEW: usize = 8;
 /// others of a large map are in a tree.
 const MOST: usize = 32;
 
+/// The entries in front of those of a map that shares its keys.
+const NO_ENTRIES: [(Key, Value); 0] = [];
+
 // The number of entries of a tree, if there is one.
 fn tree_len(tail: &Option<Tree>) -> usize
     ensures value { result ≡ length (tree_entries tail.now) }
@@ -36,12 +44,12 @@ fn tree_len(tail: &Option<Tree>) -> usize
 }
 
 // The entries of a tree, if there is one.
-fn tree_iter<'a>(tail: &'a Option<Tree>) -> Option<Iter<'a, Key, Value>>
-    ensures { unwrap_or result [] ≡ tree_entries tail.now }
+fn behind_iter<'a>(tail: &'a Option<Tree>) -> Behind<'a>
+    ensures { left_behind result ≡ tree_entries tail.now }
 {
     match tail {
-        Some(tree) => Some(tree.iter()),
-        None => None,
+        Some(tree) => Behind::Tree(tree.iter()),
+        None => Behind::Nothing,
     }
 }
 
@@ -325,6 +333,36 @@ fn find_behind<'a>(rest: &'a [(Key, Value)], tail: &'a Option<Tree>, key: &Key) 
     }
 }
 
+// What the values of some entries add to the levels of a map, and to whether it has a double.
+fn with_entries(before: (bool, u16), entries: &[(Key, Value)]) -> (bool, u16)
+    ensures { result ≡ (
+      before.0 || entries_have_double (entries_view entries.now),
+      max before.1 (entries_levels (entries_view entries.now)),
+    ) }
+{
+    let mut so_far = before;
+    for entry in entries {
+        so_far = joined(so_far, &entry.1);
+    }
+    so_far
+}
+
+// The same of a tree, if there is one.
+fn with_tree(before: (bool, u16), tail: &Option<Tree>) -> (bool, u16)
+    ensures { result ≡ (
+      before.0 || entries_have_double (entries_view (tree_entries tail.now)),
+      max before.1 (entries_levels (entries_view (tree_entries tail.now))),
+    ) }
+{
+    let mut so_far = before;
+    if let Some(tree) = tail {
+        for (_key, value) in tree.iter() {
+            so_far = joined(so_far, value);
+        }
+    }
+    so_far
+}
+
 impl Entries {
     /// Returns no entries.
     #[inline]
@@ -403,9 +441,33 @@ impl Entries {
         EntriesIter {
             first: self.first.as_ref(),
             rest: self.rest.as_slice().iter(),
-            tail: tree_iter(&self.tail),
+            behind: behind_iter(&self.tail),
         }
     }
+
+    // Whether one of the values is or has a double, and the most levels of one.
+    pub(super) fn doubles_and_levels(&self) -> (bool, u16)
+        ensures { result ≡ (
+          entries_have_double (entries_view self.now.entries),
+          entries_levels (entries_view self.now.entries),
+        ) }
+    {
+        match &self.first {
+            None => (false, 0),
+            Some(first) => {
+                let so_far = joined((false, 0), &first.1);
+                with_tree(with_entries(so_far, self.rest.as_slice()), &self.tail)
+            }
+        }
+    }
+}
+
+/// The entries that are left behind those of a vector: of a tree, or of a map that shares its keys.
+#[derive(Drop)]
+enum Behind<'a> {
+    Nothing,
+    Tree(Iter<'a, Key, Value>),
+    Shared(SharedIter<'a>),
 }
 
 /// The entries of a map that are left, in key order.
@@ -413,11 +475,26 @@ impl Entries {
 pub struct EntriesIter<'a> {
     first: Option<&'a (Key, Value)>,
     rest: slice::Iter<'a, (Key, Value)>,
-    tail: Option<Iter<'a, Key, Value>>,
+    behind: Behind<'a>,
+}
+
+impl<'a> EntriesIter<'a> {
+    // The entries of a map that shares its keys.
+    #[inline]
+    pub(super) fn of_shared(entries: SharedIter<'a>) -> EntriesIter<'a>
+        ensures { result ≡ entries.entry }
+    {
+        EntriesIter {
+            first: None,
+            rest: NO_ENTRIES.iter(),
+            behind: Behind::Shared(entries),
+        }
+    }
 }
 
 impl<'a> Model for EntriesIter<'a> {
-    ghost use Rattle.std.specs.Prelude.{List, [], ◌++◌, option_copied, option_to_list, unwrap_or};
+    ghost use Rattle.cel_value.specs.LeftBehind.{left_behind};
+    ghost use Rattle.std.specs.Prelude.{List, ◌++◌, option_copied, option_to_list};
     ghost use Rattle.std.specs.Slice.Iter.{iter_rest};
     ghost use Rattle.std.specs.Coded.{codes, coded_list};
     ghost use Rattle.cel_value.specs.Coded.{items_code, entries_code};
@@ -427,7 +504,8 @@ impl<'a> Model for EntriesIter<'a> {
 
     ghost coded = { Prim.hlevel (codes, items_code, entries_code) };
 
-    ghost view = { λ a. option_to_list (option_copied a.first) ++ (iter_rest a.rest ++ unwrap_or a.tail []) };
+    ghost view = { λ a. option_to_list (option_copied a.first)
+        ++ (iter_rest a.rest ++ left_behind a.behind) };
 }
 
 impl<'a> Iterator for EntriesIter<'a> {
@@ -449,9 +527,10 @@ impl<'a> Iterator for EntriesIter<'a> {
         if let Some(entry) = self.rest.next() {
             return Some((&entry.0, &entry.1));
         }
-        match &mut self.tail {
-            Some(tail) => tail.next(),
-            None => None,
+        match &mut self.behind {
+            Behind::Nothing => None,
+            Behind::Tree(tree) => tree.next(),
+            Behind::Shared(entries) => entries.next(),
         }
     }
 }

@@ -1,6 +1,6 @@
-use Rattle.std.proofs.Common.{arith, ◌≡◌, [], ◌∷◌, ◌++◌, ◌+◌, ◌-◌, ◌<◌, ◌≤◌, suc, length, take, take_all, map, option_map, refl, sym, ap, ◌∙◌, subst, inr}
-use Rattle.std.proofs.lemmas.List.{take_more}
-use Rattle.std.specs.Prelude.{IfSome}
+use Rattle.std.proofs.Common.{arith, ◌≡◌, Some, [], ◌∷◌, ◌++◌, ◌+◌, ◌-◌, ◌<◌, ◌≤◌, suc, length, take, take_all, map, option_map, refl, sym, ap, ◌∙◌, subst, inr}
+use Rattle.std.proofs.lemmas.List.{length_push, take_more}
+use Rattle.std.specs.Prelude.{IfSome, slice_get}
 use Rattle.serde_json.specs.Find.{get_member}
 use Rattle.serde_json.specs.View.{view as json_view, members_view}
 use Rattle.serde_json.specs.declared.value.Value.{Value as Json}
@@ -9,14 +9,16 @@ use Rattle.cel_demand.proofs.Parts.{alike_equal}
 use Rattle.cel_demand.specs.Alike.{Alike, ListsAlike}
 use Rattle.cel_demand.specs.Demand.{part_of, members_view as demands_view}
 use Rattle.cel_demand.specs.Part.{nothing, whole, each_item, some_members}
-use Rattle.cel_demand.specs.Places.{Entry}
-use Rattle.cel_value.specs.Data.{list, map_of, null, text_key}
+use Rattle.cel_demand.specs.Places.{Entry, name_of}
+use Rattle.cel_value.specs.Data.{Data, list, map_of, null, text_key}
 use Rattle.cel_value.specs.Find.{find}
 use Rattle.cel_value.specs.Keys.{put}
+use Rattle.cel_value.specs.Shared.{shared_entries}
 use Rattle.cel_value.specs.View.{view, entries_view, items_of}
+use Rattle.cel_value.specs.declared.key.Key.TheVariants as key
 use Rattle.kube_schema_values.specs.Conversion.{levels}
-use Rattle.kube_schema_parts.specs.Parts.{AreParts, entries_at, key_at, node_of_member, value_at}
-use Rattle.kube_schema_parts.proofs.Bound.{alike_by, items_more, items_part, list_bound, member_absent, member_there, members_part, no_parts, nothing_part, not_true, object_bound, part_missing, part_put, whole_part}
+use Rattle.kube_schema_parts.specs.Parts.{AreNamesIn, AreParts, entries_at, is_map_at, key_at, name_keys, node_of_member, value_at}
+use Rattle.kube_schema_parts.proofs.Bound.{alike_by, items_more, items_part, list_bound, member_absent, member_there, members_part, name_at, no_parts, no_shared, nothing_part, not_true, object_bound, own_key, part_missing, part_put, whole_part}
 use Rattle.kube_schema_parts.proofs.parts.+part.Goals as goal
 
 pub part_with-returns-in-Nothing-clause-value : goal.part_with-returns-in-Nothing-clause-value
@@ -145,3 +147,64 @@ add_part-returns-clause-added g t c = λ h bound is done k.
     (ap (λ y. find (text_key y) (entries_view c.args.parts.now.entries)) (sym copied) ∙ c.in_ok-is_new.ensures.new h)
     (ap (find (text_key n)) is ∙ member_there g.N.Node.accessors l o (members_view c.args.object.now.entries) n key d there) alike
     (c.in_ok-is_new.ensures.entered ∙ ap (λ y. put (text_key y) part (entries_view c.args.parts.now.entries)) copied) k
+
+pub item_parts-item_part-requires : goal.item_parts-item_part-requires
+item_parts-item_part-requires g t c κs within =
+    let names = subst (λ o. IfSome o (λ ks. AreNamesIn c.args.item.now ks)) (sym c.as_ref-names.ensures.value) c.in_ok-made.ensures.names in
+    (omega (arith, c.decreases), ((λ a h. within a h), (c.has_own_names-own.ensures, names)))
+
+pub member_part-returns-clause-part : goal.member_part-returns-clause-part
+member_part-returns-clause-part g t c =
+    let n = c.args.member.now.0 in
+    let o = option_map g.N.Node.seen c.args.node in
+    let l = 64 - c.args.depth in
+    let d = json_view c.in-Some.value.now in
+    let part = view c.in_ok-part.part in
+    let name = c.as_str-name.ensures in
+    let key = own_key (is_map_at g.N.Node.accessors o) n c.requires.own in
+    let there = c.in-Some.ensures ∙ ap (λ y. get_member y (members_view c.args.object.now.entries)) name in
+    let same : 65 - (c.args.depth + 1) ≡ l = omega arith in
+    let inner = c.node_of_member-inner.ensures ∙ ap (node_of_member g.N.Node.accessors o) name in
+    let alike = subst (λ p. Alike (part_of c.args.member.now.1) part (value_at g.N.Node.accessors l p d)) inner
+    (subst (λ m. Alike (part_of c.args.member.now.1) part (value_at g.N.Node.accessors m (option_map g.N.Node.seen c.node_of_member-inner.result) d)) same c.in_ok-part.ensures.value) in
+    (value_at g.N.Node.accessors l (node_of_member g.N.Node.accessors o n) d, member_there g.N.Node.accessors l o (members_view c.args.object.now.entries) n key d there, alike)
+
+pub shared_members-loop-member-init : goal.shared_members-loop-member-init
+shared_members-loop-member-init g t c =
+    let bound = entries_at g.N.Node.accessors (64 - c.args.depth) (option_map g.N.Node.seen c.args.node) (members_view c.args.object.now.entries) in
+    let parts = c.in_ok-parts.parts in
+    let none = c.in_ok-parts.ensures.none in
+    (none.0 ∙ c.requires.names ∙ ap name_keys (sym c.deref-member-items.ensures.value), ap length none.1, no_parts (entries_view (shared_entries parts)) bound (no_shared parts.keys parts.values none.1))
+
+pub shared_members-loop-member-preserved : goal.shared_members-loop-member-preserved
+shared_members-loop-member-preserved g t c =
+    let items = c.deref-member-items.result.now in
+    let i = c.loop-member.member-index in
+    let m : Entry = c.member-item.result in
+    let lt : i < length items = omega (arith, c.loop-member-test.true) in
+    let bound = entries_at g.N.Node.accessors (64 - c.args.depth) (option_map g.N.Node.seen c.args.node) (members_view c.args.object.now.entries) in
+    let k = c.loop-member.invariant in
+    let old = c.loop-member.parts in
+    let new = c.in_ok-parts-2.parts in
+    let count = ap length c.in_ok-parts-2.ensures.values ∙ length_push old.values c.in-Some.part ∙ ap (λ n. n + 1) k.1 in
+    let at : slice_get old.keys (length old.values) ≡ Some (key.String (name_of m)) = (λ j. slice_get (k.0 j) (k.1 j)) ∙ name_at items i m lt c.member-item.is in
+    let added = c.in_ok-parts-2.ensures.entries (key.String (name_of m)) at in
+    let found = subst (λ o. IfSome o (λ v. (w : Data) × (find (text_key (name_of m)) bound ≡ Some w) × Alike (part_of m.1) (view v) w)) c.in-Some.is c.in_ok-found.ensures.part in
+    let next = take_more items i m lt ∙ ap (λ y. take i items ++ y ∷ []) (sym c.member-item.is) in
+    let parts = part_put (take i items) m (view c.in-Some.part) found.0 (entries_view (shared_entries old)) bound (entries_view (shared_entries new)) added.0 found.1 found.2 added.1 k.2 in
+    (c.in_ok-parts-2.ensures.keys ∙ k.0, count, subst (λ es. AreParts (demands_view es) (entries_view (shared_entries new)) bound) (sym next) parts)
+
+pub shared_part-returns-in_ok-map-in-Some-found-clause-value : goal.shared_part-returns-in_ok-map-in-Some-found-clause-value
+shared_part-returns-in_ok-map-in-Some-found-clause-value g t c =
+    let p = some_members (demands_view c.args.members.now.items) in
+    let d = c.args.depth in
+    let o = option_map g.N.Node.seen c.args.node in
+    let object = members_view c.in-Some.object.now.entries in
+    let parts = entries_view (shared_entries c.in-Some-found.parts) in
+    let within : d ≤ 64 = c.in-Some.ensures.within in
+    let next : 65 - d ≡ suc (64 - d) = omega (arith, within) in
+    let bound = object_bound g.N.Node.accessors (65 - d) (64 - d) o (json_view c.args.value.now) object next c.in-Some.ensures.members in
+    let whole = entries_at g.N.Node.accessors (64 - d) o object in
+    let all : AreParts (demands_view c.args.members.now.items) parts whole = subst (λ o. IfSome o (λ r. AreParts (demands_view c.args.members.now.items) (entries_view (shared_entries r)) whole)) c.in-Some-found.is c.in_ok-found.ensures.members in
+    subst (λ v. Alike p v (value_at g.N.Node.accessors (65 - d) o (json_view c.args.value.now))) (sym c.in_ok-map-in-Some-found.ensures.value)
+    (subst (λ w. Alike p (map_of parts) w) (sym bound) (inr all.0))
