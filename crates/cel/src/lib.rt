@@ -40,7 +40,7 @@ pub use cel_value::{
     Duration, Entries, ExecutionError, Key, Kind, List, MAX_VALUE_LEVELS, Map, OptionalValue,
     Refused, Text, Timestamp, Value, laws as value_laws,
 };
-pub use cel_vm::run_code;
+pub use cel_vm::{Stacks, run_code};
 pub use cel_vm_code::{Instr, Operation, Test};
 pub use kube_types::{
     FormatKind, IntegerError, KubeCIDR, KubeFormat, KubeIP, KubeQuantity, KubeSemver, KubeUrl,

@@ -23,7 +23,7 @@ use cel_semantics::{Answer, Context, Functions};
 use cel_syntax::{ParseErrors, References, parse};
 use cel_syntax_ast::Expr;
 use cel_value::Refused;
-use cel_vm::run_code;
+use cel_vm::{Stacks, run_code, run_code_in};
 use cel_vm_code::{Instr, compile_tree};
 use std::alloc::Global;
 
@@ -140,5 +140,24 @@ impl Program {
             (program_term self.now) (bindings_of context.now))) }
     {
         run_code(alloc, self.code.as_slice(), context, book)
+    }
+
+    /// Runs the program like [`execute_with`](Program::execute_with), on stacks that are lent.
+    ///
+    /// # Errors
+    /// [`Refused`] if memory is refused, or the function set refuses a call.
+    pub fn execute_in<F: Functions>(
+        &self,
+        alloc: Global,
+        context: &Context<'_, F>,
+        book: &mut PatternBook,
+        stacks: &mut Stacks,
+    ) -> Result<Answer, Refused>
+        ensures keeps { Extends (entries_of book.new) (entries_of book.old) }
+        ensures value { IfOk result (λ r. HoldsForExtensions (entries_of book.new) (outcome_view r)
+            (λ b. meaning (F.library (functions_of context.now)) b
+            (program_term self.now) (bindings_of context.now))) }
+    {
+        run_code_in(alloc, self.code.as_slice(), context, book, stacks)
     }
 }

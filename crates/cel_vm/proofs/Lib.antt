@@ -1,7 +1,7 @@
 pub mod Runs
 pub mod Walks
 pub mod Finish
-pub mod Stacks
+pub mod StackSteps
 pub mod Tops
 pub mod Rounds
 pub mod Sets

@@ -13,4 +13,5 @@ mod stack;
 mod state;
 mod turns;
 
-pub use run::run_code;
+pub use run::{run_code, run_code_in};
+pub use state::Stacks;

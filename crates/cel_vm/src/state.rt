@@ -1,11 +1,12 @@
 //! The state of a run.
-ghost use Rattle.std.specs.Prelude.{◌<◌, length};
+ghost use Rattle.std.specs.Prelude.{◌≡◌, ◌<◌, [], length};
 ghost use Rattle.cel_semantics.specs.Ranges.{range_list};
 
 use cel_semantics::operators::Answer;
 use cel_semantics::ranges::Range;
 use cel_syntax_ast::MacroKind;
 use cel_value::{ExecutionError, Value};
+use std::alloc::Global;
 
 /// A loop: its range, the index of the current item, the results so far, and the
 /// program counters where its body starts and ends.
@@ -20,12 +21,43 @@ pub struct LoopState {
 }
 
 /// The stacks of values, of pending errors and of loops, and a buffer for the arguments of a call.
+/// They can be lent to one run after another, which then need no memory of their own.
 #[derive(Drop)]
 pub struct Stacks {
-    pub values: Vec<Answer>,
-    pub absorbed: Vec<Option<ExecutionError>>,
-    pub loops: Vec<LoopState>,
-    pub args: Vec<Value>,
+    pub(crate) values: Vec<Answer>,
+    pub(crate) absorbed: Vec<Option<ExecutionError>>,
+    pub(crate) loops: Vec<LoopState>,
+    pub(crate) args: Vec<Value>,
+}
+
+impl Stacks {
+    /// Returns empty stacks, for runs that allocate from `alloc`. Allocates nothing.
+    pub fn new(alloc: Global) -> Stacks
+        ensures values { result.values.items ≡ [] }
+        ensures absorbed { result.absorbed.items ≡ [] }
+        ensures loops { result.loops.items ≡ [] }
+        ensures args { result.args.items ≡ [] }
+    {
+        Stacks {
+            values: Vec::new(alloc),
+            absorbed: Vec::new(alloc),
+            loops: Vec::new(alloc),
+            args: Vec::new(alloc),
+        }
+    }
+
+    /// Drops what a run left that was refused.
+    pub(crate) fn clear(&mut self)
+        ensures values { self.new.values.items ≡ [] }
+        ensures absorbed { self.new.absorbed.items ≡ [] }
+        ensures loops { self.new.loops.items ≡ [] }
+        ensures args { self.new.args.items ≡ [] }
+    {
+        self.values.clear();
+        self.absorbed.clear();
+        self.loops.clear();
+        self.args.clear();
+    }
 }
 
 /// The end of a loop's body: the macro, and whether its body has a filter.

@@ -12,7 +12,7 @@ ghost use Rattle.serde_json.specs.View.{view};
 ghost use Rattle.std.specs.List.{flat_map};
 ghost use Rattle.std.specs.Prelude.{◌≡◌, OnOk, Option, option_map, Some};
 
-use cel::PatternBook;
+use cel::{PatternBook, Stacks};
 use cel_demand::Demand;
 use cel_value::Value as CelValue;
 use kube_cel_walk::verdict::{Context, add_verdict};
@@ -47,6 +47,7 @@ fn add_verdicts(
     old: Option<&Value>,
     path: &str,
     book: &mut PatternBook,
+    stacks: &mut Stacks,
     errors: &mut Vec<ValidationError>,
 ) -> Result<(), Refused>
     ensures keeps { (b : Book) → Extends b (entries_of book.new) → Extends b (entries_of book.old) }
@@ -56,7 +57,7 @@ fn add_verdicts(
         (option_map (λ v. view v.now) old.entry) path.now (compiled_seen r))) rules.now)) }
 {
     for rule in rules {
-        add_verdict(rule, context, old, path, book, errors)?;
+        add_verdict(rule, context, old, path, book, stacks, errors)?;
     }
     Ok(())
 }
@@ -134,9 +135,18 @@ impl Node for CompiledNode<'_> {
         old: Option<&Value>,
         path: &str,
         book: &mut PatternBook,
+        stacks: &mut Stacks,
         errors: &mut Vec<ValidationError>,
     ) -> Result<(), Refused> {
-        add_verdicts(self.node.validations(), context, old, path, book, errors)?;
+        add_verdicts(
+            self.node.validations(),
+            context,
+            old,
+            path,
+            book,
+            stacks,
+            errors,
+        )?;
         Ok(())
     }
 }

@@ -17,7 +17,7 @@ ghost use Rattle.std.specs.List.{flat_map};
 ghost use Rattle.std.specs.Prelude.{◌≡◌, codes, IfOk, OnOk, Option, option_and_then, option_map, Some};
 
 use crate::cache::RuleCache;
-use cel::PatternBook;
+use cel::{PatternBook, Stacks};
 use cel_demand::Demand;
 use cel_value::Value as CelValue;
 use kube_cel_walk::verdict::{Context, add_verdict};
@@ -113,6 +113,7 @@ fn add_raw_verdict(
     old: Option<&Value>,
     path: &str,
     book: &mut PatternBook,
+    stacks: &mut Stacks,
     errors: &mut Vec<ValidationError>,
 ) -> Result<(), Refused>
     ensures keeps { (b : Book) → Extends b (entries_of book.new) → Extends b (entries_of book.old) }
@@ -121,7 +122,7 @@ fn add_raw_verdict(
         (option_map (λ v. view v.now) old.entry) path.now (compiled_rule (view rule.now))))) }
 {
     let compiled = cache.compiled(rule)?;
-    add_verdict(&compiled, context, old, path, book, errors)
+    add_verdict(&compiled, context, old, path, book, stacks, errors)
 }
 
 /// Adds the verdicts of the rules in a JSON list, in order.
@@ -132,6 +133,7 @@ fn add_verdicts(
     old: Option<&Value>,
     path: &str,
     book: &mut PatternBook,
+    stacks: &mut Stacks,
     errors: &mut Vec<ValidationError>,
 ) -> Result<(), Refused>
     ensures keeps { (b : Book) → Extends b (entries_of book.new) → Extends b (entries_of book.old) }
@@ -141,7 +143,7 @@ fn add_verdicts(
         (compiled_rules (items_view rules.now)))) }
 {
     for rule in rules {
-        add_raw_verdict(rule, cache, context, old, path, book, errors)?;
+        add_raw_verdict(rule, cache, context, old, path, book, stacks, errors)?;
     }
     Ok(())
 }
@@ -236,10 +238,11 @@ impl Node for JsonNode<'_> {
         old: Option<&Value>,
         path: &str,
         book: &mut PatternBook,
+        stacks: &mut Stacks,
         errors: &mut Vec<ValidationError>,
     ) -> Result<(), Refused> {
         let rules = rule_values(self.schema);
-        add_verdicts(rules, self.cache, context, old, path, book, errors)?;
+        add_verdicts(rules, self.cache, context, old, path, book, stacks, errors)?;
         Ok(())
     }
 }

@@ -23,7 +23,7 @@ use crate::node::Node;
 use crate::rule_error::deep_error;
 use crate::state::{WalkState, is_alone};
 use crate::verdict::{Context, bind_root};
-use cel::PatternBook;
+use cel::{PatternBook, Stacks};
 use cel_demand::Demand;
 use kube_types::Refused;
 use serde_json::Value;
@@ -144,6 +144,7 @@ fn add_anew<N: Node>(
     state: &WalkState<'_, N>,
     path: &str,
     book: &mut PatternBook,
+    stacks: &mut Stacks,
     errors: &mut Vec<ValidationError>,
 ) -> Result<(), Refused>
     ensures keeps { (b : Book) → Extends b (entries_of book.new) → Extends b (entries_of book.old) }
@@ -156,7 +157,7 @@ fn add_anew<N: Node>(
     bind_place(alloc, &mut context, state)?;
     state
         .node
-        .add_verdicts(&context, state.old, path, book, errors)?;
+        .add_verdicts(&context, state.old, path, book, stacks, errors)?;
     Ok(())
 }
 
@@ -175,10 +176,10 @@ fn add_kept<N: Node>(
         (visit_at N.seen state.now path.now))) }
 {
     bind_alone(*errors.allocator(), kept, state)?;
-    let context = &kept.context;
+    let (context, stacks) = (&kept.context, &mut kept.stacks);
     state
         .node
-        .add_verdicts(context, state.old, path, book, errors)?;
+        .add_verdicts(context, state.old, path, book, stacks, errors)?;
     Ok(())
 }
 
@@ -206,6 +207,6 @@ pub(crate) fn validate_at<N: Node>(
         add_kept(state, path, kept, book, errors)?;
         return Ok(());
     }
-    add_anew(state, path, book, errors)?;
+    add_anew(state, path, book, &mut kept.stacks, errors)?;
     Ok(())
 }

@@ -1,16 +1,18 @@
-//! The context that a walk keeps from place to place.
+//! What a walk keeps from place to place.
 ghost use Rattle.cel_semantics.specs.Bindings.{bindings_of};
 ghost use Rattle.kube_cel_walk.specs.Kept.{BindsOnly};
 ghost use Rattle.std.specs.Prelude.{codes};
 
 use crate::verdict::Context;
+use cel::Stacks;
 use std::alloc::Global;
 
-/// A context that is kept from place to place, so that it isn't allocated
-/// anew at each. No name but `self` is bound in it.
+/// A context and the stacks that rules run on, which are kept from place to place, so that
+/// they aren't allocated anew at each. No name but `self` is bound in the context.
 #[derive(Drop)]
 pub struct KeptContext<'a> {
     pub(crate) context: Context<'a>,
+    pub(crate) stacks: Stacks,
     ghost only_self: { BindsOnly (codes "self") (bindings_of context) },
 }
 
@@ -19,6 +21,7 @@ impl<'a> KeptContext<'a> {
     pub fn new(alloc: Global) -> KeptContext<'a> {
         KeptContext {
             context: Context::default(alloc),
+            stacks: Stacks::new(alloc),
         }
     }
 }

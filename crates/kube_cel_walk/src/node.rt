@@ -19,7 +19,7 @@ ghost use Rattle.std.specs.Prelude.{◌≡◌, IfOk, IsTrue, OnOk, Option, optio
 use crate::demands::NodeDemands;
 use crate::error::ValidationError;
 use crate::verdict::Context;
-use cel::PatternBook;
+use cel::{PatternBook, Stacks};
 use cel_demand::Demand;
 use cel_value::Value as CelValue;
 use kube_schema_rules::BranchKind;
@@ -83,13 +83,15 @@ pub trait Node: Copy {
     fn is_without_rules(&self) -> bool
         ensures { result ≡ is_none_of (form.rules (seen self.now)) };
 
-    /// Adds the verdicts of the node's rules, in order. The names are bound in `context`.
+    /// Adds the verdicts of the node's rules, in order. The names are bound in `context`, and the
+    /// rules run on `stacks`.
     fn add_verdicts(
         &self,
         context: &Context<'_>,
         old: Option<&Value>,
         path: &str,
         book: &mut PatternBook,
+        stacks: &mut Stacks,
         errors: &mut Vec<ValidationError>,
     ) -> Result<(), Refused>
         ensures keeps { (b : Book) → Extends b (entries_of book.new) → Extends b (entries_of book.old) }

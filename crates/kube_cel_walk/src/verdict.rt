@@ -20,7 +20,7 @@ ghost use Rattle.std.specs.Prelude.{◌≡◌, ◌++◌, ◌∷◌, [], codes, I
 use crate::error::ValidationError;
 use crate::root::RootContext;
 use crate::rule_error::{failed_rule_error, fault_error, malformed_error, no_bool_error};
-use cel::{Answer, PatternBook};
+use cel::{Answer, PatternBook, Stacks};
 use cel_value::Value as CelValue;
 use kube_functions::AllFunctions;
 use kube_schema_rules::{CompilationError, CompilationResult, Rule};
@@ -236,6 +236,7 @@ fn add_where_bound(
     context: &Context<'_>,
     path: &str,
     book: &mut PatternBook,
+    stacks: &mut Stacks,
     errors: &mut Vec<ValidationError>,
 ) -> Result<(), Refused>
     ensures keeps { (b : Book) → Extends b (entries_of book.new) → Extends b (entries_of book.old) }
@@ -245,7 +246,7 @@ fn add_where_bound(
 {
     let outcome = rule
         .program
-        .execute_with(*errors.allocator(), context, book)?;
+        .execute_in(*errors.allocator(), context, book, stacks)?;
     if is_true(&outcome) {
         return Ok(());
     }
@@ -260,6 +261,7 @@ fn add_where_old_null(
     context: &Context<'_>,
     path: &str,
     book: &mut PatternBook,
+    stacks: &mut Stacks,
     errors: &mut Vec<ValidationError>,
 ) -> Result<(), Refused>
     ensures keeps { (b : Book) → Extends b (entries_of book.new) → Extends b (entries_of book.old) }
@@ -269,7 +271,7 @@ fn add_where_old_null(
 {
     let mut inner = context.new_inner_scope();
     inner.add_variable("oldSelf", null_old_self())?;
-    add_where_bound(rule, &inner, path, book, errors)?;
+    add_where_bound(rule, &inner, path, book, stacks, errors)?;
     Ok(())
 }
 
@@ -281,6 +283,7 @@ fn add_compiled(
     old: Option<&Value>,
     path: &str,
     book: &mut PatternBook,
+    stacks: &mut Stacks,
     errors: &mut Vec<ValidationError>,
 ) -> Result<(), Refused>
     ensures keeps { (b : Book) → Extends b (entries_of book.new) → Extends b (entries_of book.old) }
@@ -292,10 +295,10 @@ fn add_compiled(
         return Ok(());
     }
     if is_old_null(&rule.rule, old) {
-        add_where_old_null(rule, context, path, book, errors)?;
+        add_where_old_null(rule, context, path, book, stacks, errors)?;
         return Ok(());
     }
-    add_where_bound(rule, context, path, book, errors)?;
+    add_where_bound(rule, context, path, book, stacks, errors)?;
     Ok(())
 }
 
@@ -315,7 +318,7 @@ fn add_malformed(
 }
 
 /// Appends the verdict of a rule in this context, if it is
-/// an error. `old` is the old value at the place, if any.
+/// an error. `old` is the old value at the place, if any. The rule runs on `stacks`.
 ///
 /// # Errors
 ///
@@ -326,6 +329,7 @@ pub fn add_verdict(
     old: Option<&Value>,
     path: &str,
     book: &mut PatternBook,
+    stacks: &mut Stacks,
     errors: &mut Vec<ValidationError>,
 ) -> Result<(), Refused>
     ensures keeps { (b : Book) → Extends b (entries_of book.new) → Extends b (entries_of book.old) }
@@ -339,7 +343,7 @@ pub fn add_verdict(
             Ok(())
         }
         Ok(rule) => {
-            add_compiled(rule, context, old, path, book, errors)?;
+            add_compiled(rule, context, old, path, book, stacks, errors)?;
             Ok(())
         }
     }

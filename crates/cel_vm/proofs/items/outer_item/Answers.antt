@@ -2,7 +2,7 @@ use Rattle.std.proofs.Common.{rules, arith, ◌≡◌, ◌+◌, ◌-◌, ◌≤�
 use Rattle.std.specs.Prelude.{slice_get}
 use Rattle.std.proofs.lemmas.Option.{slice_get_read}
 use Rattle.cel_vm.specs.State.{loop_view}
-use Rattle.cel_vm.proofs.Stacks.{outward_is, none_outward}
+use Rattle.cel_vm.proofs.StackSteps.{outward_is, none_outward}
 use Rattle.cel_vm.proofs.items.outer_item.Goals as goal
 
 pub returns-then-outward-count : goal.returns-then-outward-count

@@ -1,5 +1,5 @@
 use Rattle.std.proofs.Common.{◌-◌, ◌∙◌, ap}
-use Rattle.cel_vm.proofs.Stacks.{drop_outcomes}
+use Rattle.cel_vm.proofs.StackSteps.{drop_outcomes}
 use Rattle.cel_vm.proofs.operands.drop_top.Goals as goal
 
 pub returns : goal.returns
