@@ -1,5 +1,7 @@
 //! Exit statuses, and the reasons why a command stops.
 ghost use Rattle.celcheck_cli.specs.Reports.{IsOfPath, status_after};
+ghost use Rattle.celcheck_cli.specs.declared.status.Stop.TheVariants as stop;
+ghost use Rattle.kube_types_refused.specs.declared.Refused.TheVariants.{Memory};
 ghost use Rattle.std.specs.Prelude.{◌≡◌};
 
 use kube_cel::Refused;
@@ -25,12 +27,16 @@ pub(crate) enum Stop {
 }
 
 impl From<Refused> for Stop {
+    ghost from_gives = { λ r s. s ≡ stop.Refused r };
+
     fn from(refused: Refused) -> Stop {
         Stop::Refused(refused)
     }
 }
 
 impl From<AllocError> for Stop {
+    ghost from_gives = { λ _ s. s ≡ stop.Refused Memory };
+
     fn from(_error: AllocError) -> Stop {
         Stop::Refused(Refused::Memory)
     }
