@@ -12,7 +12,7 @@ ghost use Rattle.cel_vm.specs.Correct.{Turns, TurnsValues, Lacks};
 
 use crate::stack::{
     drop_answer, drop_pending, is_clear, is_on_top, pop_answer, pop_pending, push_answer,
-    push_pending, put_top, top,
+    push_pending, put_below, top,
 };
 use cel_semantics::operators::{Answer, Progress, absorb, no_such_overload, undecided_answer};
 use cel_value::{ExecutionError, Refused, Value};
@@ -395,13 +395,15 @@ pub(crate) fn top_two(values: &Vec<Answer>) -> Option<(&Value, &Value)>
 }
 
 /// Replaces the two topmost answers by this one.
+// The lower one is replaced first: where its kind was just seen, the compiler drops it without a
+// look, as long as nothing was written in between.
 #[inline(always)]
 pub(crate) fn put_over_two(values: &mut Vec<Answer>, answer: Answer)
     ensures { (r : Outcome) (s : Outcome) (vs : List Outcome) → outcomes values.old.items ≡ r ∷ s ∷ vs
         → outcomes values.new.items ≡ outcome_view answer ∷ vs }
 {
+    put_below(values, answer);
     drop_answer(values);
-    put_top(values, answer);
 }
 
 /// Pops `count` values into `found`, the lowest first. Returns false

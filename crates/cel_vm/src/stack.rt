@@ -10,6 +10,7 @@ use crate::state::LoopState;
 use cel_semantics::operators::Answer;
 use cel_value::{ExecutionError, Refused, Value};
 use std::alloc::AllocError;
+use std::mem::forget;
 
 /// Pushes an element.
 // With spare capacity this takes only a few stores, so it is inlined, as
@@ -100,6 +101,16 @@ pub fn is_on_top(values: &Vec<Answer>, sought: bool) -> bool
     }
 }
 
+/// Drops an answer.
+// A null, a bool and an int hold no memory. They are told apart by one comparison, where the
+// drop of a value jumps to its kind.
+#[inline(always)]
+pub fn discard(answer: Answer) {
+    if matches!(&answer, Ok(Value::Null | Value::Bool(_) | Value::Int(_))) {
+        forget(answer);
+    }
+}
+
 /// Drops the topmost answer.
 #[inline(always)]
 pub fn drop_answer(values: &mut Vec<Answer>)
@@ -108,7 +119,7 @@ pub fn drop_answer(values: &mut Vec<Answer>)
 {
     let count = values.len();
     if 0 < count {
-        let _ = values.take_last();
+        discard(values.take_last());
     }
 }
 
@@ -121,6 +132,18 @@ pub fn put_top(values: &mut Vec<Answer>, answer: Answer)
     let count = values.len();
     if 0 < count {
         values[count - 1] = answer;
+    }
+}
+
+/// Replaces the answer below the topmost one.
+#[inline(always)]
+pub fn put_below(values: &mut Vec<Answer>, answer: Answer)
+    ensures { (r : Outcome) (s : Outcome) (vs : List Outcome) → outcomes values.old.items ≡ r ∷ s ∷ vs
+        → outcomes values.new.items ≡ r ∷ outcome_view answer ∷ vs }
+{
+    let count = values.len();
+    if 1 < count {
+        values[count - 2] = answer;
     }
 }
 

@@ -1,7 +1,7 @@
 //! What a walk keeps from place to place.
 ghost use Rattle.cel_semantics.specs.Bindings.{bindings_of};
 ghost use Rattle.kube_cel_walk.specs.Kept.{BindsOnly};
-ghost use Rattle.std.specs.Prelude.{codes};
+ghost use Rattle.std.specs.Prelude.{◌≡◌, [], codes};
 
 use crate::verdict::Context;
 use cel::Stacks;
@@ -18,7 +18,9 @@ pub struct KeptContext<'a> {
 
 impl<'a> KeptContext<'a> {
     /// Returns a context that binds no name yet. Allocates nothing.
-    pub fn new(alloc: Global) -> KeptContext<'a> {
+    pub fn new(alloc: Global) -> KeptContext<'a>
+        ensures { bindings_of result.context ≡ [] }
+    {
         KeptContext {
             context: Context::default(alloc),
             stacks: Stacks::new(alloc),
