@@ -1,7 +1,9 @@
 -- Maps that share their keys.
 use Rattle.std.proofs.Common.{◌≡◌, ◌≤◌, ◌<◌, false, true, cond, subst, Ordering, Equal, ℕ, zero, suc, Bool, Some, None, List, [], ◌∷◌, ◌++◌, Less, Greater, refl, sym, ap, ◌∙◌, arith, length, drop, get_or}
-use Rattle.std.specs.Prelude.{zip, slice_get, if◌then◌else◌}
-use Rattle.std.specs.List.{AllByRecursion}
+use Rattle.std.specs.Prelude.{zip, slice_get, Option, IfSome, MatchOption, option_copied, Result, Ok, Err, OnOk, OnErr, if◌then◌else◌}
+use Rattle.std.specs.Borrow.{Bor}
+use Rattle.std.proofs.lemmas.Option.{slice_get_past, slice_get_read}
+use Rattle.std.specs.List.{AllByRecursion, HoldsAt}
 use Rattle.std.specs.List.Sorted.{IsStrictlySortedBy}
 use Rattle.std.specs.Map.{keys_of, lookup}
 use Rattle.std.specs.Ordering.{is_eq, is_lt}
@@ -15,9 +17,6 @@ use Rattle.cel_value.specs.Same.{entries_have_double, items_have_double}
 use Rattle.cel_value.specs.View.{view, items_view, entries_view}
 use Rattle.cel_value.specs.declared.key.Key.{Key}
 use Rattle.cel_value.specs.declared.value.Value.{Value}
-use Rattle.cel_value.specs.declared.value.Values.{Values}
-use Rattle.cel_value.specs.declared.value.Values.TheVariants as values
-use Rattle.cel_value.specs.SharedEntries.{HasPlace, Suits, values_of}
 use Rattle.cel_value.proofs.Stored.{above}
 
 -- ---- keys in order
@@ -136,6 +135,12 @@ module _ (test : Key → Bool) where
   none_left (k ∷ ks) [] (suc i) l = ap (lookup test) (zip_none (drop i ks))
   none_left (k ∷ ks) (v ∷ vs) (suc i) l = none_left ks vs i (omega (arith, l))
 
+-- ---- what is read at an index
+
+pub read_at : (vs : List Value) (i : ℕ) (r : Option (Bor Value)) → MatchOption r (length vs ≤ i) (λ x. (i < length vs) × HoldsAt (λ y. x.now ≡ y) vs i) → IfSome r (λ x. x.now ≡ get_or vs i x.now) → option_copied r ≡ slice_get vs i
+read_at vs i None h s = sym (slice_get_past vs i h)
+read_at vs i (Some x) h s = sym (slice_get_read vs _ i x.now refl h.0 s)
+
 -- ---- the entries that are left
 
 pub next_left : (ks : List Key) (vs : List Value) (i : ℕ) (k : Key) (v : Value) → slice_get ks i ≡ Some k → slice_get vs i ≡ Some v → drop i (zip ks vs) ≡ (k, v) ∷ drop (suc i) (zip ks vs)
@@ -166,13 +171,6 @@ pub longer : (vs : List Value) (v : Value) → length (vs ++ v ∷ []) ≡ suc (
 longer [] v = refl
 longer (w ∷ vs) v = ap suc (longer vs v)
 
-pub has_place : (ks : List Key) (vs : Values) → Suits ks vs → length (values_of vs) < length ks → HasPlace vs
-has_place ks values.Empty s l = tt
-has_place ks (values.One a) s l = tt
-has_place ks (values.Two a b) s l = tt
-has_place ks (values.Three a b c) s l = omega (arith, s, l)
-has_place ks (values.Many vs) s l = tt
-
 at_key : (P : Key → Type 0) (ks : List Key) (i : ℕ) (k : Key) → AllByRecursion P ks → slice_get ks i ≡ Some k → P k
 at_key P [] i k a h = absurd cc
 at_key P (l ∷ ks) zero k a h = let e : l ≡ k = cc in subst P e a.0
@@ -191,6 +189,15 @@ not_there (l ∷ ks) [] k s h = refl
 not_there (l ∷ ks) (w ∷ vs) k s h =
     ap (λ o. if is_eq o then Some (view w) else find (key_view k) (entries_view (zip ks vs))) (above l k (at_key (λ y. key_cmp l y ≡ Less) ks (length vs) k (sorted_head key_cmp l ks s) h))
     ∙ not_there ks vs k (sorted_tail key_cmp l ks s) h
+
+pub still_fits : {A E : Type 0} (r : Result A E) (n : ℕ) (vs ws : List Value) (v : Value) → length vs < n → OnOk r (ws ≡ vs ++ v ∷ []) → OnErr r (ws ≡ vs) → length ws ≤ n
+still_fits (Ok a) n vs ws v l h k = omega (arith, l, ap length h, longer vs v)
+still_fits (Err e) n vs ws v l h k = omega (arith, l, ap length k)
+
+pub entry_pushed : {A E : Type 0} (r : Result A E) (ks : List Key) (vs ws : List Value) (v : Value) → IsStrictlySortedBy key_cmp ks → OnOk r (ws ≡ vs ++ v ∷ [])
+    → OnOk r ((k : Key) → slice_get ks (length vs) ≡ Some k → (find (key_view k) (entries_view (zip ks vs)) ≡ None) × (entries_view (zip ks ws) ≡ put (key_view k) (view v) (entries_view (zip ks vs))))
+entry_pushed (Ok a) ks vs ws v s h = λ k p. (not_there ks vs k s p, ap (λ us. entries_view (zip ks us)) h ∙ pushed ks vs k v s p)
+entry_pushed (Err e) ks vs ws v s h = tt
 
 -- ---- copied entries
 

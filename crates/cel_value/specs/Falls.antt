@@ -1,13 +1,14 @@
 -- Scaffolding: only proofs and private clauses cite it.
 -- Each part of a value has a smaller weight than the whole.
-use Rattle.std.specs.Prelude.{◌≡◌, ◌≤◌, ℕ, suc, max, ◌+◌, List, [], ◌∷◌, ◌++◌, Option, Some, None, length, map, zip}
+use Rattle.std.specs.Prelude.{◌≡◌, ◌≤◌, ℕ, zero, suc, max, take, drop, ◌+◌, List, [], ◌∷◌, ◌++◌, Option, Some, None, length, map, zip}
+use Rattle.std.specs.List.{AllByRecursion}
 use Rattle.std.proofs.Common.{arith, ap}
 use Rattle.std.specs.declared.alloc.Global.{Global}
 use Rattle.std.specs.declared.rc.Rc.{Rc}
 use Rattle.std.specs.Global.{Vec, Box}
 use Rattle.std.specs.BTreeMap.{BTreeMap}
 use Rattle.cel_value.specs.Weights.{weight, items_weight, entries_weight, map_weight, held_weight, listed_weight, shared_weight}
-use Rattle.cel_value.specs.SharedEntries.{map_entries, values_of}
+use Rattle.cel_value.specs.SharedEntries.{AreInPlace, map_entries, values_of}
 use Rattle.cel_value.specs.StoredEntries.{AreStored, all_entries, tree_entries}
 use Rattle.cel_value.specs.View.{view, items_view, entries_view, alone, held_view}
 use Rattle.cel_value.specs.declared.key.Key.{Key}
@@ -113,16 +114,21 @@ zipped [] (v ∷ vs) h = absurd (omega (arith, h))
 zipped (k ∷ ks) [] h = omega arith
 zipped (k ∷ ks) (v ∷ vs) h = omega (arith, zipped ks vs (omega (arith, h)))
 
-values_fall : (vs : Values) → suc (deep-Values vs) ≤ items_weight (items_view (values_of vs))
-values_fall values.Empty = omega arith
-values_fall (values.One a) = omega (arith, lighter a)
-values_fall (values.Two a b) = omega (arith, lighter a, lighter b)
-values_fall (values.Three a b c) = omega (arith, lighter a, lighter b, lighter c)
-values_fall (values.Many vs) = no_more (most (λ v. deep-Value v) vs.items) (items_weight (items_view vs.items)) (most_items vs.items)
+-- what is `null` weighs nothing
+most_places : (n : ℕ) (vs : List Value) → AllByRecursion (λ v. v ≡ value.Null) (drop n vs)
+    → suc (most (λ v. deep-Value v) vs) ≤ items_weight (items_view (take n vs))
+most_places zero [] h = omega arith
+most_places (suc n) [] h = omega arith
+most_places zero (v ∷ vs) h = omega (arith, ap (λ v. deep-Value v) h.0, most_places zero vs h.1)
+most_places (suc n) (v ∷ vs) h = omega (arith, lighter v, most_places n vs h)
 
-pub shared_falls : (a : sharings.Inside) → length (values_of a.values) ≤ length a.keys.value.items
+values_fall : (vs : Values) → AreInPlace vs → suc (deep-Values vs) ≤ items_weight (items_view (values_of vs))
+values_fall (values.Few a) h = omega (arith, most_places a.count a.values h.2)
+values_fall (values.Many vs) h = no_more (most (λ v. deep-Value v) vs.items) (items_weight (items_view vs.items)) (most_items vs.items)
+
+pub shared_falls : (a : sharings.Inside) → length (values_of a.values) ≤ length a.keys.value.items → AreInPlace a.values
     → deep-SharedEntries a ≤ shared_weight (record { keys = a.keys.value.items; values = values_of a.values })
-shared_falls a h = omega (arith, values_fall a.values, zipped a.keys.value.items (values_of a.values) h)
+shared_falls a h p = omega (arith, values_fall a.values p, zipped a.keys.value.items (values_of a.values) h)
 
 map_entries_fall : (m : MapEntries) → deep-MapEntries m ≤ entries_weight (entries_view (map_entries m))
 map_entries_fall (map_entry.Own e) = omega (arith, some_weight (entries_view e.entries))

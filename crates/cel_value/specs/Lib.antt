@@ -18,3 +18,4 @@ pub mod StoredEntries
 pub mod Texts
 pub mod View
 pub mod Weights
+pub mod Replaced

@@ -1,6 +1,6 @@
 -- Trusted by the clauses of other library calls.
 -- The entries of a map as they are stored: the first, and the others in key order, of which the last may be in a tree.
-use Rattle.std.specs.Prelude.{◌≡◌, ◌≤◌, ℕ, suc, List, [], ◌∷◌, Option, Some, None, Result, Ok, Err, length}
+use Rattle.std.specs.Prelude.{◌≡◌, ◌≤◌, ℕ, zero, suc, List, [], ◌∷◌, Option, Some, None, Result, Ok, Err, length}
 use Rattle.std.specs.Global.{Box}
 use Rattle.std.specs.List.Sorted.{IsStrictlySortedBy}
 use Rattle.std.specs.BTreeMap.{BTreeMap}
@@ -39,3 +39,9 @@ place_of k (e ∷ es) = match_ordering (key_cmp k e.0) (Err 0) (Ok 0) (one_furth
 abbrev pub tree_entries : Option (Box (BTreeMap Key Value)) → List Entry
 tree_entries None = []
 tree_entries (Some tree) = tree.value.entries
+
+-- the entries with another value at an index
+abbrev pub with_value_at : ℕ → Value → List Entry → List Entry
+with_value_at i v [] = []
+with_value_at zero v (e ∷ es) = (e.0, v) ∷ es
+with_value_at (suc i) v (e ∷ es) = e ∷ with_value_at i v es

@@ -81,9 +81,10 @@ impl PartialEq for Key {
 
     ghost laws = { partial_equiv_from_equiv key_equiv };
 
+    #[inline]
     fn eq(&self, other: &Key) -> bool {
         match (self, other) {
-            (Key::String(a), Key::String(b)) => a.as_str() == b.as_str(),
+            (Key::String(a), Key::String(b)) => a.is_same(b),
             _ => matches!(self.cmp(other), Ordering::Equal),
         }
     }

@@ -1,5 +1,6 @@
 //! The texts of strings and of keys.
-ghost use Rattle.std.specs.Prelude.{◌≡◌, ◌<◌, length, IfOk, MatchOption, string_bytes};
+ghost use Rattle.std.specs.Prelude.{◌≡◌, ◌<◌, length, IfOk, MatchOption, bytes_eq, string_bytes, take, drop};
+ghost use Rattle.std.specs.Int.{from_le_bytes, to_le_bytes, w16, w32, w64};
 
 use std::alloc::{AllocError, Global};
 use std::marker::Model;
@@ -9,7 +10,8 @@ use std::{fmt, str};
 /// The largest number of bytes that a text holds in itself.
 const SHORT_LEN: usize = 14;
 
-/// A text of up to 14 bytes. What lies behind its length is unused.
+/// A text of up to 14 bytes. What lies behind its length is zero, so that two texts are equal
+/// exactly if their lengths and all their bytes are.
 #[derive(Drop)]
 struct ShortText {
     len: u8,
@@ -17,13 +19,13 @@ struct ShortText {
 }
 
 impl Model for ShortText {
-    ghost use Rattle.std.specs.Prelude.{◌≤◌, ℕ, List, take, IsUtf8};
+    ghost use Rattle.std.specs.Prelude.{◌≡◌, ◌-◌, ◌≤◌, ℕ, List, take, drop, replicate, IsUtf8};
 
     ghost Value = { List ℕ };
 
     ghost view = { λ s. take s.len s.bytes };
 
-    ghost invariant = { λ s. (s.len ≤ 14) × ∥ IsUtf8 (take s.len s.bytes) ∥₁ };
+    ghost invariant = { λ s. (s.len ≤ 14) × ∥ IsUtf8 (take s.len s.bytes) ∥₁ × (drop s.len s.bytes ≡ replicate (14 - s.len) 0) };
 }
 
 /// Where the bytes of a text are.
@@ -88,6 +90,55 @@ impl ShortText {
             bytes: self.bytes,
         }
     }
+
+    /// Whether two short texts are equal. It compares a few words, whatever the lengths.
+    #[inline]
+    fn is_same(&self, other: &ShortText) -> bool
+        ensures { result ≡ bytes_eq self.now other.now }
+    {
+        are_same(&self.bytes, &other.bytes) && self.len == other.len
+    }
+}
+
+/// Whether 14 bytes are the same.
+#[inline]
+fn are_same(a: &[u8; 14], b: &[u8; 14]) -> bool
+    ensures { result ≡ bytes_eq a.now b.now }
+{
+    if first_word(a) != first_word(b) {
+        return false;
+    }
+    if second_word(a) != second_word(b) {
+        return false;
+    }
+    third_word(a) == third_word(b)
+}
+
+/// The first 8 of 14 bytes as a number.
+#[inline]
+fn first_word(bytes: &[u8; 14]) -> u64
+    ensures value { result ≡ from_le_bytes w64 (take 8 bytes.now) }
+    ensures bytes { to_le_bytes w64 result ≡ take 8 bytes.now }
+{
+    u64::from_le_bytes(*bytes[..8].first_chunk().unwrap())
+}
+
+/// The next 4 of 14 bytes as a number.
+#[inline]
+fn second_word(bytes: &[u8; 14]) -> u32
+    ensures value { result ≡ from_le_bytes w32 (take 4 (drop 8 bytes.now)) }
+    ensures bytes { to_le_bytes w32 result ≡ take 4 (drop 8 bytes.now) }
+{
+    u32::from_le_bytes(*bytes[8..].first_chunk().unwrap())
+}
+
+/// The last 2 of 14 bytes as a number.
+#[inline]
+fn third_word(bytes: &[u8; 14]) -> u16
+    ensures value { result ≡ from_le_bytes w16 (take 2 (drop 12 bytes.now)) }
+    ensures bytes { to_le_bytes w16 result ≡ take 2 (drop 12 bytes.now) }
+{
+    u16::from_le_bytes(*bytes[12..].first_chunk().unwrap())
 }
 
 impl Text {
@@ -100,6 +151,26 @@ impl Text {
             Stored::Short(text) => text.as_str(),
             Stored::Long(text) => text.as_str(),
         }
+    }
+
+    /// Whether two texts are equal.
+    #[inline]
+    pub fn is_same(&self, other: &Text) -> bool
+        ensures { result ≡ bytes_eq self.now other.now }
+    {
+        match (&self.stored, &other.stored) {
+            (Stored::Short(a), Stored::Short(b)) => a.is_same(b),
+            _ => self.is_same_by_bytes(other),
+        }
+    }
+
+    /// Equality of texts that aren't both short. It is a call, so that `is_same` stays short enough
+    /// to be inlined.
+    #[inline(never)]
+    fn is_same_by_bytes(&self, other: &Text) -> bool
+        ensures { result ≡ bytes_eq self.now other.now }
+    {
+        self.as_str() == other.as_str()
     }
 
     /// Returns the text of a string. A string of up to 14 bytes is copied into the text, a longer

@@ -23,6 +23,7 @@ use kube_types_semver::KubeSemver;
 use kube_types_url::KubeUrl;
 use std::alloc::AllocError;
 use std::collections::BTreeMap;
+use std::fmt;
 use std::marker::Model;
 use std::rc::Rc;
 pub use stored::EntriesIter;
@@ -55,14 +56,20 @@ pub struct MapKeys {
     keys: Rc<Vec<Key>>,
 }
 
+/// Up to three values. Those of the array that follow the first ones are `null`.
+#[derive(Drop)]
+#[cycle(values)]
+struct Slots {
+    count: usize,
+    values: [Value; 3],
+}
+
 /// The values at the first of some keys, in order. Up to three need no block of their own.
 #[derive(Debug, Drop)]
 #[cycle(values)]
 enum Values {
-    Empty,
-    One(Value),
-    Two(Value, Value),
-    Three(Value, Value, Value),
+    // Where there are at most three keys.
+    Few(Slots),
     Many(Vec<Value>),
 }
 
@@ -84,6 +91,13 @@ pub struct List {
     levels: u16,
 }
 
+/// Whether a map has a double, at any depth, and how many levels it has.
+#[derive(Clone, Copy, Debug)]
+struct Nesting {
+    doubles: bool,
+    levels: u16,
+}
+
 /// The entries of a map, with keys of their own or with keys that other maps share.
 #[derive(Debug, Drop)]
 #[cycle(values)]
@@ -97,8 +111,7 @@ enum MapEntries {
 #[cycle(values)]
 pub struct Map {
     entries: MapEntries,
-    doubles: bool,
-    levels: u16,
+    nesting: Nesting,
 }
 
 /// The value that an optional holds, with its number of levels and whether it holds a double.
@@ -164,6 +177,17 @@ const _: () = prove!(size_of::<Value>() == 24);
 
 const _: () = prove!(size_of::<Map>() <= 112);
 
+impl fmt::Debug for Slots {
+    #[cycle(values)]
+    fn fmt<W: fmt::Write>(&self, f: &mut fmt::Formatter<W>) -> Result<(), fmt::Error> {
+        f.debug_tuple("Slots")
+            .field(&self.values[0])
+            .field(&self.values[1])
+            .field(&self.values[2])
+            .finish()
+    }
+}
+
 impl Model for Entries {
     ghost use Rattle.std.specs.Coded.{codes, code_by};
     ghost use Rattle.cel_value.specs.Coded.{items_code, entries_code};
@@ -201,19 +225,20 @@ impl Model for SharedEntries {
     ghost use Rattle.std.specs.Prelude.{◌≤◌, length};
     ghost use Rattle.std.specs.List.Sorted.{IsStrictlySortedBy};
     ghost use Rattle.cel_value.specs.Keys.{key_cmp};
-    ghost use Rattle.cel_value.specs.SharedEntries.{Suits, values_of};
+    ghost use Rattle.cel_value.specs.SharedEntries.{AreInPlace, Suits, values_of};
     ghost use Rattle.cel_value.specs.Weights.{shared_weight};
 
     ghost view = { λ a. record { keys = a.keys.value.items; values = values_of a.values } };
 
     ghost invariant = { λ a. IsStrictlySortedBy key_cmp a.keys.value.items
-        × (length (values_of a.values) ≤ length a.keys.value.items) × Suits a.keys.value.items a.values };
+        × (length (values_of a.values) ≤ length a.keys.value.items) × Suits a.keys.value.items a.values
+        × AreInPlace a.values };
 
     ghost size = { λ s. shared_weight s };
 
     ghost use Rattle.cel_value.specs.Falls.{shared_falls};
 
-    ghost size_decreases = { λ a h. shared_falls a h.1 };
+    ghost size_decreases = { λ a h. shared_falls a h.1 h.3 };
 }
 
 impl Model for MapKeys {
@@ -266,18 +291,13 @@ impl Model for Map {
 
     ghost coded = { code_by Marks (Prim.hlevel codes) entries_to entries_from entries_back };
 
-    ghost use Rattle.std.specs.Prelude.{◌≡◌, ◌≤◌, suc};
-    ghost use Rattle.cel_value.specs.Levels.{entries_levels, max_levels};
-    ghost use Rattle.cel_value.specs.Same.{entries_have_double};
     ghost use Rattle.cel_value.specs.View.{entries_view};
     ghost use Rattle.cel_value.specs.Weights.{map_weight};
-    ghost use Rattle.cel_value.specs.SharedEntries.{map_entries};
+    ghost use Rattle.cel_value.specs.SharedEntries.{IsNestingOf, map_entries};
 
     ghost view = { λ a. entries_view (map_entries a.entries) };
 
-    ghost invariant = { λ a. (a.doubles ≡ entries_have_double (entries_view (map_entries a.entries)))
-        × (a.levels ≡ suc (entries_levels (entries_view (map_entries a.entries))))
-        × (a.levels ≤ max_levels) };
+    ghost invariant = { λ a. IsNestingOf a.nesting (map_entries a.entries) };
 
     ghost size = { map_weight };
 
@@ -356,7 +376,7 @@ impl Value {
         match self {
             Value::Float => true,
             Value::List(items) => items.doubles,
-            Value::Map(entries) => entries.doubles,
+            Value::Map(map) => map.nesting.doubles,
             Value::Optional(optional) => match &optional.held {
                 Some(held) => held.doubles,
                 None => false,
@@ -372,7 +392,7 @@ impl Value {
     {
         match self {
             Value::List(items) => items.levels,
-            Value::Map(entries) => entries.levels,
+            Value::Map(map) => map.nesting.levels,
             Value::Optional(optional) => match &optional.held {
                 Some(held) => held.levels,
                 None => 1,

@@ -1,16 +1,17 @@
 //! Maps.
-ghost use Rattle.std.specs.Prelude.{◌≡◌, IfOk, IfErr, OnOk, OnErr, None, max, length, option_map};
+ghost use Rattle.std.specs.Prelude.{◌≡◌, [], true, false, Some, IfSome, IfOk, IfErr, OnOk, OnErr, None, max, length, option_map, slice_get};
 ghost use Rattle.cel_value.specs.Data.{no_entries};
 ghost use Rattle.cel_value.specs.Find.{find, list_of_entries};
 ghost use Rattle.cel_value.specs.Keys.{key_order, key_view, put};
+ghost use Rattle.cel_value.specs.Replaced.{IsReplacedAt, entry_keys};
 ghost use Rattle.std.specs.List.Sorted.{IsStrictlySortedBy};
 ghost use Rattle.std.specs.Map.{keys_of};
 ghost use Rattle.cel_value.specs.Same.{entries_have_double};
 ghost use Rattle.cel_value.specs.Shared.{shared_entries};
-ghost use Rattle.cel_value.specs.SharedEntries.{map_entries};
+ghost use Rattle.cel_value.specs.SharedEntries.{IsNestingOf, map_entries};
 ghost use Rattle.cel_value.specs.View.{view, entries_view};
 
-use super::{Entries, EntriesIter, Map, MapEntries, SharedEntries, Value, level_around};
+use super::{Entries, EntriesIter, Map, MapEntries, Nesting, SharedEntries, Value, level_around};
 use crate::key::Key;
 use kube_types_refused::Refused;
 use std::alloc::Global;
@@ -50,6 +51,57 @@ fn put_in_map(entries: &mut MapEntries, key: Key, value: Value) -> Result<(), Re
     }
 }
 
+/// The nesting of an empty map.
+const EMPTY: Nesting = Nesting {
+    doubles: false,
+    levels: 1,
+};
+
+// The nesting of a map of these entries.
+#[inline(always)]
+fn nesting_around(entries: &Entries) -> Result<Nesting, Refused>
+    ensures value { IfOk result (λ n. IsNestingOf n entries.now.entries) }
+    ensures memory { IfErr result (λ e. e ≡ Refused.Memory) }
+{
+    let (doubles, inner) = entries.doubles_and_levels();
+    let levels = level_around(inner)?;
+    Ok(Nesting { doubles, levels })
+}
+
+// Replaces the value of an entry of a map that has keys of its own. If the map would have too many
+// levels, it is empty then.
+#[inline]
+fn replace_own(
+    nesting: &mut Nesting,
+    own: &mut Entries,
+    index: usize,
+    value: Value,
+) -> Result<bool, Refused>
+    requires { IsNestingOf nesting.old own.old.entries }
+    ensures nesting { IsNestingOf nesting.new own.new.entries }
+    ensures replaced { IfOk result (λ done. done ≡ true
+        → IsReplacedAt index (view value) (entries_view own.old.entries) (entries_view own.new.entries)) }
+    ensures unchanged { IfOk result (λ done. done ≡ false → own.new.entries ≡ own.old.entries) }
+    ensures emptied { OnErr result (own.new.entries ≡ []) }
+    ensures memory { IfErr result (λ e. e ≡ Refused.Memory) }
+{
+    if !own.replace_at(index, value) {
+        return Ok(false);
+    }
+    match nesting_around(own) {
+        Ok(found) => {
+            *nesting = found;
+            Ok(true)
+        }
+        Err(refused) => {
+            *nesting = EMPTY;
+            let empty = Entries::new(*own.rest.allocator());
+            drop(mem::replace(own, empty));
+            Err(refused)
+        }
+    }
+}
+
 impl Map {
     /// Returns an empty map.
     pub fn new(alloc: Global) -> Map
@@ -57,8 +109,7 @@ impl Map {
     {
         Map {
             entries: MapEntries::Own(Entries::new(alloc)),
-            doubles: false,
-            levels: 1,
+            nesting: EMPTY,
         }
     }
 
@@ -72,12 +123,10 @@ impl Map {
         ensures value { IfOk result (λ m. m ≡ entries_view entries.entries) }
         ensures memory { IfErr result (λ e. e ≡ Refused.Memory) }
     {
-        let (doubles, inner) = entries.doubles_and_levels();
-        let levels = level_around(inner)?;
+        let nesting = nesting_around(&entries)?;
         Ok(Map {
             entries: MapEntries::Own(entries),
-            doubles,
-            levels,
+            nesting,
         })
     }
 
@@ -95,9 +144,42 @@ impl Map {
         let levels = level_around(inner)?;
         Ok(Map {
             entries: MapEntries::Shared(entries),
-            doubles,
-            levels,
+            nesting: Nesting { doubles, levels },
         })
+    }
+
+    /// The key of the entry at an index. The last entries of a large map, and those of a map that
+    /// shares its keys, aren't found so: the contract only covers keys that are returned.
+    #[inline]
+    pub fn key_at(&self, index: usize) -> Option<&Key>
+        ensures { IfSome result (λ k. slice_get (entry_keys self.now) index ≡ Some (key_view k.now)) }
+    {
+        match &self.entries {
+            MapEntries::Own(entries) => entries.key_at(index),
+            MapEntries::Shared(..) => None,
+        }
+    }
+
+    /// Replaces the value of the entry at an index. Returns false, and changes nothing, for an entry
+    /// that [`key_at`](Map::key_at) doesn't find.
+    ///
+    /// # Errors
+    /// [`Refused::Memory`] if the map would have more levels than
+    /// [`MAX_VALUE_LEVELS`](super::MAX_VALUE_LEVELS). The map is empty then.
+    #[inline]
+    pub fn replace_at(&mut self, index: usize, value: Value) -> Result<bool, Refused>
+        ensures replaced { IfOk result (λ done. done ≡ true → IsReplacedAt index (view value) self.old self.new) }
+        ensures unchanged { IfOk result (λ done. done ≡ false → self.new ≡ self.old) }
+        ensures emptied { OnErr result (self.new ≡ no_entries) }
+        ensures memory { IfErr result (λ e. e ≡ Refused.Memory) }
+    {
+        match &mut self.entries {
+            MapEntries::Own(own) => replace_own(&mut self.nesting, own, index, value),
+            MapEntries::Shared(..) => {
+                drop(value);
+                Ok(false)
+            }
+        }
     }
 
     /// Adds an entry whose key isn't there yet.
@@ -112,11 +194,13 @@ impl Map {
         ensures unchanged { OnErr result (self.new ≡ self.old) }
         ensures memory { IfErr result (λ e. e ≡ Refused.Memory) }
     {
-        let doubles = value.holds_double();
-        let levels = deeper(self.levels, level_around(value.levels())?);
+        let before = self.nesting;
+        let nesting = Nesting {
+            doubles: before.doubles || value.holds_double(),
+            levels: deeper(before.levels, level_around(value.levels())?),
+        };
         put_in_map(&mut self.entries, key, value)?;
-        self.doubles = self.doubles || doubles;
-        self.levels = levels;
+        self.nesting = nesting;
         Ok(())
     }
 
@@ -157,6 +241,6 @@ impl Map {
     pub fn holds_double(&self) -> bool
         ensures { result ≡ entries_have_double self.now }
     {
-        self.doubles
+        self.nesting.doubles
     }
 }

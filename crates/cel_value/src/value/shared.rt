@@ -1,6 +1,6 @@
 //! Maps that share their keys, as those of the items of a list often do: such a map has its values
 //! alone, and the first three of them need no memory of their own.
-ghost use Rattle.std.specs.Prelude.{◌≡◌, ◌∷◌, ◌++◌, ◌<◌, ◌≤◌, ◌^◌, ◌||◌, [], List, length, max, zip, slice_get, Some, None, IfOk, IfErr, OnOk, MatchOption, option_copied, true, false};
+ghost use Rattle.std.specs.Prelude.{◌≡◌, ◌∷◌, ◌++◌, ◌<◌, ◌≤◌, ◌^◌, ◌||◌, [], List, length, max, zip, slice_get, Some, None, IfOk, IfErr, OnOk, OnErr, MatchOption, option_copied, true, false};
 ghost use Rattle.std.specs.BTreeMap.{is_at};
 ghost use Rattle.std.specs.List.Sorted.{IsStrictlySortedBy};
 ghost use Rattle.std.specs.Map.{keys_of, lookup};
@@ -10,12 +10,12 @@ ghost use Rattle.cel_value.specs.Keys.{key_cmp, key_view, put};
 ghost use Rattle.cel_value.specs.Levels.{entries_levels, items_levels, levels};
 ghost use Rattle.cel_value.specs.Same.{entries_have_double, has_double, items_have_double};
 ghost use Rattle.cel_value.specs.Shared.{shared_entries};
-ghost use Rattle.cel_value.specs.SharedEntries.{HasPlace, Suits, values_of};
+ghost use Rattle.cel_value.specs.SharedEntries.{AreInPlace, HasPlace, Suits, values_of};
 ghost use Rattle.cel_value.specs.View.{view, items_view, entries_view};
 ghost use Rattle.cel_value.specs.declared.key.Key.{Key};
 
 use super::maps::put_into;
-use super::{Entries, MapKeys, SharedEntries, Value, Values};
+use super::{Entries, MapKeys, SharedEntries, Slots, Value, Values};
 use crate::key::Key;
 use kube_types_refused::Refused;
 use std::alloc::Global;
@@ -25,6 +25,9 @@ use std::rc::Rc;
 
 /// The most keys that maps share. They are compared one after another.
 const FEW: usize = 8;
+
+/// The number of values that need no block.
+const SLOTS: usize = 3;
 
 // Reports whether a key comes before another one.
 fn is_below(key: &Key, other: &Key) -> bool
@@ -67,26 +70,6 @@ impl MapKeys {
     }
 }
 
-// Adds a value behind others.
-#[inline(always)]
-fn with_one_more(values: Values, value: Value) -> Result<Values, Refused>
-    requires { HasPlace values }
-    ensures added { IfOk result (λ vs. values_of vs ≡ values_of values ++ value ∷ []) }
-    ensures suits { IfOk result (λ vs. (ks : List Key) → Suits ks values → Suits ks vs) }
-    ensures memory { IfErr result (λ e. e ≡ Refused.Memory) }
-{
-    match values {
-        Values::Empty => Ok(Values::One(value)),
-        Values::One(a) => Ok(Values::Two(a, value)),
-        Values::Two(a, b) => Ok(Values::Three(a, b, value)),
-        Values::Three(..) => unreachable!(),
-        Values::Many(mut others) => {
-            others.push(value)?;
-            Ok(Values::Many(others))
-        }
-    }
-}
-
 // What a value adds to the levels of the map that it is in, and to whether the map has a double.
 #[inline]
 pub(super) fn joined(so_far: (bool, u16), value: &Value) -> (bool, u16)
@@ -99,10 +82,10 @@ pub(super) fn joined(so_far: (bool, u16), value: &Value) -> (bool, u16)
 }
 
 // The same of some values.
-fn all_joined(values: &Vec<Value>) -> (bool, u16)
+fn all_joined(values: &[Value]) -> (bool, u16)
     ensures { result ≡ (
-      items_have_double (items_view values.now.items),
-      items_levels (items_view values.now.items),
+      items_have_double (items_view values.now),
+      items_levels (items_view values.now),
     ) }
 {
     let mut so_far = (false, 0);
@@ -117,69 +100,60 @@ impl Values {
     fn with_capacity(alloc: Global, count: usize) -> Result<Values, Refused>
         ensures none { IfOk result (λ vs. values_of vs ≡ []) }
         ensures suits { IfOk result (λ vs. (ks : List Key) → length ks ≡ count → Suits ks vs) }
+        ensures places { IfOk result (λ vs. AreInPlace vs) }
         ensures memory { IfErr result (λ e. e ≡ Refused.Memory) }
     {
-        if count <= 3 {
-            return Ok(Values::Empty);
+        if count > SLOTS {
+            return Ok(Values::Many(Vec::with_capacity(alloc, count)?));
         }
-        Ok(Values::Many(Vec::with_capacity(alloc, count)?))
+        Ok(Values::Few(Slots {
+            count: 0,
+            values: [Value::Null, Value::Null, Value::Null],
+        }))
     }
 
-    fn len(&self) -> usize
-        ensures value { result ≡ length (values_of self.now) }
-        ensures bound { result < 2 ^ 63 }
+    // Adds a value behind the others.
+    #[inline(always)]
+    fn push(&mut self, value: Value) -> Result<(), Refused>
+        requires place { HasPlace self.old }
+        requires places { AreInPlace self.old }
+        ensures added { OnOk result (values_of self.new ≡ values_of self.old ++ value ∷ []) }
+        ensures unchanged { OnErr result (values_of self.new ≡ values_of self.old) }
+        ensures suits { (ks : List Key) → Suits ks self.old → Suits ks self.new }
+        ensures places { AreInPlace self.new }
+        ensures memory { IfErr result (λ e. e ≡ Refused.Memory) }
     {
         match self {
-            Values::Empty => 0,
-            Values::One(_) => 1,
-            Values::Two(..) => 2,
-            Values::Three(..) => 3,
-            Values::Many(values) => values.as_slice().len(),
+            Values::Few(slots) => {
+                slots.values[slots.count] = value;
+                slots.count += 1;
+            }
+            Values::Many(values) => values.push(value)?,
         }
+        Ok(())
     }
 
-    // The value at an index, if any.
+    // The values in order.
     #[inline]
-    fn at(&self, index: usize) -> Option<&Value>
-        ensures { option_copied result ≡ slice_get (values_of self.now) index }
-    {
-        match (self, index) {
-            (Values::One(a), 0) => Some(a),
-            (Values::Two(a, _), 0) => Some(a),
-            (Values::Two(_, b), 1) => Some(b),
-            (Values::Three(a, _, _), 0) => Some(a),
-            (Values::Three(_, b, _), 1) => Some(b),
-            (Values::Three(_, _, c), 2) => Some(c),
-            (Values::Many(values), _) => values.get(index),
-            _ => None,
-        }
-    }
-
-    // Whether one of the values is or has a double, and the most levels of one.
-    fn doubles_and_levels(&self) -> (bool, u16)
-        ensures { result ≡ (
-          items_have_double (items_view (values_of self.now)),
-          items_levels (items_view (values_of self.now)),
-        ) }
+    fn as_slice(&self) -> &[Value]
+        requires { AreInPlace self.now }
+        ensures { result.now ≡ values_of self.now }
     {
         match self {
-            Values::Empty => (false, 0),
-            Values::One(a) => joined((false, 0), a),
-            Values::Two(a, b) => joined(joined((false, 0), a), b),
-            Values::Three(a, b, c) => joined(joined(joined((false, 0), a), b), c),
-            Values::Many(values) => all_joined(values),
+            Values::Few(slots) => &slots.values[..slots.count],
+            Values::Many(values) => values.as_slice(),
         }
     }
 }
 
 // The value at a key.
 #[inline]
-fn value_at<'a>(keys: &[Key], values: &'a Values, key: &Key) -> Option<&'a Value>
-    ensures { option_copied result ≡ lookup (is_at (key_cmp key.now)) (zip keys.now (values_of values.now)) }
+fn value_at<'a>(keys: &[Key], values: &'a [Value], key: &Key) -> Option<&'a Value>
+    ensures { option_copied result ≡ lookup (is_at (key_cmp key.now)) (zip keys.now values.now) }
 {
     for index in 0..keys.len() {
         if key == &keys[index] {
-            return values.at(index);
+            return values.get(index);
         }
     }
     None
@@ -208,26 +182,23 @@ impl SharedEntries {
         Ok(SharedEntries { keys, values })
     }
 
-    /// Returns the entries with the value at the next key.
+    /// Adds the value at the next key.
     ///
     /// # Errors
-    /// [`Refused::Memory`] if memory is refused.
-    #[inline(always)]
-    pub fn with_value(self, value: Value) -> Result<SharedEntries, Refused>
-        requires room { length self.values < length self.keys }
-        ensures keys { IfOk result (λ s. s.keys ≡ self.keys) }
-        ensures values { IfOk result (λ s. s.values ≡ self.values ++ value ∷ []) }
-        ensures entries { IfOk result (λ s. (k : Key) → slice_get self.keys (length self.values) ≡ Some k
-            → (find (key_view k) (entries_view (shared_entries self)) ≡ None)
-            × (entries_view (shared_entries s)
-            ≡ put (key_view k) (view value) (entries_view (shared_entries self)))) }
+    /// [`Refused::Memory`] if memory is refused. The entries are unchanged then.
+    #[inline]
+    pub fn push(&mut self, value: Value) -> Result<(), Refused>
+        requires room { length self.old.values < length self.old.keys }
+        ensures keys { self.new.keys ≡ self.old.keys }
+        ensures values { OnOk result (self.new.values ≡ self.old.values ++ value ∷ []) }
+        ensures entries { OnOk result ((k : Key) → slice_get self.old.keys (length self.old.values) ≡ Some k
+            → (find (key_view k) (entries_view (shared_entries self.old)) ≡ None)
+            × (entries_view (shared_entries self.new)
+            ≡ put (key_view k) (view value) (entries_view (shared_entries self.old)))) }
+        ensures unchanged { OnErr result (self.new.values ≡ self.old.values) }
         ensures memory { IfErr result (λ e. e ≡ Refused.Memory) }
     {
-        let values = with_one_more(self.values, value)?;
-        Ok(SharedEntries {
-            keys: self.keys,
-            values,
-        })
+        self.values.push(value)
     }
 
     /// Returns copies of the entries, with keys of their own.
@@ -239,7 +210,10 @@ impl SharedEntries {
             ≡ entries_view (shared_entries self.now)) }
         ensures memory { IfErr result (λ e. e ≡ Refused.Memory) }
     {
-        let mut entries = Entries::with_capacity(*self.keys.allocator(), self.values.len())?;
+        let mut entries = Entries::with_capacity(
+            *self.keys.allocator(),
+            self.values.as_slice().len(),
+        )?;
         for (key, value) in self.iter() {
             put_copy(&mut entries, key, value)?;
         }
@@ -251,14 +225,14 @@ impl SharedEntries {
     pub(super) fn get(&self, key: &Key) -> Option<&Value>
         ensures { option_copied result ≡ lookup (is_at (key_cmp key.now)) (shared_entries self.now) }
     {
-        value_at(self.keys.as_slice(), &self.values, key)
+        value_at(self.keys.as_slice(), self.values.as_slice(), key)
     }
 
     // The number of entries.
     pub(super) fn len(&self) -> usize
         ensures { result ≡ length (shared_entries self.now) }
     {
-        self.values.len()
+        self.values.as_slice().len()
     }
 
     // Whether one of the values is or has a double, and the most levels of one.
@@ -268,7 +242,7 @@ impl SharedEntries {
           entries_levels (entries_view (shared_entries self.now)),
         ) }
     {
-        self.values.doubles_and_levels()
+        all_joined(self.values.as_slice())
     }
 
     // Iterates over the entries in key order.
@@ -279,7 +253,7 @@ impl SharedEntries {
     {
         SharedIter {
             keys: self.keys.as_slice(),
-            values: &self.values,
+            values: self.values.as_slice(),
             at: 0,
         }
     }
@@ -289,7 +263,7 @@ impl SharedEntries {
 #[derive(Drop)]
 pub struct SharedIter<'a> {
     keys: &'a [Key],
-    values: &'a Values,
+    values: &'a [Value],
     at: usize,
 }
 
@@ -298,13 +272,12 @@ impl<'a> Model for SharedIter<'a> {
     ghost use Rattle.std.specs.Coded.{codes, coded_list};
     ghost use Rattle.cel_value.specs.Coded.{items_code, entries_code};
     ghost use Rattle.cel_value.specs.Listed.{Entry};
-    ghost use Rattle.cel_value.specs.SharedEntries.{values_of};
 
     ghost Value = { List Entry };
 
     ghost coded = { Prim.hlevel (codes, items_code, entries_code) };
 
-    ghost view = { λ a. drop a.at (zip a.keys.now (values_of a.values.now)) };
+    ghost view = { λ a. drop a.at (zip a.keys.now a.values.now) };
 }
 
 impl<'a> Iterator for SharedIter<'a> {
@@ -320,14 +293,11 @@ impl<'a> Iterator for SharedIter<'a> {
 
     #[inline]
     fn next(&mut self) -> Option<(&'a Key, &'a Value)> {
-        if self.at >= self.values.len() {
-            return None;
-        }
-        match self.keys.get(self.at) {
+        match self.values.get(self.at) {
             None => None,
-            Some(key) => match self.values.at(self.at) {
+            Some(value) => match self.keys.get(self.at) {
                 None => None,
-                Some(value) => {
+                Some(key) => {
                     self.at += 1;
                     Some((key, value))
                 }

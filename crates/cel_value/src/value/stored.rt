@@ -1,15 +1,16 @@
 //! The entries of a map: the first one needs no memory of its own, the next are in a vector, and
 //! those of a large map that follow are in a tree.
-ghost use Rattle.std.specs.Prelude.{◌≡◌, ◌∷◌, ◌++◌, ◌<◌, ◌≤◌, ◌^◌, [], suc, IfOk, IfErr, OnOk, OnErr, length, insert, max, option_copied, ◌||◌};
+ghost use Rattle.std.specs.Prelude.{◌≡◌, ◌∷◌, ◌++◌, ◌<◌, ◌≤◌, ◌^◌, [], true, false, suc, Some, IfSome, IfOk, IfErr, OnOk, OnErr, length, insert, max, option_copied, slice_get, ◌||◌};
 ghost use Rattle.std.specs.BTreeMap.{insert_entry, is_at};
+ghost use Rattle.std.specs.Bool.{MatchBool};
 ghost use Rattle.std.specs.List.Sorted.{IsStrictlySortedBy};
 ghost use Rattle.std.specs.Map.{keys_of, lookup};
-ghost use Rattle.cel_value.specs.Keys.{key_cmp};
+ghost use Rattle.cel_value.specs.Keys.{key_cmp, key_view, put};
 ghost use Rattle.cel_value.specs.LeftBehind.{left_behind};
 ghost use Rattle.cel_value.specs.Levels.{entries_levels};
 ghost use Rattle.cel_value.specs.Same.{entries_have_double};
-ghost use Rattle.cel_value.specs.StoredEntries.{AreFew, AreSorted, AreStored, all_entries, place_of, tree_entries};
-ghost use Rattle.cel_value.specs.View.{entries_view};
+ghost use Rattle.cel_value.specs.StoredEntries.{AreFew, AreSorted, AreStored, all_entries, place_of, tree_entries, with_value_at};
+ghost use Rattle.cel_value.specs.View.{view, entries_view};
 
 use super::shared::{SharedIter, joined};
 use super::{Entries, Tree, Value};
@@ -248,6 +249,32 @@ fn put_before(
     Ok(())
 }
 
+// The key of the entry at an index, if there is one.
+#[inline]
+fn key_behind(rest: &[(Key, Value)], index: usize) -> Option<&Key>
+    ensures { option_copied result ≡ slice_get (keys_of rest.now) index }
+{
+    if index >= rest.len() {
+        return None;
+    }
+    Some(&rest[index].0)
+}
+
+// Replaces the value of the entry at an index, if there is one. Returns whether there is.
+#[inline]
+fn replace_behind(rest: &mut Vec<(Key, Value)>, index: usize, value: Value) -> bool
+    ensures { MatchBool result
+        ((index < length rest.old.items) × (rest.new.items ≡ with_value_at index value rest.old.items))
+        (rest.new.items ≡ rest.old.items) }
+{
+    if index >= rest.as_slice().len() {
+        drop(value);
+        return false;
+    }
+    drop(mem::replace(&mut rest[index].1, value));
+    true
+}
+
 // Adds an entry, or replaces the value at a key that is there.
 #[inline]
 fn put(
@@ -422,6 +449,48 @@ impl Entries {
         }
     }
 
+    // The key of the entry at an index. The last entries of a large map aren't found so: the
+    // contract only covers keys that are returned.
+    #[inline]
+    pub(super) fn key_at(&self, index: usize) -> Option<&Key>
+        ensures { IfSome result (λ k. slice_get (keys_of self.now.entries) index ≡ Some k.now) }
+    {
+        match &self.first {
+            None => None,
+            Some(first) => {
+                if index == 0 {
+                    return Some(&first.0);
+                }
+                key_behind(self.rest.as_slice(), index - 1)
+            }
+        }
+    }
+
+    // Replaces the value of the entry at an index. The last entries of a large map aren't found so:
+    // returns false, and changes nothing.
+    #[inline]
+    pub(super) fn replace_at(&mut self, index: usize, value: Value) -> bool
+        ensures keys { keys_of self.new.entries ≡ keys_of self.old.entries }
+        ensures ordered { IsStrictlySortedBy key_cmp (keys_of self.old.entries) }
+        ensures replaced { result ≡ true → (k : Key) → slice_get (keys_of self.old.entries) index ≡ Some k
+            → entries_view self.new.entries ≡ put (key_view k) (view value) (entries_view self.old.entries) }
+        ensures unchanged { result ≡ false → self.new.entries ≡ self.old.entries }
+    {
+        match &mut self.first {
+            None => {
+                drop(value);
+                false
+            }
+            Some(first) => {
+                if index == 0 {
+                    drop(mem::replace(&mut first.1, value));
+                    return true;
+                }
+                replace_behind(&mut self.rest, index - 1, value)
+            }
+        }
+    }
+
     /// The number of entries.
     pub fn len(&self) -> usize
         ensures { result ≡ length self.now.entries }
@@ -446,6 +515,7 @@ impl Entries {
     }
 
     // Whether one of the values is or has a double, and the most levels of one.
+    #[inline]
     pub(super) fn doubles_and_levels(&self) -> (bool, u16)
         ensures { result ≡ (
           entries_have_double (entries_view self.now.entries),

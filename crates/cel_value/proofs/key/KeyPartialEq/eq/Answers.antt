@@ -1,5 +1,4 @@
-use Rattle.std.proofs.Common.{◌∙◌, nat_eq}
-use Rattle.std.specs.Cmp.Lexicographic.{pointwise}
+use Rattle.std.proofs.Common.{◌∙◌}
 use Rattle.cel_value.proofs.KeyOrder.{texts_equal}
 use Rattle.cel_value.proofs.key.KeyPartialEq.eq.Goals as goal
 
@@ -7,6 +6,5 @@ pub returns-in-String-String : goal.returns-in-String-String
 returns-in-String-String c =
     let a = c.in-String-String.a in
     let b = c.in-String-String.b in
-    c.eq.ensures
-    ∙ (λ i. pointwise nat_eq (c.as_str.ensures i) (c.as_str-in-String-String.ensures i))
+    c.is_same.ensures
     ∙ texts_equal c.args.self.now c.args.other.now a b c.in-String-String.is-0 c.in-String-String.is-1

@@ -6,5 +6,5 @@ use Rattle.cel_value.proofs.value.SharedEntries.len.Goals as goal
 
 pub returns : goal.returns
 returns c =
-    c.len.ensures.value ∙ sym (zip_length c.self.inside.keys.value.items (values_of c.self.inside.values) c.self.invariant.1)
+    ap length c.as_slice.ensures ∙ sym (zip_length c.self.inside.keys.value.items (values_of c.self.inside.values) c.self.invariant.1)
     ∙ ap (λ s. length (shared_entries s)) c.self.view_is

@@ -6,6 +6,6 @@ use Rattle.cel_value.proofs.value.shared.all_joined.Given as goal
 
 abbrev pub invariant-loop-value : goal.invariant-loop-value
 invariant-loop-value l =
-    let rest = items_view (drop l.value-index l.value-items) in
-    ((l.so_far.0 || items_have_double rest) ≡ items_have_double (items_view l.value-items))
-    × (max l.so_far.1 (items_levels rest) ≡ items_levels (items_view l.value-items))
+    let rest = items_view (drop l.value-index l.values) in
+    ((l.so_far.0 || items_have_double rest) ≡ items_have_double (items_view l.values))
+    × (max l.so_far.1 (items_levels rest) ≡ items_levels (items_view l.values))
