@@ -1,6 +1,6 @@
 -- New bindings of names, in a list and in a map.
 use Rattle.std.proofs.Common.{◌≡◌, ℕ, zero, suc, List, [], ◌∷◌, ◌++◌, Bool, true, false, cond, Option, Some, None, take, length, get_or, ◌+◌, ◌<◌, ◌≤◌, option_map, String, Global, BTreeMap, refl, ap, ◌∙◌, sym, arith}
-use Rattle.std.specs.Prelude.{slice_set}
+use Rattle.std.specs.Prelude.{MatchOption, slice_set}
 use Rattle.std.specs.BTreeMap.{get_by_text, UpdatesBy}
 use Rattle.std.specs.Bool.{one_answer}
 use Rattle.std.specs.Option.{option_or}
@@ -9,11 +9,11 @@ use Rattle.std.specs.String.{string_bytes, string_cmp}
 use Rattle.std.proofs.lemmas.List.{take_more, take_all, map-append}
 use Rattle.std.proofs.lemmas.Map.Text.{btree_map_updates_text}
 use Rattle.std.proofs.lemmas.Slice.Eq.{bytes_eq-Decides}
-use Rattle.cel_value.specs.Data.{Data}
+use Rattle.cel_value.specs.Data.{Data, null}
 use Rattle.cel_value.specs.View.{view}
 use Rattle.cel_value.specs.declared.value.Value.{Value}
 use Rattle.cel_semantics.specs.Bindings.{Bindings, binding, named_bindings, IsFirst}
-use Rattle.cel_semantics.proofs.Lookups.{binding-append, view-lookup}
+use Rattle.cel_semantics.proofs.Lookups.{binding-append, inner_here, view-lookup}
 
 abbrev pub Entry : Type 0
 Entry = String Global × Value
@@ -136,3 +136,23 @@ inserted x name key v m n is updates =
     ∙ mapped (bytes_eq (string_bytes key) x) v (get_by_text n x) (get_by_text m x) (btree_map_updates_text (string_bytes key) m n (Some v) updates x)
     ∙ ap (cond (bytes_eq (string_bytes key) x) (Some (view v))) (view-lookup x m.entries)
     ∙ ap (λ y. cond (bytes_eq y x) (Some (view v)) (binding x (named_bindings m.entries))) is
+
+-- ---- taken values
+
+-- a name's first entry has what the name is bound to
+pub found_first : (name : List ℕ) (es : List Entry) (i : ℕ) (e : Entry) → IsFirst name es i → e ≡ get_or es i e → Some (view e.1) ≡ binding name (named_bindings es)
+found_first name [] i e h is = absurd h
+found_first name (f ∷ fs) zero e h is =
+    ap (λ g. Some (view g.1)) is ∙ sym (ap (λ t. cond t (Some (view f.1)) (binding name (named_bindings fs))) h)
+found_first name (f ∷ fs) (suc i) e h is =
+    found_first name fs i e h.1 is ∙ sym (ap (λ t. cond t (Some (view f.1)) (binding name (named_bindings fs))) h.0)
+
+-- a value is taken of some bindings, or they stay the same
+abbrev pub Takes : Option Value → List ℕ → Bindings → Bindings → Type 0
+Takes r name a b = MatchOption r (a ≡ b)
+    (λ v. (Some (view v) ≡ binding name b) × ((x : List ℕ) → binding x a ≡ cond (bytes_eq name x) (Some null) (binding x b)))
+
+pub taken_above : (r : Option Value) (name : List ℕ) (a b outer : Bindings) → Takes r name a b → Takes r name (a ++ outer) (b ++ outer)
+taken_above None name a b outer h = ap (λ l. l ++ outer) h
+taken_above (Some v) name a b outer h =
+    (inner_here name b outer (view v) h.0, λ x. bound_above x name a b outer null (h.1 x))

@@ -1,6 +1,7 @@
 //! The context of an evaluation: its variables and its functions.
-ghost use Rattle.std.specs.Prelude.{◌≡◌, List, [], ℕ, Some, IfOk, IfErr, option_map, if◌then◌else◌};
+ghost use Rattle.std.specs.Prelude.{◌≡◌, List, [], ℕ, Some, IfOk, IfErr, MatchOption, option_map, if◌then◌else◌};
 ghost use Rattle.std.specs.Str.{bytes_eq};
+ghost use Rattle.cel_value.specs.Data.{null};
 ghost use Rattle.cel_value.specs.View.{view};
 ghost use Rattle.cel_semantics.specs.Bindings.{binding, bindings_of, functions_of};
 
@@ -47,6 +48,7 @@ impl<'a, F: Functions> Context<'a, F> {
     /// # Errors
     /// Only [`Refused::Memory`], if memory is refused. The value
     /// is then dropped, and the context is unchanged.
+    #[inline(always)]
     pub fn add_variable(&mut self, name: &str, value: Value) -> Result<(), Refused>
         ensures functions { functions_of self.new ≡ functions_of self.old }
         ensures variables { IfOk result (λ _. (x : List ℕ) → binding x (bindings_of self.new)
@@ -56,6 +58,20 @@ impl<'a, F: Functions> Context<'a, F> {
     {
         self.names.set(self.alloc, name, value)?;
         Ok(())
+    }
+
+    /// Takes the value that this scope binds a name to, and binds the name to null. Only the first
+    /// 16 names that were bound in this scope are found so: returns None for other names, and
+    /// changes nothing. No other name changes.
+    #[inline]
+    pub fn take_variable(&mut self, name: &str) -> Option<Value>
+        ensures functions { functions_of self.new ≡ functions_of self.old }
+        ensures variables { MatchOption result (bindings_of self.new ≡ bindings_of self.old)
+            (λ v. (Some (view v) ≡ binding name.now (bindings_of self.old))
+            × ((x : List ℕ) → binding x (bindings_of self.new)
+            ≡ (if bytes_eq name.now x then Some null else binding x (bindings_of self.old)))) }
+    {
+        self.names.take(name)
     }
 
     /// Does the same as `add_variable`.

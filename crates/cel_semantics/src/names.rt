@@ -1,12 +1,14 @@
 //! The variables of one scope.
 ghost use Rattle.std.specs.Prelude.{◌≡◌, ◌<◌, [], ℕ, List, length, IfSome, Some, None, OnOk, OnErr, MatchOption, option_map, if◌then◌else◌};
 ghost use Rattle.std.specs.Str.{bytes_eq};
+ghost use Rattle.cel_value.specs.Data.{null};
 ghost use Rattle.cel_value.specs.View.{view};
 ghost use Rattle.cel_semantics.specs.Bindings.{binding, named_bindings, names_of, IsFirst};
 
 use cel_value::Value;
 use std::alloc::{AllocError, Global};
 use std::collections::BTreeMap;
+use std::mem;
 
 /// The number of names that are searched one by one.
 const FEW: usize = 16;
@@ -43,6 +45,7 @@ impl Names {
     /// Binds a name to a value, replacing an earlier binding. No other name changes.
     ///
     /// If memory is refused, the value is dropped, and no name has changed.
+    #[inline(always)]
     pub(crate) fn set(&mut self, alloc: Global, name: &str, value: Value) -> Result<(), AllocError>
         ensures bound { OnOk result ((x : List ℕ) → binding x (names_of self.new)
             ≡ (if bytes_eq name.now x then Some (view value) else binding x (names_of self.old))) }
@@ -54,6 +57,21 @@ impl Names {
                 Ok(())
             }
             None => self.add(alloc, name, value),
+        }
+    }
+
+    /// Takes the value that a name is bound to in the list, and binds the name to null. Returns
+    /// None, and changes nothing, if the name isn't in the list. No other name changes.
+    #[inline]
+    pub(crate) fn take(&mut self, name: &str) -> Option<Value>
+        ensures { MatchOption result (names_of self.new ≡ names_of self.old)
+            (λ v. (Some (view v) ≡ binding name.now (names_of self.old))
+            × ((x : List ℕ) → binding x (names_of self.new)
+            ≡ (if bytes_eq name.now x then Some null else binding x (names_of self.old)))) }
+    {
+        match index_of(&self.first, name) {
+            Some(slot) => Some(mem::replace(&mut self.first[slot].1, Value::Null)),
+            None => None,
         }
     }
 
@@ -94,6 +112,7 @@ fn mapped<'n>(names: &'n BTreeMap<String, Value>, name: &str) -> Option<&'n Valu
 }
 
 /// The index of the name's first entry in the list, if any.
+#[inline]
 fn index_of(names: &Vec<(String, Value)>, name: &str) -> Option<usize>
     ensures slot { MatchOption result (binding name.now (named_bindings names.now.items) ≡ None)
         (λ i. IsFirst name.now names.now.items i) }

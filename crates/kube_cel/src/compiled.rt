@@ -17,7 +17,9 @@ use cel_demand::Demand;
 use cel_value::Value as CelValue;
 use kube_cel_walk::verdict::{Context, add_verdict};
 use kube_cel_walk::{Node, NodeDemands, ValidationError};
-use kube_schema::{CompilationError, CompilationResult, SchemaNode, bind_node_part};
+use kube_schema::{
+    CompilationError, CompilationResult, SchemaNode, bind_node_part, rebind_node_part,
+};
 use kube_schema_rules::BranchKind;
 use kube_types::Refused;
 use serde_json::Value;
@@ -117,6 +119,19 @@ impl Node for CompiledNode<'_> {
     ) -> Result<CelValue, Refused> {
         let part = bind_node_part(alloc, &self.node, value, depth, demand)?;
         Ok(part)
+    }
+
+    #[tactic(auto, unfolding(crate::specs::Compiled::compiled_accessors))]
+    fn rebind_part(
+        &self,
+        alloc: Global,
+        value: &Value,
+        depth: usize,
+        demand: &Demand,
+        place: &mut CelValue,
+    ) -> Result<(), Refused> {
+        rebind_node_part(alloc, &self.node, value, depth, demand, place)?;
+        Ok(())
     }
 
     #[tactic(auto, unfolding(crate::specs::Compiled::compiled_accessors))]

@@ -22,7 +22,7 @@ use cel_demand::Demand;
 use cel_value::Value as CelValue;
 use kube_cel_walk::verdict::{Context, add_verdict};
 use kube_cel_walk::{Node, NodeDemands, ValidationError};
-use kube_schema::{Demands, bind_part, rule_values};
+use kube_schema::{Demands, bind_part, rebind_part, rule_values};
 use kube_schema_rules::{BranchKind, no_demands, with_rule};
 use kube_types::Refused;
 use serde_json::Value;
@@ -219,6 +219,19 @@ impl Node for JsonNode<'_> {
     ) -> Result<CelValue, Refused> {
         let part = bind_part(alloc, self.schema, value, depth, demand)?;
         Ok(part)
+    }
+
+    #[tactic(auto, unfolding(crate::specs::Raw::raw_accessors, kube_schema_rules::specs::Raw::raw_steps))]
+    fn rebind_part(
+        &self,
+        alloc: Global,
+        value: &Value,
+        depth: usize,
+        demand: &Demand,
+        place: &mut CelValue,
+    ) -> Result<(), Refused> {
+        rebind_part(alloc, self.schema, value, depth, demand, place)?;
+        Ok(())
     }
 
     #[tactic(auto, unfolding(crate::specs::Raw::raw_accessors, kube_schema_rules::specs::Raw::raw_steps))]

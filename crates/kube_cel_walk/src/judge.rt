@@ -25,6 +25,7 @@ use crate::state::{WalkState, is_alone};
 use crate::verdict::{Context, bind_root};
 use cel::{PatternBook, Stacks};
 use cel_demand::Demand;
+use cel_value::Value as CelValue;
 use kube_types::Refused;
 use serde_json::Value;
 use std::alloc::{AllocError, Global};
@@ -53,6 +54,41 @@ fn bind_name<N: Node>(
     };
     let part = node.bind_part(alloc, value, depth, demand)?;
     context.add_variable(name, part)?;
+    Ok(())
+}
+
+/// Takes the value that a name is bound to; null if it isn't bound. What other names are bound to
+/// stays the same.
+fn taken(context: &mut Context<'_>, name: &str) -> CelValue
+    ensures { AreSameOthers name.now (bindings_of context.new) (bindings_of context.old) }
+{
+    match context.take_variable(name) {
+        Some(value) => value,
+        None => CelValue::Null,
+    }
+}
+
+/// Binds a name like [`bind_name`], in place of the value that it is bound to.
+fn rebind_name<N: Node>(
+    alloc: Global,
+    context: &mut Context<'_>,
+    name: &str,
+    node: &N,
+    value: &Value,
+    depth: usize,
+    demand: &Option<Demand>,
+) -> Result<(), Refused>
+    ensures bound { OnOk result (ReadAlike (option_map part_of demand.now)
+        (binding name.now (bindings_of context.new))
+        (Some (to_cel N.form.conversion (levels depth) (N.seen node.now) (view value.now)))) }
+    ensures others { AreSameOthers name.now (bindings_of context.new) (bindings_of context.old) }
+{
+    let Some(demand) = demand else {
+        return Ok(());
+    };
+    let mut place = taken(context, name);
+    node.rebind_part(alloc, value, depth, demand, &mut place)?;
+    context.add_variable(name, place)?;
     Ok(())
 }
 
@@ -123,7 +159,7 @@ fn bind_alone<N: Node>(
     let demand = &known.get().value;
     let (node, value) = (&state.node, state.value);
     let context = &mut kept.context;
-    bind_name(alloc, context, "self", node, value, state.depth, demand)?;
+    rebind_name(alloc, context, "self", node, value, state.depth, demand)?;
     Ok(())
 }
 

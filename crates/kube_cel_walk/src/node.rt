@@ -74,6 +74,18 @@ pub trait Node: Copy {
         ensures value { IfOk result (λ v. Alike (part_of demand.now) (cel_view v)
             (to_cel form.conversion (levels depth) (seen self.now) (view value.now))) };
 
+    /// Converts like [`bind_part`](Node::bind_part), and puts the result in place of another value.
+    fn rebind_part(
+        &self,
+        alloc: Global,
+        value: &Value,
+        depth: usize,
+        demand: &Demand,
+        place: &mut CelValue,
+    ) -> Result<(), Refused>
+        ensures value { OnOk result (Alike (part_of demand.now) (cel_view place.new)
+            (to_cel form.conversion (levels depth) (seen self.now) (view value.now))) };
+
     /// Reports whether it is known that no node below this one has rules, and that there are
     /// at most `levels` levels of them. The contract only covers true.
     fn has_no_rules_below(&self, levels: usize) -> bool

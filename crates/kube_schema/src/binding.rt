@@ -1,6 +1,6 @@
 //! Conversion of JSON values to CEL by a node of a compiled schema (Kubernetes documentation,
 //! "Use CEL validation rules", the CEL types of schema types and the escaping of property names).
-ghost use Rattle.std.specs.Prelude.{◌≡◌, IfErr, IfOk, option_map};
+ghost use Rattle.std.specs.Prelude.{◌≡◌, IfErr, IfOk, OnOk, option_map};
 ghost use Rattle.serde_json.specs.View.{view as json_view};
 ghost use Rattle.cel_demand.specs.Alike.{Alike};
 ghost use Rattle.cel_demand.specs.Demand.{part_of};
@@ -12,7 +12,7 @@ ghost use Rattle.kube_schema.specs.CompiledConversion.{tree_accessors};
 use crate::node::SchemaNode;
 use cel_demand::Demand;
 use cel_value::{Refused, Value};
-use kube_schema_parts::bind_part_at;
+use kube_schema_parts::{bind_part_at, rebind_part_at};
 use kube_schema_values::{JsonNode, Node, SchemaFormat, bind_at};
 use serde_json::Value as Json;
 use std::alloc::Global;
@@ -104,6 +104,29 @@ pub fn bind_node_part(
     Ok(part)
 }
 
+/// Converts a JSON value to CEL like [`bind_node_part`], and puts the result in place of another
+/// value, whose memory is used again if that was made by the same demand and nothing else shares it.
+///
+/// # Errors
+///
+/// [`Refused`] if memory is refused. Nothing is known of the value in its place then.
+pub fn rebind_node_part(
+    alloc: Global,
+    node: &SchemaNode<'_>,
+    value: &Json,
+    depth: usize,
+    demand: &Demand,
+    place: &mut Value,
+) -> Result<(), Refused>
+    ensures value { OnOk result (Alike (part_of demand.now) (view place.new)
+        (to_cel tree_accessors (levels depth) (node_tree node.now) (json_view value.now))) }
+    ensures memory { IfErr result (λ e. e ≡ Refused.Memory) }
+{
+    let node = CompiledNode { node: *node };
+    rebind_part_at(alloc, node, value, depth, demand, place)?;
+    Ok(())
+}
+
 /// Converts the demanded part of a JSON value to CEL by a schema as JSON,
 /// `depth` steps below the root. What isn't demanded may be missing.
 ///
@@ -123,6 +146,28 @@ pub fn bind_part(
 {
     let part = bind_part_at(alloc, JsonNode { schema }, value, depth, demand)?;
     Ok(part)
+}
+
+/// Converts a JSON value to CEL like [`bind_part`], and puts the result in place of another value,
+/// whose memory is used again if that was made by the same demand and nothing else shares it.
+///
+/// # Errors
+///
+/// [`Refused`] if memory is refused. Nothing is known of the value in its place then.
+pub fn rebind_part(
+    alloc: Global,
+    schema: &Json,
+    value: &Json,
+    depth: usize,
+    demand: &Demand,
+    place: &mut Value,
+) -> Result<(), Refused>
+    ensures value { OnOk result (Alike (part_of demand.now) (view place.new)
+        (to_cel raw (levels depth) (json_view schema.now) (json_view value.now))) }
+    ensures memory { IfErr result (λ e. e ≡ Refused.Memory) }
+{
+    rebind_part_at(alloc, JsonNode { schema }, value, depth, demand, place)?;
+    Ok(())
 }
 
 // Returns the node of a member: that of its property, else that of members that aren't declared.

@@ -36,7 +36,7 @@ mod sharing;
 mod table;
 pub mod table_laws;
 
-pub use binding::{bind_node, bind_node_part, bind_part};
+pub use binding::{bind_node, bind_node_part, bind_part, rebind_node_part, rebind_part};
 pub use compile::compile_schema;
 pub use defaults::fill_node;
 pub use kube_schema_rules::{

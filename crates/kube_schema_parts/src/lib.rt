@@ -2,5 +2,7 @@
 #![tactic(auto)]
 
 pub mod parts;
+pub mod rebinding;
 
 pub use parts::bind_part_at;
+pub use rebinding::rebind_part_at;

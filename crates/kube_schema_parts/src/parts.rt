@@ -54,7 +54,7 @@ pub fn bind_part_at<N: Node>(
 // `own` says that the name of each demanded member is known to be its own escape.
 #[cycle(part)]
 #[inline(always)]
-fn part_with<N: Node>(
+pub(crate) fn part_with<N: Node>(
     alloc: Global,
     node: Option<N>,
     value: &Json,
@@ -228,7 +228,7 @@ fn shared_members<N: Node>(
         let Some(part) = found else {
             return Ok(None);
         };
-        parts = parts.with_value(part)?;
+        parts.push(part)?;
     }
     Ok(Some(parts))
 }
@@ -236,7 +236,7 @@ fn shared_members<N: Node>(
 // Converts the part of a member whose name is its own escape, if the object has it.
 #[cycle(part)]
 #[inline(always)]
-fn member_part<N: Node>(
+pub(crate) fn member_part<N: Node>(
     alloc: Global,
     node: Option<N>,
     object: &Members<String, Json>,
@@ -496,7 +496,7 @@ fn list_of<'a>(value: &'a Json, depth: usize, item: &Demand) -> Option<&'a Vec<J
 }
 
 // The members of an object, if the depth is at most 64.
-fn object_of(value: &Json, depth: usize) -> Option<&Members<String, Json>>
+pub(crate) fn object_of(value: &Json, depth: usize) -> Option<&Members<String, Json>>
     ensures within { IfSome result (λ _. depth ≤ 64) }
     ensures members { IfSome result (λ m. json_view value.now ≡ object (members_view m.now.entries)) }
 {

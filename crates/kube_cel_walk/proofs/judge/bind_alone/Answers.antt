@@ -17,13 +17,13 @@ returns g c = record {
       let s = visit_at g.N.Node.seen c.args.state.now path in
       let read = λ (x : List ℕ). rules_read x (g.N.Node.form.rules (g.N.Node.seen c.args.state.now.node)) in
       let value = ap (λ d. option_map part_of d.value) c.get.ensures ∙ c.in_ok-known.ensures.demands.0 in
-      let e = bindings_of c.bind_name.new.context in
+      let e = bindings_of c.rebind_name.new.context in
       let d = bound_at g.N.Node.form s s.value in
-      let here = subst (λ p. ReadAlike p (binding (codes "self") e) (Some d)) value c.in_ok-bind_name.ensures.bound in
+      let here = subst (λ p. ReadAlike p (binding (codes "self") e) (Some d)) value c.in_ok-rebind_name.ensures.bound in
       let others : OthersAlike (codes "self") read (bindings_of c.args.kept.now.context) [] = λ x other. unbound_read (read x) (binding x (bindings_of c.args.kept.now.context)) (c.args.kept.now.only_self x other) in
-      let named = names_named read (codes "self") d e (bindings_of c.args.kept.now.context) [] others here c.bind_name.ensures.others in
+      let named = names_named read (codes "self") d e (bindings_of c.args.kept.now.context) [] others here c.rebind_name.ensures.others in
       alone g.N.Node.form read s e (ap (option_map (λ v. view v.now)) c.requires.0) (ap (option_map (λ r. root_view r.now)) c.requires.1) named;
 }
 
 pub invariant_of-kept : goal.invariant_of-kept
-invariant_of-kept g c = record { only_self = λ x other. ap is_some (c.bind_name.ensures.others x other) ∙ c.args.kept.now.only_self x other }
+invariant_of-kept g c = record { only_self = λ x other. ap is_some (c.rebind_name.ensures.others x other) ∙ c.args.kept.now.only_self x other }

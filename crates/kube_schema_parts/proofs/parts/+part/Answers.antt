@@ -185,14 +185,14 @@ shared_members-loop-member-preserved g t c =
     let bound = entries_at g.N.Node.accessors (64 - c.args.depth) (option_map g.N.Node.seen c.args.node) (members_view c.args.object.now.entries) in
     let k = c.loop-member.invariant in
     let old = c.loop-member.parts in
-    let new = c.in_ok-parts-2.parts in
-    let count = ap length c.in_ok-parts-2.ensures.values ∙ length_push old.values c.in-Some.part ∙ ap (λ n. n + 1) k.1 in
+    let new = c.push.new.self in
+    let count = ap length c.in_ok-push.ensures.values ∙ length_push old.values c.in-Some.part ∙ ap (λ n. n + 1) k.1 in
     let at : slice_get old.keys (length old.values) ≡ Some (key.String (name_of m)) = (λ j. slice_get (k.0 j) (k.1 j)) ∙ name_at items i m lt c.member-item.is in
-    let added = c.in_ok-parts-2.ensures.entries (key.String (name_of m)) at in
+    let added = c.in_ok-push.ensures.entries (key.String (name_of m)) at in
     let found = subst (λ o. IfSome o (λ v. (w : Data) × (find (text_key (name_of m)) bound ≡ Some w) × Alike (part_of m.1) (view v) w)) c.in-Some.is c.in_ok-found.ensures.part in
     let next = take_more items i m lt ∙ ap (λ y. take i items ++ y ∷ []) (sym c.member-item.is) in
     let parts = part_put (take i items) m (view c.in-Some.part) found.0 (entries_view (shared_entries old)) bound (entries_view (shared_entries new)) added.0 found.1 found.2 added.1 k.2 in
-    (c.in_ok-parts-2.ensures.keys ∙ k.0, count, subst (λ es. AreParts (demands_view es) (entries_view (shared_entries new)) bound) (sym next) parts)
+    (c.in_ok-push.ensures.keys ∙ k.0, count, subst (λ es. AreParts (demands_view es) (entries_view (shared_entries new)) bound) (sym next) parts)
 
 pub shared_part-returns-in_ok-map-in-Some-found-clause-value : goal.shared_part-returns-in_ok-map-in-Some-found-clause-value
 shared_part-returns-in_ok-map-in-Some-found-clause-value g t c =
