@@ -38,7 +38,7 @@ pub fn select(alloc: Global, key: &Key, value: &Value) -> Result<Answer, Refused
     ensures value { IfOk result (λ r. outcome_view r ≡ selection (key_view key.now) (view value.now)) }
 {
     match value {
-        Value::Map(entries) => member(entries.as_ref(), key),
+        Value::Map(entries) => member(entries, key),
         _ => Ok(Err(no_such_overload(alloc, ".")?)),
     }
 }
@@ -51,7 +51,7 @@ pub fn has(alloc: Global, key: &Key, value: &Value) -> Result<Answer, Refused>
     ensures value { IfOk result (λ r. outcome_view r ≡ has_member (key_view key.now) (view value.now)) }
 {
     match value {
-        Value::Map(entries) => Ok(Ok(Value::Bool(has_entry(entries.as_ref(), key)))),
+        Value::Map(entries) => Ok(Ok(Value::Bool(has_entry(entries, key)))),
         _ => Ok(Err(no_such_overload(alloc, "has")?)),
     }
 }
@@ -140,7 +140,7 @@ pub fn index(alloc: Global, value: &Value, index: &Value) -> Result<Answer, Refu
 {
     match value {
         Value::List(items) => index_list(alloc, items.as_ref(), index),
-        Value::Map(entries) => index_map(alloc, entries.as_ref(), index),
+        Value::Map(entries) => index_map(alloc, entries, index),
         _ => refuse_index(alloc, index),
     }
 }
@@ -172,7 +172,7 @@ pub(crate) fn is_in(alloc: Global, value: &Value, range: &Value) -> Result<Answe
 {
     match range {
         Value::List(items) => Ok(Ok(Value::Bool(is_among(value, items.as_ref())))),
-        Value::Map(entries) => Ok(Ok(Value::Bool(is_key_of(value, entries.as_ref())?))),
+        Value::Map(entries) => Ok(Ok(Value::Bool(is_key_of(value, entries)?))),
         _ => Ok(Err(no_such_overload(alloc, "in")?)),
     }
 }

@@ -76,7 +76,7 @@ pub fn range_in(
 {
     match value {
         Value::List(items) => Ok(Ok(Range::Items(items))),
-        Value::Map(entries) => Ok(Ok(Range::Keys(key_values(alloc, entries.as_ref())?))),
+        Value::Map(entries) => Ok(Ok(Range::Keys(key_values(alloc, &entries)?))),
         _ => Ok(Err(no_such_overload(alloc, name)?)),
     }
 }

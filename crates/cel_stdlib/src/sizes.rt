@@ -57,7 +57,7 @@ pub(crate) fn size(alloc: Global, value: &Value) -> Result<Answer, Refused>
         Value::String(text) => Ok(counted(character_count(text.as_str()))),
         Value::Bytes(bytes) => Ok(counted(bytes.as_slice().len())),
         Value::List(items) => Ok(counted(item_count(items.as_ref()))),
-        Value::Map(entries) => Ok(counted(entry_count(entries.as_ref()))),
+        Value::Map(entries) => Ok(counted(entry_count(entries))),
         _ => Ok(Err(no_such_overload(alloc, "size")?)),
     }
 }

@@ -11,7 +11,7 @@ use Rattle.cel_value.specs.declared.value.Value.TheVariants as value
 pub view_list : (v : _) → view (value.List v) ≡ list v.value
 view_list v = refl
 
-pub view_map : (m : _) → view (value.Map m) ≡ map_of m.value
+pub view_map : (m : _) → view (value.Map m) ≡ map_of m
 view_map m = refl
 
 pub view_optional : (o : _) → view (value.Optional o) ≡ optional o

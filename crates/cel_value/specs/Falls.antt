@@ -1,27 +1,33 @@
 -- Scaffolding: only proofs and private clauses cite it.
 -- Each part of a value has a smaller weight than the whole.
-use Rattle.std.specs.Prelude.{◌≡◌, ◌≤◌, ℕ, zero, suc, max, take, drop, ◌+◌, List, [], ◌∷◌, ◌++◌, Option, Some, None, length, map, zip}
+use Rattle.std.specs.Prelude.{◌≡◌, ◌≤◌, ℕ, true, zero, suc, max, take, drop, ◌+◌, List, [], ◌∷◌, ◌++◌, Option, Some, None, length, map, zip}
 use Rattle.std.specs.List.{AllByRecursion}
 use Rattle.std.proofs.Common.{arith, ap}
 use Rattle.std.specs.declared.alloc.Global.{Global}
 use Rattle.std.specs.declared.rc.Rc.{Rc}
 use Rattle.std.specs.Global.{Vec, Box}
 use Rattle.std.specs.BTreeMap.{BTreeMap}
-use Rattle.cel_value.specs.Weights.{weight, items_weight, entries_weight, map_weight, held_weight, listed_weight, shared_weight}
+use Rattle.cel_value.specs.Weights.{weight, items_weight, entries_weight, single_weight, rows_weight, map_weight, held_weight, listed_weight, shared_weight}
 use Rattle.cel_value.specs.SharedEntries.{AreInPlace, map_entries, values_of}
 use Rattle.cel_value.specs.StoredEntries.{AreStored, all_entries, tree_entries}
 use Rattle.cel_value.specs.View.{view, items_view, entries_view, alone, held_view}
 use Rattle.cel_value.specs.declared.key.Key.{Key}
 use Rattle.cel_value.specs.declared.value.Value.{Value}
 use Rattle.cel_value.specs.declared.value.Value.TheVariants as value
-use Rattle.cel_value.specs.declared.value.Entries.TheDeep.{deep-Value, deep-Entries, deep-Held, deep-List, deep-Map, deep-MapEntries, deep-OptionalValue, deep-SharedEntries, deep-Values}
+use Rattle.cel_value.specs.declared.value.Entries.TheDeep.{deep-Value, deep-Entries, deep-Held, deep-List, deep-Map, deep-MapBlock, deep-MapEntries, deep-MapRows, deep-OptionalValue, deep-SharedEntries, deep-SingleMap, deep-Values}
 use Rattle.cel_value.specs.declared.value.Held.{Held}
 use Rattle.cel_value.specs.declared.value.Entries.TheInside as listings
 use Rattle.cel_value.specs.declared.value.Entries.TheShapes as shapes
-use Rattle.cel_value.specs.Data.{Entries, no_entries, entry}
+use Rattle.cel_value.specs.Blocks.{map_in}
+use Rattle.cel_value.specs.Data.{Data, null, bool, int, uint, double, text, bytes, list, map_of, timestamp, duration, optional, ip, cidr, quantity, semver, url, format, Entries, no_entries, entry}
+use Rattle.cel_value.specs.Rows.{AreFlat, is_flat, row_entries}
 use Rattle.cel_value.specs.declared.value.Held.TheInside as holds
 use Rattle.cel_value.specs.declared.value.List.TheInside as lists
 use Rattle.cel_value.specs.declared.value.Map.TheInside as maps
+use Rattle.cel_value.specs.declared.value.MapBlock.{MapBlock}
+use Rattle.cel_value.specs.declared.value.MapBlock.TheVariants as block
+use Rattle.cel_value.specs.declared.value.MapRows.TheInside as rows
+use Rattle.cel_value.specs.declared.value.SingleMap.TheInside as singles
 use Rattle.cel_value.specs.declared.value.MapEntries.{MapEntries}
 use Rattle.cel_value.specs.declared.value.MapEntries.TheVariants as map_entry
 use Rattle.cel_value.specs.declared.value.SharedEntries.TheInside as sharings
@@ -134,8 +140,45 @@ map_entries_fall : (m : MapEntries) → deep-MapEntries m ≤ entries_weight (en
 map_entries_fall (map_entry.Own e) = omega (arith, some_weight (entries_view e.entries))
 map_entries_fall (map_entry.Shared s) = omega (arith, some_weight (entries_view (zip s.keys s.values)))
 
-pub entries_fall : (a : maps.Inside) → deep-Map a ≤ map_weight (entries_view (map_entries a.entries))
+pub entries_fall : (a : singles.Inside) → deep-SingleMap a ≤ single_weight (entries_view (map_entries a.entries))
 entries_fall a = omega (arith, map_entries_fall a.entries)
+
+-- what is flat has no parts
+flat_weight : (d : Data) → is_flat d ≡ true → weight d ≤ 1
+flat_weight (list ds) h = absurd cc
+flat_weight (map_of es) h = absurd cc
+flat_weight (optional ds) h = absurd cc
+flat_weight double h = omega arith
+flat_weight null h = omega arith
+flat_weight (bool b) h = omega arith
+flat_weight (int n) h = omega arith
+flat_weight (uint n) h = omega arith
+flat_weight (text s) h = omega arith
+flat_weight (bytes s) h = omega arith
+flat_weight (timestamp t o) h = omega arith
+flat_weight (duration n) h = omega arith
+flat_weight (ip a) h = omega arith
+flat_weight (cidr c) h = omega arith
+flat_weight (quantity q) h = omega arith
+flat_weight (semver v) h = omega arith
+flat_weight (url u) h = omega arith
+flat_weight (format f) h = omega arith
+
+most_flat : (vs : List Value) → AreFlat vs → most (λ v. deep-Value v) vs ≤ 1
+most_flat [] h = omega arith
+most_flat (v ∷ vs) h = omega (arith, lighter v, flat_weight (view v) h.0, most_flat vs h.1)
+
+pub rows_fall : (a : rows.Inside) → AreFlat a.values.items → deep-MapRows a ≤ rows_weight (record { keys = a.keys.value.items; values = a.values.items })
+unfolding rows_weight
+rows_fall a h = omega (arith, most_flat a.values.items h)
+
+block_falls : (b : MapBlock) (i : ℕ) → suc (deep-MapBlock b) ≤ map_weight (map_in b i)
+unfolding rows_weight
+block_falls (block.Single m) i = omega arith
+block_falls (block.Rows r) i = omega (arith, some_weight (entries_view (row_entries r i)))
+
+pub map_falls : (a : maps.Inside) → deep-Map a ≤ map_weight (map_in a.block.value a.row)
+map_falls a = omega (arith, block_falls a.block.value a.row)
 
 pub held_falls : (a : holds.Inside) → deep-Held a ≤ items_weight (alone (view a.value))
 held_falls a = omega (arith, lighter a.value)

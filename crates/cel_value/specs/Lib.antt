@@ -1,3 +1,4 @@
+pub mod Blocks
 pub mod Coded
 pub mod Data
 pub mod Falls
@@ -19,3 +20,4 @@ pub mod Texts
 pub mod View
 pub mod Weights
 pub mod Replaced
+pub mod Rows

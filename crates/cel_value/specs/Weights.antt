@@ -9,7 +9,7 @@ use Rattle.cel_value.specs.View.{entries_view}
 abbrev mutual
   pub weight : Data → ℕ
   weight (list ds) = suc (items_weight ds)
-  weight (map_of es) = suc (suc (entries_weight es))
+  weight (map_of es) = suc (suc (suc (suc (entries_weight es))))
   weight (optional ds) = suc (suc (items_weight ds))
   weight _ = 1
 
@@ -25,9 +25,17 @@ abbrev mutual
 abbrev pub held_weight : Items → ℕ
 held_weight ds = suc (items_weight ds)
 
+-- the weight of a map that has its memory for itself
+abbrev pub single_weight : Entries → ℕ
+single_weight es = suc (entries_weight es)
+
+-- the weight of rows, whose values have no parts
+unfoldable pub rows_weight : Shared → ℕ
+rows_weight s = 2
+
 -- the weight of a map without its kind
 abbrev pub map_weight : Entries → ℕ
-map_weight es = suc (entries_weight es)
+map_weight es = suc (suc (suc (entries_weight es)))
 
 -- the weight of the entries that are stored for a map
 abbrev pub listed_weight : Listed → ℕ

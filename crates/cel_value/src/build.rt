@@ -58,7 +58,7 @@ impl Value {
         ensures value { IfOk result (λ v. view v ≡ map_of (entries_view entries.entries)) }
         ensures memory { IfErr result (λ e. e ≡ Refused.Memory) }
     {
-        Ok(Value::Map(Rc::new(alloc, Map::of(entries)?)?))
+        Ok(Value::Map(Map::of(alloc, entries)?))
     }
 
     /// Returns the map of entries that share their keys.
@@ -70,7 +70,7 @@ impl Value {
         ensures value { IfOk result (λ v. view v ≡ map_of (entries_view (shared_entries entries))) }
         ensures memory { IfErr result (λ e. e ≡ Refused.Memory) }
     {
-        Ok(Value::Map(Rc::new(alloc, Map::of_shared(entries)?)?))
+        Ok(Value::Map(Map::of_shared(alloc, entries)?))
     }
 }
 

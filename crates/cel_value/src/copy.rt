@@ -38,7 +38,7 @@ impl Value {
             Value::String(text) => Ok(Value::String(text.clone()?)),
             Value::Bytes(bytes) => Ok(Value::Bytes(bytes.clone()?)),
             Value::List(items) => Ok(Value::List(items.clone()?)),
-            Value::Map(entries) => Ok(Value::Map(entries.clone()?)),
+            Value::Map(entries) => Ok(Value::Map(entries.try_clone()?)),
             Value::Timestamp(t) => Ok(Value::Timestamp(*t)),
             Value::Duration(d) => Ok(Value::Duration(*d)),
             Value::Optional(o) => Ok(Value::Optional(o.try_clone()?)),

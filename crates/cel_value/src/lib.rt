@@ -45,5 +45,5 @@ pub use kind::Kind;
 pub use kube_types_refused::Refused;
 pub use string::Text;
 pub use value::{
-    Entries, List, MAX_VALUE_LEVELS, Map, MapKeys, OptionalValue, SharedEntries, Value,
+    Entries, List, MAX_VALUE_LEVELS, Map, MapKeys, MapRows, OptionalValue, SharedEntries, Value,
 };

@@ -95,7 +95,7 @@ impl Value {
         ensures { option_map (λ m. m.now) result ≡ entries_in (view self.now) }
     {
         match self {
-            Value::Map(entries) => Some(entries.as_ref()),
+            Value::Map(entries) => Some(entries),
             _ => None,
         }
     }

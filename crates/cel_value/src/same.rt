@@ -58,7 +58,7 @@ pub(crate) fn is_same(a: &Value, b: &Value) -> bool
             None => false,
         },
         Value::Map(x) => match b.as_map() {
-            Some(y) => entries_same(x.as_ref(), y),
+            Some(y) => entries_same(x, y),
             None => false,
         },
         Value::Timestamp(x) => match b.as_timestamp() {

@@ -81,7 +81,7 @@ fn find_textless(value: &Value) -> Option<Kind>
         Value::UInt(_) => None,
         Value::String(_) => None,
         Value::List(items) => find_textless_item(items.as_ref()),
-        Value::Map(entries) => find_textless_entry(entries.as_ref()),
+        Value::Map(entries) => find_textless_entry(entries),
         Value::Float => Some(Kind::Float),
         Value::Bytes(_) => Some(Kind::Bytes),
         Value::Timestamp(_) => Some(Kind::Timestamp),
@@ -162,7 +162,7 @@ fn write_value(value: &Value, inner: bool, out: &mut String) -> Result<(), Alloc
             }
         }
         Value::List(items) => write_items(items.as_ref(), out),
-        Value::Map(entries) => write_entries(entries.as_ref(), out),
+        Value::Map(entries) => write_entries(entries, out),
         Value::Float => Ok(()),
         Value::Bytes(_) => Ok(()),
         Value::Timestamp(_) => Ok(()),

@@ -7,10 +7,13 @@ ghost use Rattle.cel_value.specs.Levels.{levels, max_levels};
 ghost use Rattle.cel_value.specs.Same.{has_double};
 ghost use Rattle.cel_value.specs.View.{view};
 
+mod blocks;
 mod lists;
 mod maps;
 mod optionals;
+mod rows;
 mod shared;
+mod single;
 mod stored;
 
 use crate::key::Key;
@@ -106,12 +109,38 @@ enum MapEntries {
     Shared(SharedEntries),
 }
 
-/// The entries of a map, in key order.
+/// A map that has its memory for itself.
+#[derive(Debug, Drop)]
+#[cycle(values)]
+struct SingleMap {
+    entries: MapEntries,
+    nesting: Nesting,
+}
+
+/// Maps of the same keys, whose values lie side by side, as those of the rows of a table. A value
+/// is neither a double, a list, a map nor an optional. The last row may lack some values.
+#[derive(Debug, Drop)]
+#[cycle(values)]
+pub struct MapRows {
+    keys: Rc<Vec<Key>>,
+    values: Vec<Value>,
+}
+
+/// What maps share: a single map, or those of a list's items.
+#[derive(Debug, Drop)]
+#[cycle(values)]
+enum MapBlock {
+    Single(SingleMap),
+    Rows(MapRows),
+}
+
+/// The entries of a map, in key order. Copies share them.
 #[derive(Debug, Drop)]
 #[cycle(values)]
 pub struct Map {
-    entries: MapEntries,
-    nesting: Nesting,
+    block: Rc<MapBlock>,
+    // Which of the rows the map is, if there are rows.
+    row: usize,
 }
 
 /// The value that an optional holds, with its number of levels and whether it holds a double.
@@ -151,7 +180,7 @@ pub enum Value {
     /// A list.
     List(Rc<List>),
     /// A map, in key order.
-    Map(Rc<Map>),
+    Map(Map),
     /// An instant with the UTC offset of a local clock.
     Timestamp(Timestamp),
     /// A length of time.
@@ -175,7 +204,7 @@ pub enum Value {
 // A value is moved as its kind and two words.
 const _: () = prove!(size_of::<Value>() == 24);
 
-const _: () = prove!(size_of::<Map>() <= 112);
+const _: () = prove!(size_of::<SingleMap>() <= 112);
 
 impl fmt::Debug for Slots {
     #[cycle(values)]
@@ -282,7 +311,7 @@ impl Model for List {
     ghost size_decreases = { λ a h. items_fall a };
 }
 
-impl Model for Map {
+impl Model for SingleMap {
     ghost use Rattle.std.specs.Coded.{codes, code_by};
     ghost use Rattle.cel_value.specs.Data as seen;
     ghost use Rattle.cel_value.specs.Coded.{Marks, entries_to, entries_from, entries_back};
@@ -292,18 +321,67 @@ impl Model for Map {
     ghost coded = { code_by Marks (Prim.hlevel codes) entries_to entries_from entries_back };
 
     ghost use Rattle.cel_value.specs.View.{entries_view};
-    ghost use Rattle.cel_value.specs.Weights.{map_weight};
+    ghost use Rattle.cel_value.specs.Weights.{single_weight};
     ghost use Rattle.cel_value.specs.SharedEntries.{IsNestingOf, map_entries};
 
     ghost view = { λ a. entries_view (map_entries a.entries) };
 
     ghost invariant = { λ a. IsNestingOf a.nesting (map_entries a.entries) };
 
-    ghost size = { map_weight };
+    ghost size = { single_weight };
 
     ghost use Rattle.cel_value.specs.Falls.{entries_fall};
 
     ghost size_decreases = { λ a h. entries_fall a };
+}
+
+impl Model for MapRows {
+    ghost use Rattle.std.specs.Coded.{codes, code_by};
+    ghost use Rattle.cel_value.specs.Coded.{items_code, entries_code};
+    ghost use Rattle.cel_value.specs.Shared.{Shared, Columns, shared_to, shared_from, shared_back};
+
+    ghost Value = { Shared };
+
+    ghost coded = { code_by Columns (Prim.hlevel (codes, items_code, entries_code))
+        shared_to shared_from shared_back };
+
+    ghost use Rattle.std.specs.List.Sorted.{IsStrictlySortedBy};
+    ghost use Rattle.cel_value.specs.Keys.{key_cmp};
+    ghost use Rattle.cel_value.specs.Rows.{AreFlat};
+    ghost use Rattle.cel_value.specs.Weights.{rows_weight};
+
+    ghost view = { λ a. record { keys = a.keys.value.items; values = a.values.items } };
+
+    ghost invariant = { λ a. IsStrictlySortedBy key_cmp a.keys.value.items × AreFlat a.values.items };
+
+    ghost size = { rows_weight };
+
+    ghost use Rattle.cel_value.specs.Falls.{rows_fall};
+
+    ghost size_decreases = { λ a h. rows_fall a h.1 };
+}
+
+impl Model for Map {
+    ghost use Rattle.std.specs.Coded.{codes, code_by};
+    ghost use Rattle.cel_value.specs.Data as seen;
+    ghost use Rattle.cel_value.specs.Coded.{Marks, entries_to, entries_from, entries_back};
+
+    ghost Value = { seen.Entries };
+
+    ghost coded = { code_by Marks (Prim.hlevel codes) entries_to entries_from entries_back };
+
+    ghost use Rattle.cel_value.specs.Blocks.{HasRow, map_in};
+    ghost use Rattle.cel_value.specs.Weights.{map_weight};
+
+    ghost view = { λ a. map_in a.block.value a.row };
+
+    ghost invariant = { λ a. HasRow a.block.value a.row };
+
+    ghost size = { map_weight };
+
+    ghost use Rattle.cel_value.specs.Falls.{map_falls};
+
+    ghost size_decreases = { λ a h. map_falls a };
 }
 
 impl Model for Held {
@@ -376,7 +454,7 @@ impl Value {
         match self {
             Value::Float => true,
             Value::List(items) => items.doubles,
-            Value::Map(map) => map.nesting.doubles,
+            Value::Map(map) => map.holds_double(),
             Value::Optional(optional) => match &optional.held {
                 Some(held) => held.doubles,
                 None => false,
@@ -392,7 +470,7 @@ impl Value {
     {
         match self {
             Value::List(items) => items.levels,
-            Value::Map(map) => map.nesting.levels,
+            Value::Map(map) => map.levels(),
             Value::Optional(optional) => match &optional.held {
                 Some(held) => held.levels,
                 None => 1,

@@ -55,7 +55,7 @@ pub fn push_copy(values: &mut Vec<Answer>, value: &Value) -> Result<(), Refused>
         Value::Bool(b) => Value::Bool(*b),
         Value::String(text) => Value::String(text.clone()?),
         Value::List(items) => Value::List(items.clone()?),
-        Value::Map(entries) => Value::Map(entries.clone()?),
+        Value::Map(entries) => Value::Map(entries.try_clone()?),
         _ => return push_any(values, value),
     };
     push_answer(values, Ok(copy))?;

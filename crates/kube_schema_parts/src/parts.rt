@@ -18,7 +18,7 @@ ghost use Rattle.kube_schema_values.specs.Escape.{escape};
 ghost use Rattle.kube_schema_parts.specs.Parts.{AreNamesIn, AreOwnNames, AreParts, HasOwnNames, entries_at, name_keys, is_embedded_at, is_map_at, items_node, key_at, node_of_member, scalar_of, value_at};
 
 use cel_demand::Demand;
-use cel_value::{Entries, Key, MapKeys, Refused, SharedEntries, Text, Value};
+use cel_value::{Entries, Key, MapKeys, MapRows, Refused, SharedEntries, Text, Value};
 use kube_schema_values::{
     MemberKeys, Node, bind_at, bind_number, bind_plain_with, is_its_own_escape,
 };
@@ -27,6 +27,9 @@ use std::alloc::Global;
 
 /// The greatest depth at which parts are converted; deeper values are converted whole.
 const MAX_DEPTH: usize = 64;
+
+/// The least number of items whose parts are made together.
+const FEW_ROWS: usize = 4;
 
 /// Converts the demanded part of a JSON value to CEL, by a node of a schema,
 /// `depth` steps below the root. What isn't demanded may be missing.
@@ -131,12 +134,107 @@ fn item_parts<N: Node>(
     let own = has_own_names(item);
     let made = shared_names(alloc, item)?;
     let names = made.as_ref();
-    let mut parts = Vec::with_capacity(alloc, items.len())?;
-    for value in items {
-        let part = item_part(alloc, node, value, depth, item, own, names, keys)?;
+    let mut parts = row_parts(alloc, node, items, depth, item, names, keys)?;
+    for index in parts.len()..items.len() {
+        let part = item_part(alloc, node, &items[index], depth, item, own, names, keys)?;
         parts.push(part)?;
     }
     Ok(parts)
+}
+
+// Converts the parts of the first items to maps that lie side by side, as long as each item has all
+// members that are demanded, and as their values can lie there.
+#[cycle(part)]
+fn row_parts<N: Node>(
+    alloc: Global,
+    node: Option<N>,
+    items: &Vec<Json>,
+    depth: usize,
+    item: &Demand,
+    names: Option<&MapKeys>,
+    keys: &mut MemberKeys,
+) -> Result<Vec<Value>, Refused>
+    requires names { IfSome (option_copied names) (λ ks. AreNamesIn item.now ks) }
+    ensures count { IfOk result (λ parts. length parts.items ≤ length items.now.items) }
+    ensures items { IfOk result (λ parts. ListsAlike (Alike (part_of item.now)) (map view parts.items)
+        (map (λ v. value_at N.accessors (levels depth) (option_map N.seen node) (json_view v))
+        (take (length parts.items) items.now.items))) }
+    ensures memory { IfErr result (λ e. e ≡ Refused.Memory) }
+{
+    let mut parts = Vec::with_capacity(alloc, items.len())?;
+    match (item, names) {
+        (Demand::Members(members), Some(names)) => {
+            if items.len() >= FEW_ROWS {
+                let mut rows = MapRows::with_capacity(alloc, names, items.len())?;
+                let count = add_rows(alloc, node, items, depth, members, &mut rows, keys)?;
+                rows.add_maps(alloc, count, &mut parts)?;
+            }
+            Ok(parts)
+        }
+        _ => Ok(parts),
+    }
+}
+
+// Adds rows for the first items, and returns how many are whole.
+#[cycle(part)]
+fn add_rows<N: Node>(
+    alloc: Global,
+    node: Option<N>,
+    items: &Vec<Json>,
+    depth: usize,
+    members: &Vec<(Text, Demand)>,
+    rows: &mut MapRows,
+    keys: &mut MemberKeys,
+) -> Result<usize, Refused>
+    requires own { AreOwnNames members.now.items }
+    requires names { rows.old.keys ≡ name_keys members.now.items }
+    requires none { rows.old.values ≡ [] }
+    ensures names { rows.new.keys ≡ rows.old.keys }
+    ensures rows { IfOk result (λ count. AreRowsOf N.accessors (levels depth) (option_map N.seen node)
+        members.now.items (map json_view items.now.items) count rows.new) }
+    ensures memory { IfErr result (λ e. e ≡ Refused.Memory) }
+{
+    let mut count = 0;
+    for value in items {
+        if !add_row(alloc, node, value, depth, members, rows, keys)? {
+            return Ok(count);
+        }
+        count += 1;
+    }
+    Ok(count)
+}
+
+// Adds a row for an item, if it is an object that has all members. Else the row isn't whole.
+#[cycle(part)]
+fn add_row<N: Node>(
+    alloc: Global,
+    node: Option<N>,
+    value: &Json,
+    depth: usize,
+    members: &Vec<(Text, Demand)>,
+    rows: &mut MapRows,
+    keys: &mut MemberKeys,
+) -> Result<bool, Refused>
+    requires own { AreOwnNames members.now.items }
+    requires names { rows.old.keys ≡ name_keys members.now.items }
+    ensures names { rows.new.keys ≡ rows.old.keys }
+    ensures row { IfOk result (λ done. IsRowAdded N.accessors (levels depth) (option_map N.seen node)
+        members.now.items (json_view value.now) done rows.old rows.new) }
+    ensures memory { IfErr result (λ e. e ≡ Refused.Memory) }
+{
+    let Some(object) = object_of(value, depth) else {
+        return Ok(false);
+    };
+    for member in members {
+        let found = member_part(alloc, node, object, depth, member, keys)?;
+        let Some(part) = found else {
+            return Ok(false);
+        };
+        if !rows.push(part)? {
+            return Ok(false);
+        }
+    }
+    Ok(true)
 }
 
 // Converts the part of an item. If it is a map that has all members that are

@@ -18,7 +18,6 @@ use kube_schema_values::{MemberKeys, Node, is_its_own_escape};
 use serde_json::{Map as Members, Value as Json};
 use std::alloc::Global;
 use std::mem;
-use std::rc::Rc;
 
 /// Converts the demanded part of a JSON value to CEL, like
 /// [`bind_part_at`](crate::bind_part_at), and puts it in place of another value. If that one is a
@@ -69,10 +68,7 @@ fn rebind_map<N: Node>(
     let Some(object) = object_of(value, depth) else {
         return Ok(false);
     };
-    let Value::Map(shared) = place else {
-        return Ok(false);
-    };
-    let Some(map) = Rc::get_mut(shared) else {
+    let Value::Map(map) = place else {
         return Ok(false);
     };
     let is_put = put_members(alloc, node, object, depth, members, map, keys)?;

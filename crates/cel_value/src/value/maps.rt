@@ -1,150 +1,86 @@
 //! Maps.
-ghost use Rattle.std.specs.Prelude.{◌≡◌, [], true, false, Some, IfSome, IfOk, IfErr, OnOk, OnErr, None, max, length, option_map, slice_get};
+ghost use Rattle.std.specs.Prelude.{◌≡◌, ◌≤◌, true, false, suc, Some, IfSome, IfOk, IfErr, OnOk, OnErr, None, length, option_map, slice_get};
+ghost use Rattle.cel_value.specs.Blocks.{map_in};
 ghost use Rattle.cel_value.specs.Data.{no_entries};
 ghost use Rattle.cel_value.specs.Find.{find, list_of_entries};
 ghost use Rattle.cel_value.specs.Keys.{key_order, key_view, put};
+ghost use Rattle.cel_value.specs.Levels.{entries_levels, max_levels};
 ghost use Rattle.cel_value.specs.Replaced.{IsReplacedAt, entry_keys};
 ghost use Rattle.std.specs.List.Sorted.{IsStrictlySortedBy};
 ghost use Rattle.std.specs.Map.{keys_of};
 ghost use Rattle.cel_value.specs.Same.{entries_have_double};
 ghost use Rattle.cel_value.specs.Shared.{shared_entries};
-ghost use Rattle.cel_value.specs.SharedEntries.{IsNestingOf, map_entries};
 ghost use Rattle.cel_value.specs.View.{view, entries_view};
 
-use super::{Entries, EntriesIter, Map, MapEntries, Nesting, SharedEntries, Value, level_around};
+use super::{Entries, EntriesIter, Map, MapBlock, SharedEntries, SingleMap, Value};
 use crate::key::Key;
 use kube_types_refused::Refused;
 use std::alloc::Global;
 use std::mem;
+use std::rc::Rc;
 
-fn deeper(levels: u16, others: u16) -> u16
-    ensures { result ≡ max levels others }
-{
-    if levels < others { others } else { levels }
-}
-
-pub(super) fn put_into(entries: &mut Entries, key: Key, value: Value) -> Result<(), Refused>
-    ensures added { OnOk result (entries_view entries.new.entries
-        ≡ put (key_view key) (view value) (entries_view entries.old.entries)) }
-    ensures unchanged { OnErr result (entries.new.entries ≡ entries.old.entries) }
-    ensures memory { IfErr result (λ e. e ≡ Refused.Memory) }
-{
-    drop(entries.insert(key, value)?);
-    Ok(())
-}
-
-// Adds an entry to those of a map. If it shares its keys, it has keys of its own from then on.
-fn put_in_map(entries: &mut MapEntries, key: Key, value: Value) -> Result<(), Refused>
-    ensures added { OnOk result (entries_view (map_entries entries.new)
-        ≡ put (key_view key) (view value) (entries_view (map_entries entries.old))) }
-    ensures unchanged { OnErr result (map_entries entries.new ≡ map_entries entries.old) }
-    ensures memory { IfErr result (λ e. e ≡ Refused.Memory) }
-{
-    match entries {
-        MapEntries::Own(own) => put_into(own, key, value),
-        MapEntries::Shared(shared) => {
-            let mut own = shared.to_entries()?;
-            put_into(&mut own, key, value)?;
-            drop(mem::replace(entries, MapEntries::Own(own)));
-            Ok(())
-        }
-    }
-}
-
-/// The nesting of an empty map.
-const EMPTY: Nesting = Nesting {
-    doubles: false,
-    levels: 1,
-};
-
-// The nesting of a map of these entries.
+// A map in memory of its own.
 #[inline(always)]
-fn nesting_around(entries: &Entries) -> Result<Nesting, Refused>
-    ensures value { IfOk result (λ n. IsNestingOf n entries.now.entries) }
+fn alone(alloc: Global, single: SingleMap) -> Result<Map, Refused>
+    ensures value { IfOk result (λ m. m ≡ single) }
     ensures memory { IfErr result (λ e. e ≡ Refused.Memory) }
 {
-    let (doubles, inner) = entries.doubles_and_levels();
-    let levels = level_around(inner)?;
-    Ok(Nesting { doubles, levels })
-}
-
-// Replaces the value of an entry of a map that has keys of its own. If the map would have too many
-// levels, it is empty then.
-#[inline]
-fn replace_own(
-    nesting: &mut Nesting,
-    own: &mut Entries,
-    index: usize,
-    value: Value,
-) -> Result<bool, Refused>
-    requires { IsNestingOf nesting.old own.old.entries }
-    ensures nesting { IsNestingOf nesting.new own.new.entries }
-    ensures replaced { IfOk result (λ done. done ≡ true
-        → IsReplacedAt index (view value) (entries_view own.old.entries) (entries_view own.new.entries)) }
-    ensures unchanged { IfOk result (λ done. done ≡ false → own.new.entries ≡ own.old.entries) }
-    ensures emptied { OnErr result (own.new.entries ≡ []) }
-    ensures memory { IfErr result (λ e. e ≡ Refused.Memory) }
-{
-    if !own.replace_at(index, value) {
-        return Ok(false);
-    }
-    match nesting_around(own) {
-        Ok(found) => {
-            *nesting = found;
-            Ok(true)
-        }
-        Err(refused) => {
-            *nesting = EMPTY;
-            let empty = Entries::new(*own.rest.allocator());
-            drop(mem::replace(own, empty));
-            Err(refused)
-        }
-    }
+    Ok(Map {
+        block: Rc::new(alloc, MapBlock::Single(single))?,
+        row: 0,
+    })
 }
 
 impl Map {
     /// Returns an empty map.
-    pub fn new(alloc: Global) -> Map
-        ensures { result ≡ no_entries }
+    ///
+    /// # Errors
+    /// [`Refused::Memory`] if memory is refused.
+    pub fn new(alloc: Global) -> Result<Map, Refused>
+        ensures value { IfOk result (λ m. m ≡ no_entries) }
+        ensures memory { IfErr result (λ e. e ≡ Refused.Memory) }
     {
-        Map {
-            entries: MapEntries::Own(Entries::new(alloc)),
-            nesting: EMPTY,
-        }
+        Map::of(alloc, Entries::new(alloc))
     }
 
     /// Returns the map of these entries.
     ///
     /// # Errors
-    /// [`Refused::Memory`] if it would have more levels than
+    /// [`Refused::Memory`] if memory is refused, or if it would have more levels than
     /// [`MAX_VALUE_LEVELS`](super::MAX_VALUE_LEVELS).
     #[inline(always)]
-    pub fn of(entries: Entries) -> Result<Map, Refused>
+    pub fn of(alloc: Global, entries: Entries) -> Result<Map, Refused>
         ensures value { IfOk result (λ m. m ≡ entries_view entries.entries) }
         ensures memory { IfErr result (λ e. e ≡ Refused.Memory) }
     {
-        let nesting = nesting_around(&entries)?;
-        Ok(Map {
-            entries: MapEntries::Own(entries),
-            nesting,
-        })
+        alone(alloc, SingleMap::of(entries)?)
     }
 
     /// Returns the map of entries that share their keys.
     ///
     /// # Errors
-    /// [`Refused::Memory`] if it would have more levels than
+    /// [`Refused::Memory`] if memory is refused, or if it would have more levels than
     /// [`MAX_VALUE_LEVELS`](super::MAX_VALUE_LEVELS).
     #[inline(always)]
-    pub fn of_shared(entries: SharedEntries) -> Result<Map, Refused>
+    pub fn of_shared(alloc: Global, entries: SharedEntries) -> Result<Map, Refused>
         ensures value { IfOk result (λ m. m ≡ entries_view (shared_entries entries)) }
         ensures memory { IfErr result (λ e. e ≡ Refused.Memory) }
     {
-        let (doubles, inner) = entries.doubles_and_levels();
-        let levels = level_around(inner)?;
+        alone(alloc, SingleMap::of_shared(entries)?)
+    }
+
+    /// Returns the same map, shared.
+    ///
+    /// # Errors
+    /// [`Refused::Memory`] if it can't be shared once more.
+    #[inline(always)]
+    pub fn try_clone(&self) -> Result<Map, Refused>
+        ensures value { IfOk result (λ m. m ≡ self.now) }
+        ensures memory { IfErr result (λ e. e ≡ Refused.Memory) }
+    {
         Ok(Map {
-            entries: MapEntries::Shared(entries),
-            nesting: Nesting { doubles, levels },
+            block: self.block.clone()?,
+            row: self.row,
         })
     }
 
@@ -154,14 +90,11 @@ impl Map {
     pub fn key_at(&self, index: usize) -> Option<&Key>
         ensures { IfSome result (λ k. slice_get (entry_keys self.now) index ≡ Some (key_view k.now)) }
     {
-        match &self.entries {
-            MapEntries::Own(entries) => entries.key_at(index),
-            MapEntries::Shared(..) => None,
-        }
+        self.block.as_ref().key_at(index)
     }
 
     /// Replaces the value of the entry at an index. Returns false, and changes nothing, for an entry
-    /// that [`key_at`](Map::key_at) doesn't find.
+    /// that [`key_at`](Map::key_at) doesn't find, and if something else shares the map.
     ///
     /// # Errors
     /// [`Refused::Memory`] if the map would have more levels than
@@ -173,56 +106,58 @@ impl Map {
         ensures emptied { OnErr result (self.new ≡ no_entries) }
         ensures memory { IfErr result (λ e. e ≡ Refused.Memory) }
     {
-        match &mut self.entries {
-            MapEntries::Own(own) => replace_own(&mut self.nesting, own, index, value),
-            MapEntries::Shared(..) => {
-                drop(value);
-                Ok(false)
-            }
-        }
+        let Some(block) = Rc::get_mut(&mut self.block) else {
+            drop(value);
+            return Ok(false);
+        };
+        block.replace_at(index, value)
     }
 
-    /// Adds an entry whose key isn't there yet.
-    ///
-    /// # Errors
-    /// [`Refused::Memory`] if memory is refused, or if the map would have more levels than
-    /// [`MAX_VALUE_LEVELS`](super::MAX_VALUE_LEVELS).
-    #[tactic(auto, using(crate::proofs::Members::more_doubles, crate::proofs::Members::more_levels))]
-    pub(crate) fn insert_new(&mut self, key: Key, value: Value) -> Result<(), Refused>
-        requires { find (key_view key) self.now ≡ None }
+    // Adds an entry whose key isn't there yet, to a copy that takes the place of the map.
+    fn insert_in_copy(&mut self, key: Key, value: Value) -> Result<(), Refused>
+        requires { find (key_view key) self.old ≡ None }
         ensures added { OnOk result (self.new ≡ put (key_view key) (view value) self.old) }
         ensures unchanged { OnErr result (self.new ≡ self.old) }
         ensures memory { IfErr result (λ e. e ≡ Refused.Memory) }
     {
-        let before = self.nesting;
-        let nesting = Nesting {
-            doubles: before.doubles || value.holds_double(),
-            levels: deeper(before.levels, level_around(value.levels())?),
-        };
-        put_in_map(&mut self.entries, key, value)?;
-        self.nesting = nesting;
+        let alloc = self.block.as_ref().allocator();
+        let copy = self.block.as_ref().with_entry(self.row, key, value)?;
+        let map = alone(alloc, copy)?;
+        drop(mem::replace(self, map));
         Ok(())
     }
 
+    /// Adds an entry whose key isn't there yet. If something else shares the map, this one gets
+    /// memory of its own.
+    ///
+    /// # Errors
+    /// [`Refused::Memory`] if memory is refused, or if the map would have more levels than
+    /// [`MAX_VALUE_LEVELS`](super::MAX_VALUE_LEVELS).
+    pub(crate) fn insert_new(&mut self, key: Key, value: Value) -> Result<(), Refused>
+        requires { find (key_view key) self.old ≡ None }
+        ensures added { OnOk result (self.new ≡ put (key_view key) (view value) self.old) }
+        ensures unchanged { OnErr result (self.new ≡ self.old) }
+        ensures memory { IfErr result (λ e. e ≡ Refused.Memory) }
+    {
+        let Some(block) = Rc::get_mut(&mut self.block) else {
+            return self.insert_in_copy(key, value);
+        };
+        block.insert_new(self.row, key, value)
+    }
+
     /// The value at a key, if any.
+    #[inline]
     pub fn get(&self, key: &Key) -> Option<&Value>
         ensures { option_map (λ v. view v.now) result ≡ find (key_view key.now) self.now }
     {
-        match &self.entries {
-            MapEntries::Own(entries) => entries.get(key),
-            MapEntries::Shared(entries) => entries.get(key),
-        }
+        self.block.as_ref().get(self.row, key)
     }
 
     /// The number of entries.
-    #[tactic(auto, using(crate::proofs::Members::entries_length))]
     pub fn len(&self) -> usize
         ensures { result ≡ length (list_of_entries self.now) }
     {
-        match &self.entries {
-            MapEntries::Own(entries) => entries.len(),
-            MapEntries::Shared(entries) => entries.len(),
-        }
+        self.block.as_ref().len(self.row)
     }
 
     /// Iterates over the entries in key order.
@@ -231,16 +166,23 @@ impl Map {
         ensures ordered { IsStrictlySortedBy
             (λ (a b : Key). key_order (key_view a) (key_view b)) (keys_of result) }
     {
-        match &self.entries {
-            MapEntries::Own(entries) => entries.iter(),
-            MapEntries::Shared(entries) => EntriesIter::of_shared(entries.iter()),
-        }
+        self.block.as_ref().iter(self.row)
     }
 
     /// Reports whether the map contains a double, at any depth.
+    #[inline]
     pub fn holds_double(&self) -> bool
         ensures { result ≡ entries_have_double self.now }
     {
-        self.nesting.doubles
+        self.block.as_ref().holds_double(self.row)
+    }
+
+    // The number of levels of the map.
+    #[inline]
+    pub(super) fn levels(&self) -> u16
+        ensures value { result ≡ suc (entries_levels self.now) }
+        ensures limit { result ≤ max_levels }
+    {
+        self.block.as_ref().levels(self.row)
     }
 }

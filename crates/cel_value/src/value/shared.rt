@@ -14,7 +14,7 @@ ghost use Rattle.cel_value.specs.SharedEntries.{AreInPlace, HasPlace, Suits, val
 ghost use Rattle.cel_value.specs.View.{view, items_view, entries_view};
 ghost use Rattle.cel_value.specs.declared.key.Key.{Key};
 
-use super::maps::put_into;
+use super::single::put_into;
 use super::{Entries, MapKeys, SharedEntries, Slots, Value, Values};
 use crate::key::Key;
 use kube_types_refused::Refused;
@@ -148,7 +148,7 @@ impl Values {
 
 // The value at a key.
 #[inline]
-fn value_at<'a>(keys: &[Key], values: &'a [Value], key: &Key) -> Option<&'a Value>
+pub(super) fn value_at<'a>(keys: &[Key], values: &'a [Value], key: &Key) -> Option<&'a Value>
     ensures { option_copied result ≡ lookup (is_at (key_cmp key.now)) (zip keys.now values.now) }
 {
     for index in 0..keys.len() {
@@ -160,7 +160,7 @@ fn value_at<'a>(keys: &[Key], values: &'a [Value], key: &Key) -> Option<&'a Valu
 }
 
 // Adds an entry, whose key lies behind the others.
-fn put_copy(entries: &mut Entries, key: &Key, value: &Value) -> Result<(), Refused>
+pub(super) fn put_copy(entries: &mut Entries, key: &Key, value: &Value) -> Result<(), Refused>
     ensures added { OnOk result (entries_view entries.new.entries
         ≡ put (key_view key.now) (view value.now) (entries_view entries.old.entries)) }
     ensures memory { IfErr result (λ e. e ≡ Refused.Memory) }
@@ -251,11 +251,7 @@ impl SharedEntries {
         ensures rest { result ≡ shared_entries self.now }
         ensures ordered { IsStrictlySortedBy key_cmp (keys_of (shared_entries self.now)) }
     {
-        SharedIter {
-            keys: self.keys.as_slice(),
-            values: self.values.as_slice(),
-            at: 0,
-        }
+        SharedIter::over(self.keys.as_slice(), self.values.as_slice())
     }
 }
 
@@ -265,6 +261,20 @@ pub struct SharedIter<'a> {
     keys: &'a [Key],
     values: &'a [Value],
     at: usize,
+}
+
+impl<'a> SharedIter<'a> {
+    // The keys with their values.
+    #[inline]
+    pub(super) fn over(keys: &'a [Key], values: &'a [Value]) -> SharedIter<'a>
+        ensures { result ≡ zip keys.now values.now }
+    {
+        SharedIter {
+            keys,
+            values,
+            at: 0,
+        }
+    }
 }
 
 impl<'a> Model for SharedIter<'a> {

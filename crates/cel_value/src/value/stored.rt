@@ -1,6 +1,6 @@
 //! The entries of a map: the first one needs no memory of its own, the next are in a vector, and
 //! those of a large map that follow are in a tree.
-ghost use Rattle.std.specs.Prelude.{◌≡◌, ◌∷◌, ◌++◌, ◌<◌, ◌≤◌, ◌^◌, [], true, false, suc, Some, IfSome, IfOk, IfErr, OnOk, OnErr, length, insert, max, option_copied, slice_get, ◌||◌};
+ghost use Rattle.std.specs.Prelude.{◌≡◌, ◌∷◌, ◌++◌, ◌<◌, ◌≤◌, ◌^◌, [], true, false, suc, Some, IfSome, IsSome, IfOk, IfErr, OnOk, OnErr, length, insert, max, option_copied, slice_get, ◌||◌};
 ghost use Rattle.std.specs.BTreeMap.{insert_entry, is_at};
 ghost use Rattle.std.specs.Bool.{MatchBool};
 ghost use Rattle.std.specs.List.Sorted.{IsStrictlySortedBy};
@@ -474,6 +474,7 @@ impl Entries {
         ensures ordered { IsStrictlySortedBy key_cmp (keys_of self.old.entries) }
         ensures replaced { result ≡ true → (k : Key) → slice_get (keys_of self.old.entries) index ≡ Some k
             → entries_view self.new.entries ≡ put (key_view k) (view value) (entries_view self.old.entries) }
+        ensures found { result ≡ true → IsSome (slice_get (keys_of self.old.entries) index) }
         ensures unchanged { result ≡ false → self.new.entries ≡ self.old.entries }
     {
         match &mut self.first {

@@ -1,4 +1,4 @@
-use Rattle.std.proofs.Common.{◌≡◌, ◌∷◌, ◌++◌, ◌-◌, sym, ap, ◌∙◌, arith, subst}
+use Rattle.std.proofs.Common.{◌∷◌, ◌++◌, ◌-◌, sym, ap, ◌∙◌, arith, subst}
 use Rattle.std.specs.Map.{keys_of}
 use Rattle.cel_value.specs.StoredEntries.{AreSorted, all_entries, tree_entries}
 use Rattle.cel_value.proofs.Indexed.{behind_put, behind_same, first_put, same_keys, still_stored}

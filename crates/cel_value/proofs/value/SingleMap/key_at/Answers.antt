@@ -2,7 +2,7 @@ use Rattle.std.proofs.Common.{sym, ap, ◌∙◌}
 use Rattle.cel_value.specs.SharedEntries.{map_entries}
 use Rattle.cel_value.specs.View.{entries_view}
 use Rattle.cel_value.proofs.Indexed.{key_in_map}
-use Rattle.cel_value.proofs.value.Map.key_at.Goals as goal
+use Rattle.cel_value.proofs.value.SingleMap.key_at.Goals as goal
 
 pub returns-in-Own : goal.returns-in-Own
 returns-in-Own c =

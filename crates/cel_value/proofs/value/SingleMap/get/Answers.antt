@@ -5,7 +5,7 @@ use Rattle.cel_value.specs.Shared.{shared_entries}
 use Rattle.cel_value.specs.SharedEntries.{map_entries}
 use Rattle.cel_value.specs.View.{view, entries_view}
 use Rattle.cel_value.proofs.MapEntries.{find-lookup, view-copied}
-use Rattle.cel_value.proofs.value.Map.get.Goals as goal
+use Rattle.cel_value.proofs.value.SingleMap.get.Goals as goal
 
 pub returns-in-Own : goal.returns-in-Own
 returns-in-Own c =
