@@ -1,31 +1,11 @@
--- Maps copied entry by entry, starting at the least key, and their new entries.
-use Rattle.std.proofs.Common.{◌≡◌, Option, Some, None, IsSome, Ok, Err, List, [], ◌∷◌, ◌++◌, refl, ap, ◌∙◌, subst}
-use Rattle.std.specs.List.Sorted.{IsStrictlySortedBy}
-use Rattle.std.specs.Map.{keys_of}
-use Rattle.std.specs.BTreeMap.{insert_entry}
+-- Maps and their new entries, and what a map has at an index.
+use Rattle.std.proofs.Common.{◌≡◌, Option, Some, None, IsSome, Ok, Err, refl}
 use Rattle.std.specs.Option.{option_map_or}
 use Rattle.cel_value.specs.Data.{KeyData, bool_key, int_key, uint_key, text_key, Data, null, bool, int, uint, double, text, bytes, list, map_of, timestamp, duration, optional, ip, cidr, quantity, semver, url, format, Entries, entry}
 use Rattle.cel_value.specs.Faults.{no_key, duplicate_key}
 use Rattle.cel_value.specs.Find.{find}
-use Rattle.cel_value.specs.Keys.{key_view, put}
-use Rattle.cel_value.specs.View.{view, entries_view}
-use Rattle.cel_value.specs.declared.key.Key.{Key}
-use Rattle.cel_value.specs.declared.value.Value.{Value}
-use Rattle.cel_value.proofs.MapEntries.{key_cmp, entries_view-insert_entry}
-use Rattle.cel_value.proofs.Shared.{put_last}
-use Rattle.cel_semantics.proofs.Lookups.{Entry}
+use Rattle.cel_value.specs.Keys.{put}
 use Rattle.cel_semantics.specs.Members.{key_of, not_key, map_indexed, new_entry, put_in}
-
--- one more entry is copied
-pub copied_entry : (whole done : List Entry) (e : Entry) (rest old new : List Entry) → IsStrictlySortedBy key_cmp (keys_of whole) → whole ≡ done ++ e ∷ rest
-    → entries_view old ≡ entries_view done → entries_view new ≡ put (key_view e.0) (view e.1) (entries_view old) → entries_view new ≡ entries_view (done ++ e ∷ [])
-copied_entry whole done e rest old new sorted is before written =
-    written ∙ ap (put (key_view e.0) (view e.1)) before ∙ put_last done e rest (subst (λ es. IsStrictlySortedBy key_cmp (keys_of es)) is sorted)
-
--- a copied entry is inserted
-pub inserted_copy : (old new : List Entry) (k l : Key) (v w : Value) → new ≡ insert_entry key_cmp old l w → key_view l ≡ key_view k → view w ≡ view v → entries_view new ≡ put (key_view k) (view v) (entries_view old)
-inserted_copy old new k l v w inserted same_key same_value =
-    ap entries_view inserted ∙ entries_view-insert_entry old l w ∙ (λ i. put (same_key i) (same_value i) (entries_view old))
 
 pub entry_is_new : (es : Entries) (v : Data) (k : KeyData) (o : Option Data) → o ≡ None → Ok (map_of (put k v es)) ≡ new_entry es v o k
 entry_is_new es v k None h = refl

@@ -49,6 +49,7 @@ impl MapRows {
     /// [`Refused::Memory`] if memory is refused.
     pub fn with_capacity(alloc: Global, keys: &MapKeys, rows: usize) -> Result<MapRows, Refused>
         ensures none { IfOk result (λ r. (r.keys ≡ keys.now) × (r.values ≡ [])) }
+        ensures sorted { IfOk result (λ r. IsStrictlySortedBy key_cmp r.keys) }
         ensures memory { IfErr result (λ e. e ≡ Refused.Memory) }
     {
         let keys = keys.keys.clone()?;

@@ -11,6 +11,6 @@ pub returns-in-Some : goal.returns-in-Some
 returns-in-Some c = record {
   value =
       let is_key : Some (key_view c.in-Some.key) ≡ key_of (view c.args.key.now) = grind (arith, common_steps) in
-      let same = put_at_key c.args.shared.value (view c.args.key.now) (view c.args.value.now) (key_view c.in-Some.key) is_key in
+      let same = put_at_key c.args.entries (view c.args.key.now) (view c.args.value.now) (key_view c.in-Some.key) is_key in
       subst (λ o. IfOk c.add.result (λ r. outcome_view r ≡ o)) same c.add.ensures.value;
 }
