@@ -1,2 +1,3 @@
 pub mod Bound
 pub mod Replaced
+pub mod Rows

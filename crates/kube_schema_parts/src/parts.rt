@@ -1,5 +1,5 @@
 //! Conversion of the part of a JSON value that is read.
-ghost use Rattle.std.specs.Prelude.{◌≡◌, ◌≤◌, ◌-◌, ◌++◌, ◌∷◌, [], List, true, None, Some, IfErr, IfOk, IfSome, OnOk, map, option_copied, option_map};
+ghost use Rattle.std.specs.Prelude.{◌≡◌, ◌≤◌, ◌-◌, ◌++◌, ◌∷◌, [], List, true, None, Some, IfErr, IfOk, IfSome, OnOk, length, map, option_copied, option_map, take};
 ghost use Rattle.serde_json.specs.Data.{array, object};
 ghost use Rattle.serde_json.specs.Find.{get_member};
 ghost use Rattle.serde_json.specs.View.{view as json_view, items_view, members_view};
@@ -10,11 +10,13 @@ ghost use Rattle.cel_demand.specs.Places.{Entry, name_of};
 ghost use Rattle.cel_value.specs.Data as bound_data;
 ghost use Rattle.cel_value.specs.Data.{Data, text_key};
 ghost use Rattle.cel_value.specs.Find.{find};
-ghost use Rattle.cel_value.specs.Keys.{put};
 ghost use Rattle.cel_value.specs.Shared.{shared_entries};
 ghost use Rattle.cel_value.specs.View.{view, entries_view};
 ghost use Rattle.kube_schema_values.specs.Conversion.{to_cel, levels};
 ghost use Rattle.kube_schema_values.specs.Escape.{escape};
+ghost use Rattle.std.specs.List.Sorted.{IsStrictlySortedBy};
+ghost use Rattle.cel_value.specs.Keys.{key_cmp, put};
+ghost use Rattle.kube_schema_parts.specs.Rows.{AreRowsOf, IsRowAdded};
 ghost use Rattle.kube_schema_parts.specs.Parts.{AreNamesIn, AreOwnNames, AreParts, HasOwnNames, entries_at, name_keys, is_embedded_at, is_map_at, items_node, key_at, node_of_member, scalar_of, value_at};
 
 use cel_demand::Demand;
@@ -188,6 +190,7 @@ fn add_rows<N: Node>(
 ) -> Result<usize, Refused>
     requires own { AreOwnNames members.now.items }
     requires names { rows.old.keys ≡ name_keys members.now.items }
+    requires sorted { IsStrictlySortedBy key_cmp rows.old.keys }
     requires none { rows.old.values ≡ [] }
     ensures names { rows.new.keys ≡ rows.old.keys }
     ensures rows { IfOk result (λ count. AreRowsOf N.accessors (levels depth) (option_map N.seen node)
@@ -217,6 +220,7 @@ fn add_row<N: Node>(
 ) -> Result<bool, Refused>
     requires own { AreOwnNames members.now.items }
     requires names { rows.old.keys ≡ name_keys members.now.items }
+    requires sorted { IsStrictlySortedBy key_cmp rows.old.keys }
     ensures names { rows.new.keys ≡ rows.old.keys }
     ensures row { IfOk result (λ done. IsRowAdded N.accessors (levels depth) (option_map N.seen node)
         members.now.items (json_view value.now) done rows.old rows.new) }
