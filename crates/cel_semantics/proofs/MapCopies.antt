@@ -1,7 +1,7 @@
 -- Maps and their new entries, and what a map has at an index.
 use Rattle.std.proofs.Common.{◌≡◌, Option, Some, None, IsSome, Ok, Err, refl}
 use Rattle.std.specs.Option.{option_map_or}
-use Rattle.cel_value.specs.Data.{KeyData, bool_key, int_key, uint_key, text_key, Data, null, bool, int, uint, double, text, bytes, list, map_of, timestamp, duration, optional, ip, cidr, quantity, semver, url, format, Entries, entry}
+use Rattle.cel_value.specs.Data.{KeyData, bool_key, int_key, uint_key, text_key, Data, null, bool, int, uint, double, text, bytes, list, map_of, timestamp, duration, optional, ip, cidr, quantity, semver, url, format, Entries}
 use Rattle.cel_value.specs.Faults.{no_key, duplicate_key}
 use Rattle.cel_value.specs.Find.{find}
 use Rattle.cel_value.specs.Keys.{put}

@@ -3,7 +3,7 @@
 -- (CEL language definition, "Arithmetic", "Overflow" and "List of Standard
 -- Definitions"). A result out of its kind's range is an overflow. A quotient is
 -- truncated towards zero, and a remainder has the dividend's sign.
-use Rattle.std.specs.Prelude.{ℕ, ◌+◌, ◌*◌, ◌^◌, ◌/◌, ◌%◌, ◌-◌, ◌++◌, ℤ, pos, negsuc, ◌+ℤ◌, ◌-ℤ◌, ◌*ℤ◌, neg_ℤ, codes, Bool, ◌&&◌, nat_lt, nat_eq, int_le, Option, Some, None, Ok, Err, if◌then◌else◌}
+use Rattle.std.specs.Prelude.{ℕ, ◌+◌, ◌*◌, ◌^◌, ◌/◌, ◌%◌, ◌-◌, ◌++◌, ℤ, pos, negsuc, ◌+ℤ◌, ◌-ℤ◌, ◌*ℤ◌, neg_ℤ, codes, Bool, ◌&&◌, nat_lt, nat_eq, int_le, Option, Ok, Err, if◌then◌else◌}
 use Rattle.std.specs.Option.{option_map_or}
 use Rattle.std.specs.Int.RustNames.{int_div, int_rem, unsigned_abs}
 use Rattle.cel_value.specs.Data.{Data, int, uint, text, bytes, list, timestamp, duration, Items, no_items, item}
