@@ -2,14 +2,14 @@
 use Rattle.std.proofs.Common.{◌≡◌, ◌≤◌, ◌<◌, ◌+◌, ◌*◌, ℕ, zero, suc, List, [], ◌∷◌, ◌++◌, map, length, take, drop, get_or, refl, sym, ap, ◌∙◌, subst, arith}
 use Rattle.std.proofs.lemmas.List.{map-append, take_more}
 use Rattle.std.specs.Prelude.{zip}
-use Rattle.serde_json.specs.Data as json
+use Rattle.serde_json.specs.declared.value.Value.{Value as Json}
 use Rattle.cel_demand.specs.Alike.{Alike, ListsAlike}
 use Rattle.cel_demand.specs.Demand.{members_view}
 use Rattle.cel_demand.specs.Part.{some_members}
 use Rattle.cel_demand.specs.Places.{Entry}
 use Rattle.cel_value.specs.Data.{Data, map_of}
 use Rattle.cel_value.specs.Rows.{row_maps, row_values}
-use Rattle.cel_value.specs.View.{entries_view}
+use Rattle.cel_value.specs.View.{view, entries_view}
 use Rattle.cel_value.specs.declared.key.Key.{Key}
 use Rattle.cel_value.specs.declared.value.Value.{Value}
 use Rattle.kube_schema_parts.proofs.Bound.{lists_last}
@@ -71,7 +71,7 @@ more_length w n vs ws h k = omega (arith, joined_length vs ws, h, k)
 pub still_rows : (w n : ℕ) (vs ws : List Value) → n * w ≤ length vs → n * w ≤ length (vs ++ ws)
 still_rows w n vs ws h = omega (arith, joined_length vs ws, h)
 
-pub row_added : (R : Data → Data → Type 0) (ks : List Key) (n : ℕ) (vs ws : List Value) (f : json.Data → Data) (ds : List json.Data) (d : json.Data) → n < length ds → d ≡ get_or ds n d → length vs ≡ n * length ks → length ws ≡ length ks
+pub row_added : (R : Data → Data → Type 0) (ks : List Key) (n : ℕ) (vs ws : List Value) (f : Json → Data) (ds : List Json) (d : Json) → n < length ds → d ≡ get_or ds n d → length vs ≡ n * length ks → length ws ≡ length ks
     → ListsAlike R (row_maps ks vs n) (map f (take n ds)) → R (map_of (entries_view (zip ks ws))) (f d) → ListsAlike R (row_maps ks (vs ++ ws) (suc n)) (map f (take (n + 1) ds))
 row_added R ks n vs ws f ds d lt is h k a r =
     let w = length ks in
@@ -83,3 +83,15 @@ row_added R ks n vs ws f ds d lt is h k a r =
 
 pub rows_kept : (R : Data → Data → Type 0) (ks : List Key) (n : ℕ) (vs ws : List Value) (ys : List Data) → n * length ks ≤ length vs → ListsAlike R (row_maps ks vs n) ys → ListsAlike R (row_maps ks (vs ++ ws) n) ys
 rows_kept R ks n vs ws ys h a = subst (λ xs. ListsAlike R xs ys) (sym (rows_joined ks n vs ws h)) a
+
+last_length : (ds : List Data) (d : Data) → length (ds ++ d ∷ []) ≡ suc (length ds)
+last_length [] d = refl
+last_length (e ∷ ds) d = ap suc (last_length ds d)
+
+pub rows_count : (ks : List Key) (vs : List Value) (n : ℕ) → length (row_maps ks vs n) ≡ n
+rows_count ks vs zero = refl
+rows_count ks vs (suc n) = omega (arith, last_length (row_maps ks vs n) (map_of (entries_view (zip ks (row_values (length ks) n vs)))), rows_count ks vs n)
+
+pub view_count : (vs : List Value) → length (map view vs) ≡ length vs
+view_count [] = refl
+view_count (v ∷ vs) = ap suc (view_count vs)

@@ -2,6 +2,8 @@
 -- The parts of a list's items as rows.
 use Rattle.std.specs.Prelude.{◌≡◌, ◌≤◌, ◌*◌, ◌++◌, ℕ, List, Bool, Option, length, map, take, true, zip}
 use Rattle.serde_json.specs.Data as json
+use Rattle.serde_json.specs.View.{view}
+use Rattle.serde_json.specs.declared.value.Value.{Value as Json}
 use Rattle.cel_demand.specs.Alike.{Alike, ListsAlike}
 use Rattle.cel_demand.specs.Demand.{members_view}
 use Rattle.cel_demand.specs.Part.{some_members}
@@ -16,11 +18,11 @@ use Rattle.kube_schema_parts.specs.Parts.{value_at}
 
 module _ {S : Type 0} (accessors : ConversionAccessors S) (n : ℕ) (node : Option S) (members : List Entry) where
   -- the first values, as many as rows, are alike to the rows in these members
-  abbrev pub AreRowsOf : List json.Data → ℕ → Shared → Type 0
-  AreRowsOf ds count rows =
-      (count ≤ length ds) × (count * length rows.keys ≤ length rows.values)
+  abbrev pub AreRowsOf : List Json → ℕ → Shared → Type 0
+  AreRowsOf items count rows =
+      (count ≤ length items) × (count * length rows.keys ≤ length rows.values)
       × ListsAlike (Alike (some_members (members_view members))) (row_maps rows.keys rows.values count)
-      (map (value_at accessors n node) (take count ds))
+      (map (λ v. value_at accessors n node (view v)) (take count items))
 
   -- some values were added behind the others; where that is done, they are a row that is alike to the value
   abbrev pub IsRowAdded : json.Data → Bool → Shared → Shared → Type 0

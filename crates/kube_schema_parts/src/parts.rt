@@ -194,7 +194,7 @@ fn add_rows<N: Node>(
     requires none { rows.old.values ≡ [] }
     ensures names { rows.new.keys ≡ rows.old.keys }
     ensures rows { IfOk result (λ count. AreRowsOf N.accessors (levels depth) (option_map N.seen node)
-        members.now.items (map json_view items.now.items) count rows.new) }
+        members.now.items items.now.items count rows.new) }
     ensures memory { IfErr result (λ e. e ≡ Refused.Memory) }
 {
     let mut count = 0;

@@ -58,7 +58,7 @@ invariant-item_parts-loop-index g l =
 abbrev pub invariant-add_rows-loop-value : goal.invariant-add_rows-loop-value
 invariant-add_rows-loop-value g l =
     (l.count ≡ l.value-index) × (l.rows.keys ≡ l.fn.rows.keys) × (length l.rows.values ≡ l.count * length l.rows.keys)
-    × AreRowsOf g.N.Node.accessors (levels l.depth) (option_map g.N.Node.seen l.node) l.members.items (map json_view l.value-items) l.count l.rows
+    × AreRowsOf g.N.Node.accessors (levels l.depth) (option_map g.N.Node.seen l.node) l.members.items l.value-items l.count l.rows
 
 abbrev pub invariant-add_row-loop-member : goal.invariant-add_row-loop-member
 invariant-add_row-loop-member g l =
