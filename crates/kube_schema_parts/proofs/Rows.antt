@@ -3,10 +3,7 @@ use Rattle.std.proofs.Common.{◌≡◌, ◌≤◌, ◌<◌, ◌+◌, ◌*◌, �
 use Rattle.std.proofs.lemmas.List.{map-append, take_more}
 use Rattle.std.specs.Prelude.{zip}
 use Rattle.serde_json.specs.declared.value.Value.{Value as Json}
-use Rattle.cel_demand.specs.Alike.{Alike, ListsAlike}
-use Rattle.cel_demand.specs.Demand.{members_view}
-use Rattle.cel_demand.specs.Part.{some_members}
-use Rattle.cel_demand.specs.Places.{Entry}
+use Rattle.cel_demand.specs.Alike.{ListsAlike}
 use Rattle.cel_value.specs.Data.{Data, map_of}
 use Rattle.cel_value.specs.Rows.{row_maps, row_values}
 use Rattle.cel_value.specs.View.{view, entries_view}
@@ -17,8 +14,8 @@ use Rattle.kube_schema_parts.proofs.Bound.{lists_last}
 -- ---- rows stay where values are added behind them
 
 joined_length : (vs ws : List Value) → length (vs ++ ws) ≡ length vs + length ws
-joined_length [] ws = refl
-joined_length (v ∷ vs) ws = ap suc (joined_length vs ws)
+joined_length [] ws = omega arith
+joined_length (v ∷ vs) ws = omega (arith, joined_length vs ws)
 
 drop_joined : (n : ℕ) (vs ws : List Value) → n ≤ length vs → drop n (vs ++ ws) ≡ drop n vs ++ ws
 drop_joined zero vs ws h = refl
@@ -95,3 +92,35 @@ rows_count ks vs (suc n) = omega (arith, last_length (row_maps ks vs n) (map_of 
 pub view_count : (vs : List Value) → length (map view vs) ≡ length vs
 view_count [] = refl
 view_count (v ∷ vs) = ap suc (view_count vs)
+
+-- ---- rows and further values behind them
+
+pub no_further : (vs : List Value) → vs ≡ vs ++ []
+no_further [] = refl
+no_further (v ∷ vs) = ap (λ l. v ∷ l) (no_further vs)
+
+pub rows_still : (R : Data → Data → Type 0) (ks ls : List Key) (n : ℕ) (vs row ws : List Value) (ys : List Data) → ls ≡ ks → ws ≡ vs ++ row → n * length ks ≤ length vs → ListsAlike R (row_maps ks vs n) ys
+    → (n * length ls ≤ length ws) × ListsAlike R (row_maps ls ws n) ys
+rows_still R ks ls n vs row ws ys p q h a =
+    subst (λ us. (n * length ls ≤ length us) × ListsAlike R (row_maps ls us n) ys) (sym q)
+    (subst (λ l. (n * length l ≤ length (vs ++ row)) × ListsAlike R (row_maps l (vs ++ row) n) ys) (sym p) (still_rows (length ks) n vs row h, rows_kept R ks n vs row ys h a))
+
+abbrev Grown : (Data → Data → Type 0) → List Key → ℕ → List Value → (Json → Data) → List Json → Type 0
+Grown R ks n vs f ds =
+    (length vs ≡ (n + 1) * length ks) × (n + 1 ≤ length ds) × ((n + 1) * length ks ≤ length vs)
+    × ListsAlike R (row_maps ks vs (n + 1)) (map f (take (n + 1) ds))
+
+one_more : (R : Data → Data → Type 0) (ks : List Key) (n m : ℕ) (vs : List Value) (ys : List Data) → m ≡ suc n → ListsAlike R (row_maps ks vs (suc n)) ys → ListsAlike R (row_maps ks vs m) ys
+one_more R ks n m vs ys e a = subst (λ i. ListsAlike R (row_maps ks vs i) ys) (sym e) a
+
+pub rows_more : (R : Data → Data → Type 0) (ks ls : List Key) (n : ℕ) (vs row ws : List Value) (f : Json → Data) (ds : List Json) (d : Json) → n < length ds → d ≡ get_or ds n d → ls ≡ ks → ws ≡ vs ++ row
+    → length vs ≡ n * length ks → length row ≡ length ks → ListsAlike R (row_maps ks vs n) (map f (take n ds)) → R (map_of (entries_view (zip ks row))) (f d) → Grown R ls n ws f ds
+rows_more R ks ls n vs row ws f ds d lt is p q h k a r =
+    let count : length (vs ++ row) ≡ (n + 1) * length ks = omega (arith, more_length (length ks) n vs row h k) in
+    subst (λ us. Grown R ls n us f ds) (sym q)
+    (subst (λ l. Grown R l n (vs ++ row) f ds) (sym p) (
+      count,
+      omega (arith, lt),
+      omega (arith, count),
+      one_more R ks n (n + 1) (vs ++ row) (map f (take (n + 1) ds)) (omega arith) (row_added R ks n vs row f ds d lt is h k a r),
+    ))

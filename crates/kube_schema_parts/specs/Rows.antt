@@ -8,7 +8,7 @@ use Rattle.cel_demand.specs.Alike.{Alike, ListsAlike}
 use Rattle.cel_demand.specs.Demand.{members_view}
 use Rattle.cel_demand.specs.Part.{some_members}
 use Rattle.cel_demand.specs.Places.{Entry}
-use Rattle.cel_value.specs.Data.{Data, map_of}
+use Rattle.cel_value.specs.Data.{map_of}
 use Rattle.cel_value.specs.Rows.{row_maps}
 use Rattle.cel_value.specs.Shared.{Shared}
 use Rattle.cel_value.specs.View.{entries_view}

@@ -164,17 +164,19 @@ fn row_parts<N: Node>(
     ensures memory { IfErr result (λ e. e ≡ Refused.Memory) }
 {
     let mut parts = Vec::with_capacity(alloc, items.len())?;
-    match (item, names) {
-        (Demand::Members(members), Some(names)) => {
-            if items.len() >= FEW_ROWS {
-                let mut rows = MapRows::with_capacity(alloc, names, items.len())?;
-                let count = add_rows(alloc, node, items, depth, members, &mut rows, keys)?;
-                rows.add_maps(alloc, count, &mut parts)?;
-            }
-            Ok(parts)
-        }
-        _ => Ok(parts),
+    if items.len() < FEW_ROWS {
+        return Ok(parts);
     }
+    let Demand::Members(members) = item else {
+        return Ok(parts);
+    };
+    let Some(names) = names else {
+        return Ok(parts);
+    };
+    let mut rows = MapRows::with_capacity(alloc, names, items.len())?;
+    let count = add_rows(alloc, node, items, depth, members, &mut rows, keys)?;
+    rows.add_maps(alloc, count, &mut parts)?;
+    Ok(parts)
 }
 
 // Adds rows for the first items, and returns how many are whole.

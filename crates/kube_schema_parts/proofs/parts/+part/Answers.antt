@@ -1,6 +1,7 @@
-use Rattle.std.proofs.Common.{arith, ◌≡◌, Some, [], ◌∷◌, ◌++◌, ◌+◌, ◌-◌, ◌<◌, ◌≤◌, suc, length, take, take_all, map, option_map, refl, sym, ap, ◌∙◌, subst, inr}
+use Rattle.std.proofs.Common.{arith, append_assoc, get_or, List, ◌*◌, ◌≡◌, Some, [], ◌∷◌, ◌++◌, ◌+◌, ◌-◌, ◌<◌, ◌≤◌, suc, length, take, take_all, map, option_map, refl, sym, ap, ◌∙◌, subst, inr}
 use Rattle.std.proofs.lemmas.List.{length_push, take_more}
-use Rattle.std.specs.Prelude.{IfSome, slice_get}
+use Rattle.std.specs.Prelude.{IfSome, slice_get, zip, if◌then◌else◌}
+use Rattle.std.specs.List.Sorted.{IsStrictlySortedBy}
 use Rattle.serde_json.specs.Find.{get_member}
 use Rattle.serde_json.specs.View.{view as json_view, members_view}
 use Rattle.serde_json.specs.declared.value.Value.{Value as Json}
@@ -12,13 +13,18 @@ use Rattle.cel_demand.specs.Part.{nothing, whole, each_item, some_members}
 use Rattle.cel_demand.specs.Places.{Entry, name_of}
 use Rattle.cel_value.specs.Data.{Data, list, map_of, null, text_key}
 use Rattle.cel_value.specs.Find.{find}
-use Rattle.cel_value.specs.Keys.{put}
+use Rattle.cel_value.specs.Keys.{key_cmp, put}
+use Rattle.cel_value.specs.Rows.{row_maps}
+use Rattle.cel_value.proofs.Shared.{not_there, pushed}
+use Rattle.cel_value.specs.declared.key.Key.{Key}
+use Rattle.cel_value.specs.declared.value.Value.{Value}
 use Rattle.cel_value.specs.Shared.{shared_entries}
 use Rattle.cel_value.specs.View.{view, entries_view, items_of}
 use Rattle.cel_value.specs.declared.key.Key.TheVariants as key
 use Rattle.kube_schema_values.specs.Conversion.{levels}
 use Rattle.kube_schema_parts.specs.Parts.{AreNamesIn, AreParts, entries_at, is_map_at, key_at, name_keys, node_of_member, value_at}
-use Rattle.kube_schema_parts.proofs.Bound.{alike_by, items_more, items_part, list_bound, member_absent, member_there, members_part, name_at, no_parts, no_shared, nothing_part, not_true, object_bound, own_key, part_missing, part_put, whole_part}
+use Rattle.kube_schema_parts.proofs.Bound.{alike_by, items_more, items_part, list_bound, member_absent, member_there, members_part, name_at, names_length, no_parts, no_shared, nothing_part, not_true, object_bound, own_key, part_missing, part_put, whole_part}
+use Rattle.kube_schema_parts.proofs.Rows.{no_further, rows_count, rows_more, rows_still, view_count}
 use Rattle.kube_schema_parts.proofs.parts.+part.Goals as goal
 
 pub part_with-returns-in-Nothing-clause-value : goal.part_with-returns-in-Nothing-clause-value
@@ -62,21 +68,6 @@ list_part-returns-in-Some-clause-value g t c =
     ∙ ap (λ i. list (items_of (map (λ (v : Json). value_at g.N.Node.accessors (65 - (d + 1)) i (json_view v)) vs))) (sym c.node_of_items.ensures) in
     subst (λ v. Alike p v (value_at g.N.Node.accessors (65 - d) o (json_view c.args.value.now))) (sym c.in_ok-list.ensures.value)
     (subst (λ w. Alike p (list (items_of parts)) w) (sym bound) (list_alike p parts items c.in_ok-parts.ensures.items))
-
-pub item_parts-loop-value-preserved : goal.item_parts-loop-value-preserved
-item_parts-loop-value-preserved g t c =
-    let items = c.deref-value-items.result.now in
-    let i = c.loop-value.value-index in
-    let f = λ (v : Json). value_at g.N.Node.accessors (levels c.args.depth) (option_map g.N.Node.seen c.args.node) (json_view v) in
-    let lt : i < length items = omega (arith, c.loop-value-test.true) in
-    subst (λ ps. ListsAlike (Alike (part_of c.args.item.now)) (map view ps) (map f (take (i + 1) items))) (sym c.in_ok-push.ensures.items)
-    (items_more (Alike (part_of c.args.item.now)) c.loop-value.parts.items c.in_ok-part.part f items i c.value-item.result lt c.value-item.is c.loop-value.invariant c.in_ok-part.ensures.value)
-
-pub item_parts-returns-clause-items : goal.item_parts-returns-clause-items
-item_parts-returns-clause-items g t c =
-    let f = λ (v : Json). value_at g.N.Node.accessors (levels c.args.depth) (option_map g.N.Node.seen c.args.node) (json_view v) in
-    let all : take c.loop-value.value-index c.deref-value-items.result.now ≡ c.args.items.now.items = take_all c.loop-value.value-index c.deref-value-items.result.now c.loop-value-test.false ∙ c.deref-value-items.ensures.value in
-    subst (λ vs. ListsAlike (Alike (part_of c.args.item.now)) (map view c.loop-value.parts.items) (map f vs)) all c.loop-value.invariant
 
 pub map_part-returns-in-Some-found-clause-value : goal.map_part-returns-in-Some-found-clause-value
 map_part-returns-in-Some-found-clause-value g t c =
@@ -208,3 +199,121 @@ shared_part-returns-in_ok-map-in-Some-found-clause-value g t c =
     let all : AreParts (demands_view c.args.members.now.items) parts whole = subst (λ o. IfSome o (λ r. AreParts (demands_view c.args.members.now.items) (entries_view (shared_entries r)) whole)) c.in-Some-found.is c.in_ok-found.ensures.members in
     subst (λ v. Alike p v (value_at g.N.Node.accessors (65 - d) o (json_view c.args.value.now))) (sym c.in_ok-map-in-Some-found.ensures.value)
     (subst (λ w. Alike p (map_of parts) w) (sym bound) (inr all.0))
+
+pub item_parts-loop-index-preserved : goal.item_parts-loop-index-preserved
+item_parts-loop-index-preserved g t c =
+    let items = c.args.items.now.items in
+    let i = c.loop-index.index in
+    let f = λ (v : Json). value_at g.N.Node.accessors (levels c.args.depth) (option_map g.N.Node.seen c.args.node) (json_view v) in
+    let k = c.loop-index.invariant in
+    let lt : i < length items = omega (arith, c.loop-index-test.true, c.len-index-end.ensures) in (
+      ap length c.in_ok-push.ensures.items ∙ length_push c.loop-index.parts.items c.in_ok-part.part ∙ ap (λ n. n + 1) k.0,
+      omega (arith, lt),
+      subst (λ ps. ListsAlike (Alike (part_of c.args.item.now)) (map view ps) (map f (take (i + 1) items))) (sym c.in_ok-push.ensures.items)
+          (items_more (Alike (part_of c.args.item.now)) c.loop-index.parts.items c.in_ok-part.part f items i c.index.result.now lt c.index.ensures k.2 c.in_ok-part.ensures.value),
+    )
+
+pub add_rows-returns-then-not-branch-clause-rows : goal.add_rows-returns-then-not-branch-clause-rows
+add_rows-returns-then-not-branch-clause-rows g t c =
+    let l = c.loop-value in
+    let k = l.invariant in
+    let f = λ (v : Json). value_at g.N.Node.accessors (levels c.args.depth) (option_map g.N.Node.seen c.args.node) (json_view v) in
+    let p = some_members (demands_view c.args.members.now.items) in
+    let row = c.in_ok-add_row.ensures.row in
+    let still = rows_still (Alike p) l.rows.keys c.add_row.new.rows.keys l.count l.rows.values row.0 c.add_row.new.rows.values (map f (take l.count c.deref-value-items.result.now)) c.in_ok-add_row.ensures.names row.1 k.3.1 k.3.2 in
+    subst (λ (ds : List Json). (l.count ≤ length ds) × (l.count * length c.add_row.new.rows.keys ≤ length c.add_row.new.rows.values)
+    × ListsAlike (Alike p) (row_maps c.add_row.new.rows.keys c.add_row.new.rows.values l.count) (map f (take l.count ds))) c.deref-value-items.ensures.value (k.3.0, still.0, still.1)
+
+pub add_rows-loop-value-preserved : goal.add_rows-loop-value-preserved
+add_rows-loop-value-preserved g t c =
+    let l = c.loop-value in
+    let k = l.invariant in
+    let items = c.deref-value-items.result.now in
+    let f = λ (v : Json). value_at g.N.Node.accessors (levels c.args.depth) (option_map g.N.Node.seen c.args.node) (json_view v) in
+    let p = some_members (demands_view c.args.members.now.items) in
+    let added = c.in_ok-add_row.ensures.row in
+    let whole = added.2 c.if-not-branch.false in
+    let lt : l.count < length items = omega (arith, k.0, c.loop-value-test.true) in
+    let more = rows_more (Alike p) l.rows.keys c.add_row.new.rows.keys l.count l.rows.values added.0 c.add_row.new.rows.values f items c.value-item.result lt (c.value-item.is ∙ ap (λ i. get_or items i c.value-item.result) (sym k.0))
+    c.in_ok-add_row.ensures.names added.1 k.2 whole.0 k.3.2 whole.1 in
+    (ap (λ n. n + 1) k.0, c.in_ok-add_row.ensures.names ∙ k.1, more.0, (more.1, more.2, more.3))
+
+pub add_row-loop-member-init : goal.add_row-loop-member-init
+add_row-loop-member-init g t c =
+    let bound = entries_at g.N.Node.accessors (64 - c.args.depth) (option_map g.N.Node.seen c.args.node) (members_view c.in-Some.object.now.entries) in
+    let ks = c.args.rows.now.keys in
+    ([], refl, no_further c.args.rows.now.values, refl, no_parts (entries_view (zip {K = Key} {X = Value} ks [])) bound (no_shared ks [] refl))
+
+pub add_row-loop-member-preserved : goal.add_row-loop-member-preserved
+add_row-loop-member-preserved g t c =
+    let items = c.deref-member-items.result.now in
+    let i = c.loop-member.member-index in
+    let m : Entry = c.member-item.result in
+    let lt : i < length items = omega (arith, c.loop-member-test.true) in
+    let bound = entries_at g.N.Node.accessors (64 - c.args.depth) (option_map g.N.Node.seen c.args.node) (members_view c.in-Some.object.now.entries) in
+    let k = c.loop-member.invariant in
+    let row = k.0 in
+    let old = c.loop-member.rows in
+    let part = c.in-Some-found.part in
+    let more = row ++ part ∷ [] in
+    let same = c.in_ok-push.ensures.keys in
+    let values = c.in_ok-push.ensures.values.1 ∙ ap (λ b. if b then old.values ++ part ∷ [] else old.values) c.if-not-branch.false in
+    let sorted = subst (λ ks. IsStrictlySortedBy key_cmp ks) (sym k.1) c.requires.sorted in
+    let names = k.1 ∙ c.requires.names ∙ ap name_keys (sym c.deref-member-items.ensures.value) in
+    let at : slice_get old.keys (length row) ≡ Some (key.String (name_of m)) = (λ j. slice_get (names j) (k.3 j)) ∙ name_at items i m lt c.member-item.is in
+    let found = subst (λ o. IfSome o (λ v. (w : Data) × (find (text_key (name_of m)) bound ≡ Some w) × Alike (part_of m.1) (view v) w)) c.in-Some-found.is c.in_ok-found.ensures.part in
+    let next = take_more items i m lt ∙ ap (λ y. take i items ++ y ∷ []) (sym c.member-item.is) in
+    let parts = part_put (take i items) m (view part) found.0 (entries_view (zip old.keys row)) bound (entries_view (zip old.keys more)) (not_there old.keys row (key.String (name_of m)) sorted at) found.1 found.2
+    (pushed old.keys row (key.String (name_of m)) part sorted at) k.4 in (
+      more,
+      same ∙ k.1,
+      values ∙ ap (λ vs. vs ++ part ∷ []) k.2 ∙ append_assoc c.args.rows.now.values row (part ∷ []),
+      length_push row part ∙ ap (λ n. n + 1) k.3,
+      subst (λ ks. AreParts (demands_view (take (i + 1) items)) (entries_view (zip ks more)) bound) (sym same)
+          (subst (λ es. AreParts (demands_view es) (entries_view (zip old.keys more)) bound) (sym next) parts),
+    )
+
+pub add_row-returns-clause-row : goal.add_row-returns-clause-row
+add_row-returns-clause-row g t c =
+    let items = c.deref-member-items.result.now in
+    let i = c.loop-member.member-index in
+    let members = c.args.members.now.items in
+    let p = some_members (demands_view members) in
+    let d = c.args.depth in
+    let o = option_map g.N.Node.seen c.args.node in
+    let object = members_view c.in-Some.object.now.entries in
+    let k = c.loop-member.invariant in
+    let row = k.0 in
+    let ks = c.args.rows.now.keys in
+    let within : d ≤ 64 = c.in-Some.ensures.within in
+    let next : 65 - d ≡ suc (64 - d) = omega (arith, within) in
+    let bound = object_bound g.N.Node.accessors (65 - d) (64 - d) o (json_view c.args.value.now) object next c.in-Some.ensures.members in
+    let whole = entries_at g.N.Node.accessors (64 - d) o object in
+    let every : take i items ≡ members = take_all i items c.loop-member-test.false ∙ c.deref-member-items.ensures.value in
+    let all : AreParts (demands_view members) (entries_view (zip ks row)) whole =
+    subst (λ l. AreParts (demands_view members) (entries_view (zip l row)) whole) k.1 (subst (λ es. AreParts (demands_view es) (entries_view (zip c.loop-member.rows.keys row)) whole) every k.4) in
+    let many : length row ≡ length ks = omega (arith, k.3, c.loop-member-test.false, c.loop-member.auto.member-index-end, ap length c.deref-member-items.ensures.value, names_length members, ap length c.requires.names) in
+    (row, k.2, λ h. (many, subst (λ w. Alike p (map_of (entries_view (zip ks row))) w) (sym bound) (inr all.0)))
+
+pub row_parts-returns-clause-count : goal.row_parts-returns-clause-count
+row_parts-returns-clause-count g t c =
+    let rows = c.add_rows.new.rows in
+    let count = c.in_ok-count.count in
+    let parts = c.add_maps.new.maps.items in
+    let maps = c.in_ok-add_maps.ensures.maps ∙ ap (λ vs. map view vs ++ row_maps rows.keys rows.values count) c.in_ok-parts.ensures.items in
+    let many : length parts ≡ count = sym (view_count parts) ∙ ap length maps ∙ rows_count rows.keys rows.values count in
+    omega (arith, many, c.in_ok-count.ensures.rows.0)
+
+pub row_parts-returns-clause-items : goal.row_parts-returns-clause-items
+row_parts-returns-clause-items g t c =
+    let rows = c.add_rows.new.rows in
+    let count = c.in_ok-count.count in
+    let parts = c.add_maps.new.maps.items in
+    let items = c.args.items.now.items in
+    let f = λ (v : Json). value_at g.N.Node.accessors (levels c.args.depth) (option_map g.N.Node.seen c.args.node) (json_view v) in
+    let maps = c.in_ok-add_maps.ensures.maps ∙ ap (λ vs. map view vs ++ row_maps rows.keys rows.values count) c.in_ok-parts.ensures.items in
+    let many : length parts ≡ count = sym (view_count parts) ∙ ap length maps ∙ rows_count rows.keys rows.values count in
+    let part = ap part_of c.in-Members.is ∙ members_part c.in-Members.members in
+    subst (λ n. ListsAlike (Alike (part_of c.args.item.now)) (map view parts) (map f (take n items))) (sym many)
+    (subst (λ ds. ListsAlike (Alike (part_of c.args.item.now)) ds (map f (take count items))) (sym maps)
+    (subst (λ p. ListsAlike (Alike p) (row_maps rows.keys rows.values count) (map f (take count items))) (sym part) c.in_ok-count.ensures.rows.2))
