@@ -114,7 +114,7 @@ impl MapRows {
         value_at(keys, row_of(self.values.as_slice(), keys.len(), row), key)
     }
 
-    // The number of entries of a row.
+    // The number of entries of a row, which is the same for each.
     #[inline]
     pub(super) fn width(&self, row: usize) -> usize
         requires { suc row * length self.now.keys ≤ length self.now.values }
@@ -125,7 +125,8 @@ impl MapRows {
         width
     }
 
-    // Whether a row contains a double, which none does.
+    // Whether a row contains a double. None does, by the invariant, which a proof has of a value
+    // that the code reads.
     #[inline(always)]
     pub(super) fn holds_double(&self, row: usize) -> bool
         ensures { result ≡ entries_have_double (entries_view (row_entries self.now row)) }
@@ -134,7 +135,7 @@ impl MapRows {
         false
     }
 
-    // The most levels of a value of a row, none of which has any.
+    // The most levels of a value of a row. None has any, by the invariant, as above.
     #[inline(always)]
     pub(super) fn levels(&self, row: usize) -> u16
         ensures value { result ≡ entries_levels (entries_view (row_entries self.now row)) }
