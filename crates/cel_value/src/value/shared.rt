@@ -152,7 +152,7 @@ pub(super) fn value_at<'a>(keys: &[Key], values: &'a [Value], key: &Key) -> Opti
     ensures { option_copied result ≡ lookup (is_at (key_cmp key.now)) (zip keys.now values.now) }
 {
     for index in 0..keys.len() {
-        if key == &keys[index] {
+        if *key == keys[index] {
             return values.get(index);
         }
     }

@@ -316,7 +316,7 @@ fn scan<'a>(entries: &'a [(Key, Value)], key: &Key) -> Option<&'a Value>
     ensures { option_copied result ≡ lookup (is_at (key_cmp key.now)) entries.now }
 {
     for entry in entries {
-        if key == &entry.0 {
+        if *key == entry.0 {
             return Some(&entry.1);
         }
     }
@@ -440,7 +440,7 @@ impl Entries {
         match &self.first {
             None => None,
             Some(entry) => {
-                if key == &entry.0 {
+                if *key == entry.0 {
                     Some(&entry.1)
                 } else {
                     find_behind(self.rest.as_slice(), &self.tail, key)
