@@ -4,6 +4,7 @@ ghost use Rattle.cel_patterns.specs.Entries.{entries_of};
 ghost use Rattle.cel_semantics.specs.Bindings.{bindings_of};
 ghost use Rattle.kube_cel.specs.CompiledSteps.{compiled_steps};
 ghost use Rattle.kube_cel_walk.specs.AddedErrors.{AreAdded};
+ghost use Rattle.kube_cel_walk.specs.Paths.{path_view};
 ghost use Rattle.kube_cel_walk.specs.Verdicts.{list_of_option, verdict};
 ghost use Rattle.kube_schema_rules.specs.Compilation.{compiled_seen};
 ghost use Rattle.kube_schema.specs.Shown.{node_tree};
@@ -16,7 +17,7 @@ use cel::{PatternBook, Stacks};
 use cel_demand::Demand;
 use cel_value::Value as CelValue;
 use kube_cel_walk::verdict::{Context, add_verdict};
-use kube_cel_walk::{Node, NodeDemands, ValidationError};
+use kube_cel_walk::{Node, NodeDemands, Path, ValidationError};
 use kube_schema::{
     CompilationError, CompilationResult, SchemaNode, bind_node_part, rebind_node_part,
 };
@@ -47,7 +48,7 @@ fn add_verdicts(
     rules: &[Result<CompilationResult, CompilationError>],
     context: &Context<'_>,
     old: Option<&Value>,
-    path: &str,
+    path: &Path<'_>,
     book: &mut PatternBook,
     stacks: &mut Stacks,
     errors: &mut Vec<ValidationError>,
@@ -56,7 +57,7 @@ fn add_verdicts(
     ensures found { OnOk result (AreAdded (entries_of book.new) errors.old.items errors.new.items
         (λ b. flat_map (λ r. list_of_option
         (verdict b (bindings_of context.now)
-        (option_map (λ v. view v.now) old.entry) path.now (compiled_seen r))) rules.now)) }
+        (option_map (λ v. view v.now) old.entry) (path_view path.now) (compiled_seen r))) rules.now)) }
 {
     for rule in rules {
         add_verdict(rule, context, old, path, book, stacks, errors)?;
@@ -148,7 +149,7 @@ impl Node for CompiledNode<'_> {
         &self,
         context: &Context<'_>,
         old: Option<&Value>,
-        path: &str,
+        path: &Path<'_>,
         book: &mut PatternBook,
         stacks: &mut Stacks,
         errors: &mut Vec<ValidationError>,

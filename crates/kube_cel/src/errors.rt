@@ -7,7 +7,7 @@ ghost use Rattle.kube_cel_walk.specs.Answers.{answer};
 ghost use Rattle.std.specs.Prelude.{◌≡◌, IfOk};
 
 use cel::PatternBook;
-use kube_cel_walk::{KeptContext, Node, RootContext, ValidationErrors, WalkState, walk_node};
+use kube_cel_walk::{KeptContext, Node, Path, RootContext, ValidationErrors, WalkState, walk_node};
 use kube_types::Refused;
 use serde_json::Value;
 use std::alloc::Global;
@@ -27,7 +27,6 @@ pub(crate) fn validation_of<N: Node>(
         → answer_view r ≡ report_of
         (answer N.form b 65 (start_without_defaults (N.seen node) object.now old.entry root.entry))) }
 {
-    let mut path = String::new(alloc);
     let mut kept = KeptContext::new(alloc);
     let mut errors = Vec::new(alloc);
     let state = WalkState {
@@ -37,7 +36,7 @@ pub(crate) fn validation_of<N: Node>(
         root,
         depth: 0,
     };
-    walk_node(&state, &mut path, &mut kept, book, &mut errors)?;
+    walk_node(&state, &Path::Root, &mut kept, book, &mut errors)?;
     if errors.is_empty() {
         return Ok(Ok(()));
     }

@@ -7,6 +7,7 @@ ghost use Rattle.cel_semantics.specs.Bindings.{bindings_of};
 ghost use Rattle.kube_schema_rules.specs.Raw.{declared_property, undeclared_property};
 ghost use Rattle.kube_schema_rules.specs.Step.{keyword};
 ghost use Rattle.kube_cel_walk.specs.AddedErrors.{AreAdded};
+ghost use Rattle.kube_cel_walk.specs.Paths.{path_view};
 ghost use Rattle.kube_cel_walk.specs.Verdicts.{list_of_option, verdict};
 ghost use Rattle.kube_schema_rules.specs.Compilation.{compiled_rule, compiled_rules};
 ghost use Rattle.kube_schema_rules.specs.Demands.{AreDemands, rule_read, rules_read};
@@ -21,7 +22,7 @@ use cel::{PatternBook, Stacks};
 use cel_demand::Demand;
 use cel_value::Value as CelValue;
 use kube_cel_walk::verdict::{Context, add_verdict};
-use kube_cel_walk::{Node, NodeDemands, ValidationError};
+use kube_cel_walk::{Node, NodeDemands, Path, ValidationError};
 use kube_schema::{Demands, bind_part, rebind_part, rule_values};
 use kube_schema_rules::{BranchKind, no_demands, with_rule};
 use kube_types::Refused;
@@ -111,7 +112,7 @@ fn add_raw_verdict(
     cache: &RuleCache,
     context: &Context<'_>,
     old: Option<&Value>,
-    path: &str,
+    path: &Path<'_>,
     book: &mut PatternBook,
     stacks: &mut Stacks,
     errors: &mut Vec<ValidationError>,
@@ -119,7 +120,7 @@ fn add_raw_verdict(
     ensures keeps { (b : Book) → Extends b (entries_of book.new) → Extends b (entries_of book.old) }
     ensures found { OnOk result (AreAdded (entries_of book.new) errors.old.items errors.new.items
         (λ b. list_of_option (verdict b (bindings_of context.now)
-        (option_map (λ v. view v.now) old.entry) path.now (compiled_rule (view rule.now))))) }
+        (option_map (λ v. view v.now) old.entry) (path_view path.now) (compiled_rule (view rule.now))))) }
 {
     let compiled = cache.compiled(rule)?;
     add_verdict(&compiled, context, old, path, book, stacks, errors)
@@ -131,7 +132,7 @@ fn add_verdicts(
     cache: &RuleCache,
     context: &Context<'_>,
     old: Option<&Value>,
-    path: &str,
+    path: &Path<'_>,
     book: &mut PatternBook,
     stacks: &mut Stacks,
     errors: &mut Vec<ValidationError>,
@@ -139,7 +140,7 @@ fn add_verdicts(
     ensures keeps { (b : Book) → Extends b (entries_of book.new) → Extends b (entries_of book.old) }
     ensures found { OnOk result (AreAdded (entries_of book.new) errors.old.items errors.new.items
         (λ b. flat_map (λ r. list_of_option
-        (verdict b (bindings_of context.now) (option_map (λ v. view v.now) old.entry) path.now r))
+        (verdict b (bindings_of context.now) (option_map (λ v. view v.now) old.entry) (path_view path.now) r))
         (compiled_rules (items_view rules.now)))) }
 {
     for rule in rules {
@@ -249,7 +250,7 @@ impl Node for JsonNode<'_> {
         &self,
         context: &Context<'_>,
         old: Option<&Value>,
-        path: &str,
+        path: &Path<'_>,
         book: &mut PatternBook,
         stacks: &mut Stacks,
         errors: &mut Vec<ValidationError>,

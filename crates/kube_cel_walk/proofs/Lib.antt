@@ -3,7 +3,7 @@ pub mod EqualLists
 pub mod Bound
 pub mod Ruled
 pub mod ReadVerdicts
-pub mod Cut
+pub mod Paths
 pub mod Entries
 pub mod Gathered
 pub mod Judged

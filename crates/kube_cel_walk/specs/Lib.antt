@@ -7,6 +7,7 @@ pub mod AddedErrors
 pub mod Verdicts
 pub mod Answers
 pub mod WalkAccessors
+pub mod Paths
 pub mod Visits
 pub mod Demands
 pub mod NoRules

@@ -9,6 +9,7 @@ ghost use Rattle.kube_cel_walk.specs.AddedErrors.{AreAdded};
 ghost use Rattle.kube_cel_walk.specs.Answers.{bound_at, place_bindings, rule_verdicts, verdicts};
 ghost use Rattle.kube_cel_walk.specs.Errors.{error_view};
 ghost use Rattle.kube_cel_walk.specs.Kept.{AreSameOthers};
+ghost use Rattle.kube_cel_walk.specs.Paths.{path_view};
 ghost use Rattle.kube_cel_walk.specs.RuleErrors.{too_deep};
 ghost use Rattle.kube_cel_walk.specs.Verdicts.{with_old};
 ghost use Rattle.kube_cel_walk.specs.Visits.{IsAlone, visit_at};
@@ -20,6 +21,7 @@ ghost use Rattle.std.specs.Prelude.{◌≡◌, ◌∷◌, ◌++◌, [], codes, L
 use crate::error::ValidationError;
 use crate::kept::KeptContext;
 use crate::node::Node;
+use crate::path::Path;
 use crate::rule_error::deep_error;
 use crate::state::{WalkState, is_alone};
 use crate::verdict::{Context, bind_root};
@@ -165,9 +167,9 @@ fn bind_alone<N: Node>(
 
 /// Adds the error of a place beyond the maximum depth.
 #[inline(never)]
-fn add_deep(path: &str, errors: &mut Vec<ValidationError>) -> Result<(), AllocError>
+fn add_deep(path: &Path<'_>, errors: &mut Vec<ValidationError>) -> Result<(), AllocError>
     ensures { OnOk result (map error_view errors.new.items
-        ≡ map error_view errors.old.items ++ too_deep path.now ∷ []) }
+        ≡ map error_view errors.old.items ++ too_deep (path_view path.now) ∷ []) }
 {
     let error = deep_error(*errors.allocator(), path)?;
     errors.push(error)?;
@@ -178,15 +180,15 @@ fn add_deep(path: &str, errors: &mut Vec<ValidationError>) -> Result<(), AllocEr
 #[inline(never)]
 fn add_anew<N: Node>(
     state: &WalkState<'_, N>,
-    path: &str,
+    path: &Path<'_>,
     book: &mut PatternBook,
     stacks: &mut Stacks,
     errors: &mut Vec<ValidationError>,
 ) -> Result<(), Refused>
     ensures keeps { (b : Book) → Extends b (entries_of book.new) → Extends b (entries_of book.old) }
     ensures found { OnOk result (AreAdded (entries_of book.new) errors.old.items errors.new.items
-        (λ b. rule_verdicts N.form b (place_bindings N.form (visit_at N.seen state.now path.now))
-        (visit_at N.seen state.now path.now))) }
+        (λ b. rule_verdicts N.form b (place_bindings N.form (visit_at N.seen state.now (path_view path.now)))
+        (visit_at N.seen state.now (path_view path.now)))) }
 {
     let alloc = *errors.allocator();
     let mut context = Context::default(alloc);
@@ -200,7 +202,7 @@ fn add_anew<N: Node>(
 /// Adds the errors of the rules at a place in the kept context.
 fn add_kept<N: Node>(
     state: &WalkState<'_, N>,
-    path: &str,
+    path: &Path<'_>,
     kept: &mut KeptContext<'_>,
     book: &mut PatternBook,
     errors: &mut Vec<ValidationError>,
@@ -208,8 +210,8 @@ fn add_kept<N: Node>(
     requires { IsAlone state.now }
     ensures keeps { (b : Book) → Extends b (entries_of book.new) → Extends b (entries_of book.old) }
     ensures found { OnOk result (AreAdded (entries_of book.new) errors.old.items errors.new.items
-        (λ b. rule_verdicts N.form b (place_bindings N.form (visit_at N.seen state.now path.now))
-        (visit_at N.seen state.now path.now))) }
+        (λ b. rule_verdicts N.form b (place_bindings N.form (visit_at N.seen state.now (path_view path.now)))
+        (visit_at N.seen state.now (path_view path.now)))) }
 {
     bind_alone(*errors.allocator(), kept, state)?;
     let (context, stacks) = (&kept.context, &mut kept.stacks);
@@ -223,14 +225,14 @@ fn add_kept<N: Node>(
 /// for all of its rules, and not at all if it has none.
 pub(crate) fn validate_at<N: Node>(
     state: &WalkState<'_, N>,
-    path: &str,
+    path: &Path<'_>,
     kept: &mut KeptContext<'_>,
     book: &mut PatternBook,
     errors: &mut Vec<ValidationError>,
 ) -> Result<(), Refused>
     ensures keeps { (b : Book) → Extends b (entries_of book.new) → Extends b (entries_of book.old) }
     ensures found { OnOk result (AreAdded (entries_of book.new) errors.old.items errors.new.items
-        (λ b. verdicts N.form b (visit_at N.seen state.now path.now))) }
+        (λ b. verdicts N.form b (visit_at N.seen state.now (path_view path.now)))) }
 {
     if state.depth == TOO_DEEP {
         add_deep(path, errors)?;

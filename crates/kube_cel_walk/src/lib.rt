@@ -20,6 +20,7 @@ pub use demands::NodeDemands;
 pub use error::{ErrorKind, ValidationError, ValidationErrors};
 pub use kept::KeptContext;
 pub use node::Node;
+pub use path::Path;
 pub use root::RootContext;
 pub use state::WalkState;
 pub use walk::walk_node;

@@ -6,6 +6,7 @@ ghost use Rattle.cel_patterns.specs.Entries.{entries_of};
 ghost use Rattle.cel_semantics.specs.Bindings.{bindings_of};
 ghost use Rattle.cel_value.specs.View.{view as cel_view};
 ghost use Rattle.kube_cel_walk.specs.AddedErrors.{AreAdded};
+ghost use Rattle.kube_cel_walk.specs.Paths.{path_view};
 ghost use Rattle.kube_cel_walk.specs.Verdicts.{list_of_option, verdict};
 ghost use Rattle.kube_cel_walk.specs.WalkAccessors.{WalkAccessors, is_none_of};
 ghost use Rattle.kube_cel_walk.specs.Demands.{demands_in};
@@ -18,6 +19,7 @@ ghost use Rattle.std.specs.Prelude.{◌≡◌, IfOk, IsTrue, OnOk, Option, optio
 
 use crate::demands::NodeDemands;
 use crate::error::ValidationError;
+use crate::path::Path;
 use crate::verdict::Context;
 use cel::{PatternBook, Stacks};
 use cel_demand::Demand;
@@ -101,7 +103,7 @@ pub trait Node: Copy {
         &self,
         context: &Context<'_>,
         old: Option<&Value>,
-        path: &str,
+        path: &Path<'_>,
         book: &mut PatternBook,
         stacks: &mut Stacks,
         errors: &mut Vec<ValidationError>,
@@ -109,6 +111,6 @@ pub trait Node: Copy {
         ensures keeps { (b : Book) → Extends b (entries_of book.new) → Extends b (entries_of book.old) }
         ensures found { OnOk result (AreAdded (entries_of book.new) errors.old.items errors.new.items
             (λ b. flat_map (λ r. list_of_option
-            (verdict b (bindings_of context.now) (option_map (λ v. view v.now) old.entry) path.now r))
+            (verdict b (bindings_of context.now) (option_map (λ v. view v.now) old.entry) (path_view path.now) r))
             (form.rules (seen self.now)))) };
 }

@@ -1,4 +1,5 @@
-//! The text of a path, which the walk extends and truncates, and the paths of errors.
+//! The path of a place, and the paths of errors.
+ghost use Rattle.kube_cel_walk.specs.Paths.{path_view};
 ghost use Rattle.kube_cel_walk.specs.RuleErrors.{joined_path, rule_path};
 ghost use Rattle.kube_schema_rules.specs.Visit.{item_path, member_path};
 ghost use Rattle.kube_schema_rules.specs.Rules.{rule_view};
@@ -8,9 +9,42 @@ use itoa::Buffer;
 use kube_schema_rules::Rule;
 use std::alloc::{AllocError, Global};
 
+/// The path of a place, by its last step. A walk makes one at each step
+/// and no text: the text of a path is made where an error is.
+#[derive(Clone, Copy)]
+pub enum Path<'a> {
+    /// The root of the object.
+    Root,
+    /// A member, by its key, of the value at a path.
+    Member(&'a Path<'a>, &'a str),
+    /// An item, by its index, of the list at a path.
+    Item(&'a Path<'a>, usize),
+}
+
+impl Path<'_> {
+    /// Returns the text of the path: keys joined by dots, and indices in brackets.
+    pub fn text(&self, alloc: Global) -> Result<String, AllocError>
+        ensures { IfOk result (λ s. string_bytes s ≡ path_view self.now) }
+    {
+        match self {
+            Path::Root => Ok(String::new(alloc)),
+            Path::Member(outer, key) => {
+                let mut text = outer.text(alloc)?;
+                push_member(&mut text, key)?;
+                Ok(text)
+            }
+            Path::Item(outer, index) => {
+                let mut text = outer.text(alloc)?;
+                push_item(&mut text, *index)?;
+                Ok(text)
+            }
+        }
+    }
+}
+
 /// Appends a key: `k` to the empty path, else `.k`.
 #[tactic(auto, unfolding(kube_schema_rules::specs::Visit::member_path))]
-pub fn push_member(path: &mut String, key: &str) -> Result<(), AllocError>
+fn push_member(path: &mut String, key: &str) -> Result<(), AllocError>
     ensures { OnOk result (string_bytes path.new ≡ member_path (string_bytes path.old) key.now) }
 {
     if !path.is_empty() {
@@ -22,7 +56,7 @@ pub fn push_member(path: &mut String, key: &str) -> Result<(), AllocError>
 
 /// Appends an index: `[i]`.
 #[tactic(auto, unfolding(kube_schema_rules::specs::Visit::item_path))]
-pub fn push_item(path: &mut String, index: usize) -> Result<(), AllocError>
+fn push_item(path: &mut String, index: usize) -> Result<(), AllocError>
     ensures { OnOk result (string_bytes path.new ≡ item_path (string_bytes path.old) index) }
 {
     let mut digits = Buffer::new();
@@ -34,10 +68,10 @@ pub fn push_item(path: &mut String, index: usize) -> Result<(), AllocError>
 
 /// Returns the path of a rule's error: the path of the value,
 /// followed by the rule's own `fieldPath`, if it has one.
-pub fn error_path(alloc: Global, path: &str, rule: &Rule) -> Result<String, AllocError>
-    ensures { IfOk result (λ s. string_bytes s ≡ rule_path path.now (rule_view rule.now).field_path) }
+pub fn error_path(alloc: Global, path: &Path<'_>, rule: &Rule) -> Result<String, AllocError>
+    ensures { IfOk result (λ s. string_bytes s ≡ rule_path (path_view path.now) (rule_view rule.now).field_path) }
 {
-    let mut joined = String::from_str(alloc, path)?;
+    let mut joined = path.text(alloc)?;
     let Some(own) = &rule.field_path else {
         return Ok(joined);
     };

@@ -1,26 +1,27 @@
 //! Constructors for the errors of rules.
 ghost use Rattle.cel_value.specs.Faults.{fault_view};
 ghost use Rattle.kube_cel_walk.specs.Errors.{error_view};
+ghost use Rattle.kube_cel_walk.specs.Paths.{path_view};
 ghost use Rattle.kube_cel_walk.specs.RuleErrors.{failed_rule, fault_error, malformed_error, no_bool, not_compiled, too_deep, undeclared_name};
 ghost use Rattle.kube_schema_rules.specs.Compilation.{error_view as malformed_view};
 ghost use Rattle.kube_schema_rules.specs.Rules.{rule_view};
 ghost use Rattle.std.specs.Prelude.{◌≡◌, IfOk, None, option_map, string_bytes};
 
 use crate::error::{ErrorKind, ValidationError};
-use crate::path::error_path;
+use crate::path::{Path, error_path};
 use cel_value::ExecutionError;
 use kube_schema_rules::{CompilationError, Rule};
 use std::alloc::{AllocError, Global};
 
 /// Returns the error of a place beyond the maximum depth.
 #[tactic(auto, unfolding(crate::specs::RuleErrors::too_deep))]
-pub fn deep_error(alloc: Global, path: &str) -> Result<ValidationError, AllocError>
-    ensures { IfOk result (λ e. error_view e ≡ too_deep path.now) }
+pub fn deep_error(alloc: Global, path: &Path<'_>) -> Result<ValidationError, AllocError>
+    ensures { IfOk result (λ e. error_view e ≡ too_deep (path_view path.now)) }
 {
     Ok(ValidationError {
         rule: String::new(alloc),
         message: String::from_str(alloc, "schema nesting exceeds the maximum depth of 64")?,
-        field_path: String::from_str(alloc, path)?,
+        field_path: path.text(alloc)?,
         reason: None,
         kind: ErrorKind::SchemaTooDeep,
         cause: None,
@@ -59,9 +60,9 @@ fn rule_error(
 pub fn malformed_error(
     alloc: Global,
     error: &CompilationError,
-    path: &str,
+    path: &Path<'_>,
 ) -> Result<ValidationError, AllocError>
-    ensures { IfOk result (λ e. error_view e ≡ malformed_error path.now (malformed_view error.now)) }
+    ensures { IfOk result (λ e. error_view e ≡ malformed_error (path_view path.now) (malformed_view error.now)) }
 {
     match error {
         CompilationError::Parse { rule, source } => {
@@ -82,7 +83,7 @@ pub fn malformed_error(
         }
         CompilationError::InvalidRule(fault) => {
             let message = format!(in alloc; "invalid rule definition: {fault}")?;
-            let field_path = String::from_str(alloc, path)?;
+            let field_path = path.text(alloc)?;
             rule_error(alloc, ErrorKind::InvalidRule, "", message, field_path, None)
         }
         CompilationError::SchemaTooDeep { depth: _ } => deep_error(alloc, path),
@@ -94,11 +95,11 @@ fn unread_error(
     alloc: Global,
     rule: &str,
     message: String,
-    path: &str,
+    path: &Path<'_>,
 ) -> Result<ValidationError, AllocError>
-    ensures { IfOk result (λ e. error_view e ≡ not_compiled path.now rule.now (string_bytes message)) }
+    ensures { IfOk result (λ e. error_view e ≡ not_compiled (path_view path.now) rule.now (string_bytes message)) }
 {
-    let field_path = String::from_str(alloc, path)?;
+    let field_path = path.text(alloc)?;
     let kind = ErrorKind::CompilationFailure;
     rule_error(alloc, kind, rule, message, field_path, None)
 }
@@ -108,10 +109,10 @@ pub fn failed_rule_error(
     alloc: Global,
     rule: &Rule,
     message: String,
-    path: &str,
+    path: &Path<'_>,
 ) -> Result<ValidationError, AllocError>
     ensures { IfOk result (λ e. error_view e
-        ≡ failed_rule path.now (rule_view rule.now) (string_bytes message)) }
+        ≡ failed_rule (path_view path.now) (rule_view rule.now) (string_bytes message)) }
 {
     Ok(ValidationError {
         rule: String::from_str(alloc, rule.rule.as_str())?,
@@ -135,8 +136,12 @@ fn reason_of(alloc: Global, rule: &Rule) -> Result<Option<String>, AllocError>
 }
 
 /// Returns the error of a rule whose value isn't a bool.
-pub fn no_bool_error(alloc: Global, rule: &Rule, path: &str) -> Result<ValidationError, AllocError>
-    ensures { IfOk result (λ e. error_view e ≡ no_bool path.now (rule_view rule.now)) }
+pub fn no_bool_error(
+    alloc: Global,
+    rule: &Rule,
+    path: &Path<'_>,
+) -> Result<ValidationError, AllocError>
+    ensures { IfOk result (λ e. error_view e ≡ no_bool (path_view path.now) (rule_view rule.now)) }
 {
     let text = rule.rule.as_str();
     let message = format!(in alloc; "rule \"{text}\" did not evaluate to bool")?;
@@ -178,10 +183,10 @@ pub fn fault_error(
     alloc: Global,
     rule: &Rule,
     fault: ExecutionError,
-    path: &str,
+    path: &Path<'_>,
 ) -> Result<ValidationError, AllocError>
     ensures { IfOk result (λ e. error_view e
-        ≡ fault_error path.now (rule_view rule.now) (fault_view fault) (undeclared_name (fault_view fault))) }
+        ≡ fault_error (path_view path.now) (rule_view rule.now) (fault_view fault) (undeclared_name (fault_view fault))) }
 {
     let text = rule.rule.as_str();
     let field_path = error_path(alloc, path, rule)?;

@@ -8,6 +8,7 @@ ghost use Rattle.cel_value.specs.Data.{null};
 ghost use Rattle.cel_value.specs.Parts.{bool_in};
 ghost use Rattle.cel_value.specs.View.{view as cel_view};
 ghost use Rattle.kube_cel_walk.specs.Errors.{error_view};
+ghost use Rattle.kube_cel_walk.specs.Paths.{path_view};
 ghost use Rattle.kube_cel_walk.specs.Roots.{root_view};
 ghost use Rattle.kube_cel_walk.specs.RuleErrors.{malformed_error};
 ghost use Rattle.kube_cel_walk.specs.AddedErrors.{AreAdded, IsVerdict, is_true};
@@ -18,6 +19,7 @@ ghost use Rattle.serde_json.specs.View.{view};
 ghost use Rattle.std.specs.Prelude.{◌≡◌, ◌++◌, ◌∷◌, [], codes, IfErr, IfOk, List, map, OnOk, option_map, string_bytes, ℕ};
 
 use crate::error::ValidationError;
+use crate::path::Path;
 use crate::root::RootContext;
 use crate::rule_error::{failed_rule_error, fault_error, malformed_error, no_bool_error};
 use cel::{Answer, PatternBook, Stacks};
@@ -136,12 +138,12 @@ fn verdict_of_value(
     rule: &CompilationResult,
     value: &CelValue,
     context: &Context<'_>,
-    path: &str,
+    path: &Path<'_>,
     book: &mut PatternBook,
 ) -> Result<Option<ValidationError>, Refused>
     ensures keeps { (b : Book) → Extends b (entries_of book.new) → Extends b (entries_of book.old) }
     ensures found { IfOk result
-        (λ o. IsVerdict (entries_of book.new) o (λ b. value_error path.now (rule_view rule.now.rule)
+        (λ o. IsVerdict (entries_of book.new) o (λ b. value_error (path_view path.now) (rule_view rule.now.rule)
         (failed_message (rule_view rule.now.rule)
         (option_map (outcome_in b (bindings_of context.now)) (result_view rule.now).message_tree))
         (bool_in (cel_view value.now)))) }
@@ -163,12 +165,12 @@ fn verdict_of_outcome(
     rule: &CompilationResult,
     outcome: Answer,
     context: &Context<'_>,
-    path: &str,
+    path: &Path<'_>,
     book: &mut PatternBook,
 ) -> Result<Option<ValidationError>, Refused>
     ensures keeps { (b : Book) → Extends b (entries_of book.new) → Extends b (entries_of book.old) }
     ensures found { IfOk result
-        (λ o. IsVerdict (entries_of book.new) o (λ b. outcome_error path.now (rule_view rule.now.rule)
+        (λ o. IsVerdict (entries_of book.new) o (λ b. outcome_error (path_view path.now) (rule_view rule.now.rule)
         (failed_message (rule_view rule.now.rule)
         (option_map (outcome_in b (bindings_of context.now)) (result_view rule.now).message_tree))
         (outcome_view outcome))) }
@@ -203,13 +205,13 @@ fn add_by_outcome(
     rule: &CompilationResult,
     outcome: Answer,
     context: &Context<'_>,
-    path: &str,
+    path: &Path<'_>,
     book: &mut PatternBook,
     errors: &mut Vec<ValidationError>,
 ) -> Result<(), Refused>
     ensures keeps { (b : Book) → Extends b (entries_of book.new) → Extends b (entries_of book.old) }
     ensures found { OnOk result (AreAdded (entries_of book.new) errors.old.items errors.new.items
-        (λ b. list_of_option (outcome_error path.now (rule_view rule.now.rule)
+        (λ b. list_of_option (outcome_error (path_view path.now) (rule_view rule.now.rule)
         (failed_message (rule_view rule.now.rule)
         (option_map (outcome_in b (bindings_of context.now)) (result_view rule.now).message_tree))
         (outcome_view outcome)))) }
@@ -234,7 +236,7 @@ fn is_true(outcome: &Answer) -> bool
 fn add_where_bound(
     rule: &CompilationResult,
     context: &Context<'_>,
-    path: &str,
+    path: &Path<'_>,
     book: &mut PatternBook,
     stacks: &mut Stacks,
     errors: &mut Vec<ValidationError>,
@@ -242,7 +244,7 @@ fn add_where_bound(
     ensures keeps { (b : Book) → Extends b (entries_of book.new) → Extends b (entries_of book.old) }
     ensures found { OnOk result (AreAdded (entries_of book.new) errors.old.items errors.new.items
         (λ b. list_of_option
-        (bound_verdict b (bindings_of context.now) path.now (result_view rule.now)))) }
+        (bound_verdict b (bindings_of context.now) (path_view path.now) (result_view rule.now)))) }
 {
     let outcome = rule
         .program
@@ -259,7 +261,7 @@ fn add_where_bound(
 fn add_where_old_null(
     rule: &CompilationResult,
     context: &Context<'_>,
-    path: &str,
+    path: &Path<'_>,
     book: &mut PatternBook,
     stacks: &mut Stacks,
     errors: &mut Vec<ValidationError>,
@@ -267,7 +269,7 @@ fn add_where_old_null(
     ensures keeps { (b : Book) → Extends b (entries_of book.new) → Extends b (entries_of book.old) }
     ensures found { OnOk result (AreAdded (entries_of book.new) errors.old.items errors.new.items
         (λ b. list_of_option (bound_verdict b ((codes "oldSelf", null) ∷ bindings_of context.now)
-        path.now (result_view rule.now)))) }
+        (path_view path.now) (result_view rule.now)))) }
 {
     let mut inner = context.new_inner_scope();
     inner.add_variable("oldSelf", null_old_self())?;
@@ -281,7 +283,7 @@ fn add_compiled(
     rule: &CompilationResult,
     context: &Context<'_>,
     old: Option<&Value>,
-    path: &str,
+    path: &Path<'_>,
     book: &mut PatternBook,
     stacks: &mut Stacks,
     errors: &mut Vec<ValidationError>,
@@ -289,7 +291,7 @@ fn add_compiled(
     ensures keeps { (b : Book) → Extends b (entries_of book.new) → Extends b (entries_of book.old) }
     ensures found { OnOk result (AreAdded (entries_of book.new) errors.old.items errors.new.items
         (λ b. list_of_option (compiled_verdict b (bindings_of context.now)
-        (option_map (λ v. view v.now) old.entry) path.now (result_view rule.now)))) }
+        (option_map (λ v. view v.now) old.entry) (path_view path.now) (result_view rule.now)))) }
 {
     if !is_applicable(rule, old) {
         return Ok(());
@@ -306,11 +308,11 @@ fn add_compiled(
 #[inline(never)]
 fn add_malformed(
     error: &CompilationError,
-    path: &str,
+    path: &Path<'_>,
     errors: &mut Vec<ValidationError>,
 ) -> Result<(), Refused>
     ensures { OnOk result (map error_view errors.new.items
-        ≡ map error_view errors.old.items ++ malformed_error path.now (malformed_view error.now) ∷ []) }
+        ≡ map error_view errors.old.items ++ malformed_error (path_view path.now) (malformed_view error.now) ∷ []) }
 {
     let error = malformed_error(*errors.allocator(), error, path)?;
     errors.push(error)?;
@@ -327,7 +329,7 @@ pub fn add_verdict(
     rule: &Result<CompilationResult, CompilationError>,
     context: &Context<'_>,
     old: Option<&Value>,
-    path: &str,
+    path: &Path<'_>,
     book: &mut PatternBook,
     stacks: &mut Stacks,
     errors: &mut Vec<ValidationError>,
@@ -335,7 +337,7 @@ pub fn add_verdict(
     ensures keeps { (b : Book) → Extends b (entries_of book.new) → Extends b (entries_of book.old) }
     ensures found { OnOk result (AreAdded (entries_of book.new) errors.old.items errors.new.items
         (λ b. list_of_option (verdict b (bindings_of context.now)
-        (option_map (λ v. view v.now) old.entry) path.now (compiled_seen rule.now)))) }
+        (option_map (λ v. view v.now) old.entry) (path_view path.now) (compiled_seen rule.now)))) }
 {
     match rule {
         Err(error) => {

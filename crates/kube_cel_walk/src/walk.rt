@@ -3,40 +3,40 @@ ghost use Rattle.cel_patterns.specs.Book.{Extends, Book};
 ghost use Rattle.cel_patterns.specs.Entries.{entries_of};
 ghost use Rattle.kube_cel_walk.specs.AddedErrors.{AreAdded};
 ghost use Rattle.kube_cel_walk.specs.Answers.{answer, found_by, answer_if_reached};
+ghost use Rattle.kube_cel_walk.specs.Paths.{path_view};
 ghost use Rattle.kube_cel_walk.specs.Visits.{visit_at};
 ghost use Rattle.kube_schema_rules.specs.Visit.{branch_steps, additional_steps, further, goes, item_path, item_steps, member_path, property_steps, unless_there};
 ghost use Rattle.kube_schema_rules.specs.Step.{branch};
 ghost use Rattle.serde_json.specs.Find.{at, get};
 ghost use Rattle.serde_json.specs.View.{view};
-ghost use Rattle.std.specs.Prelude.{◌≡◌, ◌≤◌, ◌-◌, None, OnOk, option_and_then, option_map, Some, string_bytes};
+ghost use Rattle.std.specs.Prelude.{◌≡◌, ◌≤◌, ◌-◌, None, OnOk, option_and_then, option_map, Some};
 
 use crate::error::ValidationError;
 use crate::judge::{TOO_DEEP, validate_at};
 use crate::kept::KeptContext;
 use crate::node::Node;
-use crate::path::{push_item, push_member};
+use crate::path::Path;
 use crate::state::{WalkState, old_item, old_member};
 use cel::PatternBook;
 use kube_schema_rules::BranchKind;
 use kube_types::Refused;
 use serde_json::Value;
 
-/// Adds the errors at a place and at all places beyond it. Leaves the path as it was.
+/// Adds the errors at a place and at all places beyond it.
 #[cycle(walk)]
 pub fn walk_node<N: Node>(
     state: &WalkState<'_, N>,
-    path: &mut String,
+    path: &Path<'_>,
     kept: &mut KeptContext<'_>,
     book: &mut PatternBook,
     errors: &mut Vec<ValidationError>,
 ) -> Result<(), Refused>
     requires { state.now.depth ≤ 65 }
     ensures found { OnOk result (AreAdded (entries_of book.new) errors.old.items errors.new.items
-        (λ b. answer N.form b (65 - state.now.depth) (visit_at N.seen state.now (string_bytes path.old)))) }
-    ensures path { OnOk result (string_bytes path.new ≡ string_bytes path.old) }
+        (λ b. answer N.form b (65 - state.now.depth) (visit_at N.seen state.now (path_view path.now)))) }
     ensures keeps { (b : Book) → Extends b (entries_of book.new) → Extends b (entries_of book.old) }
 {
-    validate_at(state, path.as_str(), kept, book, errors)?;
+    validate_at(state, path, kept, book, errors)?;
     if state.depth == TOO_DEEP {
         return Ok(());
     }
@@ -56,7 +56,7 @@ pub fn walk_node<N: Node>(
 #[cycle(walk)]
 fn walk_properties<N: Node>(
     state: &WalkState<'_, N>,
-    path: &mut String,
+    path: &Path<'_>,
     kept: &mut KeptContext<'_>,
     book: &mut PatternBook,
     errors: &mut Vec<ValidationError>,
@@ -64,8 +64,7 @@ fn walk_properties<N: Node>(
     requires { state.now.depth ≤ 64 }
     ensures found { OnOk result (AreAdded (entries_of book.new) errors.old.items errors.new.items
         (λ b. found_by N.form (property_steps N.form.steps) b (64 - state.now.depth)
-        (visit_at N.seen state.now (string_bytes path.old)))) }
-    ensures path { OnOk result (string_bytes path.new ≡ string_bytes path.old) }
+        (visit_at N.seen state.now (path_view path.now)))) }
     ensures keeps { (b : Book) → Extends b (entries_of book.new) → Extends b (entries_of book.old) }
 {
     let Some(members) = state.value.as_object() else {
@@ -83,7 +82,7 @@ fn walk_properties<N: Node>(
 #[cycle(walk)]
 fn walk_extras<N: Node>(
     state: &WalkState<'_, N>,
-    path: &mut String,
+    path: &Path<'_>,
     kept: &mut KeptContext<'_>,
     book: &mut PatternBook,
     errors: &mut Vec<ValidationError>,
@@ -91,8 +90,7 @@ fn walk_extras<N: Node>(
     requires { state.now.depth ≤ 64 }
     ensures found { OnOk result (AreAdded (entries_of book.new) errors.old.items errors.new.items
         (λ b. found_by N.form (additional_steps N.form.steps) b (64 - state.now.depth)
-        (visit_at N.seen state.now (string_bytes path.old)))) }
-    ensures path { OnOk result (string_bytes path.new ≡ string_bytes path.old) }
+        (visit_at N.seen state.now (path_view path.now)))) }
     ensures keeps { (b : Book) → Extends b (entries_of book.new) → Extends b (entries_of book.old) }
 {
     let Some(other) = state.node.additional_property() else {
@@ -116,7 +114,7 @@ fn walk_member<'a, N: Node>(
     node: Option<N>,
     key: &str,
     value: &'a Value,
-    path: &mut String,
+    path: &Path<'_>,
     kept: &mut KeptContext<'_>,
     book: &mut PatternBook,
     errors: &mut Vec<ValidationError>,
@@ -124,10 +122,9 @@ fn walk_member<'a, N: Node>(
     requires { state.now.depth ≤ 64 }
     ensures found { OnOk result (AreAdded (entries_of book.new) errors.old.items errors.new.items
         (λ b. answer_if_reached N.form b (64 - state.now.depth)
-        (further None state.now.depth (member_path (string_bytes path.old) key.now)
+        (further None state.now.depth (member_path (path_view path.now) key.now)
         (option_map N.seen node) (Some (view value.now))
         (option_and_then (get key.now) (option_map (λ v. view v.now) state.now.old))))) }
-    ensures path { OnOk result (string_bytes path.new ≡ string_bytes path.old) }
     ensures keeps { (b : Book) → Extends b (entries_of book.new) → Extends b (entries_of book.old) }
 {
     let Some(node) = node else {
@@ -140,10 +137,8 @@ fn walk_member<'a, N: Node>(
         root: None,
         depth: state.depth + 1,
     };
-    let len = path.len();
-    push_member(path, key)?;
-    walk_node(&member, path, kept, book, errors)?;
-    path.truncate(len);
+    let path = Path::Member(&*path, key);
+    walk_node(&member, &path, kept, book, errors)?;
     Ok(())
 }
 
@@ -151,7 +146,7 @@ fn walk_member<'a, N: Node>(
 #[cycle(walk)]
 fn walk_items<N: Node>(
     state: &WalkState<'_, N>,
-    path: &mut String,
+    path: &Path<'_>,
     kept: &mut KeptContext<'_>,
     book: &mut PatternBook,
     errors: &mut Vec<ValidationError>,
@@ -159,8 +154,7 @@ fn walk_items<N: Node>(
     requires { state.now.depth ≤ 64 }
     ensures found { OnOk result (AreAdded (entries_of book.new) errors.old.items errors.new.items
         (λ b. found_by N.form (item_steps N.form.steps) b (64 - state.now.depth)
-        (visit_at N.seen state.now (string_bytes path.old)))) }
-    ensures path { OnOk result (string_bytes path.new ≡ string_bytes path.old) }
+        (visit_at N.seen state.now (path_view path.now)))) }
     ensures keeps { (b : Book) → Extends b (entries_of book.new) → Extends b (entries_of book.old) }
 {
     let Some(node) = state.node.items() else {
@@ -182,7 +176,7 @@ fn walk_item<'a, N: Node>(
     node: N,
     index: usize,
     value: &'a Value,
-    path: &mut String,
+    path: &Path<'_>,
     kept: &mut KeptContext<'_>,
     book: &mut PatternBook,
     errors: &mut Vec<ValidationError>,
@@ -190,10 +184,9 @@ fn walk_item<'a, N: Node>(
     requires { state.now.depth ≤ 64 }
     ensures found { OnOk result (AreAdded (entries_of book.new) errors.old.items errors.new.items
         (λ b. answer_if_reached N.form b (64 - state.now.depth)
-        (further None state.now.depth (item_path (string_bytes path.old) index)
+        (further None state.now.depth (item_path (path_view path.now) index)
         (Some (N.seen node)) (Some (view value.now))
         (option_and_then (at index) (option_map (λ v. view v.now) state.now.old))))) }
-    ensures path { OnOk result (string_bytes path.new ≡ string_bytes path.old) }
     ensures keeps { (b : Book) → Extends b (entries_of book.new) → Extends b (entries_of book.old) }
 {
     let item = WalkState {
@@ -203,10 +196,8 @@ fn walk_item<'a, N: Node>(
         root: None,
         depth: state.depth + 1,
     };
-    let len = path.len();
-    push_item(path, index)?;
-    walk_node(&item, path, kept, book, errors)?;
-    path.truncate(len);
+    let path = Path::Item(&*path, index);
+    walk_node(&item, &path, kept, book, errors)?;
     Ok(())
 }
 
@@ -216,7 +207,7 @@ fn walk_item<'a, N: Node>(
 fn walk_branches<N: Node>(
     kind: BranchKind,
     state: &WalkState<'_, N>,
-    path: &mut String,
+    path: &Path<'_>,
     kept: &mut KeptContext<'_>,
     book: &mut PatternBook,
     errors: &mut Vec<ValidationError>,
@@ -224,8 +215,7 @@ fn walk_branches<N: Node>(
     requires { state.now.depth ≤ 64 }
     ensures found { OnOk result (AreAdded (entries_of book.new) errors.old.items errors.new.items
         (λ b. found_by N.form (branch_steps N.form.steps kind) b
-        (64 - state.now.depth) (visit_at N.seen state.now (string_bytes path.old)))) }
-    ensures path { OnOk result (string_bytes path.new ≡ string_bytes path.old) }
+        (64 - state.now.depth) (visit_at N.seen state.now (path_view path.now)))) }
     ensures keeps { (b : Book) → Extends b (entries_of book.new) → Extends b (entries_of book.old) }
 {
     for index in 0..state.node.branch_count(kind) {
@@ -240,7 +230,7 @@ fn walk_branch<N: Node>(
     kind: BranchKind,
     state: &WalkState<'_, N>,
     index: usize,
-    path: &mut String,
+    path: &Path<'_>,
     kept: &mut KeptContext<'_>,
     book: &mut PatternBook,
     errors: &mut Vec<ValidationError>,
@@ -248,8 +238,7 @@ fn walk_branch<N: Node>(
     requires { state.now.depth ≤ 64 }
     ensures found { OnOk result (AreAdded (entries_of book.new) errors.old.items errors.new.items
         (λ b. answer_if_reached N.form b (64 - state.now.depth)
-        (goes N.form.steps (branch kind index) (visit_at N.seen state.now (string_bytes path.old))))) }
-    ensures path { OnOk result (string_bytes path.new ≡ string_bytes path.old) }
+        (goes N.form.steps (branch kind index) (visit_at N.seen state.now (path_view path.now))))) }
     ensures keeps { (b : Book) → Extends b (entries_of book.new) → Extends b (entries_of book.old) }
 {
     let Some(node) = state.node.branch(kind, index) else {

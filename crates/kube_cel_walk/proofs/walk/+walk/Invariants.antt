@@ -6,11 +6,12 @@ use Rattle.kube_schema_rules.specs.Step.{property, item, additional_property, br
 use Rattle.kube_cel_walk.proofs.Entries.{names_of}
 use Rattle.kube_cel_walk.proofs.walk.+walk.Given as goal
 use Rattle.kube_cel_walk.specs.Answers.{found_through}
+use Rattle.kube_cel_walk.specs.Paths.{path_view}
 use Rattle.kube_cel_walk.specs.Visits.{visit_at}
 use Rattle.serde_json.proofs.Views.{Entry}
 use Rattle.serde_json.specs.Find.{as_object}
 use Rattle.serde_json.specs.View.{view, members_view}
-use Rattle.std.proofs.Common.{◌≡◌, ◌*◌, ◌-◌, List, ◌++◌, map, Some, string_bytes, string_cmp}
+use Rattle.std.proofs.Common.{◌≡◌, ◌*◌, ◌-◌, List, ◌++◌, map, Some, string_cmp}
 use Rattle.std.specs.List.Sorted.{IsStrictlySortedBy}
 use Rattle.std.specs.Map.{keys_of}
 
@@ -43,10 +44,9 @@ invariant-walk_properties-loop-key g l = record {
   done : List Entry;
   all : Some (members_view (done ++ l.key-iterator)) ≡ as_object (view l.state.value.now);
   ordered : IsStrictlySortedBy string_cmp (keys_of (done ++ l.key-iterator));
-  path : string_bytes l.path ≡ string_bytes l.initial.path;
   keeps : (b : Book) → Extends b (entries_of l.book) → Extends b (entries_of l.initial.book);
   found : (b : Book) → Extends b (entries_of l.book) → map error_view l.errors.items ≡ map error_view l.initial.errors.items
-      ++ found_through g.N.Node.form b (64 - l.state.depth) (visit_at g.N.Node.seen l.state (string_bytes l.initial.path)) (map property (names_of done));
+      ++ found_through g.N.Node.form b (64 - l.state.depth) (visit_at g.N.Node.seen l.state (path_view l.path)) (map property (names_of done));
 }
 
 abbrev pub invariant-walk_extras-loop-key : goal.invariant-walk_extras-loop-key
@@ -54,24 +54,21 @@ invariant-walk_extras-loop-key g l = record {
   done : List Entry;
   all : Some (members_view (done ++ l.key-iterator)) ≡ as_object (view l.state.value.now);
   ordered : IsStrictlySortedBy string_cmp (keys_of (done ++ l.key-iterator));
-  path : string_bytes l.path ≡ string_bytes l.initial.path;
   keeps : (b : Book) → Extends b (entries_of l.book) → Extends b (entries_of l.initial.book);
   found : (b : Book) → Extends b (entries_of l.book) → map error_view l.errors.items ≡ map error_view l.initial.errors.items
-      ++ found_through g.N.Node.form b (64 - l.state.depth) (visit_at g.N.Node.seen l.state (string_bytes l.initial.path)) (map additional_property (names_of done));
+      ++ found_through g.N.Node.form b (64 - l.state.depth) (visit_at g.N.Node.seen l.state (path_view l.path)) (map additional_property (names_of done));
 }
 
 abbrev pub invariant-walk_items-loop-index : goal.invariant-walk_items-loop-index
 invariant-walk_items-loop-index g l = record {
-  path : string_bytes l.path ≡ string_bytes l.initial.path;
   keeps : (b : Book) → Extends b (entries_of l.book) → Extends b (entries_of l.initial.book);
   found : (b : Book) → Extends b (entries_of l.book) → map error_view l.errors.items ≡ map error_view l.initial.errors.items
-      ++ found_through g.N.Node.form b (64 - l.state.depth) (visit_at g.N.Node.seen l.state (string_bytes l.initial.path)) (map item (up_to l.index));
+      ++ found_through g.N.Node.form b (64 - l.state.depth) (visit_at g.N.Node.seen l.state (path_view l.path)) (map item (up_to l.index));
 }
 
 abbrev pub invariant-walk_branches-loop-index : goal.invariant-walk_branches-loop-index
 invariant-walk_branches-loop-index g l = record {
-  path : string_bytes l.path ≡ string_bytes l.initial.path;
   keeps : (b : Book) → Extends b (entries_of l.book) → Extends b (entries_of l.initial.book);
   found : (b : Book) → Extends b (entries_of l.book) → map error_view l.errors.items ≡ map error_view l.initial.errors.items
-      ++ found_through g.N.Node.form b (64 - l.state.depth) (visit_at g.N.Node.seen l.state (string_bytes l.initial.path)) (map (branch l.fn.kind) (up_to l.index));
+      ++ found_through g.N.Node.form b (64 - l.state.depth) (visit_at g.N.Node.seen l.state (path_view l.path)) (map (branch l.fn.kind) (up_to l.index));
 }
