@@ -4,10 +4,13 @@ ghost use Rattle.cel_patterns.specs.Entries.{entries_of};
 ghost use Rattle.kube_cel.specs.Answers.{report_of, answer_view};
 ghost use Rattle.kube_cel.specs.Starts.{start_without_defaults};
 ghost use Rattle.kube_cel_walk.specs.Answers.{answer};
-ghost use Rattle.std.specs.Prelude.{◌≡◌, IfOk};
+ghost use Rattle.kube_cel_walk.specs.Errors.{error_view};
+ghost use Rattle.std.specs.Prelude.{◌≡◌, IfOk, map};
 
 use cel::PatternBook;
-use kube_cel_walk::{KeptContext, Node, Path, RootContext, ValidationErrors, WalkState, walk_node};
+use kube_cel_walk::{
+    KeptContext, Node, Path, RootContext, ValidationError, ValidationErrors, WalkState, walk_node,
+};
 use kube_types::Refused;
 use serde_json::Value;
 use std::alloc::Global;
@@ -37,8 +40,15 @@ pub(crate) fn validation_of<N: Node>(
         depth: 0,
     };
     walk_node(&state, &Path::Root, &mut kept, book, &mut errors)?;
+    Ok(report(errors))
+}
+
+/// Returns the errors, if there are any.
+fn report(errors: Vec<ValidationError>) -> Result<(), ValidationErrors>
+    ensures { answer_view result ≡ report_of (map error_view errors.items) }
+{
     if errors.is_empty() {
-        return Ok(Ok(()));
+        return Ok(());
     }
-    Ok(Err(ValidationErrors::from(errors)))
+    Err(ValidationErrors::from(errors))
 }
