@@ -2,8 +2,8 @@
 
 use crate::schemas::compiled_given;
 use crate::types::{find_written, scope_of, written_and_read};
+use conformance_parts::compile;
 use conformance_rows::{Field, Found, Output, Stop, given as rows};
-use kube_cel::cel::Program;
 use kube_cel::{AnalysisWarning, ScopeContext, analyze_rule, check_rule_scope, estimate_rule_cost};
 use kube_cel_analysis::{Sizes, estimated_cost};
 use std::alloc::Global;
@@ -92,7 +92,7 @@ fn put_cost(alloc: Global, given: &[Field], out: &mut Output) {
     let Some(text) = out.take(rows::needed(given, "expression")) else {
         return;
     };
-    match out.take(Program::compile(alloc, text)) {
+    match out.take(compile(alloc, text)) {
         Some(Ok(program)) => out.show(&estimated_cost(program.expression(), sizes)),
         _ => out.stop(Stop::Unfit("expression")),
     }

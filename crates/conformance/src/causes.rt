@@ -15,17 +15,20 @@ fn put_cause(error: &ValidationError, out: &mut Output) {
     }
 }
 
-/// Adds the cause of an error to the answer. A copy of the error must be equal, and have the same
-/// cause.
-fn find_cause(error: &ValidationError, found: &mut Found) {
-    put_cause(error, &mut found.text);
-    let Some(copy) = found.take(error.try_clone()) else {
-        return;
-    };
-    put_cause(&copy, &mut found.other);
-    let is_same = copy == *error && found.other.as_str() == found.text.as_str();
+/// Compares a copy of an error with it: they must be equal, and have the same cause.
+fn hold_copy(copy: &ValidationError, error: &ValidationError, found: &mut Found) {
+    put_cause(copy, &mut found.other);
+    let is_same = *copy == *error && found.other.as_str() == found.text.as_str();
     if !is_same {
         found.stop(Stop::Differs("try_clone"));
+    }
+}
+
+/// Adds the cause of an error to the answer, and compares a copy of the error with it.
+fn find_cause(error: &ValidationError, found: &mut Found) {
+    put_cause(error, &mut found.text);
+    if let Some(copy) = found.take(error.try_clone()) {
+        hold_copy(&copy, error, found);
     }
 }
 

@@ -10,16 +10,19 @@ use kube_cel::{
 use serde_json::Value;
 use std::alloc::{AllocError, Global};
 
+/// Reports whether a copy was made that equals its original.
+fn is_copy<T: PartialEq + Drop>(copy: Option<T>, original: &T) -> bool {
+    match copy {
+        Some(copy) => copy == *original,
+        None => false,
+    }
+}
+
 /// Compares a copy of a request with it, and copies of its parts with them.
 fn hold_copy(request: &AdmissionRequest, copy: &AdmissionRequest, found: &mut Found) {
-    let kind = found.take(copy.kind.try_clone());
-    let resource = found.take(copy.resource.try_clone());
-    let is_copied = match (&kind, &resource) {
-        (Some(kind), Some(resource)) => {
-            copy == request && *kind == request.kind && *resource == request.resource
-        }
-        _ => false,
-    };
+    let is_copied = copy == request
+        && is_copy(found.take(copy.kind.try_clone()), &request.kind)
+        && is_copy(found.take(copy.resource.try_clone()), &request.resource);
     if !is_copied {
         found.stop(Stop::Differs("try_clone"));
     }

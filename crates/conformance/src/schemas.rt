@@ -1,6 +1,6 @@
 //! Reads the schemas that rows of the analysis give, and validates objects with them.
 
-use crate::case;
+use crate::case::{self, Case};
 use conformance_rows::{Field, Found, Output, Stop, given as rows};
 use kube_cel::{CompiledSchema, ValidationErrors, compile_schema, validate};
 use std::alloc::Global;
@@ -15,14 +15,8 @@ pub(crate) fn compiled_given(
     out.take(compile_schema(alloc, &schema))
 }
 
-/// Validates a row's object by its schema, and returns its errors. It must have some.
-pub(crate) fn errors_given(
-    alloc: Global,
-    given: &[Field],
-    found: &mut Found,
-) -> Option<ValidationErrors> {
-    let values = case::given(alloc, given, found);
-    let case = values.case();
+/// Validates a case's object by its schema, and returns its errors. It must have some.
+fn errors_of(alloc: Global, case: Case<'_>, found: &mut Found) -> Option<ValidationErrors> {
     match found.take(validate(alloc, case.schema, case.object, case.old)) {
         Some(Err(errors)) => Some(errors),
         _ => {
@@ -30,4 +24,14 @@ pub(crate) fn errors_given(
             None
         }
     }
+}
+
+/// Validates a row's object by its schema, and returns its errors. It must have some.
+pub(crate) fn errors_given(
+    alloc: Global,
+    given: &[Field],
+    found: &mut Found,
+) -> Option<ValidationErrors> {
+    let values = case::given(alloc, given, found);
+    errors_of(alloc, values.case(), found)
 }

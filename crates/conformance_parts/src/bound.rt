@@ -8,13 +8,15 @@ use conformance_rows::{Field, Found, Stop, given as rows};
 use kube_schema::{bind, bind_node, compile_schema};
 use serde_json::Value as Json;
 use std::alloc::Global;
+use std::rc::Rc;
 
 /// Runs a program with `self` bound to a value.
 fn run(alloc: Global, program: &Program, value: Value, call: &'static str, found: &mut Found) {
     let mut context: Context<'_, StandardFunctions> = Context::default(alloc);
     found.take(context.add_variable("self", value));
-    let ran = program.execute(alloc, &context);
-    end_ran(alloc, "bound", &ran, call, found);
+    if let Some(ran) = found.take(Rc::new(alloc, program.execute(alloc, &context))) {
+        end_ran(alloc, "bound", ran.as_ref(), call, found);
+    }
 }
 
 /// Binds an object by its compiled schema, at a depth.
@@ -47,7 +49,7 @@ fn run_both(
 /// Runs a CEL text over an object bound by its schema, at a depth.
 fn run_text(alloc: Global, text: &str, bound: (&Json, &Json), depth: usize, found: &mut Found) {
     if let Some(program) = found.take(compiled(alloc, text)) {
-        run_both(alloc, &program, bound, depth, found);
+        run_both(alloc, program.as_ref(), bound, depth, found);
     }
 }
 

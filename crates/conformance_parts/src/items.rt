@@ -11,6 +11,7 @@ use conformance_rows::texts::yes_or_no;
 use conformance_rows::{Field, Found, Output, Stop, given as rows};
 use kube_functions::{Context as KubeContext, KubeCelExt};
 use std::alloc::Global;
+use std::rc::Rc;
 
 /// Makes the value of a text.
 fn text_value(alloc: Global, text: &str) -> Result<Value, Stop> {
@@ -47,15 +48,28 @@ fn make(
     }
 }
 
+/// Binds a name to the value that a run gave. Returns false if it gave none.
+pub(crate) fn bind_answer(
+    context: &mut KubeContext<'_>,
+    name: &str,
+    answer: Option<Answer>,
+    out: &mut Output,
+) -> bool {
+    let Some(Ok(value)) = answer else {
+        return false;
+    };
+    out.take(context.add_variable(name, value));
+    true
+}
+
 /// Binds `other` and `text` to what the row gave, if it did.
 fn bind_others(alloc: Global, context: &mut KubeContext<'_>, fields: &[Field], out: &mut Output) {
     if let Some(text) = rows::text(fields, "text") {
         bind_text(alloc, context, "text", text, out);
     }
     if let Some(other) = item_given(fields, true) {
-        if let Some(Ok(value)) = make(alloc, context, other, out) {
-            out.take(context.add_variable("other", value));
-        }
+        let answer = make(alloc, context, other, out);
+        let _ = bind_answer(context, "other", answer, out);
     }
 }
 
@@ -94,8 +108,11 @@ fn put_reported(alloc: Global, key: &str, answer: &Answer, out: &mut Output) {
 
 /// Answers a question about an item by an expression.
 fn ask(alloc: Global, context: &KubeContext<'_>, key: &str, expression: &str, out: &mut Output) {
-    if let Some(answer) = out.take(executed(alloc, context, expression)) {
-        put_reported(alloc, key, &answer, out);
+    let Some(answer) = out.take(executed(alloc, context, expression)) else {
+        return;
+    };
+    if let Some(answer) = out.take(Rc::new(alloc, answer)) {
+        put_reported(alloc, key, answer.as_ref(), out);
     }
 }
 

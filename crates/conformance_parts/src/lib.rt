@@ -26,6 +26,7 @@ use cel::PatternBook;
 use conformance_rows::keys::item_given;
 use conformance_rows::{Field, Found};
 use std::alloc::Global;
+pub use ways::compile;
 
 /// Answers a field about the language or a schema, with the row's book of patterns. Returns false
 /// if the field asks something else.

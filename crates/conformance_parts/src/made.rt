@@ -3,15 +3,16 @@
 //! value back.
 
 use crate::answers::Ran;
-use crate::items::bind_text;
+use crate::items::{bind_answer, bind_text};
 use crate::names::put_escaped;
-use crate::ways::{Calls, compiled, plain_value, run_program};
+use crate::ways::{Calls, compile, compiled, plain_value, run_program};
 use cel::{Context, Program, Value};
 use conformance_rows::grammar::Maker;
 use conformance_rows::questions::maker as maker_of;
 use conformance_rows::{Found, Output, Stop};
 use kube_functions::{Context as KubeContext, KubeCelExt};
 use std::alloc::Global;
+use std::rc::Rc;
 
 /// The number of expressions that are made.
 const EXPRESSIONS: usize = 100_000;
@@ -54,8 +55,8 @@ fn run_expression(
     text: &str,
     found: &mut Found,
 ) -> Option<bool> {
-    match found.take(Program::compile(alloc, text)) {
-        Some(Ok(program)) => Some(run_twice(alloc, context, &program, found)),
+    match found.take(compile(alloc, text)) {
+        Some(Ok(program)) => Some(run_twice(alloc, context, program.as_ref(), found)),
         _ => None,
     }
 }
@@ -142,12 +143,13 @@ fn comes_back(
     found: &mut Found,
 ) -> bool {
     bind_text(alloc, context, "written", text, &mut found.other);
-    let Some(Ok(item)) = found.take(read.execute(alloc, context)) else {
+    let answer = found.take(read.execute(alloc, context));
+    if !bind_answer(context, "item", answer, &mut found.other) {
         return false;
-    };
-    found.take(context.add_variable("item", item));
-    let ran = again.execute(alloc, context);
-    check_true(&ran, found);
+    }
+    if let Some(ran) = found.take(Rc::new(alloc, again.execute(alloc, context))) {
+        check_true(ran.as_ref(), found);
+    }
     true
 }
 
@@ -188,7 +190,7 @@ fn run_texts_by(
     report: &mut Output,
 ) {
     match compiled(alloc, again) {
-        Ok(again) => run_texts_in(alloc, maker, of, (read, &again), found, report),
+        Ok(again) => run_texts_in(alloc, maker, of, (read, again.as_ref()), found, report),
         Err(stop) => found.stop(stop),
     }
 }
@@ -202,7 +204,7 @@ fn run_texts(
     report: &mut Output,
 ) {
     match compiled(alloc, maker_of(item.0).unwrap_or("")) {
-        Ok(read) => run_texts_by(alloc, maker, &read, item, found, report),
+        Ok(read) => run_texts_by(alloc, maker, read.as_ref(), item, found, report),
         Err(stop) => found.stop(stop),
     }
 }

@@ -1,12 +1,16 @@
 //! Runs expressions in all ways in which they can be run.
 
 use crate::answers::{Ran, end_ran, put_answer};
-use cel::{Answer, Context, Functions, PatternBook, Program, StandardFunctions, Value, run_code};
+use cel::{
+    Answer, Context, Functions, ParseErrors, PatternBook, Program, Refused, StandardFunctions,
+    Value, run_code,
+};
 use conformance_rows::keys::bound_name;
 use conformance_rows::{Field, Found, Output, Stop, given};
 use kube_functions::{Context as KubeContext, KubeCelExt};
 use kube_schema_values::bind_plain;
 use std::alloc::Global;
+use std::rc::Rc;
 
 /// The names of the three calls that run a program in a context.
 pub(crate) type Calls = [&'static str; 3];
@@ -54,8 +58,12 @@ fn hold(
     call: &'static str,
     found: &mut Found,
 ) {
-    put_answer(alloc, asked, &other, &mut found.other);
-    found.end_equal(is_same(first, &other), call);
+    let Some(other) = found.take(Rc::new(alloc, other)) else {
+        return;
+    };
+    let other = other.as_ref();
+    put_answer(alloc, asked, other, &mut found.other);
+    found.end_equal(is_same(first, other), call);
 }
 
 /// Executes a program, runs its code with a new book, and executes it with the book of that run.
@@ -68,18 +76,30 @@ pub(crate) fn run_program<F: Functions>(
     calls: &Calls,
     found: &mut Found,
 ) {
-    let first = program.execute(alloc, context);
-    end_ran(alloc, asked, &first, calls[0], found);
+    let Some(first) = found.take(Rc::new(alloc, program.execute(alloc, context))) else {
+        return;
+    };
+    let first = first.as_ref();
+    end_ran(alloc, asked, first, calls[0], found);
     let mut book = PatternBook::new(alloc);
     let by_code = run_code(alloc, program.code(), context, &mut book);
-    hold(alloc, asked, &first, by_code, calls[1], found);
+    hold(alloc, asked, first, by_code, calls[1], found);
     let with_book = program.execute_with(alloc, context, &mut book);
-    hold(alloc, asked, &first, with_book, calls[2], found);
+    hold(alloc, asked, first, with_book, calls[2], found);
+}
+
+/// Compiles an expression. The program stands behind an `Rc`, since the proof of each function that
+/// owns a program itself takes several seconds more (docs/GATE.md).
+pub fn compile(alloc: Global, text: &str) -> Result<Result<Rc<Program>, ParseErrors>, Refused> {
+    match Program::compile(alloc, text)? {
+        Ok(program) => Ok(Ok(Rc::new(alloc, program)?)),
+        Err(errors) => Ok(Err(errors)),
+    }
 }
 
 /// Compiles a text that must parse.
-pub(crate) fn compiled(alloc: Global, text: &str) -> Result<Program, Stop> {
-    match Program::compile(alloc, text)? {
+pub(crate) fn compiled(alloc: Global, text: &str) -> Result<Rc<Program>, Stop> {
+    match compile(alloc, text)? {
         Ok(program) => Ok(program),
         Err(_) => Err(Stop::Unfit("expression")),
     }
@@ -220,7 +240,7 @@ fn run_text(
 ) {
     bind_names(alloc, bound, given, &mut found.other);
     match compiled(alloc, text) {
-        Ok(program) => run_each(alloc, asked, &program, bound, given, found),
+        Ok(program) => run_each(alloc, asked, program.as_ref(), bound, given, found),
         Err(stop) => found.stop(stop),
     }
 }

@@ -1,7 +1,7 @@
 //! The runs to measure. What they need from their texts is made before the first of the two.
 
 use crate::measure::twice::{Run, evaluated, make_twice};
-use kube_cel::cel::Program;
+use conformance_parts::compile;
 use kube_cel::{Context, KubeCelExt, VapEvaluator, VapExpression, compile_schema};
 use serde_json::Value;
 use std::io;
@@ -37,8 +37,8 @@ fn execute(rt: &HostRuntime, texts: Texts<'_>) -> io::Result<()> {
     let mut context: Context<'_> = Context::default(rt.alloc()).with_all();
     let is_bound = texts.second.is_empty()
         || bind(rt, &mut context, "l", texts.second) && bind(rt, &mut context, "m", texts.third);
-    match Program::compile(rt.alloc(), texts.first) {
-        Ok(Ok(program)) if is_bound => make_twice(rt, Run::Execute(&program, &context)),
+    match compile(rt.alloc(), texts.first) {
+        Ok(Ok(program)) if is_bound => make_twice(rt, Run::Execute(program.as_ref(), &context)),
         _ => unusable(),
     }
 }

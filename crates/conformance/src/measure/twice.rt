@@ -1,5 +1,6 @@
 //! Makes a run twice, with timing and a report.
 
+use conformance_parts::compile;
 use conformance_rows::Output;
 use kube_cel::cel::{Answer, PatternBook, Program};
 use kube_cel::{
@@ -67,7 +68,7 @@ impl Turn<'_> {
 
 /// Reports whether an expression compiles.
 fn is_read(alloc: Global, text: &str) -> Result<bool, Refused> {
-    match Program::compile(alloc, text) {
+    match compile(alloc, text) {
         Ok(read) => Ok(read.is_ok()),
         Err(refused) => Err(refused),
     }
@@ -84,8 +85,8 @@ fn executed(alloc: Global, program: &Program) -> Result<Option<Answer>, Refused>
 
 /// Evaluates an expression with all functions. `None` if it doesn't parse.
 pub(crate) fn evaluated(alloc: Global, text: &str) -> Result<Option<Answer>, Refused> {
-    match Program::compile(alloc, text) {
-        Ok(Ok(program)) => executed(alloc, &program),
+    match compile(alloc, text) {
+        Ok(Ok(program)) => executed(alloc, program.as_ref()),
         Ok(Err(_)) => Ok(None),
         Err(refused) => Err(refused),
     }
