@@ -9,6 +9,7 @@ use kube_cel::{
 };
 use serde_json::Value;
 use std::alloc::{AllocError, Global};
+use std::rc::Rc;
 
 /// Reports whether a copy was made that equals its original.
 fn is_copy<T: PartialEq + Drop>(copy: Option<T>, original: &T) -> bool {
@@ -81,15 +82,21 @@ fn built(
     given: &[Field],
     builder: VapEvaluatorBuilder,
     found: &mut Found,
-) -> VapEvaluator {
+) -> Option<Rc<VapEvaluator>> {
     let builder = with_value(alloc, given, builder, "object", found);
     let builder = with_value(alloc, given, builder, "old object", found);
     let builder = with_value(alloc, given, builder, "params", found);
     let builder = with_value(alloc, given, builder, "namespace object", found);
-    match request_given(alloc, given, found) {
-        Some(request) => builder.request(request).build(),
-        None => builder.build(),
-    }
+    let builder = match request_given(alloc, given, found) {
+        Some(request) => builder.request(request),
+        None => builder,
+    };
+    found.take(Rc::new(alloc, builder.build()))
+}
+
+/// Returns an evaluator without values.
+fn plain_evaluator(alloc: Global) -> Result<Rc<VapEvaluator>, AllocError> {
+    Ok(Rc::new(alloc, VapEvaluator::builder().build())?)
 }
 
 /// Returns a builder with the values that an unset object, old object and request stand for.
@@ -153,11 +160,8 @@ fn put_result(reported: &VapResult, of: &VapExpression, out: &mut Output) {
     if reported.expression.as_str() != of.expression.as_str() {
         out.stop(Stop::Differs("the result's expression"));
     }
-    let copies = (out.take(reported.try_clone()), out.take(of.try_clone()));
-    let is_copied = match &copies {
-        (Some(a), Some(b)) => *a == *reported && *b == *of,
-        _ => false,
-    };
+    let is_copied = is_copy(out.take(reported.try_clone()), reported)
+        && is_copy(out.take(of.try_clone()), of);
     if !is_copied {
         out.stop(Stop::Differs("try_clone"));
     }
@@ -216,16 +220,31 @@ fn find_by(
     found.end("evaluate, each alone");
 }
 
+/// Answers with the results of expressions by an evaluator for which one without values compiled
+/// them.
+fn find_by_another(
+    alloc: Global,
+    evaluator: &VapEvaluator,
+    expressions: &[VapExpression],
+    found: &mut Found,
+) {
+    if let Some(compiler) = found.take(plain_evaluator(alloc)) {
+        let compiler = compiler.as_ref();
+        put_compiled_results(alloc, compiler, evaluator, expressions, &mut found.other);
+        found.end("evaluate_compiled of what another compiled");
+    }
+}
+
 /// Answers with the results of the row's expressions from two evaluators: one with the row's
 /// values, and one built on `filled_builder` for which an evaluator without values compiled the
 /// expressions.
 fn find_results(alloc: Global, given: &[Field], expressions: &[VapExpression], found: &mut Found) {
-    let evaluator = built(alloc, given, VapEvaluator::builder(), found);
-    find_by(alloc, &evaluator, expressions, found);
-    let evaluator = built(alloc, given, filled_builder(alloc), found);
-    let compiler = VapEvaluator::builder().build();
-    put_compiled_results(alloc, &compiler, &evaluator, expressions, &mut found.other);
-    found.end("evaluate_compiled of what another compiled");
+    if let Some(evaluator) = built(alloc, given, VapEvaluator::builder(), found) {
+        find_by(alloc, evaluator.as_ref(), expressions, found);
+    }
+    if let Some(evaluator) = built(alloc, given, filled_builder(alloc), found) {
+        find_by_another(alloc, evaluator.as_ref(), expressions, found);
+    }
 }
 
 /// Writes the result of compiling an expression: `compiled`, or the error with the text that
@@ -246,8 +265,11 @@ fn put_compiled(compiled: &Result<CompiledVapExpression, VapError>, out: &mut Ou
 
 /// Writes the results of compiling expressions.
 fn put_all_compiled(alloc: Global, expressions: &[VapExpression], out: &mut Output) {
-    let evaluator = VapEvaluator::builder().build();
-    if let Some(compiled) = out.take(evaluator.compile_expressions(alloc, expressions)) {
+    let Some(evaluator) = out.take(plain_evaluator(alloc)) else {
+        return;
+    };
+    let compiled = evaluator.as_ref().compile_expressions(alloc, expressions);
+    if let Some(compiled) = out.take(compiled) {
         for one in compiled.iter() {
             put_compiled(one, out);
         }
@@ -263,8 +285,10 @@ fn find_results_written(
     field: &Field,
     found: &mut Found,
 ) {
-    let evaluator = built(alloc, given, VapEvaluator::builder(), found);
-    if let Some(results) = found.take(evaluator.evaluate(alloc, expressions)) {
+    let Some(evaluator) = built(alloc, given, VapEvaluator::builder(), found) else {
+        return;
+    };
+    if let Some(results) = found.take(evaluator.as_ref().evaluate(alloc, expressions)) {
         find_written(
             written_and_read(alloc, &results, field.text.as_str()),
             field,

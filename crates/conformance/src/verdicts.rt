@@ -139,7 +139,12 @@ pub(crate) fn judged(alloc: Global, case: Case<'_>, found: &mut Found) -> Option
 /// Answers a field about the verdict on a row's case.
 pub(crate) fn find(alloc: Global, given: &[Field], field: &Field, found: &mut Found) {
     let values = case::given(alloc, given, found);
-    let verdict = judged(alloc, values.case(), found);
+    find_of(alloc, values.case(), field, found);
+}
+
+/// Answers a field about the verdict on a case.
+fn find_of(alloc: Global, case: Case<'_>, field: &Field, found: &mut Found) {
+    let verdict = judged(alloc, case, found);
     found.clear();
     if let (Some(verdict), false) = (verdict, found.is_stopped()) {
         put_verdict(alloc, field.key.as_str(), &verdict, &mut found.text);

@@ -64,14 +64,19 @@ fn analyze(rt: &HostRuntime, schema: &str, rule: &str) -> io::Result<()> {
 
 /// Evaluates a policy's expression, given in the form that serde writes, by one evaluator.
 fn review(rt: &HostRuntime, expression: &str, object: &str) -> io::Result<()> {
-    let Ok(expression) = serde_json::from_str::<VapExpression>(rt.alloc(), expression) else {
-        return unusable();
-    };
+    match serde_json::from_str::<VapExpression>(rt.alloc(), expression) {
+        Ok(expression) => review_all(rt, [expression].as_slice(), object),
+        Err(_) => unusable(),
+    }
+}
+
+/// Evaluates a policy's expressions by one evaluator.
+fn review_all(rt: &HostRuntime, expressions: &[VapExpression], object: &str) -> io::Result<()> {
     let Ok(object) = Value::from_str(rt.alloc(), object) else {
         return unusable();
     };
     let evaluator = VapEvaluator::builder().object(object).build();
-    make_twice(rt, Run::Policy(&evaluator, [expression].as_slice()))
+    make_twice(rt, Run::Policy(&evaluator, expressions))
 }
 
 /// Makes the run with this name on a schema and an object.
