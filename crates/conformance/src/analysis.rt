@@ -1,8 +1,8 @@
 //! Answers rows about the analysis of a rule without an object: unknown names, costs, and both.
 
+use crate::parts::ways::compile;
 use crate::schemas::compiled_given;
 use crate::types::{find_written, scope_of, written_and_read};
-use conformance_parts::compile;
 use conformance_rows::{Field, Found, Output, Stop, given as rows};
 use kube_cel::{AnalysisWarning, ScopeContext, analyze_rule, check_rule_scope, estimate_rule_cost};
 use kube_cel_analysis::{Sizes, estimated_cost};
@@ -17,11 +17,7 @@ fn put_warning(warning: &AnalysisWarning, rule: &str, out: &mut Output) {
     if warning.rule.as_str() != rule {
         out.stop(Stop::Differs("the warning's rule"));
     }
-    if let Some(copy) = out.take(warning.try_clone()) {
-        if copy != *warning {
-            out.stop(Stop::Differs("try_clone"));
-        }
-    }
+    out.hold_copy(warning.try_clone(), warning);
 }
 
 /// Returns the warnings about a rule of the row's schema from the call that a key names.

@@ -1,25 +1,78 @@
 //! Dispatches the fields of rows by area.
 
+use crate::parts::{bound, filled, items, names, nodes, patterns, rules, sources, values, ways};
 use crate::{analysis, causes, commands, findings, policies, types, verdicts};
+use conformance_rows::keys::item_given;
 use conformance_rows::{Field, Found, Stop};
+use kube_cel::cel::PatternBook;
 use std::alloc::Global;
 
-/// What a field asks about: a verdict, a command, a policy, a rule or a value that serde writes.
+/// What a field asks about.
 #[derive(Clone, Copy)]
 enum Area {
+    /// A pattern and a text.
+    Matches,
+    Spans,
+    /// A CEL text.
+    Source,
+    /// The CEL name of a field.
+    Escaped,
+    Unescaped,
+    MeansAField,
+    /// Values of all kinds.
+    Kinds,
+    Keys,
+    Optionals,
+    /// An expression.
+    Expression,
+    /// A schema, alone or with an object.
+    Filled,
+    Bound,
+    Node,
+    RulesRead,
     Verdict,
+    /// A command of a program.
     Command,
     EachWrite,
     Policy,
+    /// A schema or a rule without an object.
     Findings,
     Analysis,
+    /// The causes of errors, and what serde writes of errors.
     Causes,
+    /// A value that serde writes, and a list of values that differ.
     Written,
     Differ,
 }
 
-/// The keys of fields that state an answer, with their areas.
-const AREAS: [(&str, Area); 24] = [
+/// The keys of fields that state an answer, with their areas. Those about items aren't among them.
+const AREAS: [(&str, Area); 50] = [
+    ("matches", Area::Matches),
+    ("spans", Area::Spans),
+    ("tokens", Area::Source),
+    ("read", Area::Source),
+    ("tree", Area::Source),
+    ("free names", Area::Source),
+    ("called names", Area::Source),
+    ("name is free", Area::Source),
+    ("escaped", Area::Escaped),
+    ("unescaped", Area::Unescaped),
+    ("means a field", Area::MeansAField),
+    ("kinds", Area::Kinds),
+    ("keys equal their copies", Area::Keys),
+    ("optionals equal their copies", Area::Optionals),
+    ("value", Area::Expression),
+    ("kind", Area::Expression),
+    ("prints", Area::Expression),
+    ("error", Area::Expression),
+    ("refused", Area::Expression),
+    ("filled", Area::Filled),
+    ("bound", Area::Bound),
+    ("node count", Area::Node),
+    ("shown", Area::Node),
+    ("rules compiled", Area::Node),
+    ("compilation errors", Area::Node),
+    ("rules read", Area::RulesRead),
     ("errors", Area::Verdict),
     ("error parts", Area::Verdict),
     ("printed", Area::Verdict),
@@ -56,9 +109,33 @@ fn area_of(key: &str) -> Option<Area> {
     None
 }
 
-/// Answers a field about a verdict, a command, a policy, a rule or a value that serde writes.
-pub(crate) fn find(alloc: Global, given: &[Field], field: &Field, found: &mut Found) {
+/// Answers a field with the row's book of patterns. If the row gives an item, all its fields ask
+/// about that.
+pub(crate) fn find(
+    alloc: Global,
+    given: &[Field],
+    field: &Field,
+    book: &mut PatternBook,
+    found: &mut Found,
+) {
+    if let Some(item) = item_given(given, false) {
+        return items::find(alloc, given, item, field, found);
+    }
     match area_of(field.key.as_str()) {
+        Some(Area::Matches) => patterns::matches(book, given, found),
+        Some(Area::Spans) => patterns::spans(book, given, found),
+        Some(Area::Source) => sources::find(alloc, given, field, found),
+        Some(Area::Escaped) => names::escaped(alloc, given, found),
+        Some(Area::Unescaped) => names::unescaped(alloc, given, found),
+        Some(Area::MeansAField) => names::means_a_field(alloc, given, found),
+        Some(Area::Kinds) => values::kinds(found),
+        Some(Area::Keys) => values::keys_are_kept(alloc, found),
+        Some(Area::Optionals) => values::optionals_are_kept(alloc, found),
+        Some(Area::Expression) => ways::find(alloc, given, field, found),
+        Some(Area::Filled) => filled::find(alloc, given, field, found),
+        Some(Area::Bound) => bound::find(alloc, given, found),
+        Some(Area::Node) => nodes::find(alloc, given, field, found),
+        Some(Area::RulesRead) => rules::read(alloc, given, &mut found.text),
         Some(Area::Verdict) => verdicts::find(alloc, given, field, found),
         Some(Area::Command) => commands::find(alloc, given, field, found),
         Some(Area::EachWrite) => commands::refuse_each_write(alloc, given, found),

@@ -66,6 +66,15 @@ fn change(alloc: Global, error: &mut ValidationError, what: &str) -> Result<(), 
     }
 }
 
+/// Changes one field of the last of a list of errors, or removes that error.
+fn change_last(alloc: Global, errors: &mut Vec<ValidationError>, what: &str, out: &mut Output) {
+    if what == "count" {
+        errors.truncate(errors.len().saturating_sub(1));
+    } else if let Some(last) = errors.last_mut() {
+        out.take(change(alloc, last, what));
+    }
+}
+
 /// Returns a copy of a list of errors that is changed in one field of its last error, or lacks it.
 fn changed(
     alloc: Global,
@@ -74,11 +83,7 @@ fn changed(
     out: &mut Output,
 ) -> Option<ValidationErrors> {
     let mut copies = out.take(errors.try_clone())?.into_vec();
-    if what == "count" {
-        let _ = copies.pop();
-    } else if let Some(last) = copies.last_mut() {
-        let _ = out.take(change(alloc, last, what));
-    }
+    change_last(alloc, &mut copies, what, out);
     Some(ValidationErrors::from(copies))
 }
 

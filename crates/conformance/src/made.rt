@@ -3,9 +3,9 @@
 //! must be the same as filling them once.
 
 use crate::case::Case;
+use crate::parts::filled::fill_all;
+use crate::parts::made::{run_expressions, run_names_and_texts};
 use crate::verdicts::judged;
-use conformance_parts::filled::fill_all;
-use conformance_parts::made::{run_expressions, run_names_and_texts};
 use conformance_rows::grammar::Maker;
 use conformance_rows::{Found, Output, Stop, given};
 use serde_json::Value;

@@ -1,8 +1,8 @@
 //! Runs rows (docs/ROWS.md) about the language, schemas with objects, the commands of both
 //! programs, policies and the analysis, each in every way that the library offers, and checks texts
 //! made from a grammar. The arguments name the files. The single argument `measure` makes a run
-//! that `bench/run` times and whose allocations `refusals/run` refuses ([`measure`]); it is part of
-//! this program since each further program costs the gate many minutes.
+//! that `bench/run` times and whose allocations `refusals/run` refuses ([`benchmarks`]); it is part
+//! of this program since each further program costs the gate many minutes.
 #![tactic(auto)]
 
 mod analysis;
@@ -14,8 +14,8 @@ mod errors;
 mod findings;
 mod kubecel;
 mod made;
-mod measure;
 mod memory;
+mod parts;
 mod policies;
 mod schemas;
 mod subject;
@@ -35,7 +35,7 @@ fn is_measured(rt: &HostRuntime) -> io::Result<bool> {
 
 fn main(rt: HostRuntime) -> io::Result<ExitCode> {
     if is_measured(&rt)? {
-        measure::run(&rt)?;
+        benchmarks::run(&rt)?;
         return Ok(ExitCode::SUCCESS);
     }
     let mut rows = Rows::new(rt.alloc());

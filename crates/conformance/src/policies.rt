@@ -11,31 +11,13 @@ use serde_json::Value;
 use std::alloc::{AllocError, Global};
 use std::rc::Rc;
 
-/// Reports whether a copy was made that equals its original.
-fn is_copy<T: PartialEq + Drop>(copy: Option<T>, original: &T) -> bool {
-    match copy {
-        Some(copy) => copy == *original,
-        None => false,
-    }
-}
-
-/// Compares a copy of a request with it, and copies of its parts with them.
-fn hold_copy(request: &AdmissionRequest, copy: &AdmissionRequest, found: &mut Found) {
-    let is_copied = copy == request
-        && is_copy(found.take(copy.kind.try_clone()), &request.kind)
-        && is_copy(found.take(copy.resource.try_clone()), &request.resource);
-    if !is_copied {
-        found.stop(Stop::Differs("try_clone"));
-    }
-}
-
-/// Returns a copy of a request, which must be equal.
+/// Returns a copy of a request. Such a copy, and copies of its parts, must be equal.
 fn copy_of(request: &AdmissionRequest, found: &mut Found) -> Option<AdmissionRequest> {
-    let copy = found.take(request.try_clone());
-    if let Some(copy) = &copy {
-        hold_copy(request, copy, found);
-    }
-    copy
+    let out = &mut found.other;
+    out.hold_copy(request.try_clone(), request);
+    out.hold_copy(request.kind.try_clone(), &request.kind);
+    out.hold_copy(request.resource.try_clone(), &request.resource);
+    out.take(request.try_clone())
 }
 
 /// Returns a copy of the request that the row gives, if it gives one.
@@ -160,11 +142,8 @@ fn put_result(reported: &VapResult, of: &VapExpression, out: &mut Output) {
     if reported.expression.as_str() != of.expression.as_str() {
         out.stop(Stop::Differs("the result's expression"));
     }
-    let is_copied = is_copy(out.take(reported.try_clone()), reported)
-        && is_copy(out.take(of.try_clone()), of);
-    if !is_copied {
-        out.stop(Stop::Differs("try_clone"));
-    }
+    out.hold_copy(reported.try_clone(), reported);
+    out.hold_copy(of.try_clone(), of);
 }
 
 /// Writes the results of expressions.

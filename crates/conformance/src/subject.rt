@@ -31,9 +31,7 @@ impl Subject for Rows {
     }
 
     fn find(&mut self, alloc: Global, given: &[Field], field: &Field, found: &mut Found) {
-        if !conformance_parts::find(alloc, given, field, &mut self.book, found) {
-            areas::find(alloc, given, field, found);
-        }
+        areas::find(alloc, given, field, &mut self.book, found);
     }
 
     fn generate(

@@ -4,8 +4,8 @@ use crate::findings::{finding_of, lint_kind_of};
 use conformance_rows::{Field, Found, Output, Stop, given as rows};
 use kube_cel::{
     AdmissionRequest, AnalysisWarning, ErrorKind, GroupVersionKind, GroupVersionResource,
-    LintFinding, ScopeContext, ValidationError, ValidationErrors, VapExpression, VapResult,
-    WarningKind,
+    LintFinding, LintKind, ScopeContext, ValidationError, ValidationErrors, VapExpression,
+    VapResult, WarningKind,
 };
 use serde::{Deserialize, Serialize};
 use serde_json::Value;
@@ -210,40 +210,36 @@ pub(crate) fn scope_of(name: &str) -> Result<ScopeContext, Stop> {
     }
 }
 
-/// Returns whether `==` and `!=` hold of two scopes, or of two kinds of the linter, given by name.
-fn compare_by_name(of: &str, left: &str, right: &str) -> Result<(bool, bool), Stop> {
+/// The scopes with these names.
+fn scopes_of(alloc: Global, names: &[String], out: &mut Output) -> Vec<ScopeContext> {
+    let mut scopes = Vec::new(alloc);
+    for name in names {
+        if let Some(scope) = out.take(scope_of(name.as_str())) {
+            out.take(scopes.push(scope));
+        }
+    }
+    scopes
+}
+
+/// The linter's kinds with these names.
+fn lint_kinds_of(alloc: Global, names: &[String], out: &mut Output) -> Vec<LintKind> {
+    let mut kinds = Vec::new(alloc);
+    for name in names {
+        if let Some(kind) = out.take(lint_kind_of(name.as_str())) {
+            out.take(kinds.push(kind));
+        }
+    }
+    kinds
+}
+
+/// Compares the scopes, or the linter's kinds, with these names.
+fn names_compared(alloc: Global, of: &str, names: &[String], out: &mut Output) -> Answer {
     if of == "ScopeContext" {
-        let (left, right) = (scope_of(left)?, scope_of(right)?);
-        return Ok((left == right, left != right));
+        let scopes = scopes_of(alloc, names, out);
+        return compared(scopes.as_slice(), scopes.as_slice());
     }
-    let (left, right) = (lint_kind_of(left)?, lint_kind_of(right)?);
-    Ok((left == right, left != right))
-}
-
-/// Like `wrong_with`, for a list of the names of scopes, or of the linter's kinds.
-fn wrong_name_with(of: &str, i: usize, names: &[String], out: &mut Output) -> Option<usize> {
-    let name = names.get(i)?.as_str();
-    for k in 0..names.len() {
-        let compared = out.take(compare_by_name(of, name, names[k].as_str()));
-        if compared != Some((i == k, i != k)) {
-            return Some(k);
-        }
-    }
-    None
-}
-
-/// Like `compared`, for a list of the names of scopes, or of the linter's kinds.
-fn names_compared(of: &str, names: &[String], out: &mut Output) -> Answer {
-    for i in 0..names.len() {
-        if let Some(k) = wrong_name_with(of, i, names, out) {
-            return Answer::Wrong(i, k);
-        }
-    }
-    if names.len() > 1 {
-        Answer::Differ
-    } else {
-        Answer::Unread
-    }
+    let kinds = lint_kinds_of(alloc, names, out);
+    compared(kinds.as_slice(), kinds.as_slice())
 }
 
 /// Compares the values of a list of a type that serde doesn't read: the linter's findings, and by
@@ -254,7 +250,7 @@ fn differ_by_name(alloc: Global, of: &str, text: &str, out: &mut Output) -> Answ
     }
     let names: Result<Option<Vec<String>>, AllocError> = read(alloc, text);
     match out.take(names) {
-        Some(Some(names)) => names_compared(of, names.as_slice(), out),
+        Some(Some(names)) => names_compared(alloc, of, names.as_slice(), out),
         _ => Answer::Unread,
     }
 }

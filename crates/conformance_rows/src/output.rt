@@ -63,6 +63,30 @@ impl Output {
         }
     }
 
+    /// Reports whether a call made a copy that equals its original. If it made none, records why.
+    pub fn is_copy<T: PartialEq + Drop, E: Into<Stop>>(
+        &mut self,
+        made: Result<T, E>,
+        original: &T,
+    ) -> bool {
+        match self.take(made) {
+            Some(copy) => copy == *original,
+            None => false,
+        }
+    }
+
+    /// Compares the copy that `try_clone` made with its original. Unless both are equal, that is a
+    /// reason to stop.
+    pub fn hold_copy<T: PartialEq + Drop, E: Into<Stop>>(
+        &mut self,
+        made: Result<T, E>,
+        original: &T,
+    ) {
+        if !self.is_copy(made, original) {
+            self.stop(Stop::Differs("try_clone"));
+        }
+    }
+
     /// Records that memory was refused, if something couldn't be written.
     fn note(&mut self, written: Result<(), AllocError>) {
         if written.is_err() {

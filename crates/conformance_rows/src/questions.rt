@@ -66,6 +66,19 @@ const QUESTIONS: [(&str, &str, &str); 30] = [
     ("faults", "", FAULTS),
 ];
 
+/// The answers that stand for messages, with the keys of the questions that have them.
+const WORDS: [(&str, &str, &str); 9] = [
+    ("sum", "quantity overflow", "overflow"),
+    ("sum", "integer overflow", "overflow"),
+    ("difference", "quantity overflow", "overflow"),
+    ("difference", "integer overflow", "overflow"),
+    ("integer", "quantity is not an integer", "not an integer"),
+    ("integer", "quantity too large for integer", "too large"),
+    ("major", "version part too large", "too large"),
+    ("minor", "version part too large", "too large"),
+    ("patch", "version part too large", "too large"),
+];
+
 /// The expression that makes a value of a type from the text `written`, if the type is known.
 pub fn maker(of: &str) -> Option<&'static str> {
     for &(name, expression) in MAKERS.iter() {
@@ -89,11 +102,10 @@ pub fn question(key: &str, of: &str, other: &str) -> Option<&'static str> {
 /// Returns the answer for an error: a word if the key's question has one for it, otherwise the
 /// message.
 pub fn word_for<'m>(key: &str, message: &'m str) -> &'m str {
-    match (key, message) {
-        ("sum" | "difference", "quantity overflow" | "integer overflow") => "overflow",
-        ("integer", "quantity is not an integer") => "not an integer",
-        ("integer", "quantity too large for integer") => "too large",
-        ("major" | "minor" | "patch", "version part too large") => "too large",
-        _ => message,
+    for &(asked, said, word) in WORDS.iter() {
+        if asked == key && said == message {
+            return word;
+        }
     }
+    message
 }

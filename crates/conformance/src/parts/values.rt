@@ -41,14 +41,6 @@ fn text_key(alloc: Global, text: &str) -> Result<Key, Stop> {
     Ok(Key::String(Text::of_str(alloc, text)?))
 }
 
-/// Reports whether a key equals its copy.
-fn is_key_kept(key: &Key, out: &mut Output) -> bool {
-    match out.take(key.try_clone()) {
-        Some(copy) => copy == *key,
-        None => false,
-    }
-}
-
 /// Answers whether a key of each kind equals its copy.
 pub(crate) fn keys_are_kept(alloc: Global, found: &mut Found) {
     let Some(text) = found.take(text_key(alloc, "a")) else {
@@ -56,7 +48,7 @@ pub(crate) fn keys_are_kept(alloc: Global, found: &mut Found) {
     };
     let mut are_kept = true;
     for key in [text, Key::Bool(true), Key::Int(-1), Key::Uint(1)] {
-        are_kept = are_kept && is_key_kept(&key, &mut found.other);
+        are_kept = are_kept && found.other.is_copy(key.try_clone(), &key);
     }
     found.say(yes_or_no(are_kept));
 }
@@ -71,10 +63,7 @@ pub(crate) fn optionals_are_kept(alloc: Global, found: &mut Found) {
 
 /// Reports whether a value equals its copy.
 fn is_kept(value: &Value, out: &mut Output) -> bool {
-    match out.take(value.try_clone()) {
-        Some(copy) => copy == *value,
-        None => false,
-    }
+    out.is_copy(value.try_clone(), value)
 }
 
 /// Writes whether two values are equal, if that is the same from both sides and each equals its

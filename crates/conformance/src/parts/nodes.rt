@@ -1,7 +1,7 @@
 //! Answers questions about compiled schemas and their nodes.
 
-use crate::rules::put_compiled;
-use crate::shown::{put_children, put_keywords, shows_its_root};
+use crate::parts::rules::put_compiled;
+use crate::parts::shown::{put_children, put_keywords, shows_its_root};
 use conformance_rows::nested::{Nesting, nesting_given, schema_given};
 use conformance_rows::{Field, Found, Output, Stop, given as rows};
 use kube_schema::{CompiledSchema, SchemaNode, compile_schema, rules_of};

@@ -1,9 +1,9 @@
 //! Answers questions about values of all types. An expression makes each value from a text;
 //! expressions and the values' own methods give the answers.
 
-use crate::answers::{put_printed, put_text};
-use crate::values;
-use crate::ways::executed;
+use crate::parts::answers::{put_printed, put_text};
+use crate::parts::values;
+use crate::parts::ways::executed;
 use cel::{Answer, Context, ExecutionError, Value};
 use conformance_rows::keys::{item_given, item_type};
 use conformance_rows::questions::{maker, question, word_for};

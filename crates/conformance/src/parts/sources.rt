@@ -1,8 +1,8 @@
 //! Answers questions about CEL texts: whether they parse, their tokens, ASTs and names.
 
-use crate::outline::write_node;
-use crate::tokens::put_tokens;
-use crate::ways::compile;
+use crate::parts::outline::write_node;
+use crate::parts::tokens::put_tokens;
+use crate::parts::ways::compile;
 use cel::{ParseErrors, Program, References};
 use conformance_rows::given::{needed, push_source};
 use conformance_rows::texts::yes_or_no;

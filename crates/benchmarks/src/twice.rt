@@ -1,8 +1,7 @@
 //! Makes a run twice, with timing and a report.
 
-use conformance_parts::compile;
 use conformance_rows::Output;
-use kube_cel::cel::{Answer, PatternBook, Program};
+use kube_cel::cel::{Answer, ParseErrors, PatternBook, Program};
 use kube_cel::{
     CompiledSchema, Context, KubeCelExt, Refused, ScopeContext, Validator, VapEvaluator,
     VapExpression, analyze_rule, apply_defaults, compile_schema,
@@ -11,6 +10,7 @@ use serde_json::Value;
 use std::alloc::Global;
 use std::fmt::Debug;
 use std::io;
+use std::rc::Rc;
 use std::time::{Duration, Instant};
 
 /// A run, with what it works on.
@@ -63,6 +63,18 @@ impl Turn<'_> {
         };
         self.rt.println(line)?;
         self.rt.eprintln(passed?.as_nanos())
+    }
+}
+
+/// Compiles an expression. The program stands behind an `Rc`, since the proof of each function that
+/// owns a program itself takes several seconds more (docs/GATE.md).
+pub(crate) fn compile(
+    alloc: Global,
+    text: &str,
+) -> Result<Result<Rc<Program>, ParseErrors>, Refused> {
+    match Program::compile(alloc, text)? {
+        Ok(program) => Ok(Ok(Rc::new(alloc, program)?)),
+        Err(errors) => Ok(Err(errors)),
     }
 }
 

@@ -1,6 +1,6 @@
 //! Runs expressions in all ways in which they can be run.
 
-use crate::answers::{Ran, end_ran, put_answer};
+use crate::parts::answers::{Ran, end_ran, put_answer};
 use cel::{
     Answer, Context, Functions, ParseErrors, PatternBook, Program, Refused, StandardFunctions,
     Value, run_code,
@@ -90,7 +90,10 @@ pub(crate) fn run_program<F: Functions>(
 
 /// Compiles an expression. The program stands behind an `Rc`, since the proof of each function that
 /// owns a program itself takes several seconds more (docs/GATE.md).
-pub fn compile(alloc: Global, text: &str) -> Result<Result<Rc<Program>, ParseErrors>, Refused> {
+pub(crate) fn compile(
+    alloc: Global,
+    text: &str,
+) -> Result<Result<Rc<Program>, ParseErrors>, Refused> {
     match Program::compile(alloc, text)? {
         Ok(program) => Ok(Ok(Rc::new(alloc, program)?)),
         Err(errors) => Ok(Err(errors)),

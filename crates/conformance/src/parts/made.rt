@@ -2,10 +2,10 @@
 //! agree, unescaping an escaped name gives the name back, and parsing a printed value gives the
 //! value back.
 
-use crate::answers::Ran;
-use crate::items::{bind_answer, bind_text};
-use crate::names::put_escaped;
-use crate::ways::{Calls, compile, compiled, plain_value, run_program};
+use crate::parts::answers::Ran;
+use crate::parts::items::{bind_answer, bind_text};
+use crate::parts::names::put_escaped;
+use crate::parts::ways::{Calls, compile, compiled, plain_value, run_program};
 use cel::{Context, Program, Value};
 use conformance_rows::grammar::Maker;
 use conformance_rows::questions::maker as maker_of;
@@ -99,7 +99,12 @@ fn put_made(of: &str, made: usize, read: usize, report: &mut Output) {
 }
 
 /// Makes and runs expressions.
-pub fn run_expressions(alloc: Global, maker: &mut Maker, found: &mut Found, report: &mut Output) {
+pub(crate) fn run_expressions(
+    alloc: Global,
+    maker: &mut Maker,
+    found: &mut Found,
+    report: &mut Output,
+) {
     let mut context: KubeContext<'_> = Context::default(alloc);
     context.register_all();
     if let Some(value) = found.take(plain_value(alloc, SELF)) {
@@ -210,7 +215,7 @@ fn run_texts(
 }
 
 /// Checks that escaped names and printed items of each type read back.
-pub fn run_names_and_texts(
+pub(crate) fn run_names_and_texts(
     alloc: Global,
     maker: &mut Maker,
     found: &mut Found,

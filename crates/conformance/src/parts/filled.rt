@@ -29,7 +29,7 @@ fn fill_compiled(alloc: Global, compiled: &CompiledSchema, object: &Value, found
 
 /// Fills an object by both forms of its schema, each time once and then again. Every result must be
 /// the same, and equal to an earlier answer if there is one.
-pub fn fill_all(alloc: Global, schema: &Value, object: &Value, found: &mut Found) {
+pub(crate) fn fill_all(alloc: Global, schema: &Value, object: &Value, found: &mut Found) {
     fill(alloc, schema, object, found);
     if let Some(compiled) = found.take(compile_schema(alloc, schema)) {
         fill_compiled(alloc, &compiled, object, found);

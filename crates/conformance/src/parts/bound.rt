@@ -1,7 +1,7 @@
 //! Answers expressions over objects bound by their schema.
 
-use crate::answers::end_ran;
-use crate::ways::compiled;
+use crate::parts::answers::end_ran;
+use crate::parts::ways::compiled;
 use cel::{Context, Program, StandardFunctions, Value};
 use conformance_rows::nested::case_given;
 use conformance_rows::{Field, Found, Stop, given as rows};
