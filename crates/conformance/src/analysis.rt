@@ -1,6 +1,6 @@
 //! Answers rows about the analysis of a rule without an object: unknown names, costs, and both.
 
-use crate::parts::ways::compile;
+use crate::parts::ways::compiled;
 use crate::schemas::compiled_given;
 use crate::types::{find_written, scope_of, written_and_read};
 use conformance_rows::{Field, Found, Output, Stop, given as rows};
@@ -88,9 +88,8 @@ fn put_cost(alloc: Global, given: &[Field], out: &mut Output) {
     let Some(text) = out.take(rows::needed(given, "expression")) else {
         return;
     };
-    match out.take(compile(alloc, text)) {
-        Some(Ok(program)) => out.show(&estimated_cost(program.expression(), sizes)),
-        _ => out.stop(Stop::Unfit("expression")),
+    if let Some(program) = out.take(compiled(alloc, text)) {
+        out.show(&estimated_cost(program.as_ref().expression(), sizes));
     }
 }
 

@@ -54,10 +54,10 @@ fn root_of(alloc: Global, reported: &Value, found: &mut Found) -> Option<RootCon
 
 /// Reads the root context that a row gave last.
 fn root_given(alloc: Global, given: &[Field], found: &mut Found) -> Option<RootContext> {
-    match found.take(rows::json(alloc, given, "root context")) {
-        Some(Some(reported)) => root_of(alloc, &reported, found),
-        _ => None,
-    }
+    let reported = found
+        .take(rows::json(alloc, given, "root context"))
+        .flatten()?;
+    root_of(alloc, &reported, found)
 }
 
 /// Reads the case that a row gives. If a part can't be read, records why.

@@ -16,17 +16,17 @@ fn push_error(alloc: Global, error: &ValidationError, out: &mut Output) {
     out.push_member("rule", error.rule.as_str());
     out.push_optional_member("reason", &error.reason);
     out.push_member("message", error.message.as_str());
-    if let Some(cause) = error.cause() {
-        if let Some(text) = out.take(cause.to_string(alloc)) {
-            out.push_member("cause", text.as_str());
-        }
-    }
+    let cause = match error.cause() {
+        Some(cause) => out.take(cause.to_string(alloc)),
+        None => None,
+    };
+    out.push_optional_member("cause", &cause);
     out.push("}");
 }
 
 /// Appends all fields of all errors, one error a line.
 pub(crate) fn push_parts(alloc: Global, verdict: &Verdict, out: &mut Output) {
-    let Err(errors) = verdict else {
+    let Some(errors) = verdict.as_ref().err() else {
         return;
     };
     if errors.is_empty() || errors.len() != errors.as_slice().len() {
@@ -130,7 +130,7 @@ fn put_printed(errors: &[ValidationError], out: &mut Output) {
 
 /// Writes what a field asks about a verdict.
 pub(crate) fn put_verdict(alloc: Global, asked: &str, verdict: &Verdict, out: &mut Output) {
-    let Err(errors) = verdict else {
+    let Some(errors) = verdict.as_ref().err() else {
         return;
     };
     match asked {

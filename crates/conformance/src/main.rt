@@ -1,8 +1,8 @@
 //! Runs rows (docs/ROWS.md) about the language, schemas with objects, the commands of both
 //! programs, policies and the analysis, each in every way that the library offers, and checks texts
-//! made from a grammar. The arguments name the files. The single argument `measure` makes a run
-//! that `bench/run` times and whose allocations `refusals/run` refuses ([`benchmarks`]); it is part
-//! of this program since each further program costs the gate many minutes.
+//! made from a grammar. The arguments name the files. With `measure` as the first argument it makes a
+//! run that `bench/run` times and whose allocations `refusals/run` refuses ([`benchmarks`]); it is
+//! part of this program since each further program costs the gate many minutes.
 #![tactic(auto)]
 
 mod analysis;
@@ -27,10 +27,12 @@ use std::process::ExitCode;
 use std::{env, io};
 use subject::Rows;
 
-/// Reports whether the single argument asks for a measured run.
+/// Reports whether the first argument asks for a measured run.
 fn is_measured(rt: &HostRuntime) -> io::Result<bool> {
-    let given: Vec<String> = env::args(rt)?.collect(rt.alloc())?;
-    Ok(matches!(given.as_slice(), [_, word] if word.as_str() == "measure"))
+    match env::args(rt)?.skip(1).next() {
+        Some(word) => Ok(word.as_str() == "measure"),
+        None => Ok(false),
+    }
 }
 
 fn main(rt: HostRuntime) -> io::Result<ExitCode> {

@@ -17,13 +17,12 @@ pub(crate) fn compiled_given(
 
 /// Validates a case's object by its schema, and returns its errors. It must have some.
 fn errors_of(alloc: Global, case: Case<'_>, found: &mut Found) -> Option<ValidationErrors> {
-    match found.take(validate(alloc, case.schema, case.object, case.old)) {
-        Some(Err(errors)) => Some(errors),
-        _ => {
-            found.stop(Stop::Unfit("object"));
-            None
-        }
+    let verdict = found.take(validate(alloc, case.schema, case.object, case.old))?;
+    let errors = verdict.err();
+    if errors.is_none() {
+        found.stop(Stop::Unfit("object"));
     }
+    errors
 }
 
 /// Validates a row's object by its schema, and returns its errors. It must have some.

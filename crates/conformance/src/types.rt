@@ -36,16 +36,28 @@ enum Answer {
 }
 
 /// Reads a value from a text by serde. `None` if the text isn't such a value.
-pub(crate) fn read<'t, T: Deserialize<'t>>(
-    alloc: Global,
-    text: &'t str,
-) -> Result<Option<T>, AllocError> {
+fn read<'t, T: Deserialize<'t>>(alloc: Global, text: &'t str) -> Result<Option<T>, AllocError> {
     let read: Result<T, serde_json::Error> = serde_json::from_str(alloc, text);
     match read {
         Ok(value) => Ok(Some(value)),
         Err(error) if error.is_memory() => Err(AllocError),
         Err(_) => Ok(None),
     }
+}
+
+/// Reads by serde the value that a row gives under a key, from its text. If the text isn't such a
+/// value, records that.
+pub(crate) fn read_needed<'t, T: Deserialize<'t> + Drop>(
+    alloc: Global,
+    text: &'t str,
+    key: &'static str,
+    found: &mut Found,
+) -> Option<T> {
+    let read: Option<T> = found.take(read(alloc, text))?;
+    if read.is_none() {
+        found.stop(Stop::Unfit(key));
+    }
+    read
 }
 
 /// Returns what serde writes of a value.
@@ -249,9 +261,9 @@ fn differ_by_name(alloc: Global, of: &str, text: &str, out: &mut Output) -> Answ
         return differ_of_findings(alloc, text, out);
     }
     let names: Result<Option<Vec<String>>, AllocError> = read(alloc, text);
-    match out.take(names) {
-        Some(Some(names)) => names_compared(alloc, of, names.as_slice(), out),
-        _ => Answer::Unread,
+    match out.take(names).flatten() {
+        Some(names) => names_compared(alloc, of, names.as_slice(), out),
+        None => Answer::Unread,
     }
 }
 

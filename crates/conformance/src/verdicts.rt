@@ -12,11 +12,7 @@ type Judged = Result<Verdict, Refused>;
 
 /// Reports whether two verdicts are equal.
 fn is_equal(first: &Verdict, second: &Verdict) -> bool {
-    match (first, second) {
-        (Ok(()), Ok(())) => true,
-        (Err(first), Err(second)) => first == second,
-        _ => false,
-    }
+    first.as_ref().err() == second.as_ref().err()
 }
 
 /// Compares the verdict of a call with the first one: by `==`, and by every field of every error.
@@ -144,9 +140,11 @@ pub(crate) fn find(alloc: Global, given: &[Field], field: &Field, found: &mut Fo
 
 /// Answers a field about the verdict on a case.
 fn find_of(alloc: Global, case: Case<'_>, field: &Field, found: &mut Found) {
-    let verdict = judged(alloc, case, found);
+    let Some(verdict) = judged(alloc, case, found) else {
+        return;
+    };
     found.clear();
-    if let (Some(verdict), false) = (verdict, found.is_stopped()) {
+    if !found.is_stopped() {
         put_verdict(alloc, field.key.as_str(), &verdict, &mut found.text);
     }
 }

@@ -2,28 +2,36 @@
 
 use conformance_rows::nested::{case_given, find_nested};
 use conformance_rows::{Field, Found};
-use kube_schema::{CompiledSchema, apply_defaults, compile_schema, fill_node};
+use kube_schema::{CompiledSchema, Refused, apply_defaults, compile_schema, fill_node};
 use serde_json::Value;
 use std::alloc::Global;
 
+/// Ends a call that filled an object, and returns that object.
+fn end_filled(
+    filled: Result<Value, Refused>,
+    call: &'static str,
+    found: &mut Found,
+) -> Option<Value> {
+    let filled = found.take(filled)?;
+    found.end_json(&filled, call);
+    Some(filled)
+}
+
 /// Fills an object by its schema as JSON, once and then again.
 fn fill(alloc: Global, schema: &Value, object: &Value, found: &mut Found) {
-    if let Some(once) = found.take(apply_defaults(alloc, schema, object)) {
-        found.end_json(&once, "apply_defaults");
-        if let Some(twice) = found.take(apply_defaults(alloc, schema, &once)) {
-            found.end_json(&twice, "apply_defaults twice");
-        }
+    let once = apply_defaults(alloc, schema, object);
+    if let Some(once) = end_filled(once, "apply_defaults", found) {
+        let twice = apply_defaults(alloc, schema, &once);
+        end_filled(twice, "apply_defaults twice", found);
     }
 }
 
 /// Fills an object by its compiled schema, once and then again.
 fn fill_compiled(alloc: Global, compiled: &CompiledSchema, object: &Value, found: &mut Found) {
     let root = compiled.root();
-    if let Some(once) = found.take(fill_node(alloc, &root, object)) {
-        found.end_json(&once, "fill_node");
-        if let Some(twice) = found.take(fill_node(alloc, &root, &once)) {
-            found.end_json(&twice, "fill_node twice");
-        }
+    if let Some(once) = end_filled(fill_node(alloc, &root, object), "fill_node", found) {
+        let twice = fill_node(alloc, &root, &once);
+        end_filled(twice, "fill_node twice", found);
     }
 }
 

@@ -55,11 +55,16 @@ pub(crate) fn bind_answer(
     answer: Option<Answer>,
     out: &mut Output,
 ) -> bool {
-    let Some(Ok(value)) = answer else {
-        return false;
-    };
-    out.take(context.add_variable(name, value));
-    true
+    match answer {
+        Some(answer) => match answer.ok() {
+            Some(value) => {
+                out.take(context.add_variable(name, value));
+                true
+            }
+            None => false,
+        },
+        None => false,
+    }
 }
 
 /// Binds `other` and `text` to what the row gave, if it did.
@@ -161,13 +166,15 @@ pub(crate) fn find(
     let mut context: KubeContext<'_> = Context::default(alloc).with_all();
     let (key, out) = (field.key.as_str(), &mut found.text);
     bind_others(alloc, &mut context, fields, out);
-    match make(alloc, &mut context, item, out) {
-        Some(Ok(value)) => {
-            let types = (item_type(item.key.as_str()).0, other_type(fields));
-            out.take(context.add_variable("item", value));
-            ask_value(alloc, &context, key, types, out);
-        }
-        Some(Err(error)) => put_error(alloc, key, &error, out),
+    let Some(answer) = make(alloc, &mut context, item, out) else {
+        return;
+    };
+    match answer.as_ref().err() {
+        Some(error) => return put_error(alloc, key, error, out),
         None => {}
+    }
+    if bind_answer(&mut context, "item", Some(answer), out) {
+        let types = (item_type(item.key.as_str()).0, other_type(fields));
+        ask_value(alloc, &context, key, types, out);
     }
 }

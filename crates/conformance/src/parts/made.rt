@@ -55,10 +55,8 @@ fn run_expression(
     text: &str,
     found: &mut Found,
 ) -> Option<bool> {
-    match found.take(compile(alloc, text)) {
-        Some(Ok(program)) => Some(run_twice(alloc, context, program.as_ref(), found)),
-        _ => None,
-    }
+    let program = found.take(compile(alloc, text))?.ok()?;
+    Some(run_twice(alloc, context, program.as_ref(), found))
 }
 
 /// Makes and runs expressions in a context.

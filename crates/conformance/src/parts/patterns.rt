@@ -49,10 +49,8 @@ fn find_spans(
 
 /// The number of matches that a row asks for. All if it gives none.
 fn limit_given(given: &[Field], found: &mut Found) -> Option<usize> {
-    match found.take(number(given, "limit")) {
-        Some(Some(limit)) => Some(limit as usize),
-        _ => None,
-    }
+    let limit = found.take(number(given, "limit")).flatten()?;
+    Some(limit as usize)
 }
 
 /// Answers with the spans of the first matches, in bytes. The book is asked twice.

@@ -59,16 +59,24 @@ pub(crate) fn shows_its_root(compiled: &CompiledSchema, root: &SchemaNode<'_>) -
     !equal.contains(&false)
 }
 
+/// Reports whether both are there or neither is.
+fn are_alike<T: Drop>(first: Option<T>, second: Option<T>) -> bool {
+    first.is_some() == second.is_some()
+}
+
 /// Reports whether a compiled schema has the same children and default as its root.
 fn shows_its_children(compiled: &CompiledSchema, root: &SchemaNode<'_>) -> bool {
     let equal = [
         compiled.default() == root.default(),
-        compiled.property(0).is_some() == root.property(0).is_some(),
-        compiled.items().is_some() == root.items().is_some(),
-        compiled.additional_properties().is_some() == root.additional_properties().is_some(),
-        compiled.all_of(0).is_some() == root.all_of(0).is_some(),
-        compiled.one_of(0).is_some() == root.one_of(0).is_some(),
-        compiled.any_of(0).is_some() == root.any_of(0).is_some(),
+        are_alike(compiled.property(0), root.property(0)),
+        are_alike(compiled.items(), root.items()),
+        are_alike(
+            compiled.additional_properties(),
+            root.additional_properties(),
+        ),
+        are_alike(compiled.all_of(0), root.all_of(0)),
+        are_alike(compiled.one_of(0), root.one_of(0)),
+        are_alike(compiled.any_of(0), root.any_of(0)),
     ];
     !equal.contains(&false)
 }

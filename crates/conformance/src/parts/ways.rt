@@ -102,10 +102,7 @@ pub(crate) fn compile(
 
 /// Compiles a text that must parse.
 pub(crate) fn compiled(alloc: Global, text: &str) -> Result<Rc<Program>, Stop> {
-    match compile(alloc, text)? {
-        Ok(program) => Ok(program),
-        Err(_) => Err(Stop::Unfit("expression")),
-    }
+    compile(alloc, text)?.ok().ok_or(Stop::Unfit("expression"))
 }
 
 /// Runs a text in a context.
@@ -141,10 +138,9 @@ fn bound_value(alloc: Global, context: &KubeContext<'_>, field: &Field) -> Resul
     if field.key.as_str() == "self" {
         return plain_value(alloc, text);
     }
-    match executed(alloc, context, text)? {
-        Ok(value) => Ok(value),
-        Err(_) => Err(Stop::Unfit("let")),
-    }
+    executed(alloc, context, text)?
+        .ok()
+        .ok_or(Stop::Unfit("let"))
 }
 
 /// Binds the names that a row gave, in a context with all functions.
