@@ -57,7 +57,7 @@ fn find_read(alloc: Global, given: &[Field], found: &mut Found) {
     let Some(json) = found.take(rows::needed(given, "json")) else {
         return;
     };
-    let errors: Option<ValidationErrors> = read_needed(alloc, json, "json", found);
+    let errors: Option<ValidationErrors> = read_needed(alloc, json, Stop::Unfit("json"), found);
     if let Some(errors) = errors {
         find_causes(errors.as_slice(), found);
     }

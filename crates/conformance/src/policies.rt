@@ -23,7 +23,7 @@ fn copy_of(request: &AdmissionRequest, found: &mut Found) -> Option<AdmissionReq
 /// Returns a copy of the request that the row gives, if it gives one.
 fn request_given(alloc: Global, given: &[Field], found: &mut Found) -> Option<AdmissionRequest> {
     let text = rows::text(given, "request")?;
-    let request: AdmissionRequest = read_needed(alloc, text, "request", found)?;
+    let request: AdmissionRequest = read_needed(alloc, text, Stop::Unfit("request"), found)?;
     copy_of(&request, found)
 }
 
@@ -103,7 +103,7 @@ fn expression_given(alloc: Global, given: &[Field], found: &mut Found) -> Option
 
 /// Reads the expressions in a JSON list.
 fn expressions_of(alloc: Global, text: &str, found: &mut Found) -> Vec<VapExpression> {
-    read_needed(alloc, text, "expressions", found).unwrap_or(Vec::new(alloc))
+    read_needed(alloc, text, Stop::Unfit("expressions"), found).unwrap_or(Vec::new(alloc))
 }
 
 /// Reads the expressions that the row gives: a JSON list of them, or a single one.

@@ -45,17 +45,16 @@ fn read<'t, T: Deserialize<'t>>(alloc: Global, text: &'t str) -> Result<Option<T
     }
 }
 
-/// Reads by serde the value that a row gives under a key, from its text. If the text isn't such a
-/// value, records that.
+/// Reads a value from a text by serde. If the text isn't such a value, records `unread`.
 pub(crate) fn read_needed<'t, T: Deserialize<'t> + Drop>(
     alloc: Global,
     text: &'t str,
-    key: &'static str,
+    unread: Stop,
     found: &mut Found,
 ) -> Option<T> {
     let read: Option<T> = found.take(read(alloc, text))?;
     if read.is_none() {
-        found.stop(Stop::Unfit(key));
+        found.stop(unread);
     }
     read
 }
