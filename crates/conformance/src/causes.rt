@@ -1,10 +1,10 @@
 //! Answers rows about the causes of validation errors, and about what serde writes of the errors.
 
 use crate::schemas::errors_given;
-use crate::types::{find_written, read_needed, written_and_read};
+use crate::types::{find_written, read, written_and_read};
 use conformance_rows::{Field, Found, Output, Stop, given as rows};
 use kube_cel::{ValidationError, ValidationErrors};
-use std::alloc::Global;
+use std::alloc::{AllocError, Global};
 
 /// Writes the text of an error's cause on a line, or `none` if it has none.
 fn put_cause(error: &ValidationError, out: &mut Output) {
@@ -57,9 +57,10 @@ fn find_read(alloc: Global, given: &[Field], found: &mut Found) {
     let Some(json) = found.take(rows::needed(given, "json")) else {
         return;
     };
-    let errors: Option<ValidationErrors> = read_needed(alloc, json, Stop::Unfit("json"), found);
-    if let Some(errors) = errors {
-        find_causes(errors.as_slice(), found);
+    let errors: Result<Option<ValidationErrors>, AllocError> = read(alloc, json);
+    match found.take(errors) {
+        Some(Some(errors)) => find_causes(errors.as_slice(), found),
+        _ => found.stop(Stop::Unfit("json")),
     }
 }
 

@@ -1,7 +1,7 @@
 //! Answers rows about policies: the results of expressions over an object, an old object,
 //! parameters, a namespace and a request.
 
-use crate::types::{find_written, read_needed, written_and_read};
+use crate::types::{find_written, read, written_and_read};
 use conformance_rows::{Field, Found, Output, Stop, given as rows};
 use kube_cel::{
     AdmissionRequest, CompiledVapExpression, Refused, VapError, VapEvaluator, VapEvaluatorBuilder,
@@ -23,8 +23,14 @@ fn copy_of(request: &AdmissionRequest, found: &mut Found) -> Option<AdmissionReq
 /// Returns a copy of the request that the row gives, if it gives one.
 fn request_given(alloc: Global, given: &[Field], found: &mut Found) -> Option<AdmissionRequest> {
     let text = rows::text(given, "request")?;
-    let request: AdmissionRequest = read_needed(alloc, text, Stop::Unfit("request"), found)?;
-    copy_of(&request, found)
+    let request: Result<Option<AdmissionRequest>, AllocError> = read(alloc, text);
+    match found.take(request) {
+        Some(Some(request)) => copy_of(&request, found),
+        _ => {
+            found.stop(Stop::Unfit("request"));
+            None
+        }
+    }
 }
 
 /// Sets the value of a key.
@@ -103,7 +109,14 @@ fn expression_given(alloc: Global, given: &[Field], found: &mut Found) -> Option
 
 /// Reads the expressions in a JSON list.
 fn expressions_of(alloc: Global, text: &str, found: &mut Found) -> Vec<VapExpression> {
-    read_needed(alloc, text, Stop::Unfit("expressions"), found).unwrap_or(Vec::new(alloc))
+    let expressions: Result<Option<Vec<VapExpression>>, AllocError> = read(alloc, text);
+    match found.take(expressions) {
+        Some(Some(expressions)) => expressions,
+        _ => {
+            found.stop(Stop::Unfit("expressions"));
+            Vec::new(alloc)
+        }
+    }
 }
 
 /// Reads the expressions that the row gives: a JSON list of them, or a single one.

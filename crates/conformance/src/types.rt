@@ -36,27 +36,16 @@ enum Answer {
 }
 
 /// Reads a value from a text by serde. `None` if the text isn't such a value.
-fn read<'t, T: Deserialize<'t>>(alloc: Global, text: &'t str) -> Result<Option<T>, AllocError> {
+pub(crate) fn read<'t, T: Deserialize<'t>>(
+    alloc: Global,
+    text: &'t str,
+) -> Result<Option<T>, AllocError> {
     let read: Result<T, serde_json::Error> = serde_json::from_str(alloc, text);
     match read {
         Ok(value) => Ok(Some(value)),
         Err(error) if error.is_memory() => Err(AllocError),
         Err(_) => Ok(None),
     }
-}
-
-/// Reads a value from a text by serde. If the text isn't such a value, records `unread`.
-pub(crate) fn read_needed<'t, T: Deserialize<'t> + Drop>(
-    alloc: Global,
-    text: &'t str,
-    unread: Stop,
-    found: &mut Found,
-) -> Option<T> {
-    let read: Option<T> = found.take(read(alloc, text))?;
-    if read.is_none() {
-        found.stop(unread);
-    }
-    read
 }
 
 /// Returns what serde writes of a value.

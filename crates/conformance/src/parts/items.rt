@@ -166,15 +166,13 @@ pub(crate) fn find(
     let mut context: KubeContext<'_> = Context::default(alloc).with_all();
     let (key, out) = (field.key.as_str(), &mut found.text);
     bind_others(alloc, &mut context, fields, out);
-    let Some(answer) = make(alloc, &mut context, item, out) else {
-        return;
-    };
-    match answer.as_ref().err() {
-        Some(error) => return put_error(alloc, key, error, out),
+    match make(alloc, &mut context, item, out) {
+        Some(Ok(value)) => {
+            let types = (item_type(item.key.as_str()).0, other_type(fields));
+            out.take(context.add_variable("item", value));
+            ask_value(alloc, &context, key, types, out);
+        }
+        Some(Err(error)) => put_error(alloc, key, &error, out),
         None => {}
-    }
-    if bind_answer(&mut context, "item", Some(answer), out) {
-        let types = (item_type(item.key.as_str()).0, other_type(fields));
-        ask_value(alloc, &context, key, types, out);
     }
 }
