@@ -41,7 +41,7 @@ fn warnings_of(
 
 /// Returns the row's rule, and its scope or, by default, that of a schema.
 fn rule_given<'g>(given: &'g [Field], out: &mut Output) -> Option<(&'g str, ScopeContext)> {
-    let rule = out.take(rows::needed(given, "rule"))?;
+    let rule = rows::required(given, "rule", out);
     let scope = rows::text(given, "scope").unwrap_or("CrdValidation");
     Some((rule, out.take(scope_of(scope))?))
 }
@@ -78,16 +78,10 @@ const USUAL: u64 = 1_000;
 /// Writes the estimated cost of the row's expression.
 fn put_cost(alloc: Global, given: &[Field], out: &mut Output) {
     let sizes = Sizes {
-        items: out
-            .take(rows::number_or(given, "list size", USUAL))
-            .unwrap_or(0),
-        length: out
-            .take(rows::number_or(given, "text length", USUAL))
-            .unwrap_or(0),
+        items: rows::number(given, "list size", out).unwrap_or(USUAL),
+        length: rows::number(given, "text length", out).unwrap_or(USUAL),
     };
-    let Some(text) = out.take(rows::needed(given, "expression")) else {
-        return;
-    };
+    let text = rows::required(given, "expression", out);
     if let Some(program) = out.take(compiled(alloc, text)) {
         out.show(&estimated_cost(program.as_ref().expression(), sizes));
     }

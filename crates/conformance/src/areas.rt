@@ -2,7 +2,7 @@
 
 use crate::parts::{bound, filled, items, names, nodes, patterns, rules, sources, values, ways};
 use crate::{analysis, causes, commands, findings, policies, types, verdicts};
-use conformance_rows::keys::item_given;
+use conformance_rows::keys::{entry, item_given};
 use conformance_rows::{Field, Found, Stop};
 use kube_cel::cel::PatternBook;
 use std::alloc::Global;
@@ -99,16 +99,6 @@ const AREAS: [(&str, Area); 50] = [
     ("differ", Area::Differ),
 ];
 
-/// The area of a key, if it is known.
-fn area_of(key: &str) -> Option<Area> {
-    for &(name, area) in AREAS.iter() {
-        if name == key {
-            return Some(area);
-        }
-    }
-    None
-}
-
 /// Answers a field with the row's book of patterns. If the row gives an item, all its fields ask
 /// about that.
 pub(crate) fn find(
@@ -121,7 +111,7 @@ pub(crate) fn find(
     if let Some(item) = item_given(given, false) {
         return items::find(alloc, given, item, field, found);
     }
-    match area_of(field.key.as_str()) {
+    match entry(&AREAS, field.key.as_str()) {
         Some(Area::Matches) => patterns::matches(book, given, found),
         Some(Area::Spans) => patterns::spans(book, given, found),
         Some(Area::Source) => sources::find(alloc, given, field, found),

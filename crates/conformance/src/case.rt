@@ -1,6 +1,6 @@
 //! The cases that rows give to judge.
 
-use conformance_rows::nested::{object_given, schema_given, value_given};
+use conformance_rows::nested::{given_or_empty, value_given};
 use conformance_rows::{Field, Found, given as rows};
 use kube_cel::RootContext;
 use serde_json::Value;
@@ -54,21 +54,16 @@ fn root_of(alloc: Global, reported: &Value, found: &mut Found) -> Option<RootCon
 
 /// Reads the root context that a row gave last.
 fn root_given(alloc: Global, given: &[Field], found: &mut Found) -> Option<RootContext> {
-    let reported = found
-        .take(rows::json(alloc, given, "root context"))
-        .flatten()?;
+    let reported = rows::json(alloc, given, "root context", &mut found.other)?;
     root_of(alloc, &reported, found)
 }
 
 /// Reads the case that a row gives. If a part can't be read, records why.
 pub(crate) fn given(alloc: Global, given: &[Field], found: &mut Found) -> CaseValues {
-    let schema = found.take(schema_given(alloc, given));
-    let object = found.take(object_given(alloc, given));
-    let old = found.take(value_given(alloc, given, "old object"));
     CaseValues {
-        schema: schema.unwrap_or(Value::Null),
-        object: object.unwrap_or(Value::Null),
-        old: old.unwrap_or(None),
+        schema: given_or_empty(alloc, given, "schema", &mut found.other),
+        object: given_or_empty(alloc, given, "object", &mut found.other),
+        old: value_given(alloc, given, "old object", &mut found.other),
         root: root_given(alloc, given, found),
     }
 }

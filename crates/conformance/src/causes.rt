@@ -2,7 +2,7 @@
 
 use crate::schemas::errors_given;
 use crate::types::{find_written, read, written_and_read};
-use conformance_rows::{Field, Found, Output, Stop, given as rows};
+use conformance_rows::{Field, Found, Output, Stop};
 use kube_cel::{ValidationError, ValidationErrors};
 use std::alloc::{AllocError, Global};
 
@@ -54,10 +54,10 @@ fn find_copied(errors: &ValidationErrors, found: &mut Found) {
 
 /// Answers with the causes of the errors that are read from a row's JSON.
 fn find_read(alloc: Global, given: &[Field], found: &mut Found) {
-    let Some(json) = found.take(rows::needed(given, "json")) else {
-        return;
-    };
-    let errors: Result<Option<ValidationErrors>, AllocError> = read(alloc, json);
+    let errors: Result<Option<ValidationErrors>, AllocError> = read(
+        alloc,
+        found.required(given, "json"),
+    );
     match found.take(errors) {
         Some(Some(errors)) => find_causes(errors.as_slice(), found),
         _ => found.stop(Stop::Unfit("json")),
@@ -67,13 +67,13 @@ fn find_read(alloc: Global, given: &[Field], found: &mut Found) {
 /// Answers with the causes of the errors of the row's object, or of errors read from JSON, or with
 /// what serde writes of the errors.
 pub(crate) fn find(alloc: Global, given: &[Field], field: &Field, found: &mut Found) {
-    if field.key.as_str() == "causes read" {
+    if field.has("causes read") {
         return find_read(alloc, given, found);
     }
     let Some(errors) = errors_given(alloc, given, found) else {
         return;
     };
-    if field.key.as_str() == "causes" {
+    if field.has("causes") {
         find_copied(&errors, found);
     } else {
         find_written(

@@ -10,9 +10,7 @@ use std::alloc::Global;
 
 /// The number that a row gives under a key, or `MANY` if it gives none.
 fn limit(given: &[Field], key: &'static str, found: &mut Found) -> u64 {
-    found
-        .take(rows::number_or(given, key, MANY))
-        .unwrap_or(MANY)
+    rows::number(given, key, &mut found.other).unwrap_or(MANY)
 }
 
 /// Runs a row's command line of `celcheck`. Standard output accepts `writes` writes and refuses

@@ -49,13 +49,11 @@ fn put_finding(finding: &LintFinding, out: &mut Output) {
     out.push_line("#");
     out.push(finding.pointer.as_str());
     if !finding.rule.is_empty() {
-        out.push("\n  rule: ");
-        out.push(finding.rule.as_str());
+        out.push_all(&["\n  rule: ", finding.rule.as_str()]);
     }
     out.push("\n  ");
     out.debug(&finding.kind);
-    out.push(": ");
-    out.push(finding.message.as_str());
+    out.push_all(&[": ", finding.message.as_str()]);
 }
 
 /// Writes the linter's findings about the row's schema.

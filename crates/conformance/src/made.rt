@@ -34,7 +34,7 @@ fn case_of(list: &Value) -> Option<Case<'_>> {
 /// errors.
 fn judge_case(alloc: Global, case: Case<'_>, found: &mut Found) -> usize {
     found.clear();
-    fill_all(alloc, case.schema, case.object, found);
+    fill_all(alloc, case, found);
     found.clear();
     match judged(alloc, case, found) {
         Some(Err(errors)) => errors.len(),

@@ -51,7 +51,7 @@ fn with_value(
     key: &'static str,
     found: &mut Found,
 ) -> VapEvaluatorBuilder {
-    match found.take(rows::json(alloc, given, key)).flatten() {
+    match rows::json(alloc, given, key, &mut found.other) {
         Some(value) => set(builder, key, value),
         None => builder,
     }
@@ -99,7 +99,7 @@ fn text_given(alloc: Global, given: &[Field], key: &str, found: &mut Found) -> O
 
 /// Reads the expression that the row gives, with its messages.
 fn expression_given(alloc: Global, given: &[Field], found: &mut Found) -> Option<VapExpression> {
-    let text = found.take(rows::needed(given, "expression"))?;
+    let text = found.required(given, "expression");
     Some(VapExpression {
         expression: found.take(String::from_str(alloc, text))?,
         message: text_given(alloc, given, "message", found),
@@ -136,8 +136,7 @@ fn expressions_given(alloc: Global, given: &[Field], found: &mut Found) -> Vec<V
 fn put_result(reported: &VapResult, of: &VapExpression, out: &mut Output) {
     out.push_line(if reported.passed { "pass" } else { "fail" });
     if let Some(message) = &reported.message {
-        out.push(" ");
-        out.push(message.as_str());
+        out.push_all(&[" ", message.as_str()]);
     }
     if reported.expression.as_str() != of.expression.as_str() {
         out.stop(Stop::Differs("the result's expression"));
@@ -234,10 +233,8 @@ fn put_compiled(compiled: &Result<CompiledVapExpression, VapError>, out: &mut Ou
         Err(error) => {
             out.push_line("");
             out.show(error);
-            out.push("\n  unread: ");
-            out.push(error.expression.as_str());
-            out.push("\n  expression: ");
-            out.push(error.original.as_str());
+            out.push_all(&["\n  unread: ", error.expression.as_str()]);
+            out.push_all(&["\n  expression: ", error.original.as_str()]);
         }
     }
 }

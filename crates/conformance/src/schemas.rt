@@ -11,8 +11,11 @@ pub(crate) fn compiled_given(
     given: &[Field],
     out: &mut Output,
 ) -> Option<CompiledSchema> {
-    let schema = out.take(rows::json_needed(alloc, given, "schema"))?;
-    out.take(compile_schema(alloc, &schema))
+    let text = rows::required(given, "schema", out);
+    match out.take(rows::json_of(alloc, "schema", text)) {
+        Some(schema) => out.take(compile_schema(alloc, &schema)),
+        None => None,
+    }
 }
 
 /// Validates a case's object by its schema, and returns its errors. It must have some.

@@ -166,12 +166,8 @@ fn answer_as(alloc: Global, of: &str, question: Question<'_>) -> Result<Answer, 
 /// Answers with the field's text if that is what serde writes of the row's JSON, read as the row's
 /// type. White space outside strings isn't compared.
 pub(crate) fn written(alloc: Global, given: &[Field], field: &Field, found: &mut Found) {
-    let Some(of) = found.take(rows::needed(given, "type")) else {
-        return;
-    };
-    let Some(json) = found.take(rows::needed(given, "json")) else {
-        return;
-    };
+    let of = found.required(given, "type");
+    let json = found.required(given, "json");
     found.expect(field);
     match found.take(answer_as(alloc, of, Question::Written(json))) {
         Some(Answer::Written(text)) => found.other.push(text.as_str()),
@@ -234,12 +230,16 @@ fn lint_kinds_of(alloc: Global, names: &[String], out: &mut Output) -> Vec<LintK
 
 /// Compares the scopes, or the linter's kinds, with these names.
 fn names_compared(alloc: Global, of: &str, names: &[String], out: &mut Output) -> Answer {
-    if of == "ScopeContext" {
-        let scopes = scopes_of(alloc, names, out);
-        return compared(scopes.as_slice(), scopes.as_slice());
+    match of {
+        "ScopeContext" => {
+            let scopes = scopes_of(alloc, names, out);
+            compared(scopes.as_slice(), scopes.as_slice())
+        }
+        _ => {
+            let kinds = lint_kinds_of(alloc, names, out);
+            compared(kinds.as_slice(), kinds.as_slice())
+        }
     }
-    let kinds = lint_kinds_of(alloc, names, out);
-    compared(kinds.as_slice(), kinds.as_slice())
 }
 
 /// Compares the values of a list of a type that serde doesn't read: the linter's findings, and by
@@ -274,9 +274,7 @@ fn find_compared(answer: Answer, text: &str, found: &mut Found) {
 /// Answers with the field's text, a JSON list of values of the row's type, if each value equals
 /// itself, read a second time, and no other.
 pub(crate) fn differ(alloc: Global, given: &[Field], field: &Field, found: &mut Found) {
-    let Some(of) = found.take(rows::needed(given, "type")) else {
-        return;
-    };
+    let of = found.required(given, "type");
     let text = field.text.as_str();
     let answer = match found.take(answer_as(alloc, of, Question::Differ(text))) {
         Some(Answer::NoType) => differ_by_name(alloc, of, text, &mut found.other),

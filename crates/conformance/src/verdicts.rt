@@ -10,18 +10,13 @@ use std::alloc::Global;
 /// What a call that judges an object returns.
 type Judged = Result<Verdict, Refused>;
 
-/// Reports whether two verdicts are equal.
-fn is_equal(first: &Verdict, second: &Verdict) -> bool {
-    first.as_ref().err() == second.as_ref().err()
-}
-
 /// Compares the verdict of a call with the first one: by `==`, and by every field of every error.
 fn hold(alloc: Global, first: &Verdict, verdict: Judged, call: &'static str, found: &mut Found) {
     let Some(verdict) = found.take(verdict) else {
         return;
     };
     push_parts(alloc, &verdict, &mut found.other);
-    found.end_equal(is_equal(first, &verdict), call);
+    found.end_equal(first.as_ref().err() == verdict.as_ref().err(), call);
 }
 
 /// Compares the verdicts of the calls that take no root context.

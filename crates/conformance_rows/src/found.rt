@@ -1,5 +1,6 @@
 //! The answers found for a field.
 
+use crate::given::text;
 use crate::output::Output;
 use crate::row::{Field, Stop};
 use serde_json::Value;
@@ -52,6 +53,17 @@ impl Found {
             self.other.stop(stop);
         }
         self.other.take(made)
+    }
+
+    /// The text last given under a key. If there is none, records that, and returns an empty text.
+    pub fn required<'g>(&mut self, given: &'g [Field], key: &'static str) -> &'g str {
+        match text(given, key) {
+            Some(text) => text,
+            None => {
+                self.stop(Stop::Unfit(key));
+                ""
+            }
+        }
     }
 
     /// Discards all answers, unless there is a reason to stop.

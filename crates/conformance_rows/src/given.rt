@@ -16,11 +16,14 @@ pub fn text<'a>(given: &'a [Field], key: &str) -> Option<&'a str> {
     last
 }
 
-/// The text last given under a key, which is required.
-pub fn needed<'a>(given: &'a [Field], key: &'static str) -> Result<&'a str, Stop> {
+/// The text last given under a key. If there is none, records that, and returns an empty text.
+pub fn required<'a>(given: &'a [Field], key: &'static str, out: &mut Output) -> &'a str {
     match text(given, key) {
-        Some(text) => Ok(text),
-        None => Err(Stop::Unfit(key)),
+        Some(text) => text,
+        None => {
+            out.stop(Stop::Unfit(key));
+            ""
+        }
     }
 }
 
@@ -32,43 +35,33 @@ pub fn lines<'a>(alloc: Global, given: &'a [Field], key: &str) -> Result<Vec<&'a
     }
 }
 
-/// The number last given under a key, if any.
-pub fn number(given: &[Field], key: &'static str) -> Result<Option<u64>, Stop> {
+/// The number last given under a key, if any. If it can't be read, records that.
+pub fn number(given: &[Field], key: &'static str, out: &mut Output) -> Option<u64> {
     match text(given, key) {
-        Some(text) => match text.parse::<u64>() {
-            Ok(number) => Ok(Some(number)),
-            Err(_) => Err(Stop::Unfit(key)),
-        },
-        None => Ok(None),
+        Some(text) => out.take(text.parse::<u64>().ok().ok_or(Stop::Unfit(key))),
+        None => None,
     }
-}
-
-/// The number last given under a key, or `other` if there is none.
-pub fn number_or(given: &[Field], key: &'static str, other: u64) -> Result<u64, Stop> {
-    Ok(number(given, key)?.unwrap_or(other))
 }
 
 /// Reports whether the standard functions are known, and whether those of Kubernetes are.
-pub fn function_sets(given: &[Field]) -> Result<(bool, bool), Stop> {
+pub fn function_sets(given: &[Field], out: &mut Output) -> (bool, bool) {
     match text(given, "functions") {
-        Some("standard") => Ok((true, false)),
-        Some("kubernetes") => Ok((false, true)),
-        Some("both") | None => Ok((true, true)),
-        Some(_) => Err(Stop::Unfit("functions")),
+        Some("standard") => (true, false),
+        Some("kubernetes") => (false, true),
+        Some("both") | None => (true, true),
+        Some(_) => {
+            out.stop(Stop::Unfit("functions"));
+            (false, false)
+        }
     }
 }
 
-/// Parses the JSON last given under a key, if any.
-pub fn json(alloc: Global, given: &[Field], key: &'static str) -> Result<Option<Value>, Stop> {
+/// Parses the JSON last given under a key, if any. If it can't be read, records why.
+pub fn json(alloc: Global, given: &[Field], key: &'static str, out: &mut Output) -> Option<Value> {
     match text(given, key) {
-        Some(text) => Ok(Some(json_of(alloc, key, text)?)),
-        None => Ok(None),
+        Some(text) => out.take(json_of(alloc, key, text)),
+        None => None,
     }
-}
-
-/// Parses the JSON last given under a key, which is required.
-pub fn json_needed(alloc: Global, given: &[Field], key: &'static str) -> Result<Value, Stop> {
-    json_of(alloc, key, needed(given, key)?)
 }
 
 /// Parses a JSON text. `key` is the key that it was given under.
@@ -82,13 +75,10 @@ pub fn json_of(alloc: Global, key: &'static str, text: &str) -> Result<Value, St
 
 /// Appends the text `within`, with `before` and `after` around it as many times as `levels` says.
 fn push_levels(given: &[Field], out: &mut Output) {
-    let Some(levels) = out.take(number_or(given, "levels", 0)) else {
-        return;
-    };
+    let levels = number(given, "levels", out).unwrap_or(0) as usize;
     for (key, times) in [("before", levels), ("within", 1), ("after", levels)] {
-        if let Some(text) = out.take(needed(given, key)) {
-            out.push_times(text, times as usize);
-        }
+        let text = required(given, key, out);
+        out.push_times(text, times);
     }
 }
 

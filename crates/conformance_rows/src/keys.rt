@@ -60,12 +60,21 @@ const GIVEN: [&str; 53] = [
     "within",
 ];
 
+/// What a table of keys has for this key, if anything.
+pub fn entry<T: Copy>(table: &[(&'static str, T)], key: &str) -> Option<T> {
+    for &(name, value) in table {
+        if name == key {
+            return Some(value);
+        }
+    }
+    None
+}
+
 /// The name that a field with this key binds, if any.
 pub fn bound_name(key: &str) -> Option<&str> {
-    if key == "self" {
-        Some(key)
-    } else {
-        key.strip_prefix("let ")
+    match key {
+        "self" => Some(key),
+        _ => key.strip_prefix("let "),
     }
 }
 

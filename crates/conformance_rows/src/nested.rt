@@ -3,6 +3,8 @@
 
 use crate::found::Found;
 use crate::given::{json_of, text};
+use crate::keys::entry;
+use crate::output::Output;
 use crate::row::{Field, Stop};
 use serde_json::{Map, Value};
 use std::alloc::{AllocError, Global};
@@ -24,22 +26,11 @@ const STEPS: [(&str, &str); 6] = [
     ("nested any of", "anyOf 0"),
 ];
 
-/// The step between levels for a key that gives their number.
-fn step_of(key: &str) -> Option<&'static str> {
-    let mut found = None;
-    for &(name, step) in STEPS.iter() {
-        if name == key {
-            found = Some(step);
-        }
-    }
-    found
-}
-
 /// The nesting that a row gave last. Zero levels if it gave none.
 pub fn nesting_given(given: &[Field]) -> Result<Nesting, Stop> {
     let (mut step, mut levels) = ("items", "0");
     for field in given {
-        if let Some(last) = step_of(field.key.as_str()) {
+        if let Some(last) = entry(&STEPS, field.key.as_str()) {
             step = last;
             levels = field.text.as_str();
         }
@@ -101,41 +92,33 @@ fn nested_json(
     Ok(value)
 }
 
-/// The value last given under a key, nested as the row says.
+/// The value last given under a key, nested as the row says, if any. If it can't be read, records
+/// why.
 pub fn value_given(
     alloc: Global,
     given: &[Field],
     key: &'static str,
-) -> Result<Option<Value>, Stop> {
+    out: &mut Output,
+) -> Option<Value> {
     match text(given, key) {
-        Some(text) => Ok(Some(nested_json(alloc, given, key, text)?)),
-        None => Ok(None),
+        Some(text) => out.take(nested_json(alloc, given, key, text)),
+        None => None,
     }
 }
 
-/// Like `value_given`, but an empty object if the row gave none.
-fn given_or_empty(alloc: Global, given: &[Field], key: &'static str) -> Result<Value, Stop> {
+/// Like `value_given`, but an empty object if the row gave none, and null if it can't be read.
+pub fn given_or_empty(
+    alloc: Global,
+    given: &[Field],
+    key: &'static str,
+    out: &mut Output,
+) -> Value {
     match text(given, key) {
-        Some(text) => nested_json(alloc, given, key, text),
-        None => Ok(Value::Object(Map::new(alloc))),
+        Some(text) => out
+            .take(nested_json(alloc, given, key, text))
+            .unwrap_or(Value::Null),
+        None => Value::Object(Map::new(alloc)),
     }
-}
-
-/// The object that a row gave last, nested as the row says. Empty if it gave none.
-pub fn object_given(alloc: Global, given: &[Field]) -> Result<Value, Stop> {
-    given_or_empty(alloc, given, "object")
-}
-
-/// The schema that a row gave last, nested as the row says. Empty if it gave none.
-pub fn schema_given(alloc: Global, given: &[Field]) -> Result<Value, Stop> {
-    given_or_empty(alloc, given, "schema")
-}
-
-/// The schema and the object that a row gave last, nested as the row says. Each is empty if it gave
-/// none.
-pub fn case_given(alloc: Global, given: &[Field]) -> Result<(Value, Value), Stop> {
-    let schema = schema_given(alloc, given)?;
-    Ok((schema, object_given(alloc, given)?))
 }
 
 /// Answers with a field's JSON, nested as the row says.

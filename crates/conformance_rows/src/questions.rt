@@ -1,6 +1,8 @@
 //! The questions about values, as expressions over `item` (made from the text `written`), `other`
 //! and `text`.
 
+use crate::keys::entry;
+
 /// The expressions that make a value of a type from the text `written`.
 const MAKERS: [(&str, &str); 11] = [
     ("string", "written"),
@@ -81,12 +83,7 @@ const WORDS: [(&str, &str, &str); 9] = [
 
 /// The expression that makes a value of a type from the text `written`, if the type is known.
 pub fn maker(of: &str) -> Option<&'static str> {
-    for &(name, expression) in MAKERS.iter() {
-        if name == of {
-            return Some(expression);
-        }
-    }
-    None
+    entry(&MAKERS, of)
 }
 
 /// The expression that a key stands for, given the types of the item and of the other one.

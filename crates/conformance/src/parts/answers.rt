@@ -56,12 +56,17 @@ pub(crate) fn put_answer(alloc: Global, asked: &str, answer: &Ran, out: &mut Out
     match answer {
         Ok(Ok(value)) => put_value(alloc, asked, value, out),
         Ok(Err(error)) => {
-            let is_asked = asked == "error" || asked == "bound";
-            out.push(if is_asked { "" } else { "an error: " });
+            out.push(match asked {
+                "error" | "bound" => "",
+                _ => "an error: ",
+            });
             out.show(error);
         }
         Err(refused) => {
-            let before = if asked == "refused" { "" } else { "refused: " };
+            let before = match asked {
+                "refused" => "",
+                _ => "refused: ",
+            };
             out.push_refused(before, *refused);
         }
     }

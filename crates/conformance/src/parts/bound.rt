@@ -1,9 +1,9 @@
 //! Answers expressions over objects bound by their schema.
 
+use crate::case::{self, Case};
 use crate::parts::answers::end_ran;
 use crate::parts::ways::compiled;
 use cel::{Context, Program, StandardFunctions, Value};
-use conformance_rows::nested::case_given;
 use conformance_rows::{Field, Found, Stop, given as rows};
 use kube_schema::{bind, bind_node, compile_schema};
 use serde_json::Value as Json;
@@ -26,13 +26,8 @@ fn bound_by_node(alloc: Global, schema: &Json, object: &Json, depth: usize) -> R
 }
 
 /// Runs a program over an object bound by its schema, both as JSON and compiled, at a depth.
-fn run_both(
-    alloc: Global,
-    program: &Program,
-    (schema, object): (&Json, &Json),
-    depth: usize,
-    found: &mut Found,
-) {
+fn run_both(alloc: Global, program: &Program, case: Case<'_>, depth: usize, found: &mut Found) {
+    let Case { schema, object, .. } = case;
     let Some(by_json) = found.take(bind(alloc, schema, object, depth)) else {
         return;
     };
@@ -46,25 +41,17 @@ fn run_both(
     run(alloc, program, by_node, "bind_node", found);
 }
 
-/// Runs a CEL text over an object bound by its schema, at a depth.
-fn run_text(alloc: Global, text: &str, bound: (&Json, &Json), depth: usize, found: &mut Found) {
+/// Runs a CEL text over a case's object, bound by its schema at a depth.
+fn run_text(alloc: Global, text: &str, case: Case<'_>, depth: usize, found: &mut Found) {
     if let Some(program) = found.take(compiled(alloc, text)) {
-        run_both(alloc, program.as_ref(), bound, depth, found);
+        run_both(alloc, program.as_ref(), case, depth, found);
     }
-}
-
-/// The depth and the expression that a row gives.
-fn asked_given(given: &[Field]) -> Result<(u64, &str), Stop> {
-    let depth = rows::number_or(given, "depth", 0)?;
-    Ok((depth, rows::needed(given, "expression")?))
 }
 
 /// Runs a row's expression over its object, bound by its schema.
 pub(crate) fn find(alloc: Global, given: &[Field], found: &mut Found) {
-    let Some((depth, text)) = found.take(asked_given(given)) else {
-        return;
-    };
-    if let Some((schema, object)) = found.take(case_given(alloc, given)) {
-        run_text(alloc, text, (&schema, &object), depth as usize, found);
-    }
+    let text = found.required(given, "expression");
+    let depth = rows::number(given, "depth", &mut found.other).unwrap_or(0);
+    let values = case::given(alloc, given, found);
+    run_text(alloc, text, values.case(), depth as usize, found);
 }

@@ -1,6 +1,7 @@
 //! Fills objects with their defaults.
 
-use conformance_rows::nested::{case_given, find_nested};
+use crate::case::{self, Case};
+use conformance_rows::nested::find_nested;
 use conformance_rows::{Field, Found};
 use kube_schema::{CompiledSchema, Refused, apply_defaults, compile_schema, fill_node};
 use serde_json::Value;
@@ -37,7 +38,8 @@ fn fill_compiled(alloc: Global, compiled: &CompiledSchema, object: &Value, found
 
 /// Fills an object by both forms of its schema, each time once and then again. Every result must be
 /// the same, and equal to an earlier answer if there is one.
-pub(crate) fn fill_all(alloc: Global, schema: &Value, object: &Value, found: &mut Found) {
+pub(crate) fn fill_all(alloc: Global, case: Case<'_>, found: &mut Found) {
+    let Case { schema, object, .. } = case;
     fill(alloc, schema, object, found);
     if let Some(compiled) = found.take(compile_schema(alloc, schema)) {
         fill_compiled(alloc, &compiled, object, found);
@@ -48,8 +50,7 @@ pub(crate) fn fill_all(alloc: Global, schema: &Value, object: &Value, found: &mu
 /// defaults.
 pub(crate) fn find(alloc: Global, given: &[Field], field: &Field, found: &mut Found) {
     find_nested(alloc, given, field, found);
-    if let Some((schema, object)) = found.take(case_given(alloc, given)) {
-        fill_all(alloc, &schema, &object, found);
-        found.say(field.text.as_str());
-    }
+    let values = case::given(alloc, given, found);
+    fill_all(alloc, values.case(), found);
+    found.say(field.text.as_str());
 }

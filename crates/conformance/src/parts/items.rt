@@ -104,10 +104,10 @@ fn put_error(alloc: Global, key: &str, error: &ExecutionError, out: &mut Output)
 
 /// Writes the answer to the question of this key.
 fn put_reported(alloc: Global, key: &str, answer: &Answer, out: &mut Output) {
-    match answer {
-        Ok(_) if key == "integer error" => out.push("none"),
-        Ok(value) => put_value(alloc, value, out),
-        Err(error) => put_error(alloc, key, error, out),
+    match (key, answer) {
+        ("integer error", Ok(_)) => out.push("none"),
+        (_, Ok(value)) => put_value(alloc, value, out),
+        (_, Err(error)) => put_error(alloc, key, error, out),
     }
 }
 

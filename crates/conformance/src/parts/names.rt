@@ -22,9 +22,8 @@ pub(crate) fn escaped(alloc: Global, given: &[Field], found: &mut Found) {
     if let Some(field) = given::text(given, "field") {
         return put_escaped(alloc, field, &mut found.text);
     }
-    if let Some(name) = found.take(given::needed(given, "name")) {
-        put_escaped(alloc, name, &mut found.other);
-    }
+    let name = found.required(given, "name");
+    put_escaped(alloc, name, &mut found.other);
     if !found.is_stopped() {
         found.text.push_quoted(found.other.as_str());
     }
@@ -35,9 +34,7 @@ pub(crate) fn escaped(alloc: Global, given: &[Field], found: &mut Found) {
 pub(crate) fn unescaped(alloc: Global, given: &[Field], found: &mut Found) {
     let is_plain = given::text(given, "name in cel").is_some();
     let key = if is_plain { "name in cel" } else { "name" };
-    let Some(name) = found.take(given::needed(given, key)) else {
-        return;
-    };
+    let name = found.required(given, key);
     match found.take(unescape_field_name(alloc, name)) {
         Some(Some(field)) if is_plain => found.text.push(field.as_str()),
         Some(Some(field)) => found.text.push_quoted(field.as_str()),
@@ -49,9 +46,8 @@ pub(crate) fn unescaped(alloc: Global, given: &[Field], found: &mut Found) {
 
 /// Answers whether a CEL name stands for a field.
 pub(crate) fn means_a_field(alloc: Global, given: &[Field], found: &mut Found) {
-    if let Some(name) = found.take(given::needed(given, "name in cel")) {
-        if let Some(field) = found.take(unescape_field_name(alloc, name)) {
-            found.say(yes_or_no(field.is_some()));
-        }
+    let name = found.required(given, "name in cel");
+    if let Some(field) = found.take(unescape_field_name(alloc, name)) {
+        found.say(yes_or_no(field.is_some()));
     }
 }

@@ -2,7 +2,7 @@
 
 use crate::parts::rules::put_compiled;
 use crate::parts::shown::{put_children, put_keywords, shows_its_root};
-use conformance_rows::nested::{Nesting, nesting_given, schema_given};
+use conformance_rows::nested::{Nesting, given_or_empty, nesting_given};
 use conformance_rows::{Field, Found, Output, Stop, given as rows};
 use kube_schema::{CompiledSchema, SchemaNode, compile_schema, rules_of};
 use serde_json::Value;
@@ -123,9 +123,7 @@ fn find_in(
 
 /// Answers a question about a node of the row's schema.
 pub(crate) fn find(alloc: Global, given: &[Field], field: &Field, found: &mut Found) {
-    let Some(schema) = found.take(schema_given(alloc, given)) else {
-        return;
-    };
+    let schema = given_or_empty(alloc, given, "schema", &mut found.other);
     if let Some(compiled) = found.take(compile_schema(alloc, &schema)) {
         find_in(alloc, given, &schema, &compiled, field.key.as_str(), found);
     }

@@ -2,8 +2,14 @@
 //! it holds.
 
 use cel::PatternBook;
-use conformance_rows::given::{needed, number};
+use conformance_rows::given::number;
 use conformance_rows::{Field, Found};
+
+/// The pattern and the text that a row gives.
+fn asked_given<'g>(given: &'g [Field], found: &mut Found) -> (&'g str, &'g str) {
+    let pattern = found.required(given, "pattern");
+    (pattern, found.required(given, "text"))
+}
 
 /// Finds whether a pattern matches in a text, for one call.
 fn find_match(
@@ -22,13 +28,9 @@ fn find_match(
 
 /// Answers whether a pattern matches in a text. The book is asked twice.
 pub(crate) fn matches(book: &mut PatternBook, given: &[Field], found: &mut Found) {
-    let Some(pattern) = found.take(needed(given, "pattern")) else {
-        return;
-    };
-    if let Some(text) = found.take(needed(given, "text")) {
-        find_match(book, (pattern, text), "matches", found);
-        find_match(book, (pattern, text), "matches again", found);
-    }
+    let asked = asked_given(given, found);
+    find_match(book, asked, "matches", found);
+    find_match(book, asked, "matches again", found);
 }
 
 /// Finds the spans of the first matches, in bytes, for one call.
@@ -49,18 +51,16 @@ fn find_spans(
 
 /// The number of matches that a row asks for. All if it gives none.
 fn limit_given(given: &[Field], found: &mut Found) -> Option<usize> {
-    let limit = found.take(number(given, "limit")).flatten()?;
-    Some(limit as usize)
+    match number(given, "limit", &mut found.other) {
+        Some(limit) => Some(limit as usize),
+        None => None,
+    }
 }
 
 /// Answers with the spans of the first matches, in bytes. The book is asked twice.
 pub(crate) fn spans(book: &mut PatternBook, given: &[Field], found: &mut Found) {
-    let Some(pattern) = found.take(needed(given, "pattern")) else {
-        return;
-    };
-    if let Some(text) = found.take(needed(given, "text")) {
-        let most = limit_given(given, found);
-        find_spans(book, (pattern, text), most, "find_all", found);
-        find_spans(book, (pattern, text), most, "find_all again", found);
-    }
+    let asked = asked_given(given, found);
+    let most = limit_given(given, found);
+    find_spans(book, asked, most, "find_all", found);
+    find_spans(book, asked, most, "find_all again", found);
 }

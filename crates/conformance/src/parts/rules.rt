@@ -1,6 +1,6 @@
 //! Prints the rules of nodes, as they are read and as they are compiled.
 
-use conformance_rows::nested::schema_given;
+use conformance_rows::nested::given_or_empty;
 use conformance_rows::{Field, Output};
 use kube_schema::{CompilationError, CompilationResult, Rule, rule_values};
 use serde_json::Value;
@@ -45,10 +45,9 @@ fn put_read(alloc: Global, value: &Value, out: &mut Output) {
 
 /// Writes the rules of a row's schema as they are read, one object a line.
 pub(crate) fn read(alloc: Global, given: &[Field], out: &mut Output) {
-    if let Some(schema) = out.take(schema_given(alloc, given)) {
-        for value in rule_values(&schema) {
-            put_read(alloc, value, out);
-        }
+    let schema = given_or_empty(alloc, given, "schema", out);
+    for value in rule_values(&schema) {
+        put_read(alloc, value, out);
     }
 }
 

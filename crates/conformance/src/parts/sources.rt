@@ -4,7 +4,7 @@ use crate::parts::outline::write_node;
 use crate::parts::tokens::put_tokens;
 use crate::parts::ways::compile;
 use cel::{ParseErrors, Program, References};
-use conformance_rows::given::{needed, push_source};
+use conformance_rows::given::{push_source, required};
 use conformance_rows::texts::yes_or_no;
 use conformance_rows::{Field, Found, Output, Stop};
 use std::alloc::Global;
@@ -22,13 +22,12 @@ fn put_names(
         "free names" => out.push_names(references.variables()),
         "called names" => out.push_names(references.functions()),
         _ => {
-            if let Some(name) = out.take(needed(given, "name")) {
-                let is_free = program.has_variable(name);
-                if references.has_variable(name) != is_free {
-                    out.stop(Stop::Differs("has_variable"));
-                }
-                out.push(yes_or_no(is_free));
+            let name = required(given, "name", out);
+            let is_free = program.has_variable(name);
+            if references.has_variable(name) != is_free {
+                out.stop(Stop::Differs("has_variable"));
             }
+            out.push(yes_or_no(is_free));
         }
     }
 }
@@ -52,11 +51,10 @@ fn put_unread(alloc: Global, key: &str, errors: &ParseErrors, out: &mut Output) 
     let Some(text) = out.take(errors.to_string(alloc)) else {
         return;
     };
-    if key == "read" && text.as_str() == "invalid CEL expression" {
-        out.push("no");
-    } else {
-        out.push(text.as_str());
-    }
+    out.push(match (key, text.as_str()) {
+        ("read", "invalid CEL expression") => "no",
+        (_, text) => text,
+    });
 }
 
 /// Answers a question about the AST or the names of a CEL text, or whether it parses.
@@ -71,13 +69,12 @@ fn find_of(alloc: Global, given: &[Field], key: &str, source: &str, out: &mut Ou
 /// Answers a question about the CEL text that the row gave last.
 pub(crate) fn find(alloc: Global, given: &[Field], field: &Field, found: &mut Found) {
     push_source(given, &mut found.other);
-    let (key, source) = (field.key.as_str(), found.other.as_str());
     if found.other.is_stopped() {
         return;
     }
-    if key == "tokens" {
-        put_tokens(alloc, source, &mut found.text);
-    } else {
-        find_of(alloc, given, key, source, &mut found.text);
+    let source = found.other.as_str();
+    match field.key.as_str() {
+        "tokens" => put_tokens(alloc, source, &mut found.text),
+        key => find_of(alloc, given, key, source, &mut found.text),
     }
 }

@@ -47,8 +47,8 @@ pub(crate) fn keys_are_kept(alloc: Global, found: &mut Found) {
         return;
     };
     let mut are_kept = true;
-    for key in [text, Key::Bool(true), Key::Int(-1), Key::Uint(1)] {
-        are_kept = are_kept && found.other.is_copy(key.try_clone(), &key);
+    for key in [text, Key::Bool(true), Key::Int(-1), Key::Uint(1)].iter() {
+        are_kept = are_kept && found.other.is_copy(key.try_clone(), key);
     }
     found.say(yes_or_no(are_kept));
 }

@@ -135,7 +135,7 @@ pub(crate) fn plain_value(alloc: Global, text: &str) -> Result<Value, Stop> {
 /// value of an expression.
 fn bound_value(alloc: Global, context: &KubeContext<'_>, field: &Field) -> Result<Value, Stop> {
     let text = field.text.as_str();
-    if field.key.as_str() == "self" {
+    if field.has("self") {
         return plain_value(alloc, text);
     }
     executed(alloc, context, text)?
@@ -215,9 +215,7 @@ fn run_each(
     given: &[Field],
     found: &mut Found,
 ) {
-    let Some((standard, kubernetes)) = found.take(given::function_sets(given)) else {
-        return;
-    };
+    let (standard, kubernetes) = given::function_sets(given, &mut found.other);
     if standard {
         run_in_standard(alloc, asked, program, bound, given, found);
         run_in_kubernetes(alloc, asked, program, bound, given, false, found);
@@ -246,8 +244,7 @@ fn run_text(
 
 /// Runs a row's expression in each way, and answers with what is asked about the outcome.
 pub(crate) fn find(alloc: Global, given: &[Field], field: &Field, found: &mut Found) {
-    if let Some(text) = found.take(given::needed(given, "expression")) {
-        let mut bound: KubeContext<'_> = Context::default(alloc).with_all();
-        run_text(alloc, field.key.as_str(), text, &mut bound, given, found);
-    }
+    let text = found.required(given, "expression");
+    let mut bound: KubeContext<'_> = Context::default(alloc).with_all();
+    run_text(alloc, field.key.as_str(), text, &mut bound, given, found);
 }
