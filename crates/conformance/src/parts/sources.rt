@@ -51,10 +51,10 @@ fn put_unread(alloc: Global, key: &str, errors: &ParseErrors, out: &mut Output) 
     let Some(text) = out.take(errors.to_string(alloc)) else {
         return;
     };
-    out.push(match (key, text.as_str()) {
-        ("read", "invalid CEL expression") => "no",
-        (_, text) => text,
-    });
+    match (key, text.as_str()) {
+        ("read", "invalid CEL expression") => out.push("no"),
+        (_, text) => out.push(text),
+    }
 }
 
 /// Answers a question about the AST or the names of a CEL text, or whether it parses.
