@@ -2,7 +2,7 @@
 
 use crate::parts::ways::compiled;
 use crate::schemas::compiled_given;
-use crate::types::{find_written, scope_of, written_and_read};
+use crate::types::scope_of;
 use conformance_rows::{Field, Found, Output, Stop, given as rows};
 use kube_cel::{AnalysisWarning, ScopeContext, analyze_rule, check_rule_scope, estimate_rule_cost};
 use kube_cel_analysis::{Sizes, estimated_cost};
@@ -58,20 +58,6 @@ fn put_warnings(alloc: Global, given: &[Field], key: &str, out: &mut Output) {
     }
 }
 
-/// Answers with what serde writes of the warnings of `analyze_rule` about the row's rule.
-fn find_warnings_written(alloc: Global, given: &[Field], field: &Field, found: &mut Found) {
-    let Some(rule) = rule_given(given, &mut found.other) else {
-        return;
-    };
-    if let Some(warnings) = warnings_of(alloc, given, rule, "warnings", &mut found.other) {
-        find_written(
-            written_and_read(alloc, &warnings, field.text.as_str()),
-            field,
-            found,
-        );
-    }
-}
-
 /// The greatest length of lists and texts if the row gives no other.
 const USUAL: u64 = 1_000;
 
@@ -99,7 +85,6 @@ pub(crate) fn find(alloc: Global, given: &[Field], field: &Field, found: &mut Fo
             put_warnings(alloc, given, "cost warnings", &mut found.other);
             found.end("check_rule_scope and estimate_rule_cost");
         }
-        "warnings written" => find_warnings_written(alloc, given, field, found),
         key => put_warnings(alloc, given, key, &mut found.text),
     }
 }

@@ -1,7 +1,7 @@
 //! Dispatches the fields of rows by area.
 
 use crate::parts::{bound, filled, items, names, nodes, patterns, rules, sources, values, ways};
-use crate::{analysis, causes, commands, findings, policies, types, verdicts};
+use crate::{analysis, commands, errors, findings, policies, types, verdicts};
 use conformance_rows::keys::{entry, item_given};
 use conformance_rows::{Field, Found, Stop};
 use kube_cel::cel::PatternBook;
@@ -18,9 +18,7 @@ enum Area {
     /// The CEL name of a field.
     Escaped,
     Unescaped,
-    MeansAField,
-    /// Values of all kinds.
-    Kinds,
+    /// Copies of values.
     Keys,
     Optionals,
     /// An expression.
@@ -38,15 +36,14 @@ enum Area {
     /// A schema or a rule without an object.
     Findings,
     Analysis,
-    /// The causes of errors, and what serde writes of errors.
-    Causes,
-    /// A value that serde writes, and a list of values that differ.
+    /// Errors in JSON, a value that serde writes, and a list of values that differ.
+    PartsRead,
     Written,
     Differ,
 }
 
 /// The keys of fields that state an answer, with their areas. Those about items aren't among them.
-const AREAS: [(&str, Area); 50] = [
+const AREAS: [(&str, Area); 43] = [
     ("matches", Area::Matches),
     ("spans", Area::Spans),
     ("tokens", Area::Source),
@@ -57,8 +54,6 @@ const AREAS: [(&str, Area); 50] = [
     ("name is free", Area::Source),
     ("escaped", Area::Escaped),
     ("unescaped", Area::Unescaped),
-    ("means a field", Area::MeansAField),
-    ("kinds", Area::Kinds),
     ("keys equal their copies", Area::Keys),
     ("optionals equal their copies", Area::Optionals),
     ("value", Area::Expression),
@@ -76,25 +71,20 @@ const AREAS: [(&str, Area); 50] = [
     ("errors", Area::Verdict),
     ("error parts", Area::Verdict),
     ("printed", Area::Verdict),
-    ("copied", Area::Verdict),
-    ("distinguished", Area::Verdict),
+    ("errors written", Area::Verdict),
     ("status", Area::Command),
     ("output", Area::Command),
     ("error output", Area::Command),
     ("each write refused", Area::EachWrite),
     ("result", Area::Policy),
     ("results", Area::Policy),
-    ("results written", Area::Policy),
     ("compiled", Area::Policy),
     ("findings", Area::Findings),
     ("scope warnings", Area::Analysis),
     ("cost warnings", Area::Analysis),
     ("warnings", Area::Analysis),
-    ("warnings written", Area::Analysis),
     ("cost", Area::Analysis),
-    ("causes", Area::Causes),
-    ("causes read", Area::Causes),
-    ("errors written", Area::Causes),
+    ("parts read", Area::PartsRead),
     ("written", Area::Written),
     ("differ", Area::Differ),
 ];
@@ -117,8 +107,6 @@ pub(crate) fn find(
         Some(Area::Source) => sources::find(alloc, given, field, found),
         Some(Area::Escaped) => names::escaped(alloc, given, found),
         Some(Area::Unescaped) => names::unescaped(alloc, given, found),
-        Some(Area::MeansAField) => names::means_a_field(alloc, given, found),
-        Some(Area::Kinds) => values::kinds(found),
         Some(Area::Keys) => values::keys_are_kept(alloc, found),
         Some(Area::Optionals) => values::optionals_are_kept(alloc, found),
         Some(Area::Expression) => ways::find(alloc, given, field, found),
@@ -132,7 +120,7 @@ pub(crate) fn find(
         Some(Area::Policy) => policies::find(alloc, given, field, found),
         Some(Area::Findings) => findings::find(alloc, given, &mut found.text),
         Some(Area::Analysis) => analysis::find(alloc, given, field, found),
-        Some(Area::Causes) => causes::find(alloc, given, field, found),
+        Some(Area::PartsRead) => errors::put_read(alloc, given, &mut found.text),
         Some(Area::Written) => types::written(alloc, given, field, found),
         Some(Area::Differ) => types::differ(alloc, given, field, found),
         None => found.stop(Stop::Unfit("a key that is known here")),

@@ -8,7 +8,6 @@
 mod analysis;
 mod areas;
 mod case;
-mod causes;
 mod commands;
 mod errors;
 mod findings;

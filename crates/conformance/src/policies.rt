@@ -1,7 +1,7 @@
 //! Answers rows about policies: the results of expressions over an object, an old object,
 //! parameters, a namespace and a request.
 
-use crate::types::{find_written, read, written_and_read};
+use crate::types::read;
 use conformance_rows::{Field, Found, Output, Stop, given as rows};
 use kube_cel::{
     AdmissionRequest, CompiledVapExpression, Refused, VapError, VapEvaluator, VapEvaluatorBuilder,
@@ -252,34 +252,12 @@ fn put_all_compiled(alloc: Global, expressions: &[VapExpression], out: &mut Outp
     }
 }
 
-/// Answers with what serde writes of the results of expressions, and checks that it reads that
-/// back.
-fn find_results_written(
-    alloc: Global,
-    given: &[Field],
-    expressions: &[VapExpression],
-    field: &Field,
-    found: &mut Found,
-) {
-    let Some(evaluator) = built(alloc, given, VapEvaluator::builder(), found) else {
-        return;
-    };
-    if let Some(results) = found.take(evaluator.as_ref().evaluate(alloc, expressions)) {
-        find_written(
-            written_and_read(alloc, &results, field.text.as_str()),
-            field,
-            found,
-        );
-    }
-}
-
 /// Answers a field about the row's expressions.
 pub(crate) fn find(alloc: Global, given: &[Field], field: &Field, found: &mut Found) {
     let read = expressions_given(alloc, given, found);
     let expressions = read.as_slice();
     match field.key.as_str() {
         "compiled" => put_all_compiled(alloc, expressions, &mut found.text),
-        "results written" => find_results_written(alloc, given, expressions, field, found),
         _ => find_results(alloc, given, expressions, found),
     }
 }

@@ -1,7 +1,8 @@
 //! Judges an object by all calls that can, which must all agree.
 
 use crate::case::{self, Case};
-use crate::errors::{Verdict, push_parts, put_verdict};
+use crate::errors::{Verdict, push_copies, push_parts, put_asked};
+use crate::types::{find_written, written_and_read};
 use conformance_rows::{Field, Found};
 use kube_cel::cel::PatternBook;
 use kube_cel::{CompiledSchema, Refused, Validator, compile_schema, validate, validate_compiled};
@@ -109,7 +110,8 @@ fn hold_all(
     }
 }
 
-/// Returns the first verdict on a case, which must be the same by each call.
+/// Returns the first verdict on a case, which must be the same by each call. So must copies of its
+/// errors.
 pub(crate) fn judged(alloc: Global, case: Case<'_>, found: &mut Found) -> Option<Verdict> {
     let Case {
         schema,
@@ -121,6 +123,10 @@ pub(crate) fn judged(alloc: Global, case: Case<'_>, found: &mut Found) -> Option
     let first = found.take(judge.validate_with_context(alloc, schema, object, old, root))?;
     push_parts(alloc, &first, &mut found.other);
     found.end("validate_with_context");
+    if let Err(errors) = &first {
+        push_copies(alloc, errors, &mut found.other);
+        found.end("try_clone");
+    }
     if let Some(compiled) = found.take(compile_schema(alloc, schema)) {
         hold_all(alloc, case, &compiled, &first, found);
     }
@@ -135,11 +141,18 @@ pub(crate) fn find(alloc: Global, given: &[Field], field: &Field, found: &mut Fo
 
 /// Answers a field about the verdict on a case.
 fn find_of(alloc: Global, case: Case<'_>, field: &Field, found: &mut Found) {
-    let Some(verdict) = judged(alloc, case, found) else {
+    let verdict = judged(alloc, case, found);
+    found.clear();
+    let Some(Err(errors)) = &verdict else {
         return;
     };
-    found.clear();
-    if !found.is_stopped() {
-        put_verdict(alloc, field.key.as_str(), &verdict, &mut found.text);
+    match field.key.as_str() {
+        _ if found.is_stopped() => {}
+        "errors written" => find_written(
+            written_and_read(alloc, errors, field.text.as_str()),
+            field,
+            found,
+        ),
+        asked => put_asked(alloc, asked, errors, &mut found.text),
     }
 }

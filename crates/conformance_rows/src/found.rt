@@ -1,6 +1,6 @@
 //! The answers found for a field.
 
-use crate::given::text;
+use crate::given::required;
 use crate::output::Output;
 use crate::row::{Field, Stop};
 use serde_json::Value;
@@ -40,30 +40,27 @@ impl Found {
         self.other.is_stopped() || self.text.is_stopped()
     }
 
-    /// Records a reason to stop. Only the first one counts.
-    pub fn stop(&mut self, stop: Stop) {
-        if !self.text.is_stopped() {
+    /// The answer of the current call, with the reason to stop that the first answer has, if any.
+    fn current(&mut self) -> &mut Output {
+        if let Some(stop) = self.text.stopped() {
             self.other.stop(stop);
         }
+        &mut self.other
+    }
+
+    /// Records a reason to stop. Only the first one counts.
+    pub fn stop(&mut self, stop: Stop) {
+        self.current().stop(stop);
     }
 
     /// Returns what a call made. If it made nothing, records why.
     pub fn take<T: Drop, E: Into<Stop>>(&mut self, made: Result<T, E>) -> Option<T> {
-        if let Some(stop) = self.text.stopped() {
-            self.other.stop(stop);
-        }
-        self.other.take(made)
+        self.current().take(made)
     }
 
     /// The text last given under a key. If there is none, records that, and returns an empty text.
     pub fn required<'g>(&mut self, given: &'g [Field], key: &'static str) -> &'g str {
-        match text(given, key) {
-            Some(text) => text,
-            None => {
-                self.stop(Stop::Unfit(key));
-                ""
-            }
-        }
+        required(given, key, self.current())
     }
 
     /// Discards all answers, unless there is a reason to stop.

@@ -4,7 +4,7 @@ use crate::questions::maker;
 use crate::row::Field;
 
 /// The keys of fields that give a value, except those for bound names, items and files.
-const GIVEN: [&str; 53] = [
+const GIVEN: [&str; 51] = [
     "admit",
     "after",
     "before",
@@ -15,7 +15,6 @@ const GIVEN: [&str; 53] = [
     "expression",
     "expressions",
     "failing read",
-    "field",
     "form",
     "functions",
     "json",
@@ -25,7 +24,6 @@ const GIVEN: [&str; 53] = [
     "message",
     "message expression",
     "name",
-    "name in cel",
     "namespace object",
     "nested additional properties",
     "nested all of",

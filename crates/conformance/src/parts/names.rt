@@ -1,7 +1,6 @@
 //! Answers questions about the CEL names of fields.
 
-use conformance_rows::texts::yes_or_no;
-use conformance_rows::{Field, Found, Output, Stop, given};
+use conformance_rows::{Field, Found, Output, Stop};
 use kube_schema_values::{escape_field_name, unescape_field_name};
 use std::alloc::Global;
 
@@ -17,11 +16,8 @@ pub(crate) fn put_escaped(alloc: Global, name: &str, out: &mut Output) {
     }
 }
 
-/// Answers with a field's CEL name: as it is for a `field`, as JSON for a `name`.
+/// Answers with a name's form in CEL, as JSON.
 pub(crate) fn escaped(alloc: Global, given: &[Field], found: &mut Found) {
-    if let Some(field) = given::text(given, "field") {
-        return put_escaped(alloc, field, &mut found.text);
-    }
     let name = found.required(given, "name");
     put_escaped(alloc, name, &mut found.other);
     if !found.is_stopped() {
@@ -29,25 +25,12 @@ pub(crate) fn escaped(alloc: Global, given: &[Field], found: &mut Found) {
     }
 }
 
-/// Answers with the field that a CEL name stands for: as it is for a `name in cel`, as JSON for a
-/// `name`.
+/// Answers with the field that a name in CEL stands for, as JSON: null if there is none.
 pub(crate) fn unescaped(alloc: Global, given: &[Field], found: &mut Found) {
-    let is_plain = given::text(given, "name in cel").is_some();
-    let key = if is_plain { "name in cel" } else { "name" };
-    let name = found.required(given, key);
+    let name = found.required(given, "name");
     match found.take(unescape_field_name(alloc, name)) {
-        Some(Some(field)) if is_plain => found.text.push(field.as_str()),
         Some(Some(field)) => found.text.push_quoted(field.as_str()),
-        Some(None) if is_plain => found.stop(Stop::Unfit("name in cel")),
         Some(None) => found.text.push("null"),
         None => {}
-    }
-}
-
-/// Answers whether a CEL name stands for a field.
-pub(crate) fn means_a_field(alloc: Global, given: &[Field], found: &mut Found) {
-    let name = found.required(given, "name in cel");
-    if let Some(field) = found.take(unescape_field_name(alloc, name)) {
-        found.say(yes_or_no(field.is_some()));
     }
 }

@@ -1,40 +1,10 @@
 //! Answers questions about values by their own methods, whatever their kinds.
 
-use cel::{Key, Kind, OptionalValue, Text, Value};
+use cel::{Key, OptionalValue, Text, Value};
 use conformance_rows::texts::yes_or_no;
 use conformance_rows::{Found, Output, Stop};
 use std::alloc::Global;
 use std::cmp::Ordering;
-
-/// All kinds of values.
-const KINDS: [Kind; 18] = [
-    Kind::Null,
-    Kind::Bool,
-    Kind::Int,
-    Kind::UInt,
-    Kind::Float,
-    Kind::String,
-    Kind::Bytes,
-    Kind::List,
-    Kind::Map,
-    Kind::Timestamp,
-    Kind::Duration,
-    Kind::Optional,
-    Kind::Ip,
-    Kind::Cidr,
-    Kind::Quantity,
-    Kind::Semver,
-    Kind::Url,
-    Kind::Format,
-];
-
-/// Answers with the names of all kinds, one a line.
-pub(crate) fn kinds(found: &mut Found) {
-    for kind in KINDS.iter() {
-        found.text.push_line("");
-        found.text.show(kind);
-    }
-}
 
 /// Makes a key of a text.
 fn text_key(alloc: Global, text: &str) -> Result<Key, Stop> {
