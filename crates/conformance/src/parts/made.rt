@@ -183,32 +183,25 @@ fn run_texts_in(
     report.push("; each comes back\n");
 }
 
-/// Like `run_texts_in`, with the second expression compiled from its text.
-fn run_texts_by(
+/// Like `run_texts_in`, by the expressions that make an item of its type, and that must be true of it.
+fn run_texts(
     alloc: Global,
     maker: &mut Maker,
-    read: &Program,
     (of, again): (&str, &str),
     found: &mut Found,
     report: &mut Output,
 ) {
-    match compiled(alloc, again) {
-        Ok(again) => run_texts_in(alloc, maker, of, (read, again.as_ref()), found, report),
-        Err(stop) => found.stop(stop),
-    }
-}
-
-/// Like `run_texts_by`, with the first expression compiled too.
-fn run_texts(
-    alloc: Global,
-    maker: &mut Maker,
-    item: (&str, &str),
-    found: &mut Found,
-    report: &mut Output,
-) {
-    match compiled(alloc, maker_of(item.0).unwrap_or("")) {
-        Ok(read) => run_texts_by(alloc, maker, read.as_ref(), item, found, report),
-        Err(stop) => found.stop(stop),
+    let read = found.take(compiled(alloc, maker_of(of).unwrap_or("")));
+    let again = found.take(compiled(alloc, again));
+    if let (Some(read), Some(again)) = (read, again) {
+        run_texts_in(
+            alloc,
+            maker,
+            of,
+            (read.as_ref(), again.as_ref()),
+            found,
+            report,
+        );
     }
 }
 
