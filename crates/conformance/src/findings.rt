@@ -7,7 +7,7 @@ use serde_json::Value;
 use std::alloc::Global;
 
 /// The kind of findings with this name.
-pub(crate) fn lint_kind_of(name: &str) -> Result<LintKind, Stop> {
+fn lint_kind_of(name: &str) -> Result<LintKind, Stop> {
     match name {
         "Compile" => Ok(LintKind::Compile),
         "Function" => Ok(LintKind::Function),

@@ -1,11 +1,11 @@
 //! Answers rows about types: what serde writes of their values, and which values are equal.
 
-use crate::findings::{finding_of, lint_kind_of};
+use crate::findings::finding_of;
 use conformance_rows::{Field, Found, Output, Stop, given as rows};
 use kube_cel::{
     AdmissionRequest, AnalysisWarning, ErrorKind, GroupVersionKind, GroupVersionResource,
-    LintFinding, LintKind, ScopeContext, ValidationError, ValidationErrors, VapExpression,
-    VapResult, WarningKind,
+    LintFinding, ScopeContext, ValidationError, ValidationErrors, VapExpression, VapResult,
+    WarningKind,
 };
 use serde::{Deserialize, Serialize};
 use serde_json::Value;
@@ -217,41 +217,26 @@ fn scopes_of(alloc: Global, names: &[String], out: &mut Output) -> Vec<ScopeCont
     scopes
 }
 
-/// The linter's kinds with these names.
-fn lint_kinds_of(alloc: Global, names: &[String], out: &mut Output) -> Vec<LintKind> {
-    let mut kinds = Vec::new(alloc);
-    for name in names {
-        if let Some(kind) = out.take(lint_kind_of(name.as_str())) {
-            out.take(kinds.push(kind));
-        }
-    }
-    kinds
-}
-
-/// Compares the scopes, or the linter's kinds, with these names.
-fn names_compared(alloc: Global, of: &str, names: &[String], out: &mut Output) -> Answer {
-    match of {
-        "ScopeContext" => {
-            let scopes = scopes_of(alloc, names, out);
-            compared(scopes.as_slice(), scopes.as_slice())
-        }
-        _ => {
-            let kinds = lint_kinds_of(alloc, names, out);
-            compared(kinds.as_slice(), kinds.as_slice())
-        }
-    }
-}
-
-/// Compares the values of a list of a type that serde doesn't read: the linter's findings, and by
-/// name its kinds and scopes.
-fn differ_by_name(alloc: Global, of: &str, text: &str, out: &mut Output) -> Answer {
-    if of == "LintFinding" {
-        return differ_of_findings(alloc, text, out);
-    }
+/// Compares the scopes with the names in a JSON list.
+fn differ_of_scopes(alloc: Global, text: &str, out: &mut Output) -> Answer {
     let names: Result<Option<Vec<String>>, AllocError> = read(alloc, text);
-    match out.take(names).flatten() {
-        Some(names) => names_compared(alloc, of, names.as_slice(), out),
-        None => Answer::Unread,
+    let Some(names) = out.take(names).flatten() else {
+        return Answer::Unread;
+    };
+    let scopes = scopes_of(alloc, names.as_slice(), out);
+    compared(scopes.as_slice(), scopes.as_slice())
+}
+
+/// Compares the values of a list of a type that serde doesn't read: the linter's findings, or scopes
+/// by their names.
+fn differ_by_name(alloc: Global, of: &str, text: &str, out: &mut Output) -> Answer {
+    match of {
+        "LintFinding" => differ_of_findings(alloc, text, out),
+        "ScopeContext" => differ_of_scopes(alloc, text, out),
+        _ => {
+            out.stop(Stop::Unfit("type"));
+            Answer::Unread
+        }
     }
 }
 
