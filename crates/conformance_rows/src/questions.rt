@@ -35,7 +35,7 @@ const FAULTS: &str =
 
 /// The keys with the expressions that they stand for. In between is the type that one of the two
 /// items must have; it is empty if any type will do. The first entry that fits is used.
-const QUESTIONS: [(&str, &str, &str); 30] = [
+const QUESTIONS: [(&str, &str, &str); 29] = [
     ("order", "", COMPARED),
     ("sum", "duration", "item + other"),
     ("sum", "", "item.add(other)"),
@@ -45,7 +45,6 @@ const QUESTIONS: [(&str, &str, &str); 30] = [
     ("sign", "", "item.sign()"),
     ("is integer", "", "item.isInteger()"),
     ("integer", "", "item.asInteger()"),
-    ("integer error", "", "item.asInteger()"),
     ("canonical", "", "ip.isCanonical(written)"),
     ("family", "cidr", "item.ip().family()"),
     ("family", "", "item.family()"),
@@ -68,19 +67,6 @@ const QUESTIONS: [(&str, &str, &str); 30] = [
     ("faults", "", FAULTS),
 ];
 
-/// The answers that stand for messages, with the keys of the questions that have them.
-const WORDS: [(&str, &str, &str); 9] = [
-    ("sum", "quantity overflow", "overflow"),
-    ("sum", "integer overflow", "overflow"),
-    ("difference", "quantity overflow", "overflow"),
-    ("difference", "integer overflow", "overflow"),
-    ("integer", "quantity is not an integer", "not an integer"),
-    ("integer", "quantity too large for integer", "too large"),
-    ("major", "version part too large", "too large"),
-    ("minor", "version part too large", "too large"),
-    ("patch", "version part too large", "too large"),
-];
-
 /// The expression that makes a value of a type from the text `written`, if the type is known.
 pub fn maker(of: &str) -> Option<&'static str> {
     entry(&MAKERS, of)
@@ -94,15 +80,4 @@ pub fn question(key: &str, of: &str, other: &str) -> Option<&'static str> {
         }
     }
     None
-}
-
-/// Returns the answer for an error: a word if the key's question has one for it, otherwise the
-/// message.
-pub fn word_for<'m>(key: &str, message: &'m str) -> &'m str {
-    for &(asked, said, word) in WORDS.iter() {
-        if asked == key && said == message {
-            return word;
-        }
-    }
-    message
 }

@@ -6,7 +6,7 @@ use crate::parts::values;
 use crate::parts::ways::executed;
 use cel::{Answer, Context, ExecutionError, Value};
 use conformance_rows::keys::{item_given, item_type};
-use conformance_rows::questions::{maker, question, word_for};
+use conformance_rows::questions::{maker, question};
 use conformance_rows::texts::yes_or_no;
 use conformance_rows::{Field, Found, Output, Stop, given as rows};
 use kube_functions::{Context as KubeContext, KubeCelExt};
@@ -87,27 +87,12 @@ fn put_value(alloc: Global, value: &Value, out: &mut Output) {
     }
 }
 
-/// Writes an error: `no` for the key `valid`, otherwise the word for its message.
-fn put_error(alloc: Global, key: &str, error: &ExecutionError, out: &mut Output) {
+/// Writes an error: `no` for the key `valid`, otherwise its message.
+fn put_error(key: &str, error: &ExecutionError, out: &mut Output) {
     match (key, error) {
         ("valid", _) => out.push("no"),
-        (_, ExecutionError::FunctionError { message, .. }) => {
-            out.push(word_for(key, message.as_str()));
-        }
-        _ => {
-            if let Some(message) = out.take(error.to_string(alloc)) {
-                out.push(word_for(key, message.as_str()));
-            }
-        }
-    }
-}
-
-/// Writes the answer to the question of this key.
-fn put_reported(alloc: Global, key: &str, answer: &Answer, out: &mut Output) {
-    match (key, answer) {
-        ("integer error", Ok(_)) => out.push("none"),
-        (_, Ok(value)) => put_value(alloc, value, out),
-        (_, Err(error)) => put_error(alloc, key, error, out),
+        (_, ExecutionError::FunctionError { message, .. }) => out.push(message.as_str()),
+        _ => out.show(error),
     }
 }
 
@@ -116,8 +101,12 @@ fn ask(alloc: Global, context: &KubeContext<'_>, key: &str, expression: &str, ou
     let Some(answer) = out.take(executed(alloc, context, expression)) else {
         return;
     };
-    if let Some(answer) = out.take(Rc::new(alloc, answer)) {
-        put_reported(alloc, key, answer.as_ref(), out);
+    let Some(answer) = out.take(Rc::new(alloc, answer)) else {
+        return;
+    };
+    match answer.as_ref() {
+        Ok(value) => put_value(alloc, value, out),
+        Err(error) => put_error(key, error, out),
     }
 }
 
@@ -172,7 +161,7 @@ pub(crate) fn find(
             out.take(context.add_variable("item", value));
             ask_value(alloc, &context, key, types, out);
         }
-        Some(Err(error)) => put_error(alloc, key, &error, out),
+        Some(Err(error)) => put_error(key, &error, out),
         None => {}
     }
 }
