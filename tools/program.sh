@@ -10,7 +10,7 @@
 # 'find_program' leaves the path of the program in 'program': the first of these that is there and no older than its sources.
 #
 #   crates/NAME/out/NAME           proved: 'rt ci' leaves it, and so does 'rt run' in crates/NAME
-#   PREFIX/bin/NAME                proved: ./install made it of the same sources. Found by the path that ./install left in
+#   that of PREFIX/bin/NAME        proved: ./install made it of the same sources. Found by the path that ./install left in
 #                                  crates/NAME/out/installed, or as the NAME of PATH
 #   crates/NAME/out/NAME-unproved  not proved: the first run builds it, and a later one where a source is newer
 #
@@ -39,9 +39,11 @@ is_new() { # PROGRAM PART..
 
 # Prints the path of the program that ./install made of these sources.
 installed() {
-    local made record
-    for made in "$(cat "$crate/out/installed" 2>/dev/null)" "$(command -v "$name")"; do
-        record=${made%/bin/"$name"}/share/$name/proved
+    local command prefix made record
+    for command in "$(cat "$crate/out/installed" 2>/dev/null)" "$(command -v "$name")"; do
+        prefix=${command%/bin/"$name"}
+        made=$(place_of "$prefix" "$name")
+        record=$prefix/share/$name/proved
         if [ -x "$made" ] && [ -f "$record" ] &&
             [ "$(recorded "$record" sha256)" = "$(sum_of <"$made")" ] &&
             [ "$(recorded "$record" sources)" = "$(sum_of_sources "$here" "$name")" ]; then

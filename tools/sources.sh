@@ -57,6 +57,14 @@ sum_of() {
     sha256sum | cut -d' ' -f1
 }
 
+# Prints where ./install puts a program. (The command kubecel is a script around its program.)
+place_of() { # PREFIX PROGRAM
+    case $2 in
+        kubecel) echo "$1/libexec/kubecel/kubecel" ;;
+        *) echo "$1/bin/$2" ;;
+    esac
+}
+
 # Prints what stands behind NAME in the record that ./install writes beside a program.
 recorded() { # RECORD NAME
     sed -n "s/^$2: //p" "$1" 2>/dev/null
