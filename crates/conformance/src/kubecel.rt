@@ -65,6 +65,7 @@ fn command_of<'l, 'g>(given: &'g [Field], paths: &'l Paths<'g>) -> Command<'l, '
             crds: paths.crds.as_slice(),
             olds: paths.olds.as_slice(),
             objects: paths.objects.as_slice(),
+            ignores_missing: rows::text(given, "ignore missing").is_some(),
         }),
         None => Command::Review(paths.reviewed.as_slice()),
     }

@@ -146,8 +146,10 @@ fn find_of(alloc: Global, case: Case<'_>, field: &Field, found: &mut Found) {
     let Some(Err(errors)) = &verdict else {
         return;
     };
+    if found.is_stopped() {
+        return;
+    }
     match field.key.as_str() {
-        _ if found.is_stopped() => {}
         "errors written" => find_written(
             written_and_read(alloc, errors, field.text.as_str()),
             field,

@@ -4,7 +4,7 @@ use crate::questions::maker;
 use crate::row::Field;
 
 /// The keys of fields that give a value, except those for bound names, items and files.
-const GIVEN: [&str; 51] = [
+const GIVEN: [&str; 52] = [
     "admit",
     "after",
     "before",
@@ -17,6 +17,7 @@ const GIVEN: [&str; 51] = [
     "failing read",
     "form",
     "functions",
+    "ignore missing",
     "json",
     "levels",
     "limit",

@@ -1,4 +1,7 @@
 //! The fields of rows, and the reasons why a field has no answer.
+ghost use Rattle.conformance_rows.specs.declared.row.Stop.TheVariants.{Memory, TooLarge};
+ghost use Rattle.kube_types_refused.specs.declared.Refused.TheVariants as refused;
+ghost use Rattle.std.specs.Prelude.{◌≡◌};
 
 use kube_types_refused::Refused;
 use std::alloc::{AllocError, AllocFailed};
@@ -40,18 +43,25 @@ pub enum Stop {
 }
 
 impl From<AllocError> for Stop {
+    ghost from_gives = { λ _ stop. stop ≡ Memory };
+
     fn from(_error: AllocError) -> Stop {
         Stop::Memory
     }
 }
 
 impl<T: Drop> From<AllocFailed<T>> for Stop {
+    ghost from_gives = { λ _ stop. stop ≡ Memory };
+
     fn from(_error: AllocFailed<T>) -> Stop {
         Stop::Memory
     }
 }
 
 impl From<Refused> for Stop {
+    ghost from_gives = { λ r stop. (r ≡ refused.Memory → stop ≡ Memory)
+        × (r ≡ refused.TooLarge → stop ≡ TooLarge) };
+
     fn from(refused: Refused) -> Stop {
         match refused {
             Refused::Memory => Stop::Memory,

@@ -5,7 +5,7 @@ use Rattle.clap.specs.Lexer.{usize_max}
 use Rattle.clap.specs.Matches.{first_value, matched_of, raw_values}
 use Rattle.clap.specs.Simple.{App, app_of, new_app, new_rule, on_top, with_rule, with_subcommand}
 use Rattle.clap.specs.Walk.{Rule, rule_of}
-use Rattle.clap.specs.declared.builder.action.ArgAction.TheVariants.{Append, Set}
+use Rattle.clap.specs.declared.builder.action.ArgAction.TheVariants.{Append, Set, SetTrue}
 use Rattle.clap.specs.declared.builder.arg.Arg.{Arg}
 use Rattle.clap.specs.declared.builder.command.Command.{Command}
 use Rattle.clap.specs.declared.builder.command.Command.TheViews.{out-Command}
@@ -37,6 +37,10 @@ file name = record (new_rule name) { long = Some name; action = Some Set; value_
 abbrev pub files : List ℕ → Rule
 files name = record (file name) { action = Some Append }
 
+-- an option without a value
+abbrev pub flag : List ℕ → Rule
+flag name = record (new_rule name) { long = Some name; action = Some SetTrue }
+
 abbrev pub required : Rule → Rule
 required a = record a { required = true }
 
@@ -67,8 +71,8 @@ command forms name = with_rule (with_rule (new_app name) (output forms)) (files 
 
 unfoldable pub check_words : Texts → App
 check_words forms =
-    with_rule (with_rule (with_rule (command forms (codes "check")) (required (files (codes "crds"))))
-    (files (codes "old"))) objects
+    with_rule (with_rule (with_rule (with_rule (command forms (codes "check")) (required (files (codes "crds"))))
+    (files (codes "old"))) (flag (codes "ignore-missing-crds"))) objects
 
 unfoldable pub review_words : Texts → App
 review_words forms =
@@ -98,11 +102,16 @@ words forms =
 abbrev pub all_of : Found → List ℕ → List (List ℕ)
 all_of f name = unwrap_or (option_map raw_values (matched_of f name)) []
 
+-- whether an option without a value was given: `clap` takes its value for `true` then
+abbrev pub is_set : Found → List ℕ → Bool
+is_set f name = option_map_or (λ value. bytes_eq value (codes "true")) (first_value f name) false
+
 abbrev pub check_asked : Found → CheckData
 check_asked f = record {
   crds = all_of f (codes "crds");
   olds = all_of f (codes "old");
   objects = all_of f (codes "objects");
+  ignores_missing = is_set f (codes "ignore-missing-crds");
 }
 
 abbrev pub admit_asked : Found → AdmitData

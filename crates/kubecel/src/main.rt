@@ -2,7 +2,7 @@
 //! policies, without a cluster.
 //!
 //! ```text
-//! kubecel check --crds FILE.. [--old FILE] OBJECT..
+//! kubecel check --crds FILE.. [--old FILE] [--ignore-missing-crds] OBJECT..
 //!     checks objects against their CustomResourceDefinitions
 //! kubecel review --crds FILE..
 //!     reviews CustomResourceDefinitions for mistakes

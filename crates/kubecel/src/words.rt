@@ -1,6 +1,6 @@
 //! Defines and reads the command line.
 ghost use Rattle.clap.specs.Matches.{found_of};
-ghost use Rattle.kubecel.specs.Words.{IsOption, Texts, Understands, admit_words, all_of, check_words, command, command_of, file, files, form_named, form_names, objects, one_or_more, output, output_of, policy, program_words, required, review_words, text_form, words};
+ghost use Rattle.kubecel.specs.Words.{IsOption, Texts, Understands, admit_words, all_of, check_words, command, command_of, file, files, flag, form_named, form_names, is_set, objects, one_or_more, output, output_of, policy, program_words, required, review_words, text_form, words};
 ghost use Rattle.kubecel_cli.specs.Commands.{command_view};
 ghost use Rattle.std.specs.Prelude.{◌≡◌, IfOk, codes, map};
 
@@ -27,6 +27,16 @@ fn files<'a>(alloc: Global, name: &'a str, help: &'a str) -> Arg<'a>
     ensures { IsOption (files name.entry.now) result }
 {
     file(alloc, name, help).action(ArgAction::Append)
+}
+
+/// An option without a value.
+fn flag<'a>(alloc: Global, name: &'a str, help: &'a str) -> Arg<'a>
+    ensures { IsOption (flag name.entry.now) result }
+{
+    Arg::new(alloc, name)
+        .long(name)
+        .action(ArgAction::SetTrue)
+        .help(help)
 }
 
 /// The option for the form of output, one of these.
@@ -125,6 +135,11 @@ fn check_words<'a>(alloc: Global, forms: &'a [&'a str]) -> Result<Words<'a>, All
     )?
     .arg(crds(alloc))?
     .arg(files(alloc, "old", "Files with the old objects, for oldSelf"))?
+    .arg(flag(
+        alloc,
+        "ignore-missing-crds",
+        "Skips objects without a CustomResourceDefinition; at least one object needs to have one",
+    ))?
     .arg(objects(alloc))
 }
 
@@ -169,7 +184,7 @@ fn program_words<'a>(alloc: Global) -> Words<'a>
 {
     Words::new(alloc, "kubecel")
         .about(
-            "Checks Kubernetes objects against their CEL rules, without a cluster. Each FILE holds JSON: a document, a List, or several documents.",
+            "Checks Kubernetes objects against their CEL rules, without a cluster. Each FILE holds a document, a List, or several documents, as JSON; the script kubecel also takes YAML and folders.",
         )
         .after_help(
             "Exit status: 0 if everything was judged and passes, 1 if a rule fails, 2 if something couldn't be judged.",
@@ -198,6 +213,16 @@ pub fn all_of<'m, 'a>(found: &'m ArgMatches<'a>, name: &str) -> &'m [&'a str]
     found.get_strs(name).unwrap_or_default()
 }
 
+/// Reports whether an option without a value was given.
+fn is_set(found: &ArgMatches<'_>, name: &str) -> bool
+    ensures { result ≡ is_set (found_of found.now) name.now }
+{
+    match found.get_str(name) {
+        Some(value) => value == "true",
+        None => false,
+    }
+}
+
 /// Returns the command of this name with its arguments.
 pub fn command_of<'m, 'a>(name: &str, found: &'m ArgMatches<'a>) -> Command<'m, 'a>
     ensures { command_view result ≡ command_of name.now (found_of found.now) }
@@ -207,6 +232,7 @@ pub fn command_of<'m, 'a>(name: &str, found: &'m ArgMatches<'a>) -> Command<'m, 
             crds: all_of(found, "crds"),
             olds: all_of(found, "old"),
             objects: all_of(found, "objects"),
+            ignores_missing: is_set(found, "ignore-missing-crds"),
         }),
         "review" => Command::Review(all_of(found, "crds")),
         _ => Command::Admit(Admit {

@@ -10,9 +10,9 @@ use Rattle.kubecel_io.specs.declared.subject.Subject.{Subject}
 use Rattle.kubecel_io.specs.Items.{ItemData}
 use Rattle.kubecel_cli.proofs.Judging.{items_otherwise}
 use Rattle.kubecel_cli.proofs.Definitions.{unless_otherwise}
-use Rattle.kubecel_cli.proofs.Held.{held_alike}
+use Rattle.kubecel_cli.proofs.Held.{defined_alike, held_alike}
 use Rattle.kubecel_cli.specs.Commands.{CheckData}
-use Rattle.kubecel_cli.specs.Runs.{AreChecked, AreCompared, AreItems, AreReviewed, AreUnread, AreWhole, IsJudged, IsJudgedBy, IsReviewed, IsSetOf, UnlessAny, holds_object}
+use Rattle.kubecel_cli.specs.Runs.{AreChecked, AreCompared, AreDefined, AreItems, AreReviewed, AreUnread, AreWhole, IsJudged, IsJudgedBy, IsReviewed, IsSetOf, UnlessAny, holds_object}
 use Rattle.serde_json.specs.Data.{Data, Items}
 use Rattle.serde_json.specs.View.{items_of}
 use Rattle.std.proofs.Common.{◌≡◌, ℕ, ◌<◌, List, [], ◌∷◌, length, map, true, Option, Result, Ok, Err, refl, subst, arith}
@@ -42,15 +42,17 @@ pub checked_so : {S : Type 0} (reads : S → List ℕ → Option (List ℕ) → 
     → AreRead reads before asked.crds crds with_crds → AreRead reads with_crds asked.olds olds with_olds → AreRead reads with_olds asked.objects objects after
     → IsSetOf crds set → map subject_view definitions ≡ all_objects crds → map subject_view old_subjects ≡ all_objects olds → map subject_view subjects ≡ all_objects objects
     → 0 < length subjects → list_all (holds_object (set_view set) (map subject_view old_subjects)) asked.olds ≡ true
-    → AreCompared asked.olds (map (λ f. f.value) (map subject_view old_subjects)) (map subject_view subjects) → AreUnread (map subject_view definitions) unread
-    → UnlessAny unread (AreItems (IsJudgedBy set (map (λ f. f.value) (map subject_view old_subjects))) (map subject_view subjects)) items → AreChecked reads before asked after items
-checked_so reads before asked after unread items crds olds objects with_crds with_olds set definitions old_subjects subjects crds_read olds_read objects_read of crds_are old_are are some held compared those judged =
+    → AreCompared asked.olds (map (λ f. f.value) (map subject_view old_subjects)) (map subject_view subjects)
+    → AreDefined asked.ignores_missing (set_view set) (map subject_view subjects) → AreUnread (map subject_view definitions) unread
+    → UnlessAny unread (AreItems (IsJudgedBy asked.ignores_missing set (map (λ f. f.value) (map subject_view old_subjects))) (map subject_view subjects)) items → AreChecked reads before asked after items
+checked_so reads before asked after unread items crds olds objects with_crds with_olds set definitions old_subjects subjects crds_read olds_read objects_read of crds_are old_are are some held compared defined those judged =
     let versions = of.0 in
     let values = map (λ f. f.value) (map subject_view old_subjects) in
-    let all_judged = AreItems (IsJudged versions values) in
+    let ignores = asked.ignores_missing in
+    let all_judged = AreItems (IsJudged ignores versions values) in
     let by_versions : UnlessAny unread (all_judged (map subject_view subjects)) items =
-    unless_otherwise unread (AreItems (IsJudgedBy set values) (map subject_view subjects)) (all_judged (map subject_view subjects)) items
-    (items_otherwise (IsJudgedBy set values) (IsJudged versions values) (λ f i x. (x.0, x.1 versions of.2, x.2)) (map subject_view subjects) items) judged in
+    unless_otherwise unread (AreItems (IsJudgedBy ignores set values) (map subject_view subjects)) (all_judged (map subject_view subjects)) items
+    (items_otherwise (IsJudgedBy ignores set values) (IsJudged ignores versions values) (λ f i x. (x.0, x.1 versions of.2, x.2)) (map subject_view subjects) items) judged in
     let of_objects = subst (λ fs. UnlessAny unread (all_judged fs) items) are by_versions in
     record {
       crds = crds;
@@ -67,9 +69,10 @@ checked_so reads before asked after unread items crds olds objects with_crds wit
       held = subst (λ os. list_all (holds_object versions os) asked.olds ≡ true) old_are (held_alike (set_view set) versions of.2 (map subject_view old_subjects) asked.olds held);
       compared = subst (λ os. AreCompared asked.olds (map (λ f. f.value) os) (all_objects objects)) old_are
           (subst (AreCompared asked.olds values) are compared);
+      defined = subst (AreDefined ignores versions) are (defined_alike ignores (set_view set) versions of.2 (map subject_view subjects) defined);
       unread = unread;
       definitions = subst (λ fs. AreUnread fs unread) crds_are those;
-      judged = subst (λ os. UnlessAny unread (AreItems (IsJudged versions (map (λ f. f.value) os)) (all_objects objects)) items) old_are of_objects;
+      judged = subst (λ os. UnlessAny unread (AreItems (IsJudged ignores versions (map (λ f. f.value) os)) (all_objects objects)) items) old_are of_objects;
     }
 
 pub reviewed_so : {S : Type 0} (reads : S → List ℕ → Option (List ℕ) → S → Type 0) (before : S) (paths : List (List ℕ)) (after : S) (items : List ItemData)

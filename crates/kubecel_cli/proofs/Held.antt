@@ -8,9 +8,9 @@ use Rattle.kube_manifests.specs.declared.judgement.NotJudged.TheVariants as reas
 use Rattle.kube_schema.specs.Tree.{Node}
 use Rattle.kube_schema.specs.View.{view_of}
 use Rattle.kubecel_io.specs.Reads.{Found}
-use Rattle.kubecel_cli.specs.Runs.{has_definition, holds_object, is_held}
+use Rattle.kubecel_cli.specs.Runs.{AreDefined, has_definition, holds_object, is_defined, is_held}
 use Rattle.serde_json.specs.Data.{Data}
-use Rattle.std.proofs.Common.{◌≡◌, ℕ, List, [], ◌∷◌, ◌&&◌, ◌||◌, map, Bool, true, Result, Ok, Err, refl, sym, ap, ◌∙◌}
+use Rattle.std.proofs.Common.{◌≡◌, ℕ, List, [], ◌∷◌, ◌&&◌, ◌||◌, map, Bool, false, true, Result, Ok, Err, refl, sym, ap, ◌∙◌}
 use Rattle.std.specs.List.{list_all, list_any}
 use Rattle.std.specs.Str.{bytes_eq}
 
@@ -43,11 +43,17 @@ any_alike p q same [] = refl
 any_alike p q same (x ∷ xs) = ap (λ b. b || list_any p xs) (same x) ∙ ap (λ b. q x || b) (any_alike p q same xs)
 
 -- with trees in place of schemas, the same objects are of a definition
-defined_alike : (versions : List (Version Data)) (value : Data) → has_definition (chosen_version (map with_tree versions) value) ≡ has_definition (chosen_version versions value)
-defined_alike versions value = ap has_definition (chosen_alike (view_of 65) versions value) ∙ mapped_alike with_tree (chosen_version versions value)
+same_defined : (set : List (Version Node)) (versions : List (Version Data)) → set ≡ map with_tree versions → (f : Found) → is_defined set f ≡ is_defined versions f
+same_defined set versions same f = ap (λ vs. has_definition (chosen_version vs f.value)) same
+    ∙ (ap has_definition (chosen_alike (view_of 65) versions f.value) ∙ mapped_alike with_tree (chosen_version versions f.value))
+
+pub defined_alike : (ignores_missing : Bool) (set : List (Version Node)) (versions : List (Version Data)) → set ≡ map with_tree versions → (objects : List Found)
+    → AreDefined ignores_missing set objects → AreDefined ignores_missing versions objects
+defined_alike false set versions same objects are = tt
+defined_alike true set versions same objects are = sym (any_alike (is_defined set) (is_defined versions) (same_defined set versions same) objects) ∙ are
 
 pub held_alike : (set : List (Version Node)) (versions : List (Version Data)) → set ≡ map with_tree versions → (olds : List Found) (paths : List (List ℕ))
     → list_all (holds_object set olds) paths ≡ true → list_all (holds_object versions olds) paths ≡ true
 held_alike set versions same olds paths held =
-    let one = λ (path : List ℕ) (f : Found). ap (λ b. bytes_eq f.file path && b) (ap (λ vs. has_definition (chosen_version vs f.value)) same ∙ defined_alike versions f.value) in
+    let one = λ (path : List ℕ) (f : Found). ap (λ b. bytes_eq f.file path && b) (same_defined set versions same f) in
     sym (all_alike (holds_object set olds) (holds_object versions olds) (λ path. any_alike (is_held set path) (is_held versions path) (one path) olds) paths) ∙ held

@@ -4,13 +4,15 @@ use Rattle.kubecel_cli.specs.declared.command.Admit.{Admit}
 use Rattle.kubecel_cli.specs.declared.command.Check.{Check}
 use Rattle.kubecel_cli.specs.declared.command.Command.{Command}
 use Rattle.kubecel_cli.specs.declared.command.Command.TheVariants as command
-use Rattle.std.specs.Prelude.{ℕ, List, map, Option, option_map}
+use Rattle.std.specs.Prelude.{ℕ, List, map, Bool, Option, option_map}
 
--- the paths of definitions, of the old objects, and of the objects
+-- the paths of definitions, of the old objects, and of the objects; and whether objects are skipped
+-- for which there is no definition
 pub record CheckData : Type 0 where
   pub crds : List (List ℕ)
   pub olds : List (List ℕ)
   pub objects : List (List ℕ)
+  pub ignores_missing : Bool
 
 -- the paths of a policy, of an AdmissionReview, and of further inputs
 pub record AdmitData : Type 0 where
@@ -34,6 +36,7 @@ check_view c = record {
   crds = map (λ s. s.now) c.crds.now;
   olds = map (λ s. s.now) c.olds.now;
   objects = map (λ s. s.now) c.objects.now;
+  ignores_missing = c.ignores_missing;
 }
 
 abbrev pub admit_view : Admit → AdmitData

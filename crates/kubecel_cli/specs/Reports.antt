@@ -6,7 +6,8 @@ use Rattle.kube_manifests.specs.Documents.{is_crd}
 use Rattle.kube_manifests.specs.Texts.{reason_text}
 use Rattle.kube_manifests.specs.declared.judgement.Judgement.{Judgement}
 use Rattle.kube_manifests.specs.declared.judgement.Judgement.TheVariants as judgement
-use Rattle.kube_manifests.specs.declared.judgement.NotJudged as reason
+use Rattle.kube_manifests.specs.declared.judgement.NotJudged.{NotJudged}
+use Rattle.kube_manifests.specs.declared.judgement.NotJudged.TheVariants as reason
 use Rattle.kube_manifests_policies.specs.Verdicts.{Labelled, ItemReportData, VerdictData, holds, fails, says, nothing, erred, not_given, not_compiled, report_text}
 use Rattle.kube_manifests_policies.specs.declared.verdict.PolicyDecision.{PolicyDecision}
 use Rattle.kube_manifests_policies.specs.declared.verdict.PolicyDecision.TheVariants as decision
@@ -20,7 +21,7 @@ use Rattle.kubecel_io.specs.declared.item.Verdict.{Verdict}
 use Rattle.kubecel_io.specs.declared.item.Verdict.TheVariants as verdict
 use Rattle.serde_json.specs.Data.{Data}
 use Rattle.std.specs.List.{flat_map}
-use Rattle.std.specs.Prelude.{ℕ, List, [], ◌∷◌, ◌++◌, map, Bool, true, false, Ok, Err, if◌then◌else◌, codes}
+use Rattle.std.specs.Prelude.{ℕ, List, [], ◌∷◌, ◌++◌, map, Bool, true, false, ◌&&◌, Ok, Err, if◌then◌else◌, codes}
 
 -- the item of an object: its file, kind, namespace and name, with its verdict and findings
 abbrev pub item_of : Found → Verdict → List FindingData → ItemData
@@ -44,15 +45,30 @@ abbrev pub error_finding : ErrorData → FindingData
 error_finding e = record { location = e.field_path; rule = e.rule; message = e.message }
 
 -- the reason why an object isn't judged; for a definition it says where definitions belong
-abbrev pub why_not : Data → reason.NotJudged → List ℕ
+abbrev pub why_not : Data → NotJudged → List ℕ
 why_not d r =
     reason_text r ++ (if is_crd d then codes " (pass CustomResourceDefinitions with --crds)" else [])
 
-abbrev pub judged_item : Found → Judgement → ItemData
-judged_item f (judgement.Judged (Ok u)) = item_of f verdict.Pass []
-judged_item f (judgement.Judged (Err es)) =
+-- whether the reason is that no definition has the object's group and kind
+abbrev pub is_missing : NotJudged → Bool
+is_missing reason.NotAnObject = false
+is_missing reason.NoApiVersion = false
+is_missing reason.NoKind = false
+is_missing reason.NoSuchKind = true
+is_missing reason.NoSuchVersion = false
+is_missing reason.NotServed = false
+
+-- an object for which there is no definition is skipped if missing ones are ignored; otherwise, and
+-- for any other reason, it couldn't be judged
+abbrev pub verdict_for : Bool → NotJudged → Verdict
+verdict_for ignores_missing r = if ignores_missing && is_missing r then verdict.Skip else verdict.NotJudged
+
+abbrev pub judged_item : Bool → Found → Judgement → ItemData
+judged_item ignores_missing f (judgement.Judged (Ok u)) = item_of f verdict.Pass []
+judged_item ignores_missing f (judgement.Judged (Err es)) =
     item_of f verdict.Fail (map (λ e. error_finding (error_view e)) (errors_in es))
-judged_item f (judgement.NotJudged r) = item_of f verdict.NotJudged (remark (why_not f.value r))
+judged_item ignores_missing f (judgement.NotJudged r) =
+    item_of f (verdict_for ignores_missing r) (remark (why_not f.value r))
 
 -- ---- definitions
 

@@ -38,10 +38,12 @@ AreItems Is (f ∷ fs) items =
 
 -- ---- the result of one thing
 
--- an object is judged by these versions, with the old object of the same identity, if any
-abbrev pub IsJudged : List (Version Data) → List Data → Found → ItemData → Type 0
-IsJudged versions olds f i =
-    (j : Judgement) × IsJudgement versions f.value (old_of olds f.value) j × (i ≡ judged_item f j)
+-- an object is judged by these versions, with the old object of the same identity, if any; the Bool
+-- says whether it is skipped if there is no definition for it
+abbrev pub IsJudged : Bool → List (Version Data) → List Data → Found → ItemData → Type 0
+IsJudged ignores_missing versions olds f i =
+    (j : Judgement) × IsJudgement versions f.value (old_of olds f.value) j
+    × (i ≡ judged_item ignores_missing f j)
 
 -- whether one of the old objects has the object's identity
 abbrev pub has_old : List Data → Found → Bool
@@ -57,9 +59,18 @@ has_definition (Err reason.NoSuchKind) = false
 has_definition (Err reason.NoSuchVersion) = true
 has_definition (Err reason.NotServed) = true
 
+-- whether an object is of a definition
+abbrev pub is_defined : {A : Type 0} → List (Version A) → Found → Bool
+is_defined versions f = has_definition (chosen_version versions f.value)
+
+-- if missing definitions are ignored, at least one object is of a definition
+abbrev pub AreDefined : {A : Type 0} → Bool → List (Version A) → List Found → Type 0
+AreDefined false versions objects = ⊤
+AreDefined true versions objects = list_any (is_defined versions) objects ≡ true
+
 -- whether an object is in the file at the path, and is of a definition
 abbrev pub is_held : {A : Type 0} → List (Version A) → List ℕ → Found → Bool
-is_held versions path f = bytes_eq f.file path && has_definition (chosen_version versions f.value)
+is_held versions path f = bytes_eq f.file path && is_defined versions f
 
 -- whether one of the objects is
 abbrev pub holds_object : {A : Type 0} → List (Version A) → List Found → List ℕ → Bool
@@ -127,9 +138,9 @@ module _ {S : Type 0} (reads : S → List ℕ → Option (List ℕ) → S → Ty
 
   -- The definitions, the old objects and the objects were read in order. All definitions are
   -- well-formed, and there is at least one object. If files of old objects are named, each of them
-  -- holds an object of a definition, and at least one object has an old one. If some definitions
-  -- have parts that aren't read, only these are reported, as not judged; otherwise each object is
-  -- judged.
+  -- holds an object of a definition, and at least one object has an old one. If missing definitions
+  -- are ignored, at least one object is of a definition. If some definitions have parts that aren't
+  -- read, only these are reported, as not judged; otherwise each object is judged.
   pub record AreChecked (before : S) (asked : CheckData) (after : S) (items : List ItemData) : Type 0 where
     pub crds : List Found
     pub olds : List Found
@@ -144,10 +155,12 @@ module _ {S : Type 0} (reads : S → List ℕ → Option (List ℕ) → S → Ty
     pub some : 0 < length (all_objects objects)
     pub held : list_all (holds_object versions (all_objects olds)) asked.olds ≡ true
     pub compared : AreCompared asked.olds (map (λ f. f.value) (all_objects olds)) (all_objects objects)
+    pub defined : AreDefined asked.ignores_missing versions (all_objects objects)
     pub unread : List ItemData
     pub definitions : AreUnread (all_objects crds) unread
     pub judged : UnlessAny unread
-        (AreItems (IsJudged versions (map (λ f. f.value) (all_objects olds))) (all_objects objects)) items
+        (AreItems (IsJudged asked.ignores_missing versions (map (λ f. f.value) (all_objects olds)))
+        (all_objects objects)) items
 
   -- The definitions were read. There is at least one, all are well-formed, and each is reviewed.
   pub record AreReviewed (before : S) (paths : List (List ℕ)) (after : S) (items : List ItemData)
@@ -219,10 +232,11 @@ abbrev pub IsSetOf : List Found → CrdSet → Type 0
 IsSetOf crds set =
     (versions : List (Version Data)) × AreWhole crds versions × (set_view set ≡ map with_tree versions)
 
--- an object is judged by a set, with the old object of the same identity, if any
-abbrev pub IsJudgedBy : CrdSet → List Data → Found → ItemData → Type 0
-IsJudgedBy set olds f i =
+-- an object is judged by a set, with the old object of the same identity, if any; the Bool says
+-- whether it is skipped if there is no definition for it
+abbrev pub IsJudgedBy : Bool → CrdSet → List Data → Found → ItemData → Type 0
+IsJudgedBy ignores_missing set olds f i =
     (j : Judgement)
     × ((versions : List (Version Data)) → set_view set ≡ map with_tree versions
     → IsJudgement versions f.value (old_of olds f.value) j)
-    × (i ≡ judged_item f j)
+    × (i ≡ judged_item ignores_missing f j)

@@ -146,6 +146,7 @@ fn report_of(
         noun: "policies",
         rules: Some(verdict.validations.len() as u64),
         compared: None,
+        skipped: None,
         fault: None,
     })
 }

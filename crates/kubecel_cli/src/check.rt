@@ -8,12 +8,13 @@ ghost use Rattle.kubecel_io.specs.Subjects.{subject_view};
 ghost use Rattle.kubecel_io.specs.Items.{finding_view, item_view};
 ghost use Rattle.kubecel_cli.specs.Commands.{check_view};
 ghost use Rattle.kubecel_cli.specs.Runs.{AreChecked, AreItems, IsJudgedBy, IsSetOf, UnlessAny};
-ghost use Rattle.kubecel_cli.specs.Reports.{error_finding, judged_item, why_not};
+ghost use Rattle.kubecel_cli.specs.Reports.{error_finding, is_missing, judged_item, verdict_for, why_not};
 ghost use Rattle.serde_json.specs.Data.{Data};
 ghost use Rattle.serde_json.specs.View.{view};
 ghost use Rattle.std.specs.Prelude.{◌≡◌, IfOk, List, map, option_map, string_bytes};
 
 use crate::command::Check;
+use crate::defined::refuse_unless_defined;
 use crate::item::{item_of, remark};
 use crate::olds::{refuse_unless_compared, refuse_unless_held};
 use crate::report::{Report, ReportFormat};
@@ -54,10 +55,12 @@ pub(crate) fn checked<S: Sources, E: Write>(
     }
     refuse_unless_held(alloc, check.olds, &set, olds.as_slice())?;
     refuse_unless_compared(alloc, check.olds, olds.as_slice(), subjects.as_slice())?;
+    refuse_unless_defined(alloc, check.ignores_missing, &set, subjects.as_slice())?;
     let unread = unread_items(alloc, definitions.as_slice())?;
     Ok(judge_unless_any(
         alloc,
         unread,
+        check.ignores_missing,
         &set,
         olds.as_slice(),
         subjects.as_slice(),
@@ -81,6 +84,7 @@ fn set_of(alloc: Global, documents: &[Document]) -> Result<CrdSet, Stop>
 fn judge_unless_any<E: Write>(
     alloc: Global,
     unread: Vec<Item>,
+    ignores_missing: bool,
     set: &CrdSet,
     olds: &[Subject<'_>],
     subjects: &[Subject<'_>],
@@ -88,16 +92,17 @@ fn judge_unless_any<E: Write>(
     err: &mut E,
 ) -> Result<Report, Refused>
     ensures { IfOk result (λ r. UnlessAny (map item_view unread.items)
-        (AreItems (IsJudgedBy set.now (map (λ f. f.value) (map subject_view olds.now)))
+        (AreItems (IsJudgedBy ignores_missing set.now (map (λ f. f.value) (map subject_view olds.now)))
         (map subject_view subjects.now)) (map item_view r.items.items)) }
 {
     match unread.as_slice() {
-        [] => judge_all(alloc, set, olds, subjects, form, err),
+        [] => judge_all(alloc, ignores_missing, set, olds, subjects, form, err),
         [_, ..] => Ok(Report {
             items: unread,
             noun: "no object was judged; definitions with mistakes",
             rules: None,
             compared: None,
+            skipped: None,
             fault: None,
         }),
     }
@@ -106,6 +111,7 @@ fn judge_unless_any<E: Write>(
 /// Judges each object by a set, all with one book of patterns.
 fn judge_all<E: Write>(
     alloc: Global,
+    ignores_missing: bool,
     set: &CrdSet,
     olds: &[Subject<'_>],
     subjects: &[Subject<'_>],
@@ -113,7 +119,7 @@ fn judge_all<E: Write>(
     err: &mut E,
 ) -> Result<Report, Refused>
     ensures { IfOk result (λ r.
-        AreItems (IsJudgedBy set.now (map (λ f. f.value) (map subject_view olds.now)))
+        AreItems (IsJudgedBy ignores_missing set.now (map (λ f. f.value) (map subject_view olds.now)))
         (map subject_view subjects.now) (map item_view r.items.items)) }
 {
     let mut items = Vec::with_capacity(alloc, subjects.len())?;
@@ -121,13 +127,14 @@ fn judge_all<E: Write>(
     let mut book = PatternBook::new(alloc);
     for subject in subjects {
         let old = old_of(olds, subject);
-        items.push(judge(alloc, set, subject, old, &mut book)?)?;
+        items.push(judge(alloc, ignores_missing, set, subject, old, &mut book)?)?;
         rules = rules.saturating_add(set.rule_count(subject.value).unwrap_or(0));
         compared = compared.saturating_add(u64::from(old.is_some()));
         if form.progress {
             report_progress(items.len(), subjects.len(), err);
         }
     }
+    let skipped = count_skipped(items.as_slice());
     Ok(Report {
         items,
         noun: "objects",
@@ -137,8 +144,20 @@ fn judge_all<E: Write>(
         } else {
             Some(compared)
         },
+        skipped: if ignores_missing { Some(skipped) } else { None },
         fault: None,
     })
+}
+
+/// Returns how many of these things were skipped.
+fn count_skipped(items: &[Item]) -> u64 {
+    let mut count = 0u64;
+    for item in items {
+        if let Verdict::Skip = item.verdict {
+            count = count.saturating_add(1);
+        }
+    }
+    count
 }
 
 /// Writes how many objects were judged so far, if there are many, and clears that line at the end.
@@ -154,6 +173,7 @@ fn report_progress<E: Write>(judged: usize, all: usize, err: &mut E) {
 /// Judges an object by a set, with a lent book of patterns.
 fn judge(
     alloc: Global,
+    ignores_missing: bool,
     set: &CrdSet,
     subject: &Subject<'_>,
     old: Option<&Value>,
@@ -162,19 +182,21 @@ fn judge(
     ensures { IfOk result (λ i. (j : spec.Judgement)
         × ((versions : List (Version Data)) → set_view set.now ≡ map with_tree versions
         → IsJudgement versions (view subject.now.value.now) (option_map (λ v. view v.now) old.entry) j)
-        × (item_view i ≡ judged_item (subject_view subject.now) j)) }
+        × (item_view i ≡ judged_item ignores_missing (subject_view subject.now) j)) }
 {
     let judgement = set.validate_in(alloc, subject.value, old, book)?;
-    Ok(judged_item(alloc, subject, &judgement)?)
+    Ok(judged_item(alloc, ignores_missing, subject, &judgement)?)
 }
 
 /// Builds the item of an object from its judgement.
 fn judged_item(
     alloc: Global,
+    ignores_missing: bool,
     subject: &Subject<'_>,
     judgement: &Judgement,
 ) -> Result<Item, AllocError>
-    ensures { IfOk result (λ i. item_view i ≡ judged_item (subject_view subject.now) judgement.now) }
+    ensures { IfOk result (λ i. item_view i
+        ≡ judged_item ignores_missing (subject_view subject.now) judgement.now) }
 {
     match judgement {
         Judgement::Judged(Ok(())) => item_of(alloc, subject, Verdict::Pass, Vec::new(alloc)),
@@ -184,8 +206,34 @@ fn judged_item(
         }
         Judgement::NotJudged(reason) => {
             let findings = remark(alloc, why_not(alloc, subject.value, *reason)?)?;
-            item_of(alloc, subject, Verdict::NotJudged, findings)
+            let verdict = verdict_for(ignores_missing, *reason);
+            item_of(alloc, subject, verdict, findings)
         }
+    }
+}
+
+/// Returns the verdict on an object that isn't judged for this reason.
+fn verdict_for(ignores_missing: bool, reason: NotJudged) -> Verdict
+    ensures { result ≡ verdict_for ignores_missing reason }
+{
+    if ignores_missing && is_missing(reason) {
+        Verdict::Skip
+    } else {
+        Verdict::NotJudged
+    }
+}
+
+/// Reports whether the reason is that no definition has the object's group and kind.
+fn is_missing(reason: NotJudged) -> bool
+    ensures { result ≡ is_missing reason }
+{
+    match reason {
+        NotJudged::NoSuchKind => true,
+        NotJudged::NotAnObject
+        | NotJudged::NoApiVersion
+        | NotJudged::NoKind
+        | NotJudged::NoSuchVersion
+        | NotJudged::NotServed => false,
     }
 }
 

@@ -11,7 +11,7 @@ pub enum Command<'l, 'w> {
     Admit(Admit<'w>),
 }
 
-/// The paths that `check` is given.
+/// What `check` is given.
 #[derive(Clone, Copy)]
 pub struct Check<'l, 'w> {
     /// The files of CustomResourceDefinitions.
@@ -20,6 +20,9 @@ pub struct Check<'l, 'w> {
     pub olds: &'l [&'w str],
     /// The files of the objects.
     pub objects: &'l [&'w str],
+    /// Whether an object is skipped if no definition has its group and kind. Otherwise it counts as
+    /// not judged.
+    pub ignores_missing: bool,
 }
 
 /// The paths that `admit` is given.

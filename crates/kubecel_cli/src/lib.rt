@@ -4,6 +4,7 @@
 mod admit;
 mod check;
 mod command;
+mod defined;
 mod item;
 mod olds;
 mod report;
@@ -35,7 +36,7 @@ use std::io::Write;
 /// the contents of the files; and the whole report was written to `out`, in the requested form. In
 /// all other cases the status is 2: a file can't be read, isn't JSON or has no document, a definition
 /// or policy is malformed, an object couldn't be judged, there is nothing to judge, no object has an
-/// old one though old ones are named, memory is refused, or a write fails. No contract can rule out a status of 2 in further cases, since no caller knows
+/// old one though old ones are named, no object is of a definition though missing ones are ignored, memory is refused, or a write fails. No contract can rule out a status of 2 in further cases, since no caller knows
 /// whether there is memory or whether a write succeeds.
 pub fn run<S: Sources, O: Write, E: Write>(
     alloc: Global,

@@ -1,15 +1,13 @@
 //! Finds old objects that are of no use, by which rules on changes would be passed over.
 ghost use Rattle.kube_manifests.specs.Sets.{set_view};
-ghost use Rattle.kube_manifests.specs.Versions.{chosen_version};
 ghost use Rattle.kubecel_io.specs.Subjects.{subject_view};
-ghost use Rattle.kubecel_cli.specs.Runs.{AreCompared, has_definition, has_old, holds_object, is_held};
-ghost use Rattle.serde_json.specs.View.{view};
+ghost use Rattle.kubecel_cli.specs.Runs.{AreCompared, has_old, holds_object, is_held};
 ghost use Rattle.std.specs.List.{list_all, list_any};
 ghost use Rattle.std.specs.Prelude.{◌≡◌, OnOk, map, true};
 
-use kube_manifests::{CrdSet, NotJudged};
+use crate::defined::is_defined;
+use kube_manifests::CrdSet;
 use kubecel_io::{Stop, Subject, old_of};
-use serde_json::Value;
 use std::alloc::Global;
 
 /// Ends a run if one of these files of old objects holds no object of a definition.
@@ -47,23 +45,7 @@ fn holds_object(path: &str, set: &CrdSet, olds: &[Subject<'_>]) -> bool
 fn is_held(path: &str, set: &CrdSet, old: &Subject<'_>) -> bool
     ensures { result ≡ is_held (set_view set.now) path.now (subject_view old.now) }
 {
-    old.file == path && has_definition(set, old.value)
-}
-
-/// Reports whether a definition has the group and kind of an object, perhaps without its version.
-#[tactic(auto, using(crate::proofs::Held::counted_alike))]
-fn has_definition(set: &CrdSet, object: &Value) -> bool
-    ensures { result ≡ has_definition (chosen_version (set_view set.now) (view object.now)) }
-{
-    match set.rule_count(object) {
-        Ok(_) | Err(NotJudged::NoSuchVersion | NotJudged::NotServed) => true,
-        Err(
-            NotJudged::NotAnObject
-            | NotJudged::NoApiVersion
-            | NotJudged::NoKind
-            | NotJudged::NoSuchKind,
-        ) => false,
-    }
+    old.file == path && is_defined(set, old)
 }
 
 /// Ends a run if files of old objects are named, but no object has an old one.

@@ -31,6 +31,8 @@ pub(crate) struct Report {
     pub(crate) rules: Option<u64>,
     /// The number of objects that were compared with an old one, if old objects were given.
     pub(crate) compared: Option<u64>,
+    /// The number of objects that were skipped, if missing definitions are ignored.
+    pub(crate) skipped: Option<u64>,
     /// What is wrong with a definition, beside the items.
     pub(crate) fault: Option<String>,
 }
@@ -121,6 +123,9 @@ fn summarize<E: Write>(report: &Report, err: &mut E) -> io::Result<()> {
     write!(err, "kubecel: {}: {}", report.noun, report.items.len())?;
     if let Some(compared) = report.compared {
         write!(err, ", with an old object: {compared}")?;
+    }
+    if let Some(skipped) = report.skipped {
+        write!(err, ", skipped: {skipped}")?;
     }
     if let Some(rules) = report.rules {
         write!(err, ", rules: {rules}")?;

@@ -38,6 +38,7 @@ pub(crate) fn reviewed<S: Sources>(
         noun: "definitions",
         rules: None,
         compared: None,
+        skipped: None,
         fault: fault_in(alloc, documents.as_slice())?,
     })
 }

@@ -6,6 +6,5 @@ use Rattle.std.proofs.lemmas.Result.{IfOk-weaker}
 pub returns : goal.returns
 unfolding check_words
 returns c =
-    IfOk-weaker c.arg-3.result _ _
-    (λ n h. with_option h (with_option c.in_ok-arg-2.ensures (with_option c.in_ok-arg.ensures c.in_ok-command.ensures c.crds.ensures) c.files.ensures) c.objects.ensures)
-    c.arg-3.ensures
+    let olds = with_option c.in_ok-arg-2.ensures (with_option c.in_ok-arg.ensures c.in_ok-command.ensures c.crds.ensures) c.files.ensures in
+    IfOk-weaker c.arg-4.result _ _ (λ n h. with_option h (with_option c.in_ok-arg-3.ensures olds c.flag.ensures) c.objects.ensures) c.arg-4.ensures

@@ -5,4 +5,4 @@ use Rattle.kubecel_cli.specs.Runs.{AreItems, IsJudgedBy}
 use Rattle.std.proofs.Common.{map, take}
 
 abbrev pub invariant-loop-subject : goal.invariant-loop-subject
-invariant-loop-subject g l = AreItems (IsJudgedBy l.set (map (λ f. f.value) (map subject_view l.olds))) (map subject_view (take l.subject-index l.subjects)) (map item_view l.items.items)
+invariant-loop-subject g l = AreItems (IsJudgedBy l.ignores_missing l.set (map (λ f. f.value) (map subject_view l.olds))) (map subject_view (take l.subject-index l.subjects)) (map item_view l.items.items)
