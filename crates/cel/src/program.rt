@@ -28,11 +28,21 @@ use cel_vm_code::{Instr, compile_tree};
 use std::alloc::Global;
 
 /// A parsed expression and its code, ready to run.
-#[derive(Debug, Drop)]
+#[derive(Debug)]
 pub struct Program {
     expression: Expr,
     code: Vec<Instr>,
     ghost is_coded: { map op code.items ≡ code_of (term expression) } by { same_code-prop _ _ },
+}
+
+// By hand, so that a proof about code that owns one doesn't go through its parts.
+impl Drop for Program {
+    fn drop(self) {
+        let Program {
+            expression: _,
+            code: _,
+        } = self;
+    }
 }
 
 impl Program {

@@ -68,7 +68,6 @@ fn regex_of(alloc: Global, text: &str) -> Result<Regex, AllocError>
 ///
 /// The states remember transitions from earlier searches, so
 /// that a later one reads one table cell per byte.
-#[derive(Drop)]
 pub(crate) struct Pattern {
     pub(crate) text: String,
     dfa: Dfa,
@@ -77,6 +76,18 @@ pub(crate) struct Pattern {
     pub(crate) ghost states: { IsDfaOf (string_bytes text) dfa },
     ghost own: { IsForwardFor table dfa },
     ghost same: { ForSome regex (IsRegexOf (string_bytes text)) },
+}
+
+// By hand, so that a proof about code that owns one doesn't go through its parts.
+impl Drop for Pattern {
+    fn drop(self) {
+        let Pattern {
+            text: _,
+            dfa: _,
+            table: _,
+            regex: _,
+        } = self;
+    }
 }
 
 impl Pattern {

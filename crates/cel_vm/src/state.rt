@@ -22,12 +22,23 @@ pub struct LoopState {
 
 /// The stacks of values, of pending errors and of loops, and a buffer for the arguments of a call.
 /// They can be lent to one run after another, which then need no memory of their own.
-#[derive(Drop)]
 pub struct Stacks {
     pub(crate) values: Vec<Answer>,
     pub(crate) absorbed: Vec<Option<ExecutionError>>,
     pub(crate) loops: Vec<LoopState>,
     pub(crate) args: Vec<Value>,
+}
+
+// By hand, so that a proof about code that owns one doesn't go through its parts.
+impl Drop for Stacks {
+    fn drop(self) {
+        let Stacks {
+            values: _,
+            absorbed: _,
+            loops: _,
+            args: _,
+        } = self;
+    }
 }
 
 impl Stacks {

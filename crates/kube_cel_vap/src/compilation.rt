@@ -11,12 +11,24 @@ use std::alloc::{AllocError, Global};
 use std::fmt;
 
 /// A compiled expression of a policy, with the programs of its texts.
-#[derive(Debug, Drop)]
+#[derive(Debug)]
 pub struct CompiledVapExpression {
     expression: String,
     pub(crate) message: Option<String>,
     pub(crate) program: Program,
     pub(crate) message_program: Option<Program>,
+}
+
+// By hand, so that a proof about code that owns one doesn't go through its parts.
+impl Drop for CompiledVapExpression {
+    fn drop(self) {
+        let CompiledVapExpression {
+            expression: _,
+            message: _,
+            program: _,
+            message_program: _,
+        } = self;
+    }
 }
 
 /// The reason why an expression of a policy doesn't compile: one of its texts doesn't parse as CEL.

@@ -12,7 +12,7 @@ use kube_types_refused::Refused;
 use std::alloc::Global;
 
 /// The rules of a node, in order, and how much of the values at a place they read.
-#[derive(Debug, Drop)]
+#[derive(Debug)]
 pub struct NodeRules {
     /// The rules, each either compiled or with the reason why it isn't.
     pub rules: Vec<Result<CompilationResult, CompilationError>>,
@@ -22,6 +22,16 @@ pub struct NodeRules {
         ≡ rules_read (codes "self") (map compiled_seen rules.items) } by { same_read-prop _ _ },
     ghost old_read: { option_map part_of demands.old
         ≡ rules_read (codes "oldSelf") (map compiled_seen rules.items) } by { same_read-prop _ _ },
+}
+
+// By hand, so that a proof about code that owns one doesn't go through its parts.
+impl Drop for NodeRules {
+    fn drop(self) {
+        let NodeRules {
+            rules: _,
+            demands: _,
+        } = self;
+    }
 }
 
 impl NodeRules {
