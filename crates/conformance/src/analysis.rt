@@ -2,7 +2,9 @@
 
 use crate::parts::ways::compiled;
 use crate::schemas::compiled_given;
-use crate::types::scope_of;
+use crate::types::wrong_pair;
+use conformance_rows::keys::entry;
+use conformance_rows::texts::yes_or_no;
 use conformance_rows::{Field, Found, Output, Stop, given as rows};
 use kube_cel::{AnalysisWarning, ScopeContext, analyze_rule, check_rule_scope, estimate_rule_cost};
 use kube_cel_analysis::{Sizes, estimated_cost};
@@ -39,11 +41,24 @@ fn warnings_of(
     }
 }
 
+/// The scopes, by their names.
+const SCOPES: [(&str, ScopeContext); 2] = [
+    ("CrdValidation", ScopeContext::CrdValidation),
+    ("AdmissionPolicy", ScopeContext::AdmissionPolicy),
+];
+
+/// Answers whether each scope equals itself and no other.
+pub(crate) fn scopes_differ(found: &mut Found) {
+    let scopes = [ScopeContext::CrdValidation, ScopeContext::AdmissionPolicy];
+    found.say(yes_or_no(wrong_pair(&scopes, &scopes).is_none()));
+}
+
 /// Returns the row's rule, and its scope or, by default, that of a schema.
 fn rule_given<'g>(given: &'g [Field], out: &mut Output) -> Option<(&'g str, ScopeContext)> {
     let rule = rows::required(given, "rule", out);
     let scope = rows::text(given, "scope").unwrap_or("CrdValidation");
-    Some((rule, out.take(scope_of(scope))?))
+    let scope = entry(&SCOPES, scope).ok_or(Stop::Unfit("scope"));
+    Some((rule, out.take(scope)?))
 }
 
 /// Writes the warnings about the row's rule from the call that a key names.
@@ -69,7 +84,7 @@ fn put_cost(alloc: Global, given: &[Field], out: &mut Output) {
     };
     let text = rows::required(given, "expression", out);
     if let Some(program) = out.take(compiled(alloc, text)) {
-        out.show(&estimated_cost(program.as_ref().expression(), sizes));
+        out.show(&estimated_cost(program.expression(), sizes));
     }
 }
 

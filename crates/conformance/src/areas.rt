@@ -36,6 +36,7 @@ enum Area {
     /// A schema or a rule without an object.
     Findings,
     Analysis,
+    Scopes,
     /// Errors in JSON, a value that serde writes, and a list of values that differ.
     PartsRead,
     Written,
@@ -43,7 +44,7 @@ enum Area {
 }
 
 /// The keys of fields that state an answer, with their areas. Those about items aren't among them.
-const AREAS: [(&str, Area); 43] = [
+const AREAS: [(&str, Area); 44] = [
     ("matches", Area::Matches),
     ("spans", Area::Spans),
     ("tokens", Area::Source),
@@ -84,6 +85,7 @@ const AREAS: [(&str, Area); 43] = [
     ("cost warnings", Area::Analysis),
     ("warnings", Area::Analysis),
     ("cost", Area::Analysis),
+    ("scopes differ", Area::Scopes),
     ("parts read", Area::PartsRead),
     ("written", Area::Written),
     ("differ", Area::Differ),
@@ -120,6 +122,7 @@ pub(crate) fn find(
         Some(Area::Policy) => policies::find(alloc, given, field, found),
         Some(Area::Findings) => findings::find(alloc, given, &mut found.text),
         Some(Area::Analysis) => analysis::find(alloc, given, field, found),
+        Some(Area::Scopes) => analysis::scopes_differ(found),
         Some(Area::PartsRead) => errors::put_read(alloc, given, &mut found.text),
         Some(Area::Written) => types::written(alloc, given, field, found),
         Some(Area::Differ) => types::differ(alloc, given, field, found),

@@ -9,7 +9,6 @@ use kube_cel::{
 };
 use serde_json::Value;
 use std::alloc::{AllocError, Global};
-use std::rc::Rc;
 
 /// Returns a copy of a request. Such a copy, and copies of its parts, must be equal.
 fn copy_of(request: &AdmissionRequest, found: &mut Found) -> Option<AdmissionRequest> {
@@ -64,21 +63,15 @@ fn built(
     given: &[Field],
     builder: VapEvaluatorBuilder,
     found: &mut Found,
-) -> Option<Rc<VapEvaluator>> {
+) -> VapEvaluator {
     let builder = with_value(alloc, given, builder, "object", found);
     let builder = with_value(alloc, given, builder, "old object", found);
     let builder = with_value(alloc, given, builder, "params", found);
     let builder = with_value(alloc, given, builder, "namespace object", found);
-    let builder = match request_given(alloc, given, found) {
-        Some(request) => builder.request(request),
-        None => builder,
-    };
-    found.take(Rc::new(alloc, builder.build()))
-}
-
-/// Returns an evaluator without values.
-fn plain_evaluator(alloc: Global) -> Result<Rc<VapEvaluator>, AllocError> {
-    Ok(Rc::new(alloc, VapEvaluator::builder().build())?)
+    match request_given(alloc, given, found) {
+        Some(request) => builder.request(request).build(),
+        None => builder.build(),
+    }
 }
 
 /// Returns a builder with the values that an unset object, old object and request stand for.
@@ -206,23 +199,19 @@ fn find_by_another(
     expressions: &[VapExpression],
     found: &mut Found,
 ) {
-    if let Some(compiler) = found.take(plain_evaluator(alloc)) {
-        let compiler = compiler.as_ref();
-        put_compiled_results(alloc, compiler, evaluator, expressions, &mut found.other);
-        found.end("evaluate_compiled of what another compiled");
-    }
+    let compiler = VapEvaluator::builder().build();
+    put_compiled_results(alloc, &compiler, evaluator, expressions, &mut found.other);
+    found.end("evaluate_compiled of what another compiled");
 }
 
 /// Answers with the results of the row's expressions from two evaluators: one with the row's
 /// values, and one built on `filled_builder` for which an evaluator without values compiled the
 /// expressions.
 fn find_results(alloc: Global, given: &[Field], expressions: &[VapExpression], found: &mut Found) {
-    if let Some(evaluator) = built(alloc, given, VapEvaluator::builder(), found) {
-        find_by(alloc, evaluator.as_ref(), expressions, found);
-    }
-    if let Some(evaluator) = built(alloc, given, filled_builder(alloc), found) {
-        find_by_another(alloc, evaluator.as_ref(), expressions, found);
-    }
+    let evaluator = built(alloc, given, VapEvaluator::builder(), found);
+    find_by(alloc, &evaluator, expressions, found);
+    let evaluator = built(alloc, given, filled_builder(alloc), found);
+    find_by_another(alloc, &evaluator, expressions, found);
 }
 
 /// Writes the result of compiling an expression: `compiled`, or the error with the text that
@@ -241,10 +230,8 @@ fn put_compiled(compiled: &Result<CompiledVapExpression, VapError>, out: &mut Ou
 
 /// Writes the results of compiling expressions.
 fn put_all_compiled(alloc: Global, expressions: &[VapExpression], out: &mut Output) {
-    let Some(evaluator) = out.take(plain_evaluator(alloc)) else {
-        return;
-    };
-    let compiled = evaluator.as_ref().compile_expressions(alloc, expressions);
+    let evaluator = VapEvaluator::builder().build();
+    let compiled = evaluator.compile_expressions(alloc, expressions);
     if let Some(compiled) = out.take(compiled) {
         for one in compiled.iter() {
             put_compiled(one, out);

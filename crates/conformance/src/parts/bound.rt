@@ -44,7 +44,7 @@ fn run_both(alloc: Global, program: &Program, case: Case<'_>, depth: usize, foun
 /// Runs a CEL text over a case's object, bound by its schema at a depth.
 fn run_text(alloc: Global, text: &str, case: Case<'_>, depth: usize, found: &mut Found) {
     if let Some(program) = found.take(compiled(alloc, text)) {
-        run_both(alloc, program.as_ref(), case, depth, found);
+        run_both(alloc, &program, case, depth, found);
     }
 }
 

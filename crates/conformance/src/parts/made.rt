@@ -5,7 +5,7 @@
 use crate::parts::answers::Ran;
 use crate::parts::items::{bind_answer, bind_text};
 use crate::parts::names::put_escaped;
-use crate::parts::ways::{Calls, compile, compiled, plain_value, run_program};
+use crate::parts::ways::{Calls, compiled, plain_value, run_program};
 use cel::{Context, Program, Value};
 use conformance_rows::grammar::Maker;
 use conformance_rows::questions::maker as maker_of;
@@ -55,8 +55,8 @@ fn run_expression(
     text: &str,
     found: &mut Found,
 ) -> Option<bool> {
-    let program = found.take(compile(alloc, text))?.ok()?;
-    Some(run_twice(alloc, context, program.as_ref(), found))
+    let program = found.take(Program::compile(alloc, text))?.ok()?;
+    Some(run_twice(alloc, context, &program, found))
 }
 
 /// Makes and runs expressions in a context.
@@ -194,14 +194,7 @@ fn run_texts(
     let read = found.take(compiled(alloc, maker_of(of).unwrap_or("")));
     let again = found.take(compiled(alloc, again));
     if let (Some(read), Some(again)) = (read, again) {
-        run_texts_in(
-            alloc,
-            maker,
-            of,
-            (read.as_ref(), again.as_ref()),
-            found,
-            report,
-        );
+        run_texts_in(alloc, maker, of, (&read, &again), found, report);
     }
 }
 

@@ -2,7 +2,6 @@
 
 use crate::parts::outline::write_node;
 use crate::parts::tokens::put_tokens;
-use crate::parts::ways::compile;
 use cel::{ParseErrors, Program, References};
 use conformance_rows::given::{push_source, required};
 use conformance_rows::texts::yes_or_no;
@@ -59,8 +58,8 @@ fn put_unread(alloc: Global, key: &str, errors: &ParseErrors, out: &mut Output) 
 
 /// Answers a question about the AST or the names of a CEL text, or whether it parses.
 fn find_of(alloc: Global, given: &[Field], key: &str, source: &str, out: &mut Output) {
-    match compile(alloc, source) {
-        Ok(Ok(program)) => find_of_program(alloc, given, key, program.as_ref(), out),
+    match Program::compile(alloc, source) {
+        Ok(Ok(program)) => find_of_program(alloc, given, key, &program, out),
         Ok(Err(errors)) => put_unread(alloc, key, &errors, out),
         Err(refused) => out.stop(Stop::from(refused)),
     }

@@ -1,10 +1,7 @@
 //! Runs expressions in all ways in which they can be run.
 
 use crate::parts::answers::{Ran, end_ran, put_answer};
-use cel::{
-    Answer, Context, Functions, ParseErrors, PatternBook, Program, Refused, StandardFunctions,
-    Value, run_code,
-};
+use cel::{Answer, Context, Functions, PatternBook, Program, StandardFunctions, Value, run_code};
 use conformance_rows::keys::bound_name;
 use conformance_rows::{Field, Found, Output, Stop, given};
 use kube_functions::{Context as KubeContext, KubeCelExt};
@@ -88,21 +85,11 @@ pub(crate) fn run_program<F: Functions>(
     hold(alloc, asked, first, with_book, calls[2], found);
 }
 
-/// Compiles an expression. The program stands behind an `Rc`, since the proof of each function that
-/// owns a program itself takes several seconds more (docs/GATE.md).
-pub(crate) fn compile(
-    alloc: Global,
-    text: &str,
-) -> Result<Result<Rc<Program>, ParseErrors>, Refused> {
-    match Program::compile(alloc, text)? {
-        Ok(program) => Ok(Ok(Rc::new(alloc, program)?)),
-        Err(errors) => Ok(Err(errors)),
-    }
-}
-
 /// Compiles a text that must parse.
-pub(crate) fn compiled(alloc: Global, text: &str) -> Result<Rc<Program>, Stop> {
-    compile(alloc, text)?.ok().ok_or(Stop::Unfit("expression"))
+pub(crate) fn compiled(alloc: Global, text: &str) -> Result<Program, Stop> {
+    Program::compile(alloc, text)?
+        .ok()
+        .ok_or(Stop::Unfit("expression"))
 }
 
 /// Runs a text in a context.
@@ -237,7 +224,7 @@ fn run_text(
 ) {
     bind_names(alloc, bound, given, &mut found.other);
     match compiled(alloc, text) {
-        Ok(program) => run_each(alloc, asked, program.as_ref(), bound, given, found),
+        Ok(program) => run_each(alloc, asked, &program, bound, given, found),
         Err(stop) => found.stop(stop),
     }
 }
