@@ -19,7 +19,7 @@ crates_below() { # TOP PROGRAM..
                 }
                 print line
             }
-        }' "$1/crates.txt" | LC_ALL=C sort
+        }' <"$1/crates.txt" | LC_ALL=C sort
 }
 
 # Prints the names of these crates alone.
@@ -27,24 +27,23 @@ crate_names() { # TOP PROGRAM..
     crates_below "$@" | cut -d' ' -f1
 }
 
-# Prints the folder of each of these parts of each crate of a program.
+# Prints the folder of each of these parts of each crate of a program, each with a NUL behind it.
 folders_of() { # TOP PROGRAM PART..
-    local name part names top=$1
-    mapfile -t names < <(crate_names "$top" "$2")
-    shift 2
+    local name part names
+    mapfile -t names < <(crate_names "$1" "$2")
     for name in "${names[@]}"; do
-        for part in "$@"; do
-            echo "$top/crates/$name/$part"
+        for part in "${@:3}"; do
+            printf '%s\0' "$1/crates/$name/$part"
         done
     done
 }
 
-# Prints one SHA-256 of all that a program of the repository TOP is made of: its crates' code, specifications and proofs, and
+# Prints one SHA-256 of all that a program of the repository TOP, a whole path, is made of: its crates' code, specifications and proofs, and
 # which crate stands on which.
 sum_of_sources() { # TOP PROGRAM
     (
-        cd "$1" || exit
-        mapfile -t folders < <(folders_of . "$2" src specs proofs)
+        cd -- "$1" || exit
+        mapfile -t -d '' folders < <(folders_of . "$2" src specs proofs)
         {
             crates_below . "$2"
             find "${folders[@]}" -type f -print0 2>/dev/null | LC_ALL=C sort -z | xargs -0 sha256sum
@@ -67,5 +66,5 @@ place_of() { # PREFIX PROGRAM
 
 # Prints what stands behind NAME in the record that ./install writes beside a program.
 recorded() { # RECORD NAME
-    sed -n "s/^$2: //p" "$1" 2>/dev/null
+    sed -n "s/^$2: //p" 2>/dev/null <"$1"
 }
