@@ -1,39 +1,58 @@
 # shellcheck shell=bash
-# What programs are made of: for ./celcheck, ./kubecel and ./install, which read this file.
+# What programs are made of: for ./celcheck, ./kubecel, ./install and tools/release, which read this file.
 
-# Prints a line for each of these programs, and for each crate of the repository TOP that they stand on: its name, and those right
-# below it.
+# Finds these programs, and each crate of the repository TOP that they stand on: their names, in 'names', and what stands in crates.txt right
+# below each, in 'below'.
+find_crates() { # TOP PROGRAM..
+    local line name at
+    local -A listed=()
+    while IFS= read -r line || [[ -n $line ]]; do
+        line=${line%%#*}
+        [[ $line != *:* ]] || listed[${line%%:*}]=${line#*:}
+    done <"$1/crates.txt"
+    below=()
+    names=()
+    for name in "${@:2}"; do
+        below[$name]=${listed[$name]}
+        names+=("$name")
+    done
+    for ((at = 0; at < ${#names[@]}; at++)); do
+        for name in ${below[${names[at]}]}; do
+            [[ -v listed[$name] && ! -v below[$name] ]] || continue
+            below[$name]=${listed[$name]}
+            names+=("$name")
+        done
+    done
+}
+
+# Prints a line for each of these programs and crates: its name, and those right below it.
 crates_below() { # TOP PROGRAM..
-    awk -v programs="${*:2}" '
-        { sub(/#.*/, "") }
-        split($0, side, ":") == 2 { split(side[1], name, " "); below[name[1]] = side[2] }
-        END {
-            n = split(programs, found, " ")
-            for (i = 1; i <= n; i++) seen[found[i]]++
-            for (i = 1; i <= n; i++) {
-                count = split(below[found[i]], names, " ")
-                line = found[i]
-                for (j = 1; j <= count; j++) {
-                    line = line " " names[j]
-                    if ((names[j] in below) && !seen[names[j]]++) found[++n] = names[j]
-                }
-                print line
-            }
-        }' <"$1/crates.txt" | LC_ALL=C sort
+    local name names
+    local -A below
+    find_crates "$@"
+    for name in "${names[@]}"; do
+        # shellcheck disable=SC2086
+        echo $name ${below[$name]}
+    done | LC_ALL=C sort
 }
 
 # Prints the names of these crates alone.
 crate_names() { # TOP PROGRAM..
-    crates_below "$@" | cut -d' ' -f1
+    local names
+    local -A below
+    find_crates "$@"
+    printf '%s\n' "${names[@]}" | LC_ALL=C sort
 }
 
-# Prints the folder of each of these parts of each crate of a program, each with a NUL behind it.
-folders_of() { # TOP PROGRAM PART..
+# Leaves the folder of each of these parts of each crate of a program in 'folders'.
+find_folders() { # TOP PROGRAM PART..
     local name part names
-    mapfile -t names < <(crate_names "$1" "$2")
+    local -A below
+    find_crates "$1" "$2"
+    folders=()
     for name in "${names[@]}"; do
         for part in "${@:3}"; do
-            printf '%s\0' "$1/crates/$name/$part"
+            folders+=("$1/crates/$name/$part")
         done
     done
 }
@@ -43,11 +62,23 @@ folders_of() { # TOP PROGRAM PART..
 sum_of_sources() { # TOP PROGRAM
     (
         cd -- "$1" || exit
-        mapfile -t -d '' folders < <(folders_of . "$2" src specs proofs)
+        find_folders . "$2" src specs proofs
         {
             crates_below . "$2"
             find "${folders[@]}" -type f -print0 2>/dev/null | LC_ALL=C sort -z | xargs -0 sha256sum
         } | sum_of
+    )
+}
+
+# Prints one SHA-256 of what git has of the same files in the last commit of the clone TOP. Fails where git doesn't know.
+sum_of_committed() { # TOP PROGRAM
+    (
+        # shellcheck disable=SC2086
+        unset ${!GIT_@}
+        cd -- "$1" || exit
+        find_folders . "$2" src specs proofs
+        committed=$(GIT_OPTIONAL_LOCKS=0 git ls-tree HEAD -- "${folders[@]}" 2>/dev/null) && [[ -n $committed ]] || exit
+        { crates_below . "$2"; echo "$committed"; } | sum_of
     )
 }
 
