@@ -1,15 +1,19 @@
 """What docs/check and commands/run ask of a command: whether it can run here, and whether it printed what was expected."""
-import importlib.util
+import functools
 import re
 import shutil
+import subprocess
 from typing import List
 
 
+@functools.lru_cache(maxsize=None)
 def is_there(what: str) -> bool:
-    """Whether this program is there, or this module of Python, as python:yaml."""
-    if what.startswith("python:"):
-        return importlib.util.find_spec(what[len("python:"):]) is not None
-    return shutil.which(what) is not None
+    """Whether this program is in PATH, or this module is there for the python3 in PATH, as python:yaml."""
+    if not what.startswith("python:"):
+        return shutil.which(what) is not None
+    python = shutil.which("python3")
+    asked = [python, "-c", "import " + what[len("python:"):]]
+    return python is not None and subprocess.run(asked, stdin=subprocess.DEVNULL, stderr=subprocess.DEVNULL).returncode == 0
 
 
 def lines_of(output: bytes) -> List[str]:
