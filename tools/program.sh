@@ -99,12 +99,17 @@ take_released() {
     unpack_released "$name" "$program" || { say "$fault"; exit 2; }
 }
 
-# Was the release seen to be of the sources as they are, with no change in their crates' folders since? (A file may keep an earlier time of its
-# content, as by 'cp -p', so that of its last change counts.)
+# Was the release seen to be of the sources as they are, with no change since? Without the kit that is a change of the last commit, each of
+# which git writes to a file; with it, one in the crates' folders. (A file may keep an earlier time of its content, as by 'cp -p', so that of its
+# last change counts.)
 is_seen() {
-    local names found
+    local names found log=$here/.git/logs/HEAD
     local -A below
-    is_program "$released" || return
+    is_program "$released" && [[ ! $record -nt $released ]] || return
+    if [[ -f $log ]] && ! has_kit; then
+        [[ ! $log -nt $released && ! $here/crates.txt -nt $released ]]
+        return
+    fi
     find_crates "$here" "$name"
     found=$(find "$record" "$here/crates.txt" "${names[@]/#/"$here/crates/"}" -name out -prune -o -cnewer "$released" -print -quit 2>/dev/null)
     [[ $? -eq 0 && -z $found ]]

@@ -14,23 +14,25 @@
 release=$here/release
 record=$release/record
 
-# Is PROGRAM that of the record, and can be run? It is a fault where the record, or the packed program, isn't the file that SHA256SUMS names.
+# Is PROGRAM that of the record, and can it be run? It is a fault where the record isn't the file that SHA256SUMS names.
 compare_release() { # NAME PROGRAM
     local sums found program=$2
     fault=
     [[ -f $program && -x $program ]] || program=/dev/null
     sums=$'\n'$(<"$release/SHA256SUMS")$'\n'
-    mapfile -t found <<<"$(cd -- "$release" && sha256sum -- "$1.gz" record - <"$program")"
-    [[ $sums == *$'\n'"${found[0]:--}"$'\n'* ]] || fault="$release/$1.gz isn't the file that SHA256SUMS names there"
-    [[ $sums == *$'\n'"${found[1]:--}"$'\n'* ]] || fault="$record isn't the file that SHA256SUMS names there"
-    [[ -z $fault && ${found[2]} == "$(recorded "$record" "$1 sha256")  -" ]]
+    mapfile -t found <<<"$(cd -- "$release" && exec sha256sum -- record - <"$program")"
+    [[ $sums == *$'\n'"${found[0]:--}"$'\n'* ]] || fault="$record isn't the file that SHA256SUMS names there"
+    [[ -z $fault && ${found[1]} == "$(recorded "$record" "$1 sha256")  -" ]]
 } 2>/dev/null
 
-# Unpacks a program to PLACE, with the time 0. It is a fault where that isn't the one of the record, or doesn't run here.
+# Unpacks a program to PLACE, with the time 0. It is a fault where what is packed isn't the file that SHA256SUMS names, or the program isn't the
+# one of the record, or doesn't run here.
 unpack_released() { # NAME PLACE
     fault="there is no room for the program at $2"
     left+=("$(mktemp -- "$2.XXXXXX")") || return
-    if ! gzip -dc -- "$release/$1.gz" >"${left[-1]}"; then
+    if ! grep -q -x -F -e "$(sum_of <"$release/$1.gz")  $1.gz" -- "$release/SHA256SUMS"; then
+        fault="$release/$1.gz isn't the file that SHA256SUMS names there"
+    elif ! gzip -dc -- "$release/$1.gz" >"${left[-1]}"; then
         fault="$release/$1.gz can't be unpacked to ${2%/*}: it is broken, or there is no room, or no command 'gzip'"
     elif [[ $(sum_of <"${left[-1]}") != "$(recorded "$record" "$1 sha256")" ]]; then
         fault="$release/$1.gz isn't the program of the record there"
