@@ -1,0 +1,106 @@
+-- What has no error under a book has none under a book that refuses no more.
+use Rattle.cel_patterns.specs.Book.{Book, IsPlain}
+use Rattle.cel_semantics.specs.Bindings.{Bindings}
+use Rattle.cel_semantics.specs.Outcome.{Outcome}
+use Rattle.cel_syntax_ast.specs.Term.{Term}
+use Rattle.cel_value.specs.Parts.{bool_in}
+use Rattle.kube_cel.specs.Answers.{IsReportOf, report_of}
+use Rattle.kube_cel_laws.proofs.Books.{plain_refuses_least}
+use Rattle.kube_cel_laws.proofs.Functions.{tree_kept}
+use Rattle.kube_cel_laws.proofs.Results.{Keeps}
+use Rattle.kube_cel_laws.specs.Books.{RefusesNoMore}
+use Rattle.kube_cel_walk.specs.Answers.{answer, place_bindings, rule_verdicts, verdicts}
+use Rattle.kube_cel_walk.specs.Errors.{ErrorData}
+use Rattle.kube_cel_walk.specs.RuleErrors.{too_deep}
+use Rattle.kube_cel_walk.specs.Verdicts.{bound_verdict, failed_message, is_applicable, list_of_option, outcome_error, outcome_in, rule_bindings, value_error, verdict}
+use Rattle.kube_cel_walk.specs.WalkAccessors.{WalkAccessors}
+use Rattle.kube_functions.specs.declared.sets.KubeFunctions.TheVariants.{All}
+use Rattle.kube_schema_rules.specs.Compilation.{Compiled, Malformed}
+use Rattle.kube_schema_rules.specs.Rules.{Fields}
+use Rattle.kube_schema_rules.specs.Visit.{Visit, candidates, goes}
+use Rattle.kube_schema_rules.specs.Walk.{answers, if_some, leads, places}
+use Rattle.serde_json.specs.Data.{Data as Json}
+use Rattle.std.proofs.Common.{◌≡◌, ◌==◌, ℕ, List, [], ◌∷◌, ◌++◌, Bool, true, false, Option, Some, None, option_map, Result, Ok, Err, flat_map, if◌then◌else◌, refl, sym, ap, subst}
+
+-- ---- lists of errors
+
+left_none : {A : Type 0} (xs ys : List A) → xs ++ ys ≡ [] → xs ≡ []
+left_none [] ys e = refl
+left_none (x ∷ xs) ys e = cc
+
+right_none : {A : Type 0} (xs ys : List A) → xs ++ ys ≡ [] → ys ≡ []
+right_none [] ys e = e
+right_none (x ∷ xs) ys e = cc
+
+none_kept : {A E : Type 0} (f g : A → List E) → ((x : A) → f x ≡ [] → g x ≡ []) → (xs : List A) → flat_map f xs ≡ [] → flat_map g xs ≡ []
+none_kept f g h [] e = refl
+none_kept f g h (x ∷ xs) e = λ i. h x (left_none (f x) (flat_map f xs) e) i ++ none_kept f g h xs (right_none (f x) (flat_map f xs) e) i
+
+listed_none : {A : Type 0} (o : Option A) → list_of_option o ≡ [] → o ≡ None
+listed_none None e = refl
+listed_none (Some a) e = cc
+
+unless_deep : (deep : Bool) (x : ErrorData) (xs ys : List ErrorData) → (xs ≡ [] → ys ≡ []) → (if deep then x ∷ [] else xs) ≡ [] → (if deep then x ∷ [] else ys) ≡ []
+unless_deep true x xs ys h e = cc
+unless_deep false x xs ys h e = h e
+
+-- ---- the verdict of a rule
+
+value_passes : (path : List ℕ) (r : Fields) (m n : List ℕ) (o : Option Bool) → value_error path r m o ≡ None → value_error path r n o ≡ None
+value_passes path r m n (Some true) e = refl
+value_passes path r m n (Some false) e = cc
+value_passes path r m n None e = cc
+
+outcome_passes : (path : List ℕ) (r : Fields) (m n : List ℕ) (x y : Outcome) → Keeps x y → outcome_error path r m x ≡ None → outcome_error path r n y ≡ None
+outcome_passes path r m n (Ok v) y k e = subst (λ z. outcome_error path r n z ≡ None) (sym k) (value_passes path r m n (bool_in v) e)
+outcome_passes path r m n (Err x) y k e = cc
+
+if_applicable : (applies : Bool) (o p : Option ErrorData) → (o ≡ None → p ≡ None) → (if applies then o else None) ≡ None → (if applies then p else None) ≡ None
+if_applicable true o p h e = h e
+if_applicable false o p h e = refl
+
+module _ (strict lenient : Book) (no_more : RefusesNoMore lenient strict) where
+  outcome_kept : (e : Bindings) (t : Term) → Keeps (outcome_in strict e t) (outcome_in lenient e t)
+  unfolding outcome_in
+  outcome_kept e t = tree_kept strict lenient no_more All t e
+
+  bound_passes : (e : Bindings) (path : List ℕ) (c : Compiled) → bound_verdict strict e path c ≡ None → bound_verdict lenient e path c ≡ None
+  unfolding bound_verdict
+  bound_passes e path c h = outcome_passes path c.fields (failed_message c.fields (option_map (outcome_in strict e) c.message_tree)) (failed_message c.fields (option_map (outcome_in lenient e) c.message_tree))
+      (outcome_in strict e c.tree) (outcome_in lenient e c.tree) (outcome_kept e c.tree) h
+
+  rule_passes : (e : Bindings) (old : Option Json) (path : List ℕ) (r : Result Compiled Malformed) → verdict strict e old path r ≡ None → verdict lenient e old path r ≡ None
+  unfolding verdict
+  rule_passes e old path (Err m) h = cc
+  rule_passes e old path (Ok c) h = if_applicable (is_applicable old c) (bound_verdict strict (rule_bindings e old c.fields) path c) (bound_verdict lenient (rule_bindings e old c.fields) path c)
+      (bound_passes (rule_bindings e old c.fields) path c) h
+
+  -- ---- all places
+
+  module _ {S : Type 0} (form : WalkAccessors S) where
+    rules_pass : (e : Bindings) (s : Visit S) → rule_verdicts form strict e s ≡ [] → rule_verdicts form lenient e s ≡ []
+    unfolding rule_verdicts
+    rules_pass e s = none_kept (λ r. list_of_option (verdict strict e s.old s.path r)) (λ r. list_of_option (verdict lenient e s.old s.path r))
+        (λ r h. ap list_of_option (rule_passes e s.old s.path r (listed_none (verdict strict e s.old s.path r) h))) (form.rules s.node)
+
+    place_passes : (s : Visit S) → verdicts form strict s ≡ [] → verdicts form lenient s ≡ []
+    unfolding verdicts
+    place_passes s = unless_deep (s.depth == 65) (too_deep s.path) (rule_verdicts form strict (place_bindings form s) s) (rule_verdicts form lenient (place_bindings form s) s) (rules_pass (place_bindings form s) s)
+
+    reached_passes : (o : Option (Visit S)) → if_some (verdicts form strict) o ≡ [] → if_some (verdicts form lenient) o ≡ []
+    reached_passes None e = refl
+    reached_passes (Some s) e = place_passes s e
+
+    pub answer_passes : (n : ℕ) (s : Visit S) → answer form strict n s ≡ [] → answer form lenient n s ≡ []
+    unfolding answer answers
+    answer_passes n s = none_kept (λ p. if_some (verdicts form strict) (leads (goes form.steps) p s)) (λ p. if_some (verdicts form lenient) (leads (goes form.steps) p s))
+        (λ p. reached_passes (leads (goes form.steps) p s)) (places (goes form.steps) (candidates form.steps) n s)
+
+-- ---- reports
+
+pub reported_none : (found : List ErrorData) → Ok tt ≡ report_of found → found ≡ []
+reported_none [] e = refl
+reported_none (x ∷ xs) e = cc
+
+pub report_passes : (plain : Book) → IsPlain plain → {S : Type 0} (form : WalkAccessors S) (root : Visit S) → IsReportOf form root (Ok tt) → answer form plain 65 root ≡ []
+report_passes plain is_plain form root r = answer_passes r.0 plain (plain_refuses_least plain r.0 is_plain r.1) form 65 root (reported_none (answer form r.0 65 root) r.2)

@@ -1,0 +1,8 @@
+-- Trusted by laws alone.
+-- Books compared by what they refuse.
+use Rattle.std.specs.Prelude.{ℕ, List}
+use Rattle.cel_patterns.specs.Book.{Book, IsRefused}
+
+-- the first book refuses only texts that the second one refuses
+abbrev pub RefusesNoMore : Book → Book → Type 0
+RefusesNoMore lenient strict = (text : List ℕ) → IsRefused lenient text → IsRefused strict text

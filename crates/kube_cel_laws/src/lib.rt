@@ -1,0 +1,4 @@
+//! Laws over definitions of several crates. No crate stands on this one, and it has no calls.
+#![tactic(auto)]
+
+pub mod laws;
