@@ -13,7 +13,8 @@ use Rattle.kube_manifests.specs.declared.judgement.NotJudged.{NotJudged}
 use Rattle.kube_manifests.specs.declared.judgement.Judgement.TheVariants as judgement
 use Rattle.kube_manifests.specs.declared.version.CrdVersion.{CrdVersion}
 use Rattle.kube_manifests.specs.Documents.{Fault, add_document, each}
-use Rattle.kube_manifests.specs.Sets.{IsJudgement, IsJudgementUnder, all_compiled, with_tree, version_view, versions_of}
+use Rattle.kube_manifests.specs.Lists.{version_view}
+use Rattle.kube_manifests.specs.Sets.{IsJudgement, IsJudgementUnder, all_compiled, with_tree, versions_of}
 use Rattle.kube_manifests.specs.Versions.{Version, chosen_version, root_of}
 use Rattle.kube_schema.specs.Shown.{whole}
 use Rattle.kube_schema.specs.Tree.{Node}

@@ -7,3 +7,4 @@ pub mod Found
 pub mod Judged
 pub mod Apart
 pub mod Listed
+pub mod Firsts

@@ -21,9 +21,11 @@ pub record Location : Type 0 where
   pub document : ℕ
   pub item : Option ℕ
 
--- a fault, the index of its document, counted from 0, and a JSON Pointer to it there
+-- a fault, the index of its document, counted from 0, that of the definition there if the document
+-- is a list, and a JSON Pointer to the fault in the document
 pub record Fault : Type 0 where
   pub document : ℕ
+  pub item : Option ℕ
   pub pointer : List ℕ
   pub fault : CrdFault
 
@@ -53,6 +55,7 @@ version_pointer (Some i) = codes "/spec/versions/" ++ decimal i
 abbrev pub fault_at : Location → Option ℕ → CrdFault → Fault
 fault_at location version f = record {
   document = location.document;
+  item = location.item;
   pointer = item_pointer location.item ++ (version_pointer version ++ field_pointer f);
   fault = f;
 }

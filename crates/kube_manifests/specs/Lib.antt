@@ -1,7 +1,10 @@
 pub mod Versions
 pub mod Documents
 pub mod Rules
+pub mod Lists
 pub mod Texts
+pub mod Explanations
+pub mod Earlier
 pub mod Sets
 pub mod Parts
 pub mod Laws

@@ -4,12 +4,14 @@ use Rattle.std.specs.Prelude.{Result, Ok, Err}
 use Rattle.serde_json.specs.View.{view, items_view}
 use Rattle.kube_manifests.specs.declared.definition.CrdParts.{CrdParts}
 use Rattle.kube_manifests.specs.declared.definition.EntryParts.{EntryParts}
+use Rattle.kube_manifests.specs.declared.explanation.Sought as sought
 use Rattle.kube_manifests.specs.declared.fault.CrdFault.{CrdFault}
 use Rattle.kube_manifests.specs.declared.fault.Location as code
 use Rattle.kube_manifests.specs.declared.judgement.NotJudged.{NotJudged}
 use Rattle.kube_manifests.specs.declared.version.CrdVersion.{CrdVersion}
 use Rattle.kube_manifests.specs.Documents.{Crd, Entry, Location}
-use Rattle.kube_manifests.specs.Sets.{version_view}
+use Rattle.kube_manifests.specs.Explanations.{Sought}
+use Rattle.kube_manifests.specs.Lists.{version_view}
 use Rattle.kube_manifests.specs.Versions.{Version}
 use Rattle.kube_schema.specs.Tree.{Node}
 use Rattle.std.specs.Borrow.{Bor}
@@ -22,6 +24,9 @@ entry_view p = record { name = p.name.now; served = p.served; schema = view p.sc
 
 abbrev pub location_view : code.Location → Location
 location_view p = record { document = p.document; item = p.item }
+
+abbrev pub sought_view : sought.Sought → Sought
+sought_view s = record { api_version = s.api_version.now; kind = s.kind.now }
 
 -- the view of what was read, or the fault
 abbrev pub reading_view : {A B : Type 0} → (A → B) → Result A CrdFault → Result B CrdFault

@@ -8,7 +8,6 @@ use Rattle.kube_cel.specs.Answers.{IsReportOf, answer_view, found_in, report_of}
 use Rattle.kube_cel.specs.Raw.{raw_accessors}
 use Rattle.kube_cel.specs.Starts.{defaulted_start}
 use Rattle.kube_cel_walk.specs.Answers.{answer as answer_at, IsAnswer}
-use Rattle.kube_schema.specs.Shown.{whole}
 use Rattle.kube_schema.specs.Tree.{Node}
 use Rattle.kube_schema.specs.View.{view_of}
 use Rattle.kube_manifests.specs.declared.fault.CrdError.{CrdError}
@@ -16,28 +15,23 @@ use Rattle.kube_manifests.specs.declared.judgement.Judgement.{Judgement}
 use Rattle.kube_manifests.specs.declared.judgement.Judgement.TheVariants.{Judged, NotJudged}
 use Rattle.kube_manifests.specs.declared.judgement.NotJudged as reason
 use Rattle.kube_manifests.specs.declared.set.CrdSet.{CrdSet}
-use Rattle.kube_manifests.specs.declared.version.CrdVersion.{CrdVersion}
 use Rattle.kube_manifests.specs.Documents.{Fault, versions_in}
+use Rattle.kube_manifests.specs.Lists.{list_view}
 use Rattle.kube_manifests.specs.Rules.{saturated_count, rules_in}
 use Rattle.kube_manifests.specs.Versions.{Version, chosen_version, root_of}
 
 -- ---- views of the code's values
 
--- a version with the tree of its schema
-abbrev pub version_view : CrdVersion → Version Node
-version_view v = record {
-  group = string_bytes v.root.api_group;
-  kind = string_bytes v.root.kind;
-  name = string_bytes v.name;
-  served = v.served;
-  schema = whole v.schema;
-}
-
 abbrev pub set_view : CrdSet → List (Version Node)
-set_view s = map version_view s.versions.items
+set_view s = list_view s.versions
 
 abbrev pub error_view : CrdError → Fault
-error_view e = record { document = e.document; pointer = string_bytes e.pointer; fault = e.fault }
+error_view e = record {
+  document = e.document;
+  item = e.item;
+  pointer = string_bytes e.pointer;
+  fault = e.fault;
+}
 
 -- the view of a set, or of the error
 abbrev pub outcome_view : Result CrdSet CrdError → Result (List (Version Node)) Fault

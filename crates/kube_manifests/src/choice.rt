@@ -1,23 +1,25 @@
 //! Chooses the version that judges an object.
+ghost use Rattle.kube_manifests.specs.Lists.{IsIndexed, list_view, version_view};
 ghost use Rattle.kube_manifests.specs.Parts.{choice_view};
-ghost use Rattle.kube_manifests.specs.Sets.{version_view};
-ghost use Rattle.kube_manifests.specs.Versions.{chosen_version, is_of_kind, is_of_version};
+ghost use Rattle.kube_manifests.specs.Versions.{chosen_version, is_of_kind};
 ghost use Rattle.serde_json.specs.View.{view};
-ghost use Rattle.std.specs.List.{find, list_any};
-ghost use Rattle.std.specs.Prelude.{◌≡◌, map, option_map};
+ghost use Rattle.std.specs.List.{list_any};
+ghost use Rattle.std.specs.Prelude.{◌≡◌, map};
 
 use crate::definition::text_at;
 use crate::judgement::NotJudged;
+use crate::list::Versions;
 use crate::version::CrdVersion;
 use serde_json::Value;
 
 /// Returns the version whose schema judges an object, or the reason why none does.
 #[tactic(auto, unfolding(crate::specs::Versions::chosen_version))]
 pub(crate) fn chosen<'s>(
-    versions: &'s [CrdVersion],
+    versions: &'s Versions,
     object: &Value,
 ) -> Result<&'s CrdVersion, NotJudged>
-    ensures { choice_view result ≡ chosen_version (map version_view versions.now) (view object.now) }
+    requires { IsIndexed versions.now }
+    ensures { choice_view result ≡ chosen_version (list_view versions.now) (view object.now) }
 {
     if !object.is_object() {
         return Err(NotJudged::NotAnObject);
@@ -28,29 +30,12 @@ pub(crate) fn chosen<'s>(
     let Some(kind) = text_at(object, "kind") else {
         return Err(NotJudged::NoKind);
     };
-    match version_of(versions, api_version, kind) {
+    match versions.find(api_version, kind) {
         Some(version) if version.served => Ok(version),
         Some(_) => Err(NotJudged::NotServed),
-        None if has_kind(versions, api_version, kind) => Err(NotJudged::NoSuchVersion),
+        None if has_kind(&versions.list, api_version, kind) => Err(NotJudged::NoSuchVersion),
         None => Err(NotJudged::NoSuchKind),
     }
-}
-
-/// Returns the version with this apiVersion and kind, if any.
-fn version_of<'s>(
-    versions: &'s [CrdVersion],
-    api_version: &str,
-    kind: &str,
-) -> Option<&'s CrdVersion>
-    ensures { option_map (λ v. version_view v.now) result
-        ≡ find (is_of_version api_version.now kind.now) (map version_view versions.now) }
-{
-    for version in versions {
-        if version.is_of_version(api_version, kind) {
-            return Some(version);
-        }
-    }
-    None
 }
 
 /// Reports whether any version, whatever its name, has this kind and the group of this apiVersion.

@@ -159,7 +159,7 @@ fn entries_of(document: &Value) -> Option<&[Value]>
 }
 
 /// Returns the slice, or `None` if it is empty.
-fn unless_none(entries: &[Value]) -> Option<&[Value]>
+pub(crate) fn unless_none(entries: &[Value]) -> Option<&[Value]>
     ensures { option_map (λ v. items_view v.now) result ≡ unless_none (items_view entries.now) }
 {
     if entries.is_empty() {

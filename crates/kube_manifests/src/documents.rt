@@ -1,15 +1,15 @@
 //! Adds the versions of documents to a set, one document after another.
-ghost use Rattle.kube_manifests.specs.Documents.{add_crd, add_document, add_item, add_version, each, is_defined, version_of};
+ghost use Rattle.kube_manifests.specs.Documents.{add_crd, add_document, add_item, add_version, each, version_of};
+ghost use Rattle.kube_manifests.specs.Lists.{IsIndexed, list_view, version_view};
 ghost use Rattle.kube_manifests.specs.Parts.{crd_view, entry_view, location_view};
-ghost use Rattle.kube_manifests.specs.Sets.{added_view, version_view};
-ghost use Rattle.kube_manifests.specs.Versions.{api_version, is_of_version};
+ghost use Rattle.kube_manifests.specs.Sets.{added_view};
 ghost use Rattle.kube_schema.specs.View.{view_of};
 ghost use Rattle.serde_json.specs.View.{items_view, view};
-ghost use Rattle.std.specs.List.{list_any};
-ghost use Rattle.std.specs.Prelude.{◌≡◌, IfErr, IfOk, map};
+ghost use Rattle.std.specs.Prelude.{◌≡◌, IfErr, IfOk, OnOk};
 
 use crate::definition::{CrdParts, EntryParts, crd_parts, entry_parts, list_of};
 use crate::fault::{CrdError, CrdFault, Location, error_at};
+use crate::list::Versions;
 use crate::rules::rule_count;
 use crate::version::CrdVersion;
 use kube_cel::{Refused, RootContext, compile_schema};
@@ -23,10 +23,12 @@ pub(crate) fn add_document(
     alloc: Global,
     document: usize,
     value: &Value,
-    versions: &mut Vec<CrdVersion>,
+    versions: &mut Versions,
 ) -> Result<Result<(), CrdError>, Refused>
-    ensures added { IfOk result (λ r. added_view (map version_view versions.new.items) r
-        ≡ add_document (view_of 65) document (view value.now) (map version_view versions.old.items)) }
+    requires { IsIndexed versions.old }
+    ensures added { IfOk result (λ r. added_view (list_view versions.new) r
+        ≡ add_document (view_of 65) document (view value.now) (list_view versions.old)) }
+    ensures indexed { OnOk result (IsIndexed versions.new) }
     ensures memory { IfErr result (λ e. e ≡ Refused.Memory) }
 {
     match list_of(value) {
@@ -48,11 +50,13 @@ fn add_items(
     alloc: Global,
     document: usize,
     items: &[Value],
-    versions: &mut Vec<CrdVersion>,
+    versions: &mut Versions,
 ) -> Result<Result<(), CrdError>, Refused>
-    ensures added { IfOk result (λ r. added_view (map version_view versions.new.items) r
+    requires { IsIndexed versions.old }
+    ensures added { IfOk result (λ r. added_view (list_view versions.new) r
         ≡ each (add_item (view_of 65) document) 0 (items_view items.now)
-        (map version_view versions.old.items)) }
+        (list_view versions.old)) }
+    ensures indexed { OnOk result (IsIndexed versions.new) }
     ensures memory { IfErr result (λ e. e ≡ Refused.Memory) }
 {
     for (index, item) in items.iter().enumerate() {
@@ -73,18 +77,20 @@ fn add_crd(
     alloc: Global,
     location: Location,
     value: &Value,
-    versions: &mut Vec<CrdVersion>,
+    versions: &mut Versions,
 ) -> Result<Result<(), CrdError>, Refused>
-    ensures added { IfOk result (λ r. added_view (map version_view versions.new.items) r
+    requires { IsIndexed versions.old }
+    ensures added { IfOk result (λ r. added_view (list_view versions.new) r
         ≡ add_crd (view_of 65) (location_view location) (view value.now)
-        (map version_view versions.old.items)) }
+        (list_view versions.old)) }
+    ensures indexed { OnOk result (IsIndexed versions.new) }
     ensures memory { IfErr result (λ e. e ≡ Refused.Memory) }
 {
     let crd = match crd_parts(value) {
         Ok(crd) => crd,
         Err(fault) => return Ok(Err(error_at(alloc, location, None, fault)?)),
     };
-    if has_kind(versions, crd.group, crd.kind) {
+    if versions.has_group(crd.group, crd.kind) {
         return Ok(Err(error_at(alloc, location, None, CrdFault::RepeatedKind)?));
     }
     add_versions(alloc, location, crd, crd.versions, versions)
@@ -96,11 +102,13 @@ fn add_versions(
     location: Location,
     crd: CrdParts<'_>,
     entries: &[Value],
-    versions: &mut Vec<CrdVersion>,
+    versions: &mut Versions,
 ) -> Result<Result<(), CrdError>, Refused>
-    ensures added { IfOk result (λ r. added_view (map version_view versions.new.items) r
+    requires { IsIndexed versions.old }
+    ensures added { IfOk result (λ r. added_view (list_view versions.new) r
         ≡ each (add_version (view_of 65) (location_view location) (crd_view crd.entry)) 0
-        (items_view entries.now) (map version_view versions.old.items)) }
+        (items_view entries.now) (list_view versions.old)) }
+    ensures indexed { OnOk result (IsIndexed versions.new) }
     ensures memory { IfErr result (λ e. e ≡ Refused.Memory) }
 {
     for (index, entry) in entries.iter().enumerate() {
@@ -119,11 +127,13 @@ fn add_version(
     crd: CrdParts<'_>,
     index: usize,
     version: &Value,
-    versions: &mut Vec<CrdVersion>,
+    versions: &mut Versions,
 ) -> Result<Result<(), CrdError>, Refused>
-    ensures added { IfOk result (λ r. added_view (map version_view versions.new.items) r
+    requires { IsIndexed versions.old }
+    ensures added { IfOk result (λ r. added_view (list_view versions.new) r
         ≡ add_version (view_of 65) (location_view location) (crd_view crd.entry) index (view version.now)
-        (map version_view versions.old.items)) }
+        (list_view versions.old)) }
+    ensures indexed { OnOk result (IsIndexed versions.new) }
     ensures memory { IfErr result (λ e. e ≡ Refused.Memory) }
 {
     let entry = match entry_parts(version) {
@@ -131,10 +141,10 @@ fn add_version(
         Err(fault) => return Ok(Err(error_at(alloc, location, Some(index), fault)?)),
     };
     let version = compiled_version(alloc, crd, entry)?;
-    if has_version(versions, &version) {
+    if versions.has_same(&version) {
         return Ok(Err(error_at(alloc, location, Some(index), CrdFault::RepeatedVersion)?));
     }
-    versions.push(version)?;
+    versions.push(alloc, version)?;
     Ok(Ok(()))
 }
 
@@ -165,32 +175,4 @@ fn compiled_version(
         schema,
         rules,
     })
-}
-
-/// Reports whether any version has this group and kind.
-fn has_kind(versions: &[CrdVersion], group: &str, kind: &str) -> bool
-    ensures { result ≡ list_any (is_defined group.now kind.now) (map version_view versions.now) }
-{
-    for version in versions {
-        if version.is_defined(group, kind) {
-            return true;
-        }
-    }
-    false
-}
-
-/// Reports whether any of these versions has the apiVersion and kind of `version`.
-fn has_version(versions: &[CrdVersion], version: &CrdVersion) -> bool
-    ensures { result ≡ list_any (is_of_version (api_version (version_view version.now))
-        (version_view version.now).kind) (map version_view versions.now) }
-{
-    for other in versions {
-        if other.is_of_version(
-            version.root.api_version.as_str(),
-            version.root.kind.as_str(),
-        ) {
-            return true;
-        }
-    }
-    false
 }

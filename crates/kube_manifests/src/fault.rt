@@ -42,6 +42,8 @@ pub enum CrdFault {
 pub struct CrdError {
     /// The index of the document, counted from 0.
     pub document: usize,
+    /// The index of the definition in the document, counted from 0, if the document is a list.
+    pub item: Option<usize>,
     /// A JSON Pointer (RFC 6901) into the document. If a field is missing, the pointer it would
     /// have.
     pub pointer: String,
@@ -144,6 +146,7 @@ pub(crate) fn error_at(
     };
     Ok(CrdError {
         document: location.document,
+        item: location.item,
         pointer,
         fault,
     })

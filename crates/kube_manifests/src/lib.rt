@@ -31,14 +31,19 @@
 mod choice;
 mod definition;
 mod documents;
+mod earlier;
+mod explanation;
 mod fault;
+mod fault_text;
 mod judgement;
 pub mod laws;
+mod list;
 mod rules;
 mod set;
 mod version;
 
 pub use definition::is_crd;
+pub use earlier::earlier_definition;
 pub use fault::{CrdError, CrdFault};
 pub use judgement::{Judgement, NotJudged};
 pub use kube_cel::cel::PatternBook;

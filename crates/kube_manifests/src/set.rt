@@ -1,17 +1,13 @@
 //! Sets of definitions, and the judging of objects by them.
-ghost use Rattle.cel_patterns.specs.Book.{Book, Extends};
-ghost use Rattle.cel_patterns.specs.Entries.{entries_of};
-ghost use Rattle.kube_manifests.specs.Sets.{all_compiled, with_tree, outcome_view, reason_of, rules_of, set_view, versions_of, why_not, IsJudgement, IsJudgementUnder};
-ghost use Rattle.kube_manifests.specs.Versions.{Version, chosen_version};
-ghost use Rattle.serde_json.specs.Data.{Data};
-ghost use Rattle.serde_json.specs.View.{items_view, view};
-ghost use Rattle.std.specs.Prelude.{◌≡◌, IfErr, IfOk, List, map, option_map};
+ghost use Rattle.kube_manifests.specs.Lists.{IsIndexed};
+ghost use Rattle.std.proofs.Props.{props};
 
 use crate::choice::chosen;
 use crate::documents::add_document;
+use crate::explanation::explained;
 use crate::fault::CrdError;
 use crate::judgement::{Judgement, NotJudged};
-use crate::version::CrdVersion;
+use crate::list::Versions;
 use kube_cel::cel::PatternBook;
 use kube_cel::{Refused, Validator};
 use serde_json::Value;
@@ -20,10 +16,20 @@ use std::alloc::Global;
 /// The versions of CustomResourceDefinitions, each with its schema compiled once.
 #[derive(Drop)]
 pub struct CrdSet {
-    pub(crate) versions: Vec<CrdVersion>,
+    pub(crate) versions: Versions,
+    ghost indexed: { IsIndexed versions } by { Prim.hlevel props },
 }
 
 impl CrdSet {
+    ghost use Rattle.cel_patterns.specs.Book.{Book, Extends};
+    ghost use Rattle.cel_patterns.specs.Entries.{entries_of};
+    ghost use Rattle.kube_manifests.specs.Explanations.{explanation};
+    ghost use Rattle.kube_manifests.specs.Sets.{IsJudgement, IsJudgementUnder, all_compiled, outcome_view, reason_of, rules_of, set_view, versions_of, why_not, with_tree};
+    ghost use Rattle.kube_manifests.specs.Versions.{Version, chosen_version};
+    ghost use Rattle.serde_json.specs.Data.{Data};
+    ghost use Rattle.serde_json.specs.View.{items_of, view};
+    ghost use Rattle.std.specs.Prelude.{◌≡◌, IfErr, IfOk, List, map, option_map, string_bytes};
+
     /// Reads all versions of all definitions in the documents, served or not. A document is a
     /// CustomResourceDefinition of `apiextensions.k8s.io/v1`, or a list of them: a value whose kind
     /// ends in `List`, with an array in `items`. The inner error is the first fault of the first
@@ -34,15 +40,15 @@ impl CrdSet {
     /// [`Refused`] if memory is refused.
     pub fn from_documents(
         alloc: Global,
-        documents: &[Value],
+        documents: &[&Value],
     ) -> Result<Result<CrdSet, CrdError>, Refused>
         ensures versions { IfOk result (λ r. outcome_view r
-            ≡ all_compiled (versions_of (items_view documents.now))) }
+            ≡ all_compiled (versions_of (items_of (map (λ v. view v.now) documents.now)))) }
         ensures memory { IfErr result (λ e. e ≡ Refused.Memory) }
     {
-        let mut versions = Vec::new(alloc);
+        let mut versions = Versions::new(alloc);
         for (index, document) in documents.iter().enumerate() {
-            if let Err(error) = add_document(alloc, index, document, &mut versions)? {
+            if let Err(error) = add_document(alloc, index, *document, &mut versions)? {
                 return Ok(Err(error));
             }
         }
@@ -126,5 +132,25 @@ impl CrdSet {
             Ok(version) => Ok(version.rules),
             Err(reason) => Err(reason),
         }
+    }
+
+    /// Says why no schema judges an object, for this reason of [`validate`](CrdSet::validate): which
+    /// kind and version were looked for, which there are, and which was probably meant.
+    ///
+    /// # Errors
+    ///
+    /// [`Refused`] if memory is refused.
+    pub fn explain(
+        &self,
+        alloc: Global,
+        object: &Value,
+        reason: NotJudged,
+    ) -> Result<String, Refused>
+        ensures words { IfOk result (λ s. string_bytes s
+            ≡ explanation (set_view self.now) (view object.now) reason) }
+        ensures memory { IfErr result (λ e. e ≡ Refused.Memory) }
+    {
+        let text = explained(alloc, &self.versions.list, object, reason)?;
+        Ok(text)
     }
 }

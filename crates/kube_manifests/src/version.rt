@@ -7,6 +7,8 @@ ghost use Rattle.std.specs.List.{starts_with};
 ghost use Rattle.std.specs.Prelude.{◌≡◌, ◌++◌, nat_eq, string_bytes};
 
 use kube_cel::{CompiledSchema, RootContext};
+use kube_manifests_spelling::is_near;
+use std::alloc::{AllocError, Global};
 
 /// A version of a definition, with its compiled schema.
 #[derive(Drop)]
@@ -28,9 +30,11 @@ pub struct CrdVersion {
 }
 
 impl CrdVersion {
-    ghost use Rattle.kube_manifests.specs.Sets.{version_view};
     ghost use Rattle.kube_manifests.specs.Documents.{is_defined};
-    ghost use Rattle.kube_manifests.specs.Versions.{is_of_kind, is_of_version};
+    ghost use Rattle.kube_manifests.specs.Explanations.{is_of_near_kind, is_of_near_version};
+    ghost use Rattle.kube_manifests.specs.Lists.{version_view};
+    ghost use Rattle.kube_manifests.specs.Versions.{is_of_kind};
+    ghost use Rattle.std.specs.Prelude.{IfOk};
 
     /// Reports whether the version has this group and kind.
     pub(crate) fn is_defined(&self, group: &str, kind: &str) -> bool
@@ -39,18 +43,49 @@ impl CrdVersion {
         self.root.api_group.as_str() == group && self.root.kind.as_str() == kind
     }
 
+    /// Reports whether this apiVersion is one of the version's group.
+    pub(crate) fn is_of_group(&self, api_version: &str) -> bool
+        ensures { result ≡ starts_with nat_eq api_version.now (group_prefix (version_view self.now).group) }
+    {
+        has_start(api_version, self.prefix.as_str())
+    }
+
+    /// Reports whether this apiVersion is one of the version's group, and the version's kind is near
+    /// this one.
+    pub(crate) fn is_of_near_kind(
+        &self,
+        alloc: Global,
+        api_version: &str,
+        kind: &str,
+    ) -> Result<bool, AllocError>
+        ensures { IfOk result (λ b. b ≡ is_of_near_kind api_version.now kind.now (version_view self.now)) }
+    {
+        if !self.is_of_group(api_version) {
+            return Ok(false);
+        }
+        is_near(alloc, kind, self.root.kind.as_str())
+    }
+
+    /// Reports whether the version is of this kind, and its apiVersion is near this one.
+    pub(crate) fn is_of_near_version(
+        &self,
+        alloc: Global,
+        api_version: &str,
+        kind: &str,
+    ) -> Result<bool, AllocError>
+        ensures { IfOk result (λ b. b ≡ is_of_near_version api_version.now kind.now (version_view self.now)) }
+    {
+        if self.root.kind.as_str() != kind {
+            return Ok(false);
+        }
+        is_near(alloc, api_version, self.root.api_version.as_str())
+    }
+
     /// Reports whether objects with this apiVersion and kind have the version's group and kind.
     pub(crate) fn is_of_kind(&self, api_version: &str, kind: &str) -> bool
         ensures { result ≡ is_of_kind api_version.now kind.now (version_view self.now) }
     {
-        has_start(api_version, self.prefix.as_str()) && self.root.kind.as_str() == kind
-    }
-
-    /// Reports whether objects with this apiVersion and kind are of this version.
-    pub(crate) fn is_of_version(&self, api_version: &str, kind: &str) -> bool
-        ensures { result ≡ is_of_version api_version.now kind.now (version_view self.now) }
-    {
-        self.root.api_version.as_str() == api_version && self.root.kind.as_str() == kind
+        self.is_of_group(api_version) && self.root.kind.as_str() == kind
     }
 }
 

@@ -17,6 +17,15 @@ pub six_steps : (e0 e1 e2 e3 e4 e5 e6 a b c d f g : List SchemaLocation) → e1 
 six_steps e0 e1 e2 e3 e4 e5 e6 a b c d f g q1 q2 q3 q4 q5 q6 =
     q6 ∙ ap (λ r. r ++ g) (q5 ∙ ap (λ r. r ++ f) (q4 ∙ ap (λ r. r ++ d) (q3 ∙ ap (λ r. r ++ c) (q2 ∙ ap (λ r. r ++ b) q1)))) ∙ regroup_six e0 a b c d f g
 
+regroup_seven : (e a b c d f g h : List SchemaLocation) → (((((((e ++ a) ++ b) ++ c) ++ d) ++ f) ++ g) ++ h) ≡ e ++ (a ++ (b ++ (c ++ (d ++ (f ++ (g ++ h))))))
+regroup_seven e a b c d f g h = simp append_assoc
+
+-- seven successive additions
+pub seven_steps : (e0 e1 e2 e3 e4 e5 e6 e7 a b c d f g h : List SchemaLocation) → e1 ≡ e0 ++ a → e2 ≡ e1 ++ b → e3 ≡ e2 ++ c → e4 ≡ e3 ++ d → e5 ≡ e4 ++ f → e6 ≡ e5 ++ g → e7 ≡ e6 ++ h
+    → e7 ≡ e0 ++ (a ++ (b ++ (c ++ (d ++ (f ++ (g ++ h))))))
+seven_steps e0 e1 e2 e3 e4 e5 e6 e7 a b c d f g h q1 q2 q3 q4 q5 q6 q7 =
+    q7 ∙ ap (λ r. r ++ h) (q6 ∙ ap (λ r. r ++ g) (q5 ∙ ap (λ r. r ++ f) (q4 ∙ ap (λ r. r ++ d) (q3 ∙ ap (λ r. r ++ c) (q2 ∙ ap (λ r. r ++ b) q1))))) ∙ regroup_seven e0 a b c d f g h
+
 regroup_three : (e a b c : List SchemaLocation) → (((e ++ a) ++ b) ++ c) ≡ e ++ (a ++ (b ++ c))
 regroup_three e a b c = simp append_assoc
 

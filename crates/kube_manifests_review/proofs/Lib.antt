@@ -1,8 +1,8 @@
-pub mod Edits
-pub mod Swaps
 pub mod Books
 pub mod Steps
 pub mod Items
 pub mod Wrong
 pub mod Seen
 pub mod Gathered
+pub mod Visits
+pub mod Superseded

@@ -6,8 +6,9 @@ use Rattle.cel_syntax_ast.specs.declared.expr.Expr.{Expr, Expr-F, fold-roll-Expr
 use Rattle.cel_syntax_ast.specs.declared.expr.Expr.TheVariants as expr
 use Rattle.cel_value.specs.Data.{Data}
 use Rattle.cel_value.specs.Same.{has_double}
-use Rattle.kube_manifests_review.specs.Calls.{Text, call_candidates, double_text, literal_candidates, node_candidates, text_candidate, terms_in}
+use Rattle.kube_manifests_review.specs.Calls.{Text, call_candidates, literal_candidates, node_candidates, text_candidate, terms_in}
 use Rattle.kube_manifests_review.specs.Candidates.{always}
+use Rattle.kube_manifests_review.specs.Features.{doubles_text}
 use Rattle.kube_manifests_review.specs.Messages.{is_no_string}
 use Rattle.kube_manifests_review.specs.Rules.{kind_candidates}
 use Rattle.kube_manifests_review.specs.declared.finding.ReviewKind.TheVariants as kind
@@ -33,9 +34,9 @@ qualified_is x es = ap term (sym (expr.rolls-Qualified x es)) ∙ fold-roll-Expr
 pub qualified_seen : (t : Text) (x : _) (es : _) → node_candidates t (term (expr.Qualified x es)) ≡ call_candidates t None x (map term es.items)
 qualified_seen t x es = ap (node_candidates t) (qualified_is x es) ∙ ap (call_candidates t None x) (terms_back (map term es.items))
 
-pub double_candidate : (t : Text) (v : Data) (m : List ℕ) → has_double v ≡ true → m ≡ double_text → text_candidate t kind.Double m always ∷ [] ≡ literal_candidates t v
+pub double_candidate : (t : Text) (v : Data) (m : List ℕ) → has_double v ≡ true → m ≡ doubles_text → text_candidate t kind.Unsupported m always ∷ [] ≡ literal_candidates t v
 double_candidate t v m e f =
-    ap (λ x. text_candidate t kind.Double x always ∷ []) f ∙ ap (λ b. cond b (text_candidate t kind.Double double_text always ∷ []) []) (sym e)
+    ap (λ x. text_candidate t kind.Unsupported x always ∷ []) f ∙ ap (λ b. cond b (text_candidate t kind.Unsupported doubles_text always ∷ []) []) (sym e)
 
 pub kind_candidate : (t : Text) (e : Term) (m : List ℕ) → is_no_string e ≡ true → m ≡ codes "messageExpression doesn't return a string" → text_candidate t kind.Message m always ∷ [] ≡ kind_candidates t e
 kind_candidate t e m n f =

@@ -14,6 +14,7 @@ use Rattle.cel_value.specs.Parts.{text_in}
 use Rattle.cel_value.specs.Same.{has_double}
 use Rattle.kube_functions.specs.Kube.{all_library}
 use Rattle.kube_manifests_review.specs.Candidates.{Candidate, When, always, refused, fails}
+use Rattle.kube_manifests_review.specs.Features.{doubles_text, is_lacked, lacking_text}
 use Rattle.kube_manifests_review.specs.declared.finding.ReviewKind.{ReviewKind}
 use Rattle.kube_manifests_review.specs.declared.finding.ReviewKind.TheVariants as kind
 use Rattle.kube_manifests_review.specs.declared.text.Text as code
@@ -91,7 +92,7 @@ wrong_text name false n =
     ++ (codes "' can't be called without a receiver and with this number of arguments: " ++ decimal n))
 
 abbrev pub old_self_text : List ℕ → List ℕ
-old_self_text name = codes "'oldSelf' isn't an optional: " ++ (name ++ codes "() always fails")
+old_self_text name = codes "'oldSelf' isn't an optional here: " ++ (name ++ codes "() always fails")
 
 abbrev pub fails_text : List ℕ → List ℕ → List ℕ
 fails_text name s = name ++ (codes "('" ++ (s ++ codes "') always fails"))
@@ -102,7 +103,7 @@ pattern_text p = codes "pattern '" ++ (p ++ codes "' can't be compiled")
 abbrev pub old_self_candidates : Text → Option Term → List ℕ → List Candidate
 old_self_candidates t r name =
     if asks_optional name
-    then (if is_old_self r then text_candidate t kind.OldSelf (old_self_text name) always ∷ [] else [])
+    then (if is_old_self r then text_candidate t kind.Unsupported (old_self_text name) always ∷ [] else [])
     else []
 
 abbrev pub fails_candidates : Text → List ℕ → Option (List ℕ) → List Candidate
@@ -122,10 +123,15 @@ known_candidates t r name ts =
     old_self_candidates t r name
     ++ (fails_candidates t name (only_text r ts) ++ pattern_candidates t r name ts)
 
--- the linter reports unknown functions, but not those that a messageExpression calls
+-- the linter reports unknown functions, but not those that a messageExpression calls; those that this
+-- project lacks are reported here
+abbrev pub unknown_candidates : Text → List ℕ → List Candidate
+unknown_candidates t name =
+    if is_lacked name then text_candidate t kind.Unsupported (lacking_text name) always ∷ []
+    else if t.is_message then text_candidate t kind.Call (unknown_text name) always ∷ [] else []
+
 abbrev pub form_candidates : Form → Text → Option Term → List ℕ → List Term → List Candidate
-form_candidates Unknown t r name ts =
-    if t.is_message then text_candidate t kind.Call (unknown_text name) always ∷ [] else []
+form_candidates Unknown t r name ts = unknown_candidates t name
 form_candidates Wrong t r name ts =
     text_candidate t kind.Call (wrong_text name (is_some r) (length ts)) always ∷ []
 form_candidates Known t r name ts = known_candidates t r name ts
@@ -135,11 +141,8 @@ call_candidates t r name ts = form_candidates (all_library.form_of name (is_some
 
 -- ---- the candidate findings of a node
 
-abbrev pub double_text : List ℕ
-double_text = codes "numbers of kind double are not supported"
-
 abbrev pub literal_candidates : Text → Data → List Candidate
-literal_candidates t v = if has_double v then text_candidate t kind.Double double_text always ∷ [] else []
+literal_candidates t v = if has_double v then text_candidate t kind.Unsupported doubles_text always ∷ [] else []
 
 abbrev pub first_term : Terms → Option Term
 first_term no_terms = None

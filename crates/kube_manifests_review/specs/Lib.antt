@@ -1,10 +1,14 @@
 pub mod Candidates
 pub mod Pointers
 pub mod Keywords
-pub mod Edits
 pub mod Locations
+pub mod Visited
 pub mod Nodes
+pub mod Features
 pub mod Calls
 pub mod Messages
 pub mod Rules
+pub mod Linted
+pub mod Stray
 pub mod Reviewed
+pub mod Unread

@@ -1,15 +1,17 @@
 -- Trusted by the clauses of manifests.
 -- The schemas within a schema, each with its JSON Pointer: a schema precedes those within it. First
--- come those that are read, in the order in which Kubernetes walks over an object (Kubernetes
--- documentation, "Extend the Kubernetes API with CustomResourceDefinitions", "Specifying a
--- structural schema"), then those of the other fields that hold schemas (Kubernetes API reference,
--- `JSONSchemaProps`): no object is judged by these.
-use Rattle.std.specs.Prelude.{◌≡◌, ℕ, zero, suc, List, [], ◌∷◌, ◌++◌, map, Bool, false, Option, Some, None, codes, string_bytes}
+-- come those that are read, in the order of the walk over an object (Kubernetes documentation,
+-- "Extend the Kubernetes API with CustomResourceDefinitions", "Specifying a structural schema"),
+-- then those of the other fields that hold schemas (Kubernetes API reference, `JSONSchemaProps`): no
+-- object is judged by these. `Visited.antt` says which places the walk reaches, and a law that these
+-- are the ones that are read.
+use Rattle.std.specs.Prelude.{◌≡◌, ℕ, zero, suc, List, [], ◌∷◌, ◌++◌, map, Bool, false, if◌then◌else◌, Option, Some, None, codes, string_bytes}
 use Rattle.std.specs.Option.{option_and_then}
 use Rattle.serde_json.specs.Data.{Data, Items, no_items, item, Members, no_members, member}
 use Rattle.serde_json.specs.Find.{get, as_object}
 use Rattle.serde_json.specs.View.{view}
-use Rattle.kube_schema_values.specs.DefaultsAccessors.{members_or_none, additional}
+use Rattle.kube_schema_rules.specs.Raw.{undeclared_property}
+use Rattle.kube_schema_values.specs.DefaultsAccessors.{members_or_none, additional, preserves}
 use Rattle.kube_schema.specs.View.{branches, items_or_none}
 use Rattle.kube_manifests_review.specs.Pointers.{keyword_pointer, key_pointer, index_pointer}
 use Rattle.kube_manifests_review.specs.declared.locations.SchemaLocation as code
@@ -67,20 +69,27 @@ unfoldable pub locations_within : (List ℕ → Data → List SchemaLocation) �
 locations_within f p s =
     names_locations f p (codes "properties") s
     ++ (maybe_locations f (keyword_pointer p (codes "items")) (get (codes "items") s)
-    ++ (maybe_locations f (keyword_pointer p (codes "additionalProperties")) (additional s)
+    ++ (maybe_locations f (keyword_pointer p (codes "additionalProperties")) (undeclared_property s)
     ++ (branch_locations f p (codes "allOf") s
     ++ (branch_locations f p (codes "oneOf") s
     ++ branch_locations f p (codes "anyOf") s))))
 
--- the locations of the other fields that hold schemas; `items` may be a list of them
+-- the schema of `additionalProperties` where unknown fields are preserved: the walk doesn't go
+-- there
+unfoldable pub passed_over : Data → Option Data
+passed_over s = if preserves s then additional s else None
+
+-- the locations of the fields that hold schemas and that no walk goes through; `items` may be a list
+-- of schemas
 unfoldable pub unread_within : (List ℕ → Data → List SchemaLocation) → List ℕ → Data → List SchemaLocation
 unread_within f p s =
-    maybe_locations f (keyword_pointer p (codes "not")) (get (codes "not") s)
+    maybe_locations f (keyword_pointer p (codes "additionalProperties")) (passed_over s)
+    ++ (maybe_locations f (keyword_pointer p (codes "not")) (get (codes "not") s)
     ++ (maybe_locations f (keyword_pointer p (codes "additionalItems")) (get (codes "additionalItems") s)
     ++ (branch_locations f p (codes "items") s
     ++ (names_locations f p (codes "patternProperties") s
     ++ (names_locations f p (codes "definitions") s
-    ++ names_locations f p (codes "dependencies") s))))
+    ++ names_locations f p (codes "dependencies") s)))))
 
 -- the locations of a schema at this pointer, which is read or isn't, down to this depth
 unfoldable pub locations_of : ℕ → Bool → List ℕ → Data → List SchemaLocation

@@ -1,37 +1,28 @@
 -- Trusted by the clauses of manifests.
 -- The findings of a CustomResourceDefinition: for each version, in order, the findings of the
--- linter, then those of the review of its schema. Source: Kubernetes API reference,
--- `CustomResourceDefinitionSpec`, `CustomResourceDefinitionVersion`, `CustomResourceValidation`.
-use Rattle.std.specs.Prelude.{ℕ, suc, List, [], ◌∷◌, ◌++◌, map, Bool, true, false, ◌&&◌, Option, Some, None, if◌then◌else◌, is_some, codes}
+-- linter, then those of the review of its schema; then the rules that are in no schema of a version.
+-- Source: Kubernetes API reference, `CustomResourceDefinitionSpec`,
+-- `CustomResourceDefinitionVersion`, `CustomResourceValidation`.
+use Rattle.std.specs.Prelude.{ℕ, suc, List, [], ◌∷◌, ◌++◌, Bool, true, false, ◌&&◌, Option, Some, None, if◌then◌else◌, is_some, codes}
 use Rattle.std.specs.List.{flat_map, list_any}
 use Rattle.std.specs.Option.{option_and_then}
 use Rattle.cel_patterns.specs.Book.{Book}
 use Rattle.serde_json.specs.Data.{Data, Items, no_items, item}
 use Rattle.serde_json.specs.Find.{get, as_array, as_object}
 use Rattle.kube_cel_analysis.specs.Findings.{Naming}
-use Rattle.kube_cel_analysis.specs.Findings as linter
 use Rattle.kube_cel_analysis.specs.Lint.{findings}
 use Rattle.kube_schema_rules.specs.Rules.{rule_items}
 use Rattle.kube_schema.specs.View.{items_or_none, view_of}
-use Rattle.kube_manifests_review.specs.Candidates.{Candidate, Finding, always, due, unconditional}
+use Rattle.kube_manifests_review.specs.Candidates.{Candidate, Finding, due, unconditional}
+use Rattle.kube_manifests_review.specs.Linted.{lint_candidates}
 use Rattle.kube_manifests_review.specs.Locations.{SchemaLocation, locations_of}
 use Rattle.kube_manifests_review.specs.Pointers.{index_pointer}
 use Rattle.kube_manifests_review.specs.Rules.{location_candidates}
+use Rattle.kube_manifests_review.specs.Stray.{stray}
 use Rattle.kube_manifests_review.specs.declared.finding.ReviewKind.TheVariants as kind
+use Rattle.kube_manifests_review.specs.declared.part.Part.TheVariants as part
 
 -- ---- the candidates of the schema at this pointer
-
--- a finding of the linter, with its pointer into the document
-abbrev pub candidate_of_finding : List ℕ → linter.Finding → Candidate
-candidate_of_finding base f = record {
-  finding = record {
-    pointer = base ++ f.pointer;
-    rule = f.rule;
-    kind = kind.Lint f.kind;
-    message = f.message;
-  };
-  when = always;
-}
 
 abbrev pub any_item : Items → Bool
 any_item no_items = false
@@ -50,7 +41,7 @@ own_candidates base ps = no_rule_candidates base ps ++ flat_map location_candida
 
 unfoldable pub schema_candidates : Naming → List ℕ → Data → List Candidate
 schema_candidates names base s =
-    map (candidate_of_finding base) (findings names [] (view_of 65 s))
+    lint_candidates base None (findings names [] (view_of 65 s))
     ++ own_candidates base (locations_of 65 true base s)
 
 -- ---- the candidates of a document
@@ -85,9 +76,11 @@ no_version_candidates ds =
     if any_item ds then []
     else unconditional (codes "/spec/versions") kind.Document (codes "the document has no versions") ∷ []
 
+-- those of its versions, then the rules that are in none of their schemas
 unfoldable pub crd_candidates : Naming → Data → List Candidate
 crd_candidates names crd =
-    no_version_candidates (versions_of crd) ++ versions_candidates names 0 (versions_of crd)
+    no_version_candidates (versions_of crd)
+    ++ (versions_candidates names 0 (versions_of crd) ++ stray part.Document [] crd)
 
 -- the findings of a document under a book of patterns
 abbrev pub crd_findings : Naming → Data → Book → List Finding

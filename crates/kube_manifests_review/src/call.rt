@@ -1,11 +1,12 @@
 //! Adds the candidate findings of calls.
-ghost use Rattle.std.specs.Prelude.{◌≡◌, [], ◌∷◌, OnOk, if◌then◌else◌, map, option_map};
+ghost use Rattle.std.specs.Prelude.{◌≡◌, [], ◌∷◌, OnOk, map, option_map};
 ghost use Rattle.cel_syntax_ast.specs.Term.{term};
 ghost use Rattle.kube_manifests_review.specs.Calls as spec;
 ghost use Rattle.kube_manifests_review.specs.Calls.{text_view};
 ghost use Rattle.kube_manifests_review.specs.Candidates.{AddsCandidates, always};
 
 use crate::candidate::{Candidate, Condition};
+use crate::feature::{is_lacked, lacking_text};
 use crate::finding::ReviewKind;
 use crate::messages::{fails_text, old_self_text, pattern_text, unknown_text, wrong_text};
 use crate::text::{Text, add_candidate};
@@ -111,7 +112,7 @@ fn add_old_self(
     add_candidate(
         alloc,
         text,
-        ReviewKind::OldSelf,
+        ReviewKind::Unsupported,
         message,
         Condition::Always,
         candidates,
@@ -234,7 +235,8 @@ fn add_wrong(
     )
 }
 
-/// Adds a candidate if a messageExpression calls an unknown function.
+/// Adds a candidate if an unknown function is one that this project lacks, or if a messageExpression
+/// calls it.
 fn add_unknown(
     alloc: Global,
     text: Text<'_>,
@@ -242,9 +244,19 @@ fn add_unknown(
     candidates: &mut Vec<Candidate>,
 ) -> Result<(), AllocError>
     ensures { OnOk result (AddsCandidates candidates.old.items candidates.new.items
-        (if (text_view text.entry).is_message then spec.text_candidate (text_view text.entry) ReviewKind.Call
-        (spec.unknown_text name.now) always ∷ [] else [])) }
+        (spec.unknown_candidates (text_view text.entry) name.now)) }
 {
+    if is_lacked(name) {
+        let message = lacking_text(alloc, name)?;
+        return add_candidate(
+            alloc,
+            text,
+            ReviewKind::Unsupported,
+            message,
+            Condition::Always,
+            candidates,
+        );
+    }
     if !text.is_message {
         return Ok(());
     }

@@ -7,7 +7,9 @@ ghost use Rattle.serde_json.specs.View.{items_view, view};
 
 use crate::candidate::Candidate;
 use crate::finding::ReviewKind;
+use crate::part::Part;
 use crate::schema::{add_schema, has_item};
+use crate::stray::add_stray;
 use crate::text::add_unconditional;
 use kube_types_refused::Refused;
 use serde_json::Value;
@@ -15,7 +17,7 @@ use std::alloc::{AllocError, Global};
 
 /// The versions of a document. Empty if the list is missing or not an array.
 #[tactic(auto, unfolding(crate::specs::Reviewed::versions_of))]
-fn versions_of(crd: &Value) -> &[Value]
+pub(crate) fn versions_of(crd: &Value) -> &[Value]
     ensures { items_view result.now ≡ spec.versions_of (view crd.now) }
 {
     let Some(spec) = crd.get("spec") else {
@@ -32,7 +34,7 @@ fn versions_of(crd: &Value) -> &[Value]
 
 /// The schema of a version. `None` if it is missing or not an object.
 #[tactic(auto, unfolding(crate::specs::Reviewed::version_schema))]
-fn version_schema(version: &Value) -> Option<&Value>
+pub(crate) fn version_schema(version: &Value) -> Option<&Value>
     ensures { option_map (λ s. view s.now) result ≡ spec.version_schema (view version.now) }
 {
     let schema = version.get("schema")?.get("openAPIV3Schema")?;
@@ -44,7 +46,7 @@ fn version_schema(version: &Value) -> Option<&Value>
 }
 
 /// Returns the pointer of a version's schema.
-fn version_pointer(alloc: Global, index: usize) -> Result<String, AllocError>
+pub(crate) fn version_pointer(alloc: Global, index: usize) -> Result<String, AllocError>
     ensures { IfOk result (λ s. string_bytes s ≡ spec.version_pointer index) }
 {
     format!(in alloc; "/spec/versions/{index}/schema/openAPIV3Schema")
@@ -121,5 +123,6 @@ pub(crate) fn candidates_of(alloc: Global, crd: &Value) -> Result<Vec<Candidate>
     let mut candidates = Vec::new(alloc);
     add_no_version(alloc, versions, &mut candidates)?;
     add_versions(alloc, versions, &mut candidates)?;
+    add_stray(alloc, Part::Document, "", crd, &mut candidates)?;
     Ok(candidates)
 }

@@ -18,10 +18,8 @@ pub enum ReviewKind {
     Pattern,
     /// A call with one string literal always fails.
     Literal,
-    /// A literal is a double.
-    Double,
-    /// `hasValue` or `value` is called on `oldSelf`.
-    OldSelf,
+    /// A part of CEL that Kubernetes has and this project lacks: it is no mistake of the definition.
+    Unsupported,
     /// A messageExpression obviously doesn't evaluate to a string.
     Message,
     /// A key is no field of schemas, or no field of rules.

@@ -1,14 +1,14 @@
 //! Finds keys that are no fields.
 ghost use Rattle.std.specs.Prelude.{◌≡◌, IfOk, OnOk, map, option_map, string_bytes};
-ghost use Rattle.std.specs.Str.{chars};
 ghost use Rattle.kube_manifests_review.specs.Candidates.{AddsCandidates};
 ghost use Rattle.kube_manifests_review.specs.Keywords as spec;
-ghost use Rattle.kube_manifests_review.specs.Keywords.{begins_swapped, key_candidates, keys_candidates, near, one_letter_off, two_letters_swapped};
+ghost use Rattle.kube_manifests_review.specs.Keywords.{key_candidates, keys_candidates};
 ghost use Rattle.serde_json.specs.View.{members_view};
 
 use crate::candidate::{Candidate, Condition};
 use crate::finding::{ReviewFinding, ReviewKind};
 use crate::pointer::key_pointer;
+use kube_manifests_spelling::{is_word, near};
 use serde_json::{Map, Value};
 use std::alloc::{AllocError, Global};
 
@@ -70,97 +70,6 @@ pub(crate) const RULE_FIELDS: [&str; 6] = [
     "optionalOldSelf",
 ];
 
-/// Reports whether a key is one of these fields.
-fn is_field(fields: &[&str], key: &str) -> bool
-    ensures { result ≡ spec.is_field (map (λ f. f.now) fields.now) key.now }
-{
-    for field in fields {
-        if key == *field {
-            return true;
-        }
-    }
-    false
-}
-
-/// Reports whether inserting, deleting or replacing exactly one character turns one into the other.
-fn is_one_letter_off(key: &[char], word: &[char]) -> bool
-    ensures { result ≡ one_letter_off key.now word.now }
-{
-    match (key, word) {
-        ([], []) => false,
-        ([], [_, words @ ..]) => words.is_empty(),
-        ([_, keys @ ..], []) => keys.is_empty(),
-        ([k, keys @ ..], [w, words @ ..]) => {
-            if *k == *w {
-                is_one_letter_off(keys, words)
-            } else {
-                keys == words || key == words || keys == word
-            }
-        }
-    }
-}
-
-/// Reports whether the first two characters of one are those of the other swapped, and the others
-/// are equal.
-fn begins_swapped(key: &[char], word: &[char]) -> bool
-    ensures { result ≡ begins_swapped key.now word.now }
-{
-    match (key, word) {
-        ([k, l, keys @ ..], [w, v, words @ ..]) => *k == *v && *l == *w && keys == words,
-        _ => false,
-    }
-}
-
-/// Reports whether swapping two different neighbouring characters turns one into the other.
-fn has_two_letters_swapped(key: &[char], word: &[char]) -> bool
-    ensures { result ≡ two_letters_swapped key.now word.now }
-{
-    match (key, word) {
-        ([], _) => false,
-        ([_, _keys @ ..], []) => false,
-        ([k, keys @ ..], [w, words @ ..]) => {
-            if *k == *w {
-                has_two_letters_swapped(keys, words)
-            } else {
-                begins_swapped(key, word)
-            }
-        }
-    }
-}
-
-/// Collects the characters of a text.
-fn characters(alloc: Global, text: &str) -> Result<Vec<char>, AllocError>
-    ensures { IfOk result (λ v. v.items ≡ chars text.now) }
-{
-    text.chars().collect(alloc)
-}
-
-/// Reports whether a key is one letter off a word, has two letters swapped, or differs in case
-/// alone.
-fn is_near(alloc: Global, key: &str, word: &str) -> Result<bool, AllocError>
-    ensures { IfOk result (λ b. b ≡ spec.is_near key.now word.now) }
-{
-    let letters = characters(alloc, key)?;
-    let others = characters(alloc, word)?;
-    Ok(
-        is_one_letter_off(letters.as_slice(), others.as_slice())
-            || has_two_letters_swapped(letters.as_slice(), others.as_slice())
-            || key.eq_ignore_ascii_case(word),
-    )
-}
-
-/// The first of these fields that the key is near, if any.
-fn near<'w>(alloc: Global, fields: &[&'w str], key: &str) -> Result<Option<&'w str>, AllocError>
-    ensures { IfOk result (λ o. option_map (λ w. w.now) o ≡ near (map (λ f. f.now) fields.now) key.now) }
-{
-    for field in fields {
-        if is_near(alloc, key, *field)? {
-            return Ok(Some(*field));
-        }
-    }
-    Ok(None)
-}
-
 /// The message about a key that is no field, with the field that was meant, if one is near.
 fn unknown_text(alloc: Global, key: &str, field: Option<&str>) -> Result<String, AllocError>
     ensures { IfOk result (λ s. string_bytes s ≡ spec.unknown_text key.now (option_map (λ f. f.now) field.entry)) }
@@ -183,7 +92,7 @@ fn add_key(
     ensures { OnOk result (AddsCandidates candidates.old.items candidates.new.items
         (key_candidates (map (λ f. f.now) fields.now) pointer.now rule.now key.now)) }
 {
-    if is_field(fields, key) {
+    if is_word(fields, key) {
         return Ok(());
     }
     let meant = near(alloc, fields, key)?;

@@ -27,21 +27,28 @@
 mod call;
 mod candidate;
 mod document;
+mod feature;
 pub mod finding;
 mod keyword;
 pub mod laws;
+mod linted;
 mod locations;
 mod message;
 mod messages;
 mod node;
 mod nodes;
+mod part;
 mod pointer;
 pub mod review;
 mod rule;
 mod schema;
+mod stray;
 mod text;
+mod unread;
 mod word;
 
+pub use feature::lacking_text;
 pub use finding::{ReviewFinding, ReviewKind};
 pub use kube_cel_analysis::LintKind;
 pub use review::{review_crd, review_crd_with};
+pub use unread::unread_parts;

@@ -1,8 +1,9 @@
 //! Finds the schemas within a schema.
 ghost use Rattle.std.specs.Prelude.{◌≡◌, OnOk, false, option_map};
-ghost use Rattle.kube_manifests_review.specs.Locations.{AddsLocations, branch_locations, locations_of, locations_within, maybe_locations, named_schemas, names_locations, unread_within};
+ghost use Rattle.kube_manifests_review.specs.Locations.{AddsLocations, branch_locations, locations_of, locations_within, maybe_locations, named_schemas, names_locations, passed_over, unread_within};
 ghost use Rattle.kube_manifests_review.specs.Pointers.{keyword_pointer};
-ghost use Rattle.kube_schema_values.specs.DefaultsAccessors.{additional};
+ghost use Rattle.kube_schema_rules.specs.Raw.{undeclared_property};
+ghost use Rattle.kube_schema_values.specs.DefaultsAccessors.{additional, preserves};
 ghost use Rattle.kube_schema.specs.View.{branches};
 ghost use Rattle.serde_json.specs.View.{items_view, members_view, view};
 
@@ -34,6 +35,42 @@ fn additional(schema: &Value) -> Option<&Value>
 {
     let node = schema.get("additionalProperties")?;
     if node.is_object() { Some(node) } else { None }
+}
+
+/// Reports whether a schema preserves unknown fields.
+#[tactic(auto, unfolding(kube_schema_values::specs::DefaultsAccessors::preserves))]
+fn preserves(schema: &Value) -> bool
+    ensures { result ≡ preserves (view schema.now) }
+{
+    schema
+        .get("x-kubernetes-preserve-unknown-fields")
+        .and_then(Value::as_bool)
+        .unwrap_or(false)
+}
+
+/// The schema of undeclared members that the walk over an object goes to. `None` if unknown fields
+/// are preserved.
+#[tactic(auto, unfolding(kube_schema_rules::specs::Raw::undeclared_property, kube_schema_values::specs::DefaultsAccessors::additional, kube_schema_values::specs::DefaultsAccessors::preserves))]
+fn undeclared(schema: &Value) -> Option<&Value>
+    ensures { option_map (λ n. view n.now) result ≡ undeclared_property (view schema.now) }
+{
+    if preserves(schema) {
+        None
+    } else {
+        additional(schema)
+    }
+}
+
+/// The schema of undeclared members that the walk passes over, since unknown fields are preserved.
+#[tactic(auto, unfolding(crate::specs::Locations::passed_over))]
+fn passed_over(schema: &Value) -> Option<&Value>
+    ensures { option_map (λ n. view n.now) result ≡ passed_over (view schema.now) }
+{
+    if preserves(schema) {
+        additional(schema)
+    } else {
+        None
+    }
 }
 
 /// The branches of a keyword, if it has any.
@@ -86,7 +123,7 @@ fn add_within<'a>(
         (locations_within (locations_of levels is_read) pointer.now (view schema.now))) }
 {
     let items = schema.get("items");
-    let others = additional(schema);
+    let others = undeclared(schema);
     add_names(
         alloc,
         pointer,
@@ -112,7 +149,7 @@ fn add_within<'a>(
     Ok(())
 }
 
-/// Adds the schemas of the other fields that hold schemas, and those within them: none is read.
+/// Adds the schemas of the fields that no walk goes through, and those within them: none is read.
 #[cycle(locations)]
 fn add_unread<'a>(
     alloc: Global,
@@ -124,8 +161,18 @@ fn add_unread<'a>(
     ensures { OnOk result (AddsLocations locations.old.items locations.new.items
         (unread_within (locations_of levels false) pointer.now (view schema.now))) }
 {
+    let passed = passed_over(schema);
     let not = schema.get("not");
     let others = schema.get("additionalItems");
+    add_maybe(
+        alloc,
+        pointer,
+        "additionalProperties",
+        passed,
+        false,
+        levels,
+        locations,
+    )?;
     add_maybe(alloc, pointer, "not", not, false, levels, locations)?;
     add_maybe(
         alloc,

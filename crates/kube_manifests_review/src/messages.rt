@@ -36,7 +36,7 @@ pub(crate) fn wrong_text(
 pub(crate) fn old_self_text(alloc: Global, name: &str) -> Result<String, AllocError>
     ensures { IfOk result (λ s. string_bytes s ≡ spec.old_self_text name.now) }
 {
-    format!(in alloc; "'oldSelf' isn't an optional: {name}() always fails")
+    format!(in alloc; "'oldSelf' isn't an optional here: {name}() always fails")
 }
 
 /// Returns the message that calling a function with this string always fails.

@@ -28,11 +28,11 @@ fn add_literal(
     if !value.holds_double() {
         return Ok(());
     }
-    let message = String::from_str(alloc, "numbers of kind double are not supported")?;
+    let message = String::from_str(alloc, "numbers of kind double aren't supported")?;
     add_candidate(
         alloc,
         text,
-        ReviewKind::Double,
+        ReviewKind::Unsupported,
         message,
         Condition::Always,
         candidates,

@@ -147,7 +147,7 @@ fn add_result(
 }
 
 /// The source of a rule. Empty if it has none.
-fn text_of_rule(rule: &Value) -> &str
+pub(crate) fn text_of_rule(rule: &Value) -> &str
     ensures { result.now ≡ spec.text_of_rule (view rule.now) }
 {
     let Some(source) = rule.get("rule") else {
@@ -245,7 +245,7 @@ fn add_validations(
 }
 
 /// Adds a candidate if a schema that isn't read has rules.
-fn add_unread_rules(
+pub(crate) fn add_unread_rules(
     alloc: Global,
     pointer: &str,
     rules: Option<&Value>,

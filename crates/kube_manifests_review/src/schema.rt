@@ -1,22 +1,22 @@
 //! Adds the candidate findings of a schema.
-ghost use Rattle.std.specs.Prelude.{◌≡◌, [], IfOk, OnOk, map};
+ghost use Rattle.std.specs.Prelude.{◌≡◌, OnOk, map};
 ghost use Rattle.std.specs.List.{flat_map, list_any};
 ghost use Rattle.kube_cel_analysis.specs.Findings.{Naming};
-ghost use Rattle.kube_cel_analysis.specs.Findings as linter;
-ghost use Rattle.kube_manifests_review.specs.Candidates.{AddsCandidates, candidate_view};
+ghost use Rattle.kube_manifests_review.specs.Candidates.{AddsCandidates};
 ghost use Rattle.kube_manifests_review.specs.Locations.{location_view};
 ghost use Rattle.kube_manifests_review.specs.Reviewed as spec;
 ghost use Rattle.kube_manifests_review.specs.Rules.{location_candidates};
 ghost use Rattle.serde_json.specs.View.{items_view, view};
 
-use crate::candidate::{Candidate, Condition};
-use crate::finding::{ReviewFinding, ReviewKind};
+use crate::candidate::Candidate;
+use crate::finding::ReviewKind;
 use crate::keyword::SCHEMA_FIELDS;
+use crate::linted::add_lint;
 use crate::locations::{SchemaLocation, add_locations};
 use crate::pointer::keyword_pointer;
 use crate::rule::{add_keys_of, add_schema_rules};
 use crate::text::add_unconditional;
-use kube_cel_analysis::{LintFinding, lint_schema};
+use kube_cel_analysis::lint_schema;
 use kube_schema::compile_schema;
 use kube_schema_rules::rule_values;
 use kube_types_refused::Refused;
@@ -24,44 +24,7 @@ use serde_json::Value;
 use std::alloc::{AllocError, Global};
 
 /// The number of levels of a schema that are reviewed: depths 0 to 64.
-const LEVELS: usize = 65;
-
-/// Turns a finding of the linter into a candidate, with its pointer into the document.
-fn candidate_of_finding(
-    alloc: Global,
-    base: &str,
-    finding: LintFinding,
-) -> Result<Candidate, AllocError>
-    ensures { IfOk result (λ d. candidate_view d
-        ≡ spec.candidate_of_finding base.now (linter.finding_view finding)) }
-{
-    let pointer = format!(in alloc; "{base}{}", finding.pointer)?;
-    Ok(Candidate {
-        finding: ReviewFinding {
-            pointer,
-            rule: finding.rule,
-            kind: ReviewKind::Lint(finding.kind),
-            message: finding.message,
-        },
-        condition: Condition::Always,
-    })
-}
-
-/// Adds the findings of the linter, in order.
-fn add_lint(
-    alloc: Global,
-    base: &str,
-    findings: Vec<LintFinding>,
-    candidates: &mut Vec<Candidate>,
-) -> Result<(), AllocError>
-    ensures { OnOk result (AddsCandidates candidates.old.items candidates.new.items
-        (map (spec.candidate_of_finding base.now) (map linter.finding_view findings.items))) }
-{
-    for finding in findings {
-        candidates.push(candidate_of_finding(alloc, base, finding)?)?;
-    }
-    Ok(())
-}
+pub(crate) const LEVELS: usize = 65;
 
 /// Reports whether the list has any item.
 pub(crate) fn has_item(items: &[Value]) -> bool

@@ -1,10 +1,13 @@
-use Rattle.std.proofs.Common.{◌≡◌, drop, map}
+use Rattle.std.proofs.Common.{◌≡◌, drop}
 use Rattle.kube_manifests.proofs.documents.add_items.Given as goal
 use Rattle.kube_manifests.specs.Documents.{add_item, each}
-use Rattle.kube_manifests.specs.Sets.{version_view}
+use Rattle.kube_manifests.specs.Lists.{IsIndexed, list_view}
 use Rattle.kube_schema.specs.View.{view_of}
 use Rattle.serde_json.specs.View.{items_view}
 
 abbrev pub invariant-loop-index : goal.invariant-loop-index
-invariant-loop-index l = each (add_item (view_of 65) l.document) l.index (items_view (drop l.index l.items)) (map version_view l.versions.items)
-    ≡ each (add_item (view_of 65) l.document) 0 (items_view l.items) (map version_view l.fn.versions.items)
+invariant-loop-index l = record {
+  added : each (add_item (view_of 65) l.document) l.index (items_view (drop l.index l.items)) (list_view l.versions)
+      ≡ each (add_item (view_of 65) l.document) 0 (items_view l.items) (list_view l.fn.versions);
+  indexed : IsIndexed l.versions;
+}

@@ -1,6 +1,6 @@
 use Rattle.std.proofs.Common.{◌≡◌, ◌-◌, ◌++◌, [], ◌∷◌, suc, map, codes, false, refl, sym, ap, ◌∙◌, arith, string_bytes}
 use Rattle.std.proofs.lemmas.List.{map-append}
-use Rattle.kube_manifests_review.proofs.Gathered.{gathered, no_levels, six_steps}
+use Rattle.kube_manifests_review.proofs.Gathered.{gathered, no_levels, seven_steps, six_steps}
 use Rattle.kube_manifests_review.proofs.Items.{last_item, next_item}
 use Rattle.kube_manifests_review.proofs.Steps.{no_more, one_more}
 use Rattle.kube_manifests_review.proofs.locations.+locations.Goals as goal
@@ -36,7 +36,7 @@ add_within-returns t c =
     (map location_view c.add_branches-2.new.locations.items) (map location_view c.add_branches-3.new.locations.items) _ _ _ _ _ _
     c.in_ok-add_names.ensures
     (c.in_ok-add_maybe.ensures ∙ ap (λ o. e1 ++ maybe_locations f (keyword_pointer p (codes "items")) o) c.get-items.ensures)
-    (c.in_ok-add_maybe-2.ensures ∙ ap (λ o. e2 ++ maybe_locations f (keyword_pointer p (codes "additionalProperties")) o) c.additional-others.ensures)
+    (c.in_ok-add_maybe-2.ensures ∙ ap (λ o. e2 ++ maybe_locations f (keyword_pointer p (codes "additionalProperties")) o) c.undeclared-others.ensures)
     c.in_ok-add_branches.ensures c.in_ok-add_branches-2.ensures c.in_ok-add_branches-3.ensures
 
 pub add_unread-returns : goal.add_unread-returns
@@ -46,10 +46,12 @@ add_unread-returns t c =
     let f = locations_of c.args.levels false in
     let e0 = map location_view c.args.locations.now.items in
     let e1 = map location_view c.add_maybe.new.locations.items in
-    six_steps e0 e1 (map location_view c.add_maybe-2.new.locations.items) (map location_view c.add_branches.new.locations.items)
-    (map location_view c.add_names.new.locations.items) (map location_view c.add_names-2.new.locations.items) (map location_view c.add_names-3.new.locations.items) _ _ _ _ _ _
-    (c.in_ok-add_maybe.ensures ∙ ap (λ o. e0 ++ maybe_locations f (keyword_pointer p (codes "not")) o) c.get-not.ensures)
-    (c.in_ok-add_maybe-2.ensures ∙ ap (λ o. e1 ++ maybe_locations f (keyword_pointer p (codes "additionalItems")) o) c.get-others.ensures)
+    let e2 = map location_view c.add_maybe-2.new.locations.items in
+    seven_steps e0 e1 e2 (map location_view c.add_maybe-3.new.locations.items) (map location_view c.add_branches.new.locations.items)
+    (map location_view c.add_names.new.locations.items) (map location_view c.add_names-2.new.locations.items) (map location_view c.add_names-3.new.locations.items) _ _ _ _ _ _ _
+    (c.in_ok-add_maybe.ensures ∙ ap (λ o. e0 ++ maybe_locations f (keyword_pointer p (codes "additionalProperties")) o) c.passed_over-passed.ensures)
+    (c.in_ok-add_maybe-2.ensures ∙ ap (λ o. e1 ++ maybe_locations f (keyword_pointer p (codes "not")) o) c.get-not.ensures)
+    (c.in_ok-add_maybe-3.ensures ∙ ap (λ o. e2 ++ maybe_locations f (keyword_pointer p (codes "additionalItems")) o) c.get-others.ensures)
     c.in_ok-add_branches.ensures c.in_ok-add_names.ensures c.in_ok-add_names-2.ensures c.in_ok-add_names-3.ensures
 
 pub add_names-loop-key-init : goal.add_names-loop-key-init

@@ -3,31 +3,35 @@ use Rattle.kube_manifests.proofs.Each.{each_ends, each_on, each_stops}
 use Rattle.kube_manifests.proofs.Judged.{all_read}
 use Rattle.kube_manifests.proofs.set.CrdSet.from_documents.Goals as goal
 use Rattle.kube_manifests.specs.Documents.{add_document}
-use Rattle.kube_manifests.specs.Sets.{added_view, error_view, version_view}
+use Rattle.kube_manifests.specs.Lists.{list_view}
+use Rattle.kube_manifests.specs.Sets.{added_view, error_view}
 use Rattle.kube_schema.specs.View.{view_of}
-use Rattle.serde_json.specs.View.{items_view, view}
+use Rattle.serde_json.specs.View.{items_of, view}
 
 pub returns-in-Err-clause-versions : goal.returns-in-Err-clause-versions
 returns-in-Err-clause-versions c =
     let step = add_document (view_of 65) in
-    let had = map version_view c.loop-index.versions.items in
+    let had = list_view c.loop-index.versions in
     let below : c.loop-index.index < length c.args.documents.now = omega arith in
-    let stops : Err (error_view c.in-Err.error) ≡ step c.loop-index.index (view c.index-documents-index.result) had =
-    ap (added_view (map version_view c.add_document.new.versions.items)) (sym c.in-Err.is) ∙ c.in_ok-error.ensures.added in
-    each_stops step c.args.documents.now c.loop-index.index c.index-documents-index.result had (error_view c.in-Err.error) below c.index-documents-index.is stops ∙ c.loop-index.invariant ∙ all_read (items_view c.args.documents.now)
+    let stops : Err (error_view c.in-Err.error) ≡ step c.loop-index.index (view c.index-documents-index.result.now) had =
+    ap (added_view (list_view c.add_document.new.versions)) (sym c.in-Err.is) ∙ c.in_ok-error.ensures.added in
+    each_stops (λ v. view v.now) step c.args.documents.now c.loop-index.index c.index-documents-index.result had (error_view c.in-Err.error) below c.index-documents-index.is stops ∙ c.loop-index.invariant.added ∙ all_read (items_of (map (λ v. view v.now) c.args.documents.now))
 
 pub loop-index-preserved : goal.loop-index-preserved
 loop-index-preserved c =
     let step = add_document (view_of 65) in
-    let had = map version_view c.loop-index.versions.items in
-    let new = map version_view c.add_document.new.versions.items in
+    let had = list_view c.loop-index.versions in
+    let new = list_view c.add_document.new.versions in
     let below : c.loop-index.index < length c.args.documents.now = omega arith in
-    let goes : Ok new ≡ step c.loop-index.index (view c.index-documents-index.result) had =
+    let goes : Ok new ≡ step c.loop-index.index (view c.index-documents-index.result.now) had =
     ap (added_view new) (sym c.in_default.is) ∙ c.in_ok-error.ensures.added in
-    each_on step c.args.documents.now c.loop-index.index c.index-documents-index.result had new below c.index-documents-index.is goes ∙ c.loop-index.invariant
+    record {
+      added = each_on (λ v. view v.now) step c.args.documents.now c.loop-index.index c.index-documents-index.result had new below c.index-documents-index.is goes ∙ c.loop-index.invariant.added;
+      indexed = c.in_ok-error.ensures.indexed;
+    }
 
 pub returns-clause-versions : goal.returns-clause-versions
 returns-clause-versions c =
     let step = add_document (view_of 65) in
     let past : length c.args.documents.now ≤ c.loop-index.index = omega arith in
-    each_ends step c.args.documents.now c.loop-index.index (map version_view c.loop-index.versions.items) past ∙ c.loop-index.invariant ∙ all_read (items_view c.args.documents.now)
+    each_ends (λ v. view v.now) step c.args.documents.now c.loop-index.index (list_view c.loop-index.versions) past ∙ c.loop-index.invariant.added ∙ all_read (items_of (map (λ v. view v.now) c.args.documents.now))
