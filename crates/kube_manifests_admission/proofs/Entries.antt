@@ -1,5 +1,5 @@
 -- Lists that are read one entry after another.
-use Rattle.kube_cel_vap.specs.Expressions.{◌>>=◌}
+use Rattle.kube_manifests_admission.specs.Faults.{◌>>=◌}
 use Rattle.kube_manifests_admission.specs.Policies.{ItemData, entries_after, next_entry}
 use Rattle.kube_manifests_admission.specs.declared.item.Item.{Item}
 use Rattle.kube_manifests_admission.specs.declared.item.PolicyList.{PolicyList}

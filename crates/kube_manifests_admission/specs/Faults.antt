@@ -1,18 +1,41 @@
 -- Trusted by the clauses of policies.
 -- The faults of documents that don't have the expected shape (JSON Pointer, RFC 6901, section 3).
 use Rattle.kube_manifests_admission.specs.declared.fault.FaultKind.{FaultKind}
-use Rattle.kube_manifests_admission.specs.declared.fault.FaultKind.TheVariants.{Missing, NotObject, NotList, NotString, NotBool, Unsupported, UnknownField, Repeated, NothingToCheck}
+use Rattle.kube_manifests_admission.specs.declared.fault.FaultKind.TheVariants as kind
 use Rattle.kube_manifests_admission.specs.declared.fault.Found.{Found}
 use Rattle.kube_manifests_admission.specs.declared.fault.PolicyFault.{PolicyFault}
+use Rattle.kube_manifests_admission.specs.declared.fault.Problem as code
+use Rattle.kube_manifests_admission.specs.declared.fault.Problem.TheVariants as found
 use Rattle.kube_manifests_admission.specs.declared.location.Location.{Location}
-use Rattle.kube_manifests_admission.specs.declared.location.Location.TheVariants.{Field, Item, ItemField}
+use Rattle.kube_manifests_admission.specs.declared.location.Location.TheVariants.{Field, FieldItem, Item, ItemField}
+use Rattle.kube_manifests_spelling.specs.Spelling.{joined, near}
 use Rattle.std.specs.List.{flat_map}
-use Rattle.std.specs.Prelude.{ℕ, List, ◌++◌, ◌==◌, if◌then◌else◌, codes, decimal, encode_utf8, string_bytes}
+use Rattle.std.specs.Prelude.{ℕ, List, ◌++◌, ◌==◌, map, Option, Some, None, option_map, if◌then◌else◌, codes, decimal, encode_utf8, Result, Ok, Err, string_bytes}
 use Rattle.std.specs.Str.{chars}
+
+-- what is wrong at a location
+pub data Problem : Type 0 where
+  Missing : Problem
+  NotObject : Problem
+  NotList : Problem
+  NotString : Problem
+  NotBool : Problem
+  -- the string that stands there, and those that are supported, with a comma between each two
+  Unsupported : List ℕ → List ℕ → Problem
+  -- the field that was probably meant
+  UnknownField : Option (List ℕ) → Problem
+  Repeated : Problem
+  NothingToCheck : Problem
 
 pub record FaultData : Type 0 where
   pub pointer : List ℕ
-  pub kind : FaultKind
+  pub kind : Problem
+
+-- the second after the first, or the fault of the first
+infixl 10 ◌>>=◌
+abbrev pub ◌>>=◌ : {A B E : Type 0} → Result A E → (A → Result B E) → Result B E
+Ok a >>= f = f a
+Err e >>= f = Err e
 
 -- a character of a name in a pointer, in UTF-8; `~` and `/` are escaped
 abbrev pub escaped_character : ℕ → List ℕ
@@ -26,37 +49,67 @@ token name = flat_map escaped_character (chars name)
 abbrev pub field : List ℕ → List ℕ → List ℕ
 field base name = (base ++ codes "/") ++ token name
 
+-- the pointer of an item of the list in such a field
+abbrev pub field_item : List ℕ → List ℕ → ℕ → List ℕ
+field_item base name i = field base name ++ (codes "/" ++ decimal i)
+
 -- the pointer of an item of the list at this pointer
 abbrev pub nth : List ℕ → ℕ → List ℕ
 nth base i = base ++ (codes "/" ++ decimal i)
 
--- the pointer of a field of such an item; its name needs no escape
+-- the pointer of a field of such an item
 abbrev pub nth_field : List ℕ → ℕ → List ℕ → List ℕ
-nth_field base i name = base ++ (codes "/" ++ (decimal i ++ (codes "/" ++ name)))
+nth_field base i name = field (nth base i) name
 
-abbrev pub kind_text : FaultKind → List ℕ
-kind_text Missing = codes "is required"
-kind_text NotObject = codes "must be an object"
-kind_text NotList = codes "must be a list"
-kind_text NotString = codes "must be a string"
-kind_text NotBool = codes "must be true or false"
-kind_text Unsupported = codes "has an unsupported value"
-kind_text UnknownField = codes "is an unknown field"
-kind_text Repeated = codes "has a duplicate name"
-kind_text NothingToCheck = codes "must have validations or auditAnnotations"
+abbrev pub problem_text : Problem → List ℕ
+problem_text Missing = codes "is required"
+problem_text NotObject = codes "must be an object"
+problem_text NotList = codes "must be a list"
+problem_text NotString = codes "must be a string"
+problem_text NotBool = codes "must be true or false"
+problem_text (Unsupported value supported) =
+    codes "has the unsupported value \"" ++ (value ++ (codes "\" (supported: " ++ (supported ++ codes ")")))
+problem_text (UnknownField None) = codes "is an unknown field"
+problem_text (UnknownField (Some name)) = codes "is an unknown field (did you mean " ++ (name ++ codes "?)")
+problem_text Repeated = codes "has a duplicate name"
+problem_text NothingToCheck = codes "must have validations or auditAnnotations"
 
+-- such as `at /spec/failurePolicy: is required`
 abbrev pub fault_text : FaultData → List ℕ
-fault_text f = codes "at \"" ++ (f.pointer ++ (codes "\": " ++ kind_text f.kind))
+fault_text f = codes "at " ++ (f.pointer ++ (codes ": " ++ problem_text f.kind))
 
 -- ---- views of the code's values
 
 abbrev pub pointer_at : Location → List ℕ
 pointer_at (Field base name) = field base.now name.now
+pointer_at (FieldItem base name i) = field_item base.now name.now i
 pointer_at (Item base i) = nth base.now i
 pointer_at (ItemField base i name) = nth_field base.now i name.now
 
+abbrev pub kind_view : FaultKind → Problem
+kind_view kind.Missing = Missing
+kind_view kind.NotObject = NotObject
+kind_view kind.NotList = NotList
+kind_view kind.NotString = NotString
+kind_view kind.NotBool = NotBool
+kind_view (kind.Unsupported value supported) = Unsupported (string_bytes value) (string_bytes supported)
+kind_view (kind.UnknownField meant) = UnknownField (option_map (λ t. t.now) meant)
+kind_view kind.Repeated = Repeated
+kind_view kind.NothingToCheck = NothingToCheck
+
 abbrev pub fault_view : PolicyFault → FaultData
-fault_view f = record { pointer = string_bytes f.pointer; kind = f.kind }
+fault_view f = record { pointer = string_bytes f.pointer; kind = kind_view f.kind }
+
+abbrev pub problem_view : code.Problem → Problem
+problem_view found.Missing = Missing
+problem_view found.NotObject = NotObject
+problem_view found.NotList = NotList
+problem_view found.NotString = NotString
+problem_view found.NotBool = NotBool
+problem_view (found.Unsupported value supported) = Unsupported value.now (joined (map (λ t. t.now) supported.now))
+problem_view (found.UnknownField name fields) = UnknownField (near (map (λ t. t.now) fields.now) name.now)
+problem_view found.Repeated = Repeated
+problem_view found.NothingToCheck = NothingToCheck
 
 abbrev pub fault_seen : Found → FaultData
-fault_seen f = record { pointer = pointer_at f.location; kind = f.kind }
+fault_seen f = record { pointer = pointer_at f.location; kind = problem_view f.problem }

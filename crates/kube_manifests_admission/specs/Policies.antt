@@ -1,9 +1,7 @@
 -- Trusted by the clauses of policies.
 -- The contents of a policy's document (Kubernetes API reference, ValidatingAdmissionPolicy of
 -- `admissionregistration.k8s.io`), or its first fault.
-use Rattle.kube_cel_vap.specs.Expressions.{◌>>=◌}
-use Rattle.kube_manifests_admission.specs.Faults.{FaultData, fault_seen, field, nth, nth_field}
-use Rattle.kube_manifests_admission.specs.declared.fault.FaultKind.TheVariants.{Missing, NotObject, NotList, NotString, Unsupported, UnknownField, Repeated, NothingToCheck}
+use Rattle.kube_manifests_admission.specs.Faults.{FaultData, Missing, NotObject, NotList, NotString, Unsupported, UnknownField, Repeated, NothingToCheck, fault_seen, field, nth, nth_field, ◌>>=◌}
 use Rattle.kube_manifests_admission.specs.declared.fault.Found.{Found}
 use Rattle.kube_manifests_admission.specs.declared.item.Item.{Item}
 use Rattle.kube_manifests_admission.specs.declared.item.PolicyList.{PolicyList}
@@ -11,9 +9,12 @@ use Rattle.kube_manifests_admission.specs.declared.item.PolicyList.TheVariants.{
 use Rattle.kube_manifests_admission.specs.declared.policy.Policy.{Policy}
 use Rattle.serde_json.specs.Data.{Data, null, string, array, object, Items, no_items, item, Members, no_members, member}
 use Rattle.serde_json.specs.Find.{get, as_object}
+use Rattle.kube_manifests_spelling.specs.Spelling.{is_word, joined, near}
+use Rattle.std.specs.BTreeSet.{BTreeSet, contains_text}
 use Rattle.std.specs.List.{list_any}
-use Rattle.std.specs.Prelude.{ℕ, List, [], ◌∷◌, ◌++◌, length, map, Bool, true, false, ◌&&◌, if◌then◌else◌, Option, Some, None, option_and_then, option_map, is_some, Result, Ok, Err, codes}
+use Rattle.std.specs.Prelude.{◌≡◌, String, ℕ, List, [], ◌∷◌, ◌++◌, length, map, Bool, true, false, ◌&&◌, if◌then◌else◌, Option, Some, None, option_and_then, option_map, is_some, Result, Ok, Err, codes}
 use Rattle.std.specs.Str.{bytes_eq}
+use Rattle.std.specs.declared.alloc.Global.{Global}
 
 -- one entry of a list of the policy
 pub record ItemData : Type 0 where
@@ -26,6 +27,8 @@ pub record ItemData : Type 0 where
 pub record PolicyData : Type 0 where
   -- whether `failurePolicy` is `Ignore`
   pub ignores : Bool
+  -- whether the policy has a `paramKind`, and so `params`
+  pub has_params : Bool
   pub conditions : List ItemData
   pub variables : List ItemData
   pub validations : List ItemData
@@ -59,6 +62,14 @@ expression_key Variables = codes "expression"
 expression_key Validations = codes "expression"
 expression_key AuditAnnotations = codes "valueExpression"
 
+-- the fields of an entry
+abbrev pub fields : PolicyList → List (List ℕ)
+fields MatchConditions = codes "name" ∷ codes "expression" ∷ []
+fields Variables = codes "name" ∷ codes "expression" ∷ []
+fields Validations =
+    codes "expression" ∷ codes "message" ∷ codes "reason" ∷ codes "messageExpression" ∷ []
+fields AuditAnnotations = codes "key" ∷ codes "valueExpression" ∷ []
+
 -- names and keys must differ; two validations may have the same expression
 abbrev pub is_unique : PolicyList → Bool
 is_unique MatchConditions = true
@@ -91,10 +102,34 @@ object_of p (Some _) = Err (record { pointer = p; kind = NotObject })
 -- a string that must be one of these
 abbrev pub one_of : List ℕ → List (List ℕ) → List ℕ → Result (List ℕ) FaultData
 one_of p known s =
-    if list_any (bytes_eq s) known then Ok s else Err (record { pointer = p; kind = Unsupported })
+    if is_word known s then Ok s else Err (record { pointer = p; kind = Unsupported s (joined known) })
 
 abbrev pub required_one : List ℕ → List (List ℕ) → Option Data → Result (List ℕ) FaultData
 required_one p known o = required_text p o >>= one_of p known
+
+abbrev pub none_or_one_of : List ℕ → List (List ℕ) → Option (List ℕ) → Result (Option (List ℕ)) FaultData
+none_or_one_of p known None = Ok None
+none_or_one_of p known (Some s) = one_of p known s >>= (λ t. Ok (Some t))
+
+-- such a string, which may be missing or null
+abbrev pub optional_one : List ℕ → List (List ℕ) → Option Data → Result (Option (List ℕ)) FaultData
+optional_one p known o = text_of p o >>= none_or_one_of p known
+
+-- the first member whose name isn't one of these
+abbrev pub unknown_in : List (List ℕ) → Members → Option (List ℕ)
+unknown_in known no_members = None
+unknown_in known (member k d ms) = if is_word known k then unknown_in known ms else Some k
+
+abbrev pub unknown_field : List (List ℕ) → Data → Option (List ℕ)
+unknown_field known d = option_and_then (unknown_in known) (as_object d)
+
+abbrev pub unless_some : List ℕ → List (List ℕ) → Option (List ℕ) → Data → Result Data FaultData
+unless_some p known None d = Ok d
+unless_some p known (Some name) d = Err (record { pointer = field p name; kind = UnknownField (near known name) })
+
+-- the value at a pointer, unless it has a field that isn't one of these
+abbrev pub unless_unknown : List ℕ → List (List ℕ) → Data → Result Data FaultData
+unless_unknown p known d = unless_some p known (unknown_field known d) d
 
 -- ---- entries
 
@@ -105,13 +140,23 @@ entry_text l i d name = text_of (nth_field (base l) i name) (get name d)
 abbrev pub required_entry_text : PolicyList → ℕ → Data → List ℕ → Result (List ℕ) FaultData
 required_entry_text l i d name = required_text (nth_field (base l) i name) (get name d)
 
+-- the reasons that a validation may give
+abbrev pub reasons : List (List ℕ)
+reasons =
+    codes "Unauthorized" ∷ codes "Forbidden" ∷ codes "Invalid" ∷ codes "RequestEntityTooLarge" ∷ []
+
+abbrev pub entry_reason : PolicyList → ℕ → Data → Result (Option (List ℕ)) FaultData
+entry_reason l i d = optional_one (nth_field (base l) i (codes "reason")) reasons (get (codes "reason") d)
+
 -- the contents of the entry at this index
 unfoldable pub entry_of : PolicyList → ℕ → Data → Result ItemData FaultData
 entry_of l i d = do
+  known ← unless_unknown (nth (base l) i) (fields l) d
   label ← required_entry_text l i d (label_key l)
   expression ← required_entry_text l i d (expression_key l)
   message ← entry_text l i d (codes "message")
   message_expression ← entry_text l i d (codes "messageExpression")
+  reason ← entry_reason l i d
   Ok (record {
     label = label;
     expression = expression;
@@ -161,31 +206,34 @@ spec_fields =
     ∷ codes "validations" ∷ codes "failurePolicy" ∷ codes "auditAnnotations"
     ∷ codes "variables" ∷ []
 
--- the first member whose name isn't one of these
-abbrev pub unknown_in : List (List ℕ) → Members → Option (List ℕ)
-unknown_in known no_members = None
-unknown_in known (member k d ms) = if list_any (bytes_eq k) known then unknown_in known ms else Some k
-
-abbrev pub unknown_field : Data → Option (List ℕ)
-unknown_field d = option_and_then (unknown_in spec_fields) (as_object d)
-
-abbrev pub unless_unknown : Option (List ℕ) → Data → Result Data FaultData
-unless_unknown None spec = Ok spec
-unless_unknown (Some name) spec = Err (record { pointer = field (codes "/spec") name; kind = UnknownField })
-
 abbrev pub failure_policies : List (List ℕ)
 failure_policies = codes "Fail" ∷ codes "Ignore" ∷ []
 
--- whether `failurePolicy` is `Ignore`; the default is `Fail`
-abbrev pub ignores_with : List ℕ → Option (List ℕ) → Result Bool FaultData
-ignores_with p None = Ok false
-ignores_with p (Some s) = one_of p failure_policies s >>= (λ t. Ok (bytes_eq t (codes "Ignore")))
+-- the default is `Fail`
+abbrev pub is_ignore : Option (List ℕ) → Bool
+is_ignore None = false
+is_ignore (Some s) = bytes_eq s (codes "Ignore")
 
 abbrev pub failure_pointer : List ℕ
 failure_pointer = field (codes "/spec") (codes "failurePolicy")
 
+-- whether `failurePolicy` is `Ignore`
 abbrev pub ignores_in : Data → Result Bool FaultData
-ignores_in spec = text_of failure_pointer (get (codes "failurePolicy") spec) >>= ignores_with failure_pointer
+ignores_in spec =
+    optional_one failure_pointer failure_policies (get (codes "failurePolicy") spec) >>= (λ o. Ok (is_ignore o))
+
+abbrev pub params_pointer : List ℕ
+params_pointer = field (codes "/spec") (codes "paramKind")
+
+abbrev pub has_object : List ℕ → Option Data → Result Bool FaultData
+has_object p None = Ok false
+has_object p (Some null) = Ok false
+has_object p (Some (object ms)) = Ok true
+has_object p (Some _) = Err (record { pointer = p; kind = NotObject })
+
+-- whether there is a `paramKind`
+abbrev pub params_in : Data → Result Bool FaultData
+params_in spec = has_object params_pointer (get (codes "paramKind") spec)
 
 -- a policy, unless it has neither validations nor audit annotations
 abbrev pub unless_empty : PolicyData → Result PolicyData FaultData
@@ -201,12 +249,14 @@ unless_empty p = elim p.validations as (λ _. Result PolicyData FaultData) [
 unfoldable pub spec_of : Data → Result PolicyData FaultData
 spec_of spec = do
   ignores ← ignores_in spec
+  has_params ← params_in spec
   conditions ← entries_of MatchConditions spec
   variables ← entries_of Variables spec
   validations ← entries_of Validations spec
   annotations ← entries_of AuditAnnotations spec
   unless_empty (record {
     ignores = ignores;
+    has_params = has_params;
     conditions = conditions;
     variables = variables;
     validations = validations;
@@ -219,7 +269,7 @@ spec_in d = do
   version ← required_one (field [] (codes "apiVersion")) versions (get (codes "apiVersion") d)
   kind ← required_one (field [] (codes "kind")) kinds (get (codes "kind") d)
   spec ← object_of (field [] (codes "spec")) (get (codes "spec") d)
-  unless_unknown (unknown_field spec) spec
+  unless_unknown (codes "/spec") spec_fields spec
 
 -- the policy in a document
 unfoldable pub policy_of : Data → Result PolicyData FaultData
@@ -238,6 +288,7 @@ item_view x = record {
 abbrev pub policy_view : Policy → PolicyData
 policy_view p = record {
   ignores = p.ignores;
+  has_params = p.has_params;
   conditions = map item_view p.conditions.items;
   variables = map item_view p.variables.items;
   validations = map item_view p.validations.items;
@@ -248,3 +299,10 @@ policy_view p = record {
 abbrev pub reading_view : {A B : Type 0} → (A → B) → Result A Found → Result B FaultData
 reading_view f (Ok a) = Ok (f a)
 reading_view f (Err e) = Err (fault_seen e)
+
+-- ---- for private clauses
+
+-- the set has the names of these entries, if names of this list must differ
+abbrev pub HasNames : PolicyList → BTreeSet (String Global) → List ItemData → Type 0
+HasNames l names done =
+    is_unique l ≡ true → (x : List ℕ) → contains_text names x ≡ list_any (λ y. bytes_eq x y.label) done

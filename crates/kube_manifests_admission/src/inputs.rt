@@ -1,9 +1,7 @@
 //! The inputs of a policy.
-ghost use Rattle.kube_cel_vap.specs.Variables.{no_variables};
-ghost use Rattle.kube_manifests_admission.specs.Inputs.{inputs_view};
+ghost use Rattle.kube_manifests_admission.specs.Inputs.{inputs_view, no_variables};
 ghost use Rattle.std.specs.Prelude.{◌≡◌};
 
-use kube_cel_vap::AdmissionRequest;
 use serde_json::Value;
 
 /// The values that a policy is evaluated over. `None` means that the value isn't known: an
@@ -20,8 +18,9 @@ pub struct PolicyInputs {
     pub params: Option<Value>,
     /// The object's namespace, `namespaceObject`.
     pub namespace_object: Option<Value>,
-    /// The request, `request`.
-    pub request: Option<AdmissionRequest>,
+    /// The request, `request`, as the field `request` of an AdmissionReview has it. A field that it
+    /// doesn't have is absent for expressions, too.
+    pub request: Option<Value>,
 }
 
 impl PolicyInputs {

@@ -11,5 +11,5 @@ mod review;
 
 pub use fault::{FaultKind, Found, PolicyFault, reported};
 pub use inputs::PolicyInputs;
-pub use item::Item;
+pub use item::{Item, insert_name};
 pub use policy::{Policy, policy_of};

@@ -1,5 +1,5 @@
 //! Locations in a document, and their JSON Pointers (RFC 6901).
-ghost use Rattle.kube_manifests_admission.specs.Faults.{escaped_character, field, pointer_at, token};
+ghost use Rattle.kube_manifests_admission.specs.Faults.{escaped_character, field, field_item, nth_field, pointer_at, token};
 ghost use Rattle.std.specs.Prelude.{◌≡◌, ◌++◌, IfOk, OnOk, string_bytes};
 
 use std::alloc::{AllocError, Global};
@@ -9,10 +9,12 @@ use std::alloc::{AllocError, Global};
 pub(crate) enum Location<'v> {
     /// The field of this name in the object at this pointer.
     Field(&'static str, &'v str),
+    /// The item at this index in the list in such a field.
+    FieldItem(&'static str, &'v str, usize),
     /// The item at this index in the list at this pointer.
     Item(&'static str, usize),
     /// A field of the item at this index in the list at this pointer.
-    ItemField(&'static str, usize, &'static str),
+    ItemField(&'static str, usize, &'v str),
 }
 
 /// Appends a character of a name, escaped for a JSON Pointer.
@@ -45,13 +47,40 @@ fn field_pointer(alloc: Global, base: &str, name: &str) -> Result<String, AllocE
     Ok(pointer)
 }
 
+/// Returns the pointer of an item of the list in a field.
+fn field_item_pointer(
+    alloc: Global,
+    base: &str,
+    name: &str,
+    index: usize,
+) -> Result<String, AllocError>
+    ensures { IfOk result (λ s. string_bytes s ≡ field_item base.now name.now index) }
+{
+    let list = field_pointer(alloc, base, name)?;
+    format!(in alloc; "{list}/{index}")
+}
+
+/// Returns the pointer of a field of an item.
+fn item_field_pointer(
+    alloc: Global,
+    base: &str,
+    index: usize,
+    name: &str,
+) -> Result<String, AllocError>
+    ensures { IfOk result (λ s. string_bytes s ≡ nth_field base.now index name.now) }
+{
+    let item = format!(in alloc; "{base}/{index}")?;
+    field_pointer(alloc, &item, name)
+}
+
 /// Returns the pointer of a location.
 pub(crate) fn pointer_of(alloc: Global, location: Location<'_>) -> Result<String, AllocError>
     ensures { IfOk result (λ s. string_bytes s ≡ pointer_at location.entry) }
 {
     match location {
         Location::Field(base, name) => field_pointer(alloc, base, name),
+        Location::FieldItem(base, name, index) => field_item_pointer(alloc, base, name, index),
         Location::Item(base, index) => format!(in alloc; "{base}/{index}"),
-        Location::ItemField(base, index, name) => format!(in alloc; "{base}/{index}/{name}"),
+        Location::ItemField(base, index, name) => item_field_pointer(alloc, base, index, name),
     }
 }

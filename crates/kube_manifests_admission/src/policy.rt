@@ -1,24 +1,35 @@
 //! Reads the document of a policy.
 ghost use Rattle.kube_manifests_admission.specs.Faults.{pointer_at};
-ghost use Rattle.kube_manifests_admission.specs.Policies.{entries_of, failure_policies, ignores_in, item_view, kinds, object_of, policy_of, policy_view, reading_view, spec_fields, spec_in, spec_of, unknown_field, unless_empty, versions};
+ghost use Rattle.kube_manifests_admission.specs.Policies.{entries_of, ignores_in, item_view, object_of, params_in, policy_of, policy_view, reading_view, spec_fields, spec_in, spec_of, unless_empty, unless_unknown};
 ghost use Rattle.serde_json.specs.Find.{get};
 ghost use Rattle.serde_json.specs.View.{view};
-ghost use Rattle.std.specs.List.{list_any};
-ghost use Rattle.std.specs.Prelude.{◌≡◌, IfErr, IfOk, map, option_map};
-ghost use Rattle.std.specs.Str.{bytes_eq};
+ghost use Rattle.std.specs.Prelude.{◌≡◌, IfErr, IfOk, codes, map};
 
-use crate::fault::{FaultKind, Found};
-use crate::item::{Item, PolicyList, entries_of, required_text_at, text_at};
+use crate::fault::{Found, Problem};
+use crate::item::{Item, PolicyList, entries_of, optional_one_at, required_one_at, unknown_field};
 use crate::location::Location;
 use kube_types_refused::Refused;
 use serde_json::Value;
 use std::alloc::{AllocError, Global};
+
+/// The apiVersions of a policy.
+const VERSIONS: [&str; 3] = [
+    "admissionregistration.k8s.io/v1",
+    "admissionregistration.k8s.io/v1beta1",
+    "admissionregistration.k8s.io/v1alpha1",
+];
+
+const KINDS: [&str; 1] = ["ValidatingAdmissionPolicy"];
+
+const FAILURE_POLICIES: [&str; 2] = ["Fail", "Ignore"];
 
 /// The contents of a policy's document.
 #[derive(Drop)]
 pub struct Policy<'v> {
     /// Whether `failurePolicy` is `Ignore`.
     pub ignores: bool,
+    /// Whether the policy has a `paramKind`, and so `params`.
+    pub has_params: bool,
     /// `matchConditions`.
     pub conditions: Vec<Item<'v>>,
     /// `variables`.
@@ -29,36 +40,19 @@ pub struct Policy<'v> {
     pub annotations: Vec<Item<'v>>,
 }
 
-fn is_version(text: &str) -> bool
-    ensures { result ≡ list_any (bytes_eq text.now) versions }
+/// The fields of `spec`.
+fn spec_fields() -> &'static [&'static str]
+    ensures { map (λ s. s.now) result.now ≡ spec_fields }
 {
-    text == "admissionregistration.k8s.io/v1"
-        || text == "admissionregistration.k8s.io/v1beta1"
-        || text == "admissionregistration.k8s.io/v1alpha1"
-}
-
-fn is_kind(text: &str) -> bool
-    ensures { result ≡ list_any (bytes_eq text.now) kinds }
-{
-    text == "ValidatingAdmissionPolicy"
-}
-
-fn is_failure_policy(text: &str) -> bool
-    ensures { result ≡ list_any (bytes_eq text.now) failure_policies }
-{
-    text == "Fail" || text == "Ignore"
-}
-
-fn is_spec_field(name: &str) -> bool
-    ensures { result ≡ list_any (bytes_eq name.now) spec_fields }
-{
-    name == "paramKind"
-        || name == "matchConstraints"
-        || name == "matchConditions"
-        || name == "validations"
-        || name == "failurePolicy"
-        || name == "auditAnnotations"
-        || name == "variables"
+    &[
+        "paramKind",
+        "matchConstraints",
+        "matchConditions",
+        "validations",
+        "failurePolicy",
+        "auditAnnotations",
+        "variables",
+    ]
 }
 
 /// The object in a required field.
@@ -73,7 +67,7 @@ pub(crate) fn object_at<'v>(
     match value.get(name) {
         None | Some(Value::Null) => Err(Found {
             location,
-            kind: FaultKind::Missing,
+            problem: Problem::Missing,
         }),
         Some(found) => {
             if found.is_object() {
@@ -81,25 +75,25 @@ pub(crate) fn object_at<'v>(
             }
             Err(Found {
                 location,
-                kind: FaultKind::NotObject,
+                problem: Problem::NotObject,
             })
         }
     }
 }
 
-/// The first field of `spec` that policies don't have, if any.
-fn unknown_field(spec: &Value) -> Option<&str>
-    ensures { option_map (λ s. s.now) result ≡ unknown_field (view spec.now) }
+/// Checks that `spec` has no field but those of a policy.
+fn check_fields(spec: &Value) -> Result<(), Found<'_>>
+    ensures { reading_view (λ _. view spec.now) result
+        ≡ unless_unknown (codes "/spec") spec_fields (view spec.now) }
 {
-    let Some(members) = spec.as_object() else {
-        return None;
-    };
-    for (name, _) in members.iter() {
-        if !is_spec_field(name.as_str()) {
-            return Some(name.as_str());
-        }
+    let known = spec_fields();
+    match unknown_field(spec, known) {
+        None => Ok(()),
+        Some(name) => Err(Found {
+            location: Location::Field("/spec", name),
+            problem: Problem::UnknownField(name, known),
+        }),
     }
-    None
 }
 
 /// The `spec` of a policy's document, after its apiVersion, kind and the fields of `spec` are
@@ -108,28 +102,12 @@ fn unknown_field(spec: &Value) -> Option<&str>
 fn spec_in(document: &Value) -> Result<&Value, Found<'_>>
     ensures { reading_view (λ v. view v.now) result ≡ spec_in (view document.now) }
 {
-    let location = Location::Field("", "apiVersion");
-    if !is_version(required_text_at(document, "apiVersion", location)?) {
-        return Err(Found {
-            location,
-            kind: FaultKind::Unsupported,
-        });
-    }
-    let location = Location::Field("", "kind");
-    if !is_kind(required_text_at(document, "kind", location)?) {
-        return Err(Found {
-            location,
-            kind: FaultKind::Unsupported,
-        });
-    }
+    let version = Location::Field("", "apiVersion");
+    required_one_at(document, "apiVersion", &VERSIONS, version)?;
+    required_one_at(document, "kind", &KINDS, Location::Field("", "kind"))?;
     let spec = object_at(document, "spec", Location::Field("", "spec"))?;
-    match unknown_field(spec) {
-        None => Ok(spec),
-        Some(name) => Err(Found {
-            location: Location::Field("/spec", name),
-            kind: FaultKind::UnknownField,
-        }),
-    }
+    check_fields(spec)?;
+    Ok(spec)
 }
 
 /// Reports whether `failurePolicy` is `Ignore`. False if it isn't set.
@@ -137,16 +115,24 @@ fn ignores_in(spec: &Value) -> Result<bool, Found<'_>>
     ensures { reading_view (λ b. b) result ≡ ignores_in (view spec.now) }
 {
     let location = Location::Field("/spec", "failurePolicy");
-    let Some(text) = text_at(spec, "failurePolicy", location)? else {
-        return Ok(false);
-    };
-    if !is_failure_policy(text) {
-        return Err(Found {
-            location,
-            kind: FaultKind::Unsupported,
-        });
+    match optional_one_at(spec, "failurePolicy", &FAILURE_POLICIES, location)? {
+        None => Ok(false),
+        Some(text) => Ok(text == "Ignore"),
     }
-    Ok(text == "Ignore")
+}
+
+/// Reports whether there is a `paramKind`.
+fn params_in(spec: &Value) -> Result<bool, Found<'_>>
+    ensures { reading_view (λ b. b) result ≡ params_in (view spec.now) }
+{
+    match spec.get("paramKind") {
+        None | Some(Value::Null) => Ok(false),
+        Some(Value::Object(_)) => Ok(true),
+        Some(_) => Err(Found {
+            location: Location::Field("/spec", "paramKind"),
+            problem: Problem::NotObject,
+        }),
+    }
 }
 
 /// Reads the entries of a list of `spec`. An absent list is empty.
@@ -163,7 +149,7 @@ fn list_of<'v>(
         Some(Value::Array(values)) => entries_of(alloc, list, values.as_slice()),
         Some(_) => Ok(Err(Found {
             location: Location::Field("/spec", list.keyword()),
-            kind: FaultKind::NotList,
+            problem: Problem::NotList,
         })),
     }
 }
@@ -175,7 +161,7 @@ fn unless_empty(policy: Policy<'_>) -> Result<Policy<'_>, Found<'_>>
     if policy.validations.is_empty() && policy.annotations.is_empty() {
         return Err(Found {
             location: Location::Field("", "spec"),
-            kind: FaultKind::NothingToCheck,
+            problem: Problem::NothingToCheck,
         });
     }
     Ok(policy)
@@ -188,6 +174,10 @@ fn spec_of(alloc: Global, spec: &Value) -> Result<Result<Policy<'_>, Found<'_>>,
 {
     let ignores = match ignores_in(spec) {
         Ok(ignores) => ignores,
+        Err(found) => return Ok(Err(found)),
+    };
+    let has_params = match params_in(spec) {
+        Ok(has_params) => has_params,
         Err(found) => return Ok(Err(found)),
     };
     let conditions = match list_of(alloc, PolicyList::MatchConditions, spec)? {
@@ -208,6 +198,7 @@ fn spec_of(alloc: Global, spec: &Value) -> Result<Result<Policy<'_>, Found<'_>>,
     };
     Ok(unless_empty(Policy {
         ignores,
+        has_params,
         conditions,
         variables,
         validations,

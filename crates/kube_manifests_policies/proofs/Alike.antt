@@ -5,14 +5,14 @@ use Rattle.cel_semantics.specs.Members.{put_in}
 use Rattle.cel_semantics.specs.Outcome.{Outcome, and_then}
 use Rattle.cel_value.specs.Data.{Data, map_of, no_entries, text}
 use Rattle.cel.proofs.Bound.{bound, meaning_same}
-use Rattle.kube_cel_vap.specs.Results.{outcome_in, policy_library}
-use Rattle.kube_cel_vap.specs.Variables.{Variables, bindings_always, policy_bindings, with_given}
-use Rattle.kube_manifests_policies.specs.Inputs.{first_missing, without_namespace}
+use Rattle.kube_manifests_admission.specs.Inputs.{Variables}
+use Rattle.kube_manifests_policies.specs.Bound.{bindings_always, policy_bindings, with_given}
+use Rattle.kube_manifests_names.specs.Inputs.{first_missing, without_namespace}
 use Rattle.kube_manifests_admission.specs.Policies.{ItemData, item_view}
-use Rattle.kube_manifests_policies.specs.Scopes.{Alike, ScopeData, evaluation, fault_report, first_stop, outcome_or_reason, outcome_unless, stopped_by, variable_step, variables_after, with_no_values, with_stored, with_values, with_variable, without_value}
+use Rattle.kube_manifests_policies.specs.Scopes.{Alike, ScopeData, evaluation, fault_report, first_stop, outcome_in, outcome_or_reason, outcome_unless, policy_library, stopped_by, variable_step, variables_after, with_no_values, with_stored, with_values, with_variable, without_value}
 use Rattle.kube_manifests_policies.specs.Verdicts.{ItemReportData, with_report}
 use Rattle.kube_manifests_admission.specs.declared.item.Item.{Item}
-use Rattle.kube_schema_values.specs.Plain.{plain}
+use Rattle.kube_manifests_names.specs.Unstructured.{unstructured}
 use Rattle.serde_json.specs.Data.{Data as Json}
 use Rattle.std.proofs.Common.{◌≡◌, ℕ, ◌+◌, ◌<◌, ◌≤◌, add-one, List, [], ◌∷◌, ◌++◌, length, get_or, drop, drop-cons, map, Option, Some, None, Result, Ok, Err, codes, if◌then◌else◌, refl, sym, ap, ◌∙◌, subst}
 use Rattle.std.proofs.lemmas.List.{drop_all}
@@ -22,7 +22,7 @@ use Rattle.std.specs.Str.{bytes_eq}
 
 under_given : (name : List ℕ) (o : Option Json) (e f : Bindings) → ((y : List ℕ) → binding y e ≡ binding y f) → (y : List ℕ) → binding y (with_given name o e) ≡ binding y (with_given name o f)
 under_given name None e f h y = h y
-under_given name (Some d) e f h y = ap (λ o. if bytes_eq y name then Some (plain d) else o) (h y)
+under_given name (Some d) e f h y = ap (λ o. if bytes_eq y name then Some (unstructured d) else o) (h y)
 
 -- the names bound for match conditions
 pub condition_names : (v : Variables) (e0 e1 : Bindings) → ((x : List ℕ) → binding x e0 ≡ binding x (bindings_always v))

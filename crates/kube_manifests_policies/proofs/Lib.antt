@@ -1,7 +1,11 @@
 pub mod Alike
+pub mod Bound
 pub mod Decided
+pub mod Listed
 pub mod Messages
 pub mod Near
 pub mod Passed
+pub mod Labels
+pub mod Stored
 pub mod Turned
 pub mod Vap

@@ -16,7 +16,7 @@ use Rattle.cel_value.specs.Faults.{no_key, undeclared}
 use Rattle.cel_value.specs.Find.{find}
 use Rattle.cel_value.specs.View.{items_of}
 use Rattle.cel.proofs.Bound.{meaning_same}
-use Rattle.kube_manifests_policies.specs.Uses.{asks, asks_in_any, asks_in_pairs}
+use Rattle.kube_manifests_names.specs.Uses.{asks, asks_in_any, asks_in_pairs}
 use Rattle.std.proofs.Common.{◌≡◌, ℕ, List, ◌∷◌, map, Bool, true, false, ◌||◌, ◌&&◌, not, Option, Some, None, is_some, Ok, Err, codes, if◌then◌else◌, refl, sym, ap, ◌∙◌, true≢false}
 use Rattle.std.proofs.lemmas.Slice.Eq.{bytes_eq-Decides}
 use Rattle.std.specs.Option.{option_map_or}

@@ -9,14 +9,13 @@ use Rattle.cel_value.specs.Data.{Data, Entries, map_of, text, text_key}
 use Rattle.cel_value.specs.Faults.{duplicate_key, no_key}
 use Rattle.cel_value.specs.Find.{find}
 use Rattle.cel_value.specs.Keys.{key_order, put}
-use Rattle.kube_cel_vap.specs.Expressions.{unread_text, ◌>>=◌}
-use Rattle.kube_cel_vap.specs.Results.{outcome_in, policy_library}
+use Rattle.kube_manifests_admission.specs.Faults.{◌>>=◌}
 use Rattle.kube_manifests_policies.proofs.Near.{Members, Near, near}
-use Rattle.kube_manifests_policies.specs.Inputs.{first_missing}
+use Rattle.kube_manifests_names.specs.Inputs.{first_missing}
 use Rattle.kube_manifests_policies.specs.Laws.{HasVariables, IsApartFrom, SameVariables}
 use Rattle.kube_manifests_admission.specs.Policies.{ItemData}
-use Rattle.kube_manifests_policies.specs.Scopes.{Reach, ScopeData, evaluation, fault_report, first_stop, outcome_or_reason, outcome_unless, stopped_by, stops, tree_or, variable_step, why_not, with_stored, with_values, with_variable, without_value}
-use Rattle.kube_manifests_policies.specs.Uses.{asks}
+use Rattle.kube_manifests_policies.specs.Scopes.{Reach, ScopeData, evaluation, fault_report, first_stop, outcome_in, outcome_or_reason, outcome_unless, policy_library, stopped_by, stops, tree_or, unread_text, variable_step, why_not, with_stored, with_values, with_variable, without_value}
+use Rattle.kube_manifests_names.specs.Uses.{asks}
 use Rattle.kube_manifests_policies.specs.Verdicts.{Labelled, ItemReportData, not_compiled, with_report}
 use Rattle.kube_schema_values.proofs.Found.{find-put, find-put_other}
 use Rattle.std.proofs.Common.{◌≡◌, ℕ, List, [], ◌∷◌, ◌++◌, Bool, true, false, Option, Some, None, Result, Ok, Err, codes, if◌then◌else◌, refl, sym, ap, ◌∙◌, subst, true≢false, inl, inr, append_assoc}
@@ -128,7 +127,7 @@ one_then b s h x y apart other e =
     let es = after h.entries x.label e in
     is_applied t es (values_after s h.entries h.values x.label e) y.label (evaluation (outcome_or_reason b t) y.expression)
     ∙ (λ i. applied t es y.label (effect (found_after h.entries y.label x.label e other i)
-    (evaluated_by (outcome_or_reason b t) (outcome_or_reason b s) (not_compiled (unread_text (record { text = y.expression; original = y.expression }))) (tree_of y.expression) (λ u is. reach_apart b s h.entries h.values h.bound x.label e u (λ k. apart u k is)) i)))
+    (evaluated_by (outcome_or_reason b t) (outcome_or_reason b s) (not_compiled (unread_text y.expression)) (tree_of y.expression) (λ u is. reach_apart b s h.entries h.values h.bound x.label e u (λ k. apart u k is)) i)))
 
 both_ways : (s : ScopeData) (es : Entries) (x y : List ℕ) (e f : Result Data ItemReportData) → bytes_eq x y ≡ false
     → SameVariables (applied (applied s es x e) (after es x e) y f) (applied (applied s es y f) (after es y f) x e)

@@ -6,57 +6,53 @@ use Rattle.cel_semantics.specs.Members.{selection}
 use Rattle.cel_syntax.specs.Reading.{tree_of}
 use Rattle.cel_syntax_ast.specs.Term.{Term}
 use Rattle.cel_value.specs.Data.{Entries, map_of, text_key}
-use Rattle.kube_cel_vap.specs.Validations.{ExpressionData, ResultData}
 use Rattle.kube_manifests_admission.specs.Policies.{ItemData, PolicyData}
 use Rattle.kube_manifests_policies.specs.Scopes.{ScopeData, why_not}
-use Rattle.kube_manifests_policies.specs.Uses.{asks}
-use Rattle.kube_manifests_policies.specs.Verdicts.{Labelled, ItemReportData, VerdictData, any_is, holds, report_text}
+use Rattle.kube_manifests_names.specs.Uses.{asks}
+use Rattle.kube_manifests_policies.specs.Verdicts.{Labelled, ItemReportData, VerdictData, any_is, erred, fails, holds, not_compiled, not_given, nothing, says}
 use Rattle.kube_manifests_policies.specs.declared.verdict.Problem.TheVariants as problem
-use Rattle.std.specs.Prelude.{◌≡◌, ◌⊎◌, ℕ, List, [], ◌∷◌, ◌++◌, Bool, false, Option, Some, None, codes, is_none}
+use Rattle.std.specs.Prelude.{◌≡◌, ◌⊎◌, ℕ, List, [], ◌∷◌, ◌++◌, Bool, true, false, Some, None, codes}
 
 -- the policy with these validations and nothing else
-abbrev pub of_validations : Bool → List ItemData → PolicyData
-of_validations ignores xs = record {
+abbrev pub of_validations : Bool → Bool → List ItemData → PolicyData
+of_validations ignores params xs = record {
   ignores = ignores;
+  has_params = params;
   conditions = [];
   variables = [];
   validations = xs;
   annotations = [];
 }
 
-abbrev pub expression_of : ItemData → ExpressionData
-expression_of x = record {
-  expression = x.expression;
-  message = x.message;
-  message_expression = x.message_expression;
-}
-
--- the validation is labelled with its expression, and nothing keeps its expressions from being
--- evaluated
+-- the validation is labelled with its expression, and nothing keeps its expression from being evaluated
 pub record IsJudgedIn (s : ScopeData) (x : ItemData) : Type 0 where
   pub label : x.label ≡ x.expression
   pub tree : (t : Term) → tree_of x.expression ≡ Some t → why_not s t ≡ None
-  pub message : (m : List ℕ) (t : Term) → x.message_expression ≡ Some m
-      → tree_of m ≡ Some t → why_not s t ≡ None
 
-abbrev pub message_report : ItemReportData → Option (List ℕ)
-message_report holds = None
-message_report reported = Some (report_text reported)
+abbrev pub is_true : ItemReportData → Bool
+is_true holds = true
+is_true (fails m) = false
+is_true (says s) = false
+is_true nothing = false
+is_true (erred m) = false
+is_true (not_given i) = false
+is_true (not_compiled m) = false
 
--- the report of a validation, as the result of an expression
-abbrev pub vap_result : Labelled → ResultData
-vap_result r = record {
-  expression = r.label;
-  passed = is_none (message_report r.reported);
-  message = message_report r.reported;
-}
+-- the expression of a validation, and whether it is true
+abbrev pub passed_result : Labelled → List ℕ × Bool
+passed_result r = (r.label, is_true r.reported)
 
--- no expression reads an input that isn't given, none that was evaluated fails to compile, and no
+-- none of these reads an input that isn't given, and none is refused
+pub record AreJudged (rs : List Labelled) : Type 0 where
+  pub given : any_is problem.NotGiven rs ≡ false
+  pub compiled : any_is problem.Refused rs ≡ false
+
+-- no match condition, validation or audit annotation reads an input that isn't given, none of them is refused, and no
 -- validation is false
 pub record IsJudged (v : VerdictData) : Type 0 where
-  pub conditions : any_is problem.NotJudged v.conditions ≡ false
-  pub validations : any_is problem.NotJudged v.validations ≡ false
-  pub annotations : any_is problem.NotJudged v.annotations ≡ false
+  pub conditions : AreJudged v.conditions
+  pub validations : AreJudged v.validations
+  pub annotations : AreJudged v.annotations
   pub none_false : any_is problem.False v.validations ≡ false
 
 -- ---- variables that don't read each other

@@ -1,6 +1,7 @@
-pub mod Inputs
+pub mod Bound
 pub mod Reports
+pub mod Refusals
 pub mod Laws
 pub mod Scopes
-pub mod Uses
+pub mod Single
 pub mod Verdicts

@@ -13,14 +13,14 @@ use Rattle.cel_value.specs.Parts.{bool_in, text_in}
 use Rattle.cel_value.specs.View.{kind_of}
 use Rattle.cel_value.specs.declared.kind.Kind.{Kind}
 use Rattle.cel_value.specs.declared.kind.Kind.TheVariants.{Null}
-use Rattle.kube_cel_vap.specs.Expressions.{◌>>=◌}
-use Rattle.kube_cel_vap.specs.Results as results
-use Rattle.kube_cel_vap.specs.Variables.{Variables}
+use Rattle.kube_manifests_admission.specs.Faults.{◌>>=◌}
+use Rattle.kube_manifests_admission.specs.Inputs.{Variables}
 use Rattle.kube_manifests_admission.specs.Faults.{FaultData, fault_view}
-use Rattle.kube_manifests_policies.specs.Inputs.{without_namespace}
+use Rattle.kube_manifests_names.specs.Inputs.{without_namespace}
 use Rattle.kube_manifests_admission.specs.Policies.{ItemData, PolicyData, policy_of}
+use Rattle.kube_manifests_policies.specs.Refusals.{is_refused, refusals_of}
 use Rattle.kube_manifests_policies.specs.Scopes.{Reach, evaluation, fault_report, first_scope, outcome_or_reason, scope_for, tree_report, variables_after}
-use Rattle.kube_manifests_policies.specs.Verdicts.{Labelled, ItemReportData, VerdictData, after_conditions, decision_of, erred, fails, holds, is_problem, nothing, says, report_text, report_view, verdict_view, with_report}
+use Rattle.kube_manifests_policies.specs.Verdicts.{Labelled, ItemReportData, VerdictData, after_conditions, decision_of, fails, holds, is_problem, not_compiled, nothing, says, report_text, report_view, verdict_view, with_report}
 use Rattle.kube_manifests_admission.specs.declared.fault.PolicyFault.{PolicyFault}
 use Rattle.kube_manifests_policies.specs.declared.reports.Subject.{Subject}
 use Rattle.kube_manifests_policies.specs.declared.reports.Subject.TheVariants.{Annotation, Condition, Validation}
@@ -29,7 +29,9 @@ use Rattle.kube_manifests_policies.specs.declared.verdict.PolicyDecision.{Policy
 use Rattle.kube_manifests_policies.specs.declared.verdict.PolicyVerdict.{PolicyVerdict}
 use Rattle.kube_manifests_policies.specs.declared.verdict.ItemReport.{ItemReport}
 use Rattle.serde_json.specs.Data.{Data as Json}
-use Rattle.std.specs.Prelude.{◌≡◌, ℕ, List, [], ◌∷◌, ◌++◌, map, Bool, true, false, if◌then◌else◌, Option, Some, None, option_map, Result, Ok, Err, codes, unwrap_or}
+use Rattle.std.specs.List.{list_any}
+use Rattle.std.specs.Prelude.{◌≡◌, ◌==◌, nat_lt, ℕ, List, [], ◌∷◌, ◌++◌, length, map, Bool, true, false, not, ◌&&◌, if◌then◌else◌, Option, Some, None, option_map, Result, Ok, Err, codes}
+use Rattle.std.specs.Str.{trim}
 
 -- the final report
 abbrev pub final_report : Result ItemReportData ItemReportData → ItemReportData
@@ -38,10 +40,11 @@ final_report (Err reported) = reported
 
 -- ---- match conditions and validations
 
+-- the report of a value that has to be a bool: an API server refuses a policy with an expression of another kind
 abbrev pub truth_report : Data → Option Bool → ItemReportData
 truth_report v (Some true) = holds
 truth_report v (Some false) = fails []
-truth_report v None = erred (codes "expression returned non-boolean: " ++ kind_name (kind_of v))
+truth_report v None = not_compiled (codes "expression returned non-boolean: " ++ kind_name (kind_of v))
 
 -- true, false (with an empty message for now), or neither
 abbrev pub outcome_report : Outcome → ItemReportData
@@ -60,21 +63,60 @@ condition_report r x = final_report (do
   outcome ← evaluation r x.expression
   Ok (with_message (condition_message x.label) (outcome_report outcome)))
 
--- the validation's own message, or one that quotes its expression
+abbrev pub quoted : List ℕ → List ℕ
+quoted expression = codes "failed expression: " ++ trim expression
+
+abbrev pub message_or : List ℕ → List ℕ → List ℕ
+message_or [] expression = quoted expression
+message_or (c ∷ cs) expression = c ∷ cs
+
+abbrev pub message_where : Option (List ℕ) → List ℕ → List ℕ
+message_where None expression = quoted expression
+message_where (Some m) expression = message_or (trim m) expression
+
+-- the validation's message or, if that is blank or missing, one that quotes its expression
 abbrev pub own_message : ItemData → List ℕ
-own_message x =
-    unwrap_or x.message (codes "validation expression '" ++ (x.expression ++ codes "' evaluated to false"))
+own_message x = message_where x.message x.expression
 
--- The string that the messageExpression evaluates to, or else the validation's own message. If the
--- messageExpression can't be evaluated, the reason is appended.
-abbrev pub message_from : ItemData → Result Outcome ItemReportData → List ℕ
-message_from x (Ok o) = unwrap_or (results.message_text o) (own_message x)
-message_from x (Err reported) =
-    own_message x ++ (codes " (messageExpression: " ++ (report_text reported ++ codes ")"))
+-- the most bytes that the text of a messageExpression may have: 5 KiB
+abbrev pub longest_message : ℕ
+longest_message = 5120
 
-abbrev pub false_message : ItemData → Option (Result Outcome ItemReportData) → List ℕ
-false_message x None = own_message x
-false_message x (Some r) = message_from x r
+abbrev pub is_line_feed : ℕ → Bool
+is_line_feed c = c == 10
+
+-- a text is taken for a message if it isn't empty, has no line break and isn't too long
+abbrev pub is_message : List ℕ → Bool
+is_message t = not (length t == 0) && (not (list_any is_line_feed t) && not (nat_lt longest_message (length t)))
+
+abbrev pub message_from : ItemData → List ℕ → List ℕ
+message_from x t = if is_message t then t else own_message x
+
+-- The report of a validation that is false and whose messageExpression has this value. An API server refuses a policy
+-- with a messageExpression that is no string.
+abbrev pub message_value : ItemData → Data → Option (List ℕ) → ItemReportData
+message_value x v (Some s) = fails (message_from x (trim s))
+message_value x v None = not_compiled (codes "messageExpression returned non-string: " ++ kind_name (kind_of v))
+
+abbrev pub message_outcome : ItemData → Outcome → ItemReportData
+message_outcome x (Ok v) = message_value x v (text_in v)
+message_outcome x (Err f) = fails (own_message x)
+
+-- The same for a messageExpression that may not be evaluated, in which case the reason is appended to the
+-- validation's own message.
+abbrev pub message_report : ItemData → Result Outcome ItemReportData → ItemReportData
+message_report x (Ok o) = message_outcome x o
+message_report x (Err reported) =
+    fails (own_message x ++ (codes " (messageExpression: " ++ (report_text reported ++ codes ")")))
+
+-- the report of a validation that is false
+abbrev pub false_report : ItemData → Option (Result Outcome ItemReportData) → ItemReportData
+false_report x None = fails (own_message x)
+false_report x (Some r) = message_report x r
+
+-- replaces the report that something is false
+abbrev pub or_false : ItemReportData → ItemReportData → ItemReportData
+or_false other reported = if is_problem problem.False reported then other else reported
 
 abbrev pub message_tree_report : Option (List ℕ) → Result (Option Term) ItemReportData
 message_tree_report None = Ok None
@@ -83,7 +125,7 @@ message_tree_report (Some s) = tree_report s >>= (λ t. Ok (Some t))
 unfoldable pub validation_with : Reach → ItemData → Term → Option Term → ItemReportData
 validation_with r x tree message_tree = final_report (do
   outcome ← r tree
-  Ok (with_message (false_message x (option_map r message_tree)) (outcome_report outcome)))
+  Ok (or_false (false_report x (option_map r message_tree)) (outcome_report outcome)))
 
 unfoldable pub validation_report : Reach → ItemData → ItemReportData
 validation_report r x = final_report (do
@@ -105,7 +147,7 @@ abbrev pub text_report : Option (List ℕ) → Kind → ItemReportData
 text_report (Some s) k = text_or_nothing s
 text_report None k =
     if is_null k then nothing
-    else erred (codes "expression returned neither a string nor null: " ++ kind_name k)
+    else not_compiled (codes "expression returned neither a string nor null: " ++ kind_name k)
 
 -- a string that isn't empty is the annotation's text; an empty one or null leaves the annotation
 -- out
@@ -164,12 +206,16 @@ verdict_after b v p conditions None =
     let s = variables_after b (scope_for v p.variables) p.variables in
     verdict_in (outcome_or_reason b s) s.missing p conditions
 
--- the verdict of a policy
-unfoldable pub policy_verdict : Book → Variables → PolicyData → VerdictData
-policy_verdict b v p =
+-- the verdict of a policy that an API server doesn't refuse when it is made
+unfoldable pub evaluated_verdict : Book → Variables → PolicyData → VerdictData
+evaluated_verdict b v p =
     let conditions =
     results_as Condition (outcome_or_reason b (first_scope (without_namespace v))) p.conditions in
     verdict_after b v p conditions (after_conditions p.ignores conditions)
+
+-- the verdict of a policy
+unfoldable pub policy_verdict : Book → Variables → PolicyData → VerdictData
+policy_verdict b v p = if is_refused (refusals_of p) then refusals_of p else evaluated_verdict b v p
 
 -- the verdict of the policy in a document, or the document's first fault
 unfoldable pub verdict_of : Book → Variables → Json → Result VerdictData FaultData

@@ -8,27 +8,33 @@ use Rattle.cel.specs.Program.{program_term}
 use Rattle.cel.specs.declared.program.Program.{Program}
 use Rattle.cel_patterns.specs.Book.{Book}
 use Rattle.cel_semantics.specs.Bindings.{Bindings, binding, bindings_of}
-use Rattle.cel_semantics.specs.Members.{put_in}
+use Rattle.cel_semantics.specs.Library.{Library}
+use Rattle.cel_semantics.specs.Meaning.{meaning}
+use Rattle.cel_semantics.specs.Members.{has_member, put_in}
 use Rattle.cel_semantics.specs.Outcome.{Outcome, and_then, outcome_view}
 use Rattle.cel_syntax.specs.Reading.{tree_of}
 use Rattle.cel_syntax_ast.specs.Term.{Term}
-use Rattle.cel_value.specs.Data.{Data, map_of, no_entries, text}
-use Rattle.cel_value.specs.Faults.{Fault, undeclared}
+use Rattle.cel_value.specs.Data.{Data, map_of, no_entries, text, text_key}
+use Rattle.cel_value.specs.Faults.{Fault, invalid_pattern, undeclared}
+use Rattle.cel_value.specs.Parts.{bool_in}
 use Rattle.cel_value.specs.Texts.{fault_text}
 use Rattle.cel_value.specs.View.{view}
 use Rattle.cel_value.specs.declared.error.ExecutionError.{ExecutionError}
 use Rattle.cel_value.specs.declared.value.Value.{Value}
-use Rattle.kube_cel_vap.specs.Expressions.{unread_text, ◌>>=◌}
-use Rattle.kube_cel_vap.specs.Results.{outcome_in}
-use Rattle.kube_cel_vap.specs.Variables.{Variables, policy_bindings}
-use Rattle.kube_manifests_policies.specs.Inputs.{absent_in, first_missing}
+use Rattle.kube_functions.specs.Kube.{all_library}
+use Rattle.kube_manifests_admission.specs.Faults.{◌>>=◌}
+use Rattle.kube_manifests_admission.specs.Inputs.{Variables}
+use Rattle.kube_manifests_policies.specs.Bound.{policy_bindings}
+use Rattle.kube_manifests_names.specs.Inputs.{absent_in, first_missing}
 use Rattle.kube_manifests_admission.specs.Policies.{ItemData}
-use Rattle.kube_manifests_policies.specs.Uses.{asks}
+use Rattle.kube_manifests_names.specs.Names.{doubles_text}
+use Rattle.kube_manifests_names.specs.Uses.{asks}
 use Rattle.kube_manifests_policies.specs.Verdicts.{Labelled, ItemReportData, erred, not_compiled, not_given, result_view, report_view, with_report}
-use Rattle.kube_manifests_policies.specs.declared.inputs.Input.{Input}
+use Rattle.kube_manifests_names.specs.declared.inputs.Input.{Input}
 use Rattle.kube_manifests_policies.specs.declared.scope.Scope.{Scope}
 use Rattle.kube_manifests_policies.specs.declared.verdict.ItemReport.{ItemReport}
-use Rattle.std.specs.Prelude.{◌≡◌, ℕ, List, [], ◌∷◌, ◌++◌, map, Bool, true, false, if◌then◌else◌, Option, Some, None, Result, Ok, Err, codes}
+use Rattle.std.specs.Prelude.{◌≡◌, ℕ, List, [], ◌∷◌, ◌++◌, map, Bool, true, false, not, if◌then◌else◌, Option, Some, None, Result, Ok, Err, codes}
+use Rattle.std.specs.Str.{bytes_eq}
 
 pub record ScopeData : Type 0 where
   pub bindings : Bindings
@@ -87,6 +93,14 @@ why_not s t = stopped_by (first_missing s.absent t) (first_stop s.missing t)
 
 -- ---- the outcome of an expression
 
+-- the functions that the expressions of a policy may call: all of Kubernetes
+abbrev pub policy_library : Library
+policy_library = all_library
+
+-- the meaning of an expression under these bindings
+unfoldable pub outcome_in : Book → Bindings → Term → Outcome
+outcome_in b e t = meaning policy_library b t e
+
 abbrev pub outcome_unless : Option ItemReportData → Outcome → Result Outcome ItemReportData
 outcome_unless (Some reported) o = Err reported
 outcome_unless None o = Ok o
@@ -99,9 +113,12 @@ abbrev pub tree_or : ItemReportData → Option Term → Result Term ItemReportDa
 tree_or reported (Some t) = Ok t
 tree_or reported None = Err reported
 
+abbrev pub unread_text : List ℕ → List ℕ
+unread_text s = codes "failed to compile VAP expression \"" ++ (s ++ codes "\": invalid CEL expression")
+
 -- The tree of a text. A text that derives none doesn't compile.
 abbrev pub tree_report : List ℕ → Result Term ItemReportData
-tree_report s = tree_or (not_compiled (unread_text (record { text = s; original = s }))) (tree_of s)
+tree_report s = tree_or (not_compiled (unread_text s)) (tree_of s)
 
 -- how the outcome of an expression is found
 abbrev pub Reach : Type 0
@@ -110,17 +127,24 @@ Reach = Term → Result Outcome ItemReportData
 abbrev pub evaluation : Reach → List ℕ → Result Outcome ItemReportData
 evaluation r s = tree_report s >>= r
 
-abbrev pub is_undeclared : Fault → Bool
-is_undeclared (undeclared name) = true
-is_undeclared _ = false
+-- Whether an expression with this fault can't be evaluated here: it meets a double or a name that isn't declared, or a
+-- pattern that Rust's crate `regex` doesn't read. An API server may know the pattern; if not, it refuses a policy in
+-- which the pattern is a literal.
+abbrev pub is_limit : Fault → Bool
+is_limit (undeclared name) = true
+is_limit (invalid_pattern function) = true
+is_limit _ = false
+
+abbrev pub is_double : Fault → Bool
+is_double (undeclared name) = bytes_eq name (codes "double")
+is_double _ = false
 
 abbrev pub fault_message : Fault → List ℕ
-fault_message f = codes "evaluation error: " ++ fault_text f
+fault_message f = if is_double f then doubles_text else codes "evaluation error: " ++ fault_text f
 
--- An expression that names what isn't declared doesn't compile: Kubernetes refuses it when the
--- policy is made. Any other fault is an error of the evaluation.
+-- Any other fault is an error of the evaluation.
 abbrev pub fault_report : Fault → ItemReportData
-fault_report f = if is_undeclared f then not_compiled (fault_message f) else erred (fault_message f)
+fault_report f = if is_limit f then not_compiled (fault_message f) else erred (fault_message f)
 
 -- ---- variables
 
@@ -167,3 +191,17 @@ outcome_seen (Err reported) = Err (report_view reported)
 abbrev pub tree_seen : Result Program ItemReport → Result Term ItemReportData
 tree_seen (Ok p) = Ok (program_term p)
 tree_seen (Err reported) = Err (report_view reported)
+
+-- ---- for private clauses
+
+abbrev pub is_no : Option Bool → Bool
+is_no (Some there) = not there
+is_no None = false
+
+abbrev pub is_absent : Outcome → Bool
+is_absent (Ok v) = is_no (bool_in v)
+is_absent (Err f) = false
+
+-- a map of variables has none of this name
+abbrev pub is_new : Data → List ℕ → Bool
+is_new m name = is_absent (has_member (text_key name) m)

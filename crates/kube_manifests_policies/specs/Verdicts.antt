@@ -1,12 +1,12 @@
 -- Trusted by the clauses of policies.
 -- The decisions of policies (Kubernetes API reference, ValidatingAdmissionPolicySpec:
 -- `matchConditions`, `failurePolicy`, `validations`, `auditAnnotations`).
-use Rattle.kube_manifests_policies.specs.Inputs.{input_name}
-use Rattle.kube_manifests_policies.specs.declared.inputs.Input.{Input}
+use Rattle.kube_manifests_names.specs.Inputs.{input_name}
+use Rattle.kube_manifests_names.specs.declared.inputs.Input.{Input}
 use Rattle.kube_manifests_policies.specs.declared.verdict.Problem.{Problem}
 use Rattle.kube_manifests_policies.specs.declared.verdict.Problem.TheVariants as problem
 use Rattle.kube_manifests_policies.specs.declared.verdict.PolicyDecision.{PolicyDecision}
-use Rattle.kube_manifests_policies.specs.declared.verdict.PolicyDecision.TheVariants.{Admitted, Denied, Skipped, NotJudged}
+use Rattle.kube_manifests_policies.specs.declared.verdict.PolicyDecision.TheVariants.{Admitted, Denied, Ignored, Skipped, NotJudged}
 use Rattle.kube_manifests_policies.specs.declared.verdict.PolicyResult.{PolicyResult}
 use Rattle.kube_manifests_policies.specs.declared.verdict.PolicyVerdict.{PolicyVerdict}
 use Rattle.kube_manifests_policies.specs.declared.verdict.ItemReport.{ItemReport}
@@ -45,33 +45,40 @@ with_report label reported = record { label = label; reported = reported }
 -- ---- decisions
 
 abbrev pub is_problem : Problem → ItemReportData → Bool
+is_problem problem.Refused (not_compiled m) = true
+is_problem problem.Refused _ = false
 is_problem problem.False (fails m) = true
 is_problem problem.False _ = false
 is_problem problem.Error (erred m) = true
 is_problem problem.Error _ = false
-is_problem problem.NotJudged (not_given i) = true
-is_problem problem.NotJudged (not_compiled m) = true
-is_problem problem.NotJudged _ = false
+is_problem problem.NotGiven (not_given i) = true
+is_problem problem.NotGiven _ = false
 
 abbrev pub any_is : Problem → List Labelled → Bool
 any_is m rs = list_any (λ r. is_problem m r.reported) rs
 
--- If one condition is false, the policy is skipped, whatever the others are. If none is false and
--- one reads an input that isn't given or doesn't compile, the policy is not judged, whatever
--- failurePolicy is. Otherwise, if one fails, failurePolicy decides: the request is denied or the
--- policy is skipped. Otherwise the policy is evaluated.
+-- An API server refuses a policy with a condition that doesn't compile, so the policy is not judged then, whatever
+-- failurePolicy is. Otherwise, if one condition is false, the policy is skipped, whatever the others are. If none is
+-- false and one reads an input that isn't given, the policy is not judged. Otherwise, if one fails, failurePolicy
+-- decides: the request is denied, or the policy is ignored. Otherwise the policy is evaluated.
 abbrev pub after_conditions : Bool → List Labelled → Option PolicyDecision
-after_conditions ignores rs = if any_is problem.False rs then Some Skipped else (
-    if any_is problem.NotJudged rs then Some NotJudged else (
-    if any_is problem.Error rs then Some (if ignores then Skipped else Denied) else None))
+after_conditions ignores rs = if any_is problem.Refused rs then Some NotJudged else (
+    if any_is problem.False rs then Some Skipped else (
+    if any_is problem.NotGiven rs then Some NotJudged else (
+    if any_is problem.Error rs then Some (if ignores then Ignored else Denied) else None)))
 
--- A validation that is false denies the request. So does an error, unless failurePolicy is
--- `Ignore`. If nothing denies it, and an expression reads an input that isn't given or doesn't
--- compile, the policy is not judged, whatever failurePolicy is.
+-- Whether one of these doesn't compile. An API server refuses such a policy.
+abbrev pub any_refused : List Labelled → List Labelled → Bool
+any_refused vs as_ = any_is problem.Refused vs || any_is problem.Refused as_
+
+-- A policy that an API server refuses is not judged, whatever failurePolicy is. Otherwise a validation that is false
+-- denies the request. So does an error, unless failurePolicy is `Ignore`. If nothing denies it, and an expression
+-- reads an input that isn't given, the policy is not judged, whatever failurePolicy is.
 abbrev pub decision_of : Bool → List Labelled → List Labelled → PolicyDecision
-decision_of ignores vs as_ = if any_is problem.False vs then Denied else (
+decision_of ignores vs as_ = if any_refused vs as_ then NotJudged else (
+    if any_is problem.False vs then Denied else (
     if not ignores && (any_is problem.Error vs || any_is problem.Error as_) then Denied else (
-    if any_is problem.NotJudged vs || any_is problem.NotJudged as_ then NotJudged else Admitted))
+    if any_is problem.NotGiven vs || any_is problem.NotGiven as_ then NotJudged else Admitted)))
 
 -- ---- texts
 
@@ -88,6 +95,7 @@ abbrev pub decision_text : PolicyDecision → List ℕ
 decision_text Admitted = codes "admitted"
 decision_text Denied = codes "denied"
 decision_text Skipped = codes "skipped"
+decision_text Ignored = codes "skipped, as a match condition failed"
 decision_text NotJudged = codes "not judged"
 
 -- ---- views of the code's values

@@ -2,21 +2,18 @@
 ghost use Rattle.cel_semantics.specs.Bindings.{binding, bindings_of};
 ghost use Rattle.cel_value.specs.Data.{map_of, no_entries};
 ghost use Rattle.cel_value.specs.View.{view};
-ghost use Rattle.kube_cel_vap.specs.Requests.{empty_request, request_value, request_view};
-ghost use Rattle.kube_cel_vap.specs.Variables.{bindings_always, value_or_null, with_given};
+ghost use Rattle.kube_manifests_policies.specs.Bound.{bindings_always, request_or_null, value_or_null, with_given};
 ghost use Rattle.kube_manifests_admission.specs.Inputs.{inputs_view};
-ghost use Rattle.kube_manifests_policies.specs.Inputs.{without_namespace};
+ghost use Rattle.kube_manifests_names.specs.Inputs.{without_namespace};
 ghost use Rattle.kube_manifests_admission.specs.Policies.{item_view};
 ghost use Rattle.kube_manifests_policies.specs.Scopes.{Alike, first_scope, scope_for, scope_view, with_no_values};
 ghost use Rattle.serde_json.specs.View.{view as json_view};
-ghost use Rattle.std.specs.Prelude.{◌≡◌, [], ℕ, IfOk, List, map, OnOk, option_map, unwrap_or};
+ghost use Rattle.std.specs.Prelude.{◌≡◌, [], ℕ, IfOk, List, map, OnOk, option_map};
 
-use crate::inputs::absent_inputs;
 use crate::scope::{PolicyContext, Scope};
 use cel::{Context, Entries, Value};
-use kube_cel_vap::{AdmissionRequest, request_value};
 use kube_manifests_admission::{Item, PolicyInputs};
-use kube_schema_values::bind_plain;
+use kube_manifests_names::{absent_inputs, request_value, unstructured};
 use kube_types_refused::Refused;
 use serde_json::Value as Json;
 use std::alloc::Global;
@@ -28,24 +25,23 @@ fn empty_context<'a>(alloc: Global) -> PolicyContext<'a>
     Context::default(alloc)
 }
 
-/// Returns the value bound plainly, or null if it isn't given.
+/// Returns the value with its own keys, or null if it isn't given.
 fn value_or_null(alloc: Global, value: &Option<Json>) -> Result<Value, Refused>
     ensures value { IfOk result (λ v. view v ≡ value_or_null (option_map json_view value.now)) }
 {
     match value {
-        Some(value) => bind_plain(alloc, value),
+        Some(value) => unstructured(alloc, value),
         None => Ok(Value::Null),
     }
 }
 
-/// Returns the value of the request or, if it isn't given, of an empty request.
-fn request_or_empty(alloc: Global, request: &Option<AdmissionRequest>) -> Result<Value, Refused>
-    ensures value { IfOk result (λ v. view v
-        ≡ request_value (unwrap_or (option_map request_view request.now) empty_request)) }
+/// Returns the value of the request, or null if it isn't given.
+fn request_or_null(alloc: Global, request: &Option<Json>) -> Result<Value, Refused>
+    ensures value { IfOk result (λ v. view v ≡ request_or_null (option_map json_view request.now)) }
 {
     match request {
         Some(request) => request_value(alloc, request),
-        None => request_value(alloc, &AdmissionRequest::default(alloc)),
+        None => Ok(Value::Null),
     }
 }
 
@@ -62,7 +58,7 @@ fn bind_given(
     let Some(value) = value else {
         return Ok(());
     };
-    context.add_variable(name, bind_plain(alloc, value)?)
+    context.add_variable(name, unstructured(alloc, value)?)
 }
 
 /// Returns a context with the names that are always bound: `object`, `oldObject` and `request`.
@@ -73,7 +69,7 @@ fn context_always<'a>(alloc: Global, inputs: &PolicyInputs) -> Result<PolicyCont
     let mut context = empty_context(alloc);
     context.add_variable("object", value_or_null(alloc, &inputs.object)?)?;
     context.add_variable("oldObject", value_or_null(alloc, &inputs.old_object)?)?;
-    context.add_variable("request", request_or_empty(alloc, &inputs.request)?)?;
+    context.add_variable("request", request_or_null(alloc, &inputs.request)?)?;
     Ok(context)
 }
 

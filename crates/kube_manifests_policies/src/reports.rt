@@ -4,14 +4,14 @@ ghost use Rattle.cel_patterns.specs.Book.{Extends};
 ghost use Rattle.cel_patterns.specs.Entries.{entries_of};
 ghost use Rattle.cel_patterns.specs.Extensions.{HoldsForExtensions};
 ghost use Rattle.cel_semantics.specs.Outcome.{outcome_view};
-ghost use Rattle.cel_value.specs.Parts.{bool_in};
+ghost use Rattle.cel_value.specs.Parts.{bool_in, text_in};
 ghost use Rattle.cel_value.specs.View.{view};
-ghost use Rattle.kube_cel_vap.specs.Results as results;
-ghost use Rattle.kube_manifests_policies.specs.Reports.{annotation_outcome, annotation_report, annotation_value, condition_message, condition_report, false_message, is_null, message_from, message_tree_seen, message_tree_report, outcome_report, own_message, result_as, results_as, text_or_nothing, report_as, truth_report, validation_report, validation_with, with_message};
+ghost use Rattle.kube_manifests_policies.specs.Reports.{annotation_outcome, annotation_report, annotation_value, condition_message, condition_report, false_report, is_line_feed, is_message, is_null, message_from, message_or, message_outcome, message_report, message_tree_seen, message_value, or_false, message_tree_report, outcome_report, own_message, quoted, result_as, results_as, text_or_nothing, report_as, truth_report, validation_report, validation_with, with_message};
 ghost use Rattle.kube_manifests_admission.specs.Policies.{item_view};
 ghost use Rattle.kube_manifests_policies.specs.Scopes.{outcome_or_reason, outcome_seen, scope_view};
-ghost use Rattle.kube_manifests_policies.specs.Verdicts.{result_view, report_view};
-ghost use Rattle.std.specs.Prelude.{◌≡◌, IfOk, map, option_map, Some, string_bytes};
+ghost use Rattle.kube_manifests_policies.specs.Verdicts.{report_text, report_view, result_view};
+ghost use Rattle.std.specs.List.{list_any};
+ghost use Rattle.std.specs.Prelude.{◌≡◌, ◌++◌, codes, IfOk, map, option_map, Some, string_bytes};
 
 use crate::scope::{Scope, evaluate, fault_report, reach, read};
 use crate::verdict::{ItemReport, PolicyResult, Problem, with_report};
@@ -19,6 +19,9 @@ use cel::{Answer, Kind, PatternBook, Program, Value};
 use kube_manifests_admission::Item;
 use kube_types_refused::Refused;
 use std::alloc::{AllocError, Global};
+
+/// The most bytes that the text of a messageExpression may have: 5 KiB.
+const LONGEST_MESSAGE: usize = 5120;
 
 /// The list that an expression belongs to.
 #[derive(Clone, Copy, Drop)]
@@ -41,7 +44,7 @@ fn truth_report(alloc: Global, value: &Value) -> Result<ItemReport, AllocError>
         None => {
             let kind = value.type_of();
             let message = format!(in alloc; "expression returned non-boolean: {kind}")?;
-            Ok(ItemReport::Error(message))
+            Ok(ItemReport::NotCompiled(message))
         }
     }
 }
@@ -85,7 +88,7 @@ fn annotation_value(alloc: Global, value: &Value) -> Result<ItemReport, AllocErr
         return Ok(ItemReport::Null);
     }
     let message = format!(in alloc; "expression returned neither a string nor null: {kind}")?;
-    Ok(ItemReport::Error(message))
+    Ok(ItemReport::NotCompiled(message))
 }
 
 /// Returns the report of an audit annotation with this outcome.
@@ -153,27 +156,91 @@ fn condition_report(
     }
 }
 
-/// Returns the message of a false validation: its `message`, or one that quotes its expression.
+/// Returns a message that quotes an expression.
+fn quoted(alloc: Global, expression: &str) -> Result<String, AllocError>
+    ensures { IfOk result (λ s. string_bytes s ≡ quoted expression.now) }
+{
+    let trimmed = expression.trim();
+    format!(in alloc; "failed expression: {trimmed}")
+}
+
+/// Returns the text of a message or, if it is empty, one that quotes an expression.
+fn message_or(alloc: Global, text: &str, expression: &str) -> Result<String, AllocError>
+    ensures { IfOk result (λ s. string_bytes s ≡ message_or text.now expression.now) }
+{
+    if text.is_empty() {
+        return quoted(alloc, expression);
+    }
+    String::from_str(alloc, text)
+}
+
+/// Returns the message of a false validation: its `message` or, if that is blank or missing, one
+/// that quotes its expression.
 fn own_message(alloc: Global, item: &Item<'_>) -> Result<String, AllocError>
     ensures { IfOk result (λ s. string_bytes s ≡ own_message (item_view item.now)) }
 {
-    let text = item.expression;
     match item.message {
-        Some(message) => String::from_str(alloc, message),
-        None => format!(in alloc; "validation expression '{text}' evaluated to false"),
+        None => quoted(alloc, item.expression),
+        Some(message) => message_or(alloc, message.trim(), item.expression),
     }
 }
 
-/// Returns the string that a messageExpression evaluated to or, if it isn't a string, the
-/// validation's own message.
-fn outcome_message(alloc: Global, item: &Item<'_>, answer: &Answer) -> Result<String, AllocError>
-    ensures { IfOk result (λ s. string_bytes s
-        ≡ message_from (item_view item.now) (Ok (outcome_view answer.now))) }
+/// Reports whether a text has a line break.
+fn has_line_feed(text: &str) -> bool
+    ensures { result ≡ list_any is_line_feed text.now }
+{
+    for byte in text.as_bytes() {
+        if *byte == 10 {
+            return true;
+        }
+    }
+    false
+}
+
+/// Reports whether the text of a messageExpression is taken for the message.
+fn is_message(text: &str) -> bool
+    ensures { result ≡ is_message text.now }
+{
+    !text.is_empty() && !has_line_feed(text) && !(text.len() > LONGEST_MESSAGE)
+}
+
+/// Returns the message of a false validation whose messageExpression has this text.
+fn message_from(alloc: Global, item: &Item<'_>, text: &str) -> Result<String, AllocError>
+    ensures { IfOk result (λ s. string_bytes s ≡ message_from (item_view item.now) text.now) }
+{
+    if is_message(text) {
+        return String::from_str(alloc, text);
+    }
+    own_message(alloc, item)
+}
+
+/// Returns the report of a false validation whose messageExpression has this value.
+fn message_value(alloc: Global, item: &Item<'_>, value: &Value) -> Result<ItemReport, AllocError>
+    ensures { IfOk result (λ t. report_view t
+        ≡ message_value (item_view item.now) (view value.now) (text_in (view value.now))) }
+{
+    match value.as_str() {
+        Some(text) => Ok(ItemReport::False(message_from(alloc, item, text.trim())?)),
+        None => {
+            let kind = value.type_of();
+            let message = format!(in alloc; "messageExpression returned non-string: {kind}")?;
+            Ok(ItemReport::NotCompiled(message))
+        }
+    }
+}
+
+/// Returns the report of a false validation whose messageExpression has this outcome.
+fn message_outcome(
+    alloc: Global,
+    item: &Item<'_>,
+    answer: &Answer,
+) -> Result<ItemReport, AllocError>
+    ensures { IfOk result (λ t. report_view t
+        ≡ message_outcome (item_view item.now) (outcome_view answer.now)) }
 {
     match answer {
-        Ok(Value::String(text)) => String::from_str(alloc, text.as_str()),
-        Ok(_) => own_message(alloc, item),
-        Err(_) => own_message(alloc, item),
+        Ok(value) => message_value(alloc, item, value),
+        Err(_) => Ok(ItemReport::False(own_message(alloc, item)?)),
     }
 }
 
@@ -181,49 +248,50 @@ fn outcome_message(alloc: Global, item: &Item<'_>, answer: &Answer) -> Result<St
 /// evaluated.
 fn message_with(alloc: Global, item: &Item<'_>, reported: &ItemReport) -> Result<String, AllocError>
     ensures { IfOk result (λ s. string_bytes s
-        ≡ message_from (item_view item.now) (Err (report_view reported.now))) }
+        ≡ own_message (item_view item.now)
+        ++ (codes " (messageExpression: " ++ (report_text (report_view reported.now) ++ codes ")"))) }
 {
     let own = own_message(alloc, item)?;
     format!(in alloc; "{own} (messageExpression: {reported})")
 }
 
-/// Returns the message of a false validation, given the result of its messageExpression.
-fn message_from(
+/// Returns the report of a false validation, given the result of its messageExpression.
+fn message_report(
     alloc: Global,
     item: &Item<'_>,
     reached: &Result<Answer, ItemReport>,
-) -> Result<String, AllocError>
-    ensures { IfOk result (λ s. string_bytes s
-        ≡ message_from (item_view item.now) (outcome_seen reached.now)) }
+) -> Result<ItemReport, AllocError>
+    ensures { IfOk result (λ t. report_view t
+        ≡ message_report (item_view item.now) (outcome_seen reached.now)) }
 {
     match reached {
-        Ok(answer) => outcome_message(alloc, item, answer),
-        Err(reported) => message_with(alloc, item, reported),
+        Ok(answer) => message_outcome(alloc, item, answer),
+        Err(reported) => Ok(ItemReport::False(message_with(alloc, item, reported)?)),
     }
 }
 
-/// Returns the message of a false validation. Evaluates its messageExpression, if it has one.
-fn false_message(
+/// Returns the report of a false validation. Evaluates its messageExpression, if it has one.
+fn false_report(
     alloc: Global,
     item: &Item<'_>,
     message: &Option<Program>,
     scope: &Scope<'_>,
     book: &mut PatternBook,
-) -> Result<String, Refused>
+) -> Result<ItemReport, Refused>
     ensures keeps { Extends (entries_of book.new) (entries_of book.old) }
-    ensures reported { IfOk result (λ s. HoldsForExtensions (entries_of book.new) (string_bytes s)
-        (λ b. false_message (item_view item.now)
+    ensures reported { IfOk result (λ t. HoldsForExtensions (entries_of book.new) (report_view t)
+        (λ b. false_report (item_view item.now)
         (option_map (outcome_or_reason b (scope_view scope.now)) (option_map program_term message.now)))) }
 {
     let Some(program) = message else {
-        return Ok(own_message(alloc, item)?);
+        return Ok(ItemReport::False(own_message(alloc, item)?));
     };
     let reached = reach(alloc, program, scope, book)?;
-    Ok(message_from(alloc, item, &reached)?)
+    Ok(message_report(alloc, item, &reached)?)
 }
 
-/// Fills in the message if the report of a validation says that it is false.
-fn with_message(
+/// Replaces the report of a validation if it says that it is false.
+fn or_false(
     alloc: Global,
     item: &Item<'_>,
     reported: ItemReport,
@@ -233,15 +301,15 @@ fn with_message(
 ) -> Result<ItemReport, Refused>
     ensures keeps { Extends (entries_of book.new) (entries_of book.old) }
     ensures reported { IfOk result (λ t. HoldsForExtensions (entries_of book.new) (report_view t)
-        (λ b. with_message (false_message (item_view item.now)
+        (λ b. or_false (false_report (item_view item.now)
         (option_map (outcome_or_reason b (scope_view scope.now)) (option_map program_term message.now)))
         (report_view reported))) }
 {
     if !Problem::False.is_of(&reported) {
         return Ok(reported);
     }
-    let message = false_message(alloc, item, message, scope, book)?;
-    Ok(ItemReport::False(message))
+    drop(reported);
+    false_report(alloc, item, message, scope, book)
 }
 
 /// Evaluates a validation, given the programs of its expression and messageExpression.
@@ -263,7 +331,7 @@ fn validation_with(
         Err(reported) => Ok(reported),
         Ok(answer) => {
             let reported = outcome_report(alloc, answer)?;
-            let settled = with_message(alloc, item, reported, message, scope, book)?;
+            let settled = or_false(alloc, item, reported, message, scope, book)?;
             Ok(settled)
         }
     }

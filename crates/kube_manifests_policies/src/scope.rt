@@ -6,17 +6,15 @@ ghost use Rattle.cel_patterns.specs.Extensions.{HoldsForExtensions};
 ghost use Rattle.cel_semantics.specs.Outcome.{outcome_view};
 ghost use Rattle.cel_value.specs.Faults.{fault_view};
 ghost use Rattle.cel_syntax_ast.specs.Term.{term};
-ghost use Rattle.kube_cel_vap.specs.Results.{outcome_in};
 ghost use Rattle.cel_semantics.specs.Bindings.{bindings_of};
-ghost use Rattle.kube_manifests_policies.specs.Scopes.{evaluation, fault_report, first_stop, is_not_judged, is_undeclared, outcome_or_reason, outcome_seen, scope_view, stops, tree_seen, tree_report, why_not};
+ghost use Rattle.kube_manifests_policies.specs.Scopes.{evaluation, fault_message, fault_report, first_stop, is_double, is_limit, is_not_judged, outcome_in, outcome_or_reason, outcome_seen, scope_view, stops, tree_seen, tree_report, why_not};
 ghost use Rattle.kube_manifests_policies.specs.Verdicts.{result_view, report_view};
-ghost use Rattle.std.specs.Prelude.{◌≡◌, IfOk, map, option_map};
+ghost use Rattle.std.specs.Prelude.{◌≡◌, IfOk, map, option_map, string_bytes};
 
-use crate::inputs::{Input, first_missing};
-use crate::uses::asks;
 use crate::verdict::{ItemReport, PolicyResult};
 use cel::{Answer, Context, ExecutionError, Expr, PatternBook, Program, Value};
 use kube_functions::AllFunctions;
+use kube_manifests_names::{Input, asks, first_missing};
 use kube_types_refused::Refused;
 use std::alloc::{AllocError, Global};
 
@@ -90,7 +88,7 @@ fn why_not(scope: &Scope<'_>, expr: &Expr) -> Result<Option<ItemReport>, Refused
 }
 
 /// Executes a program under the names of a scope.
-#[tactic(auto, unfolding(kube_cel_vap::specs::Results::outcome_in))]
+#[tactic(auto, unfolding(crate::specs::Scopes::outcome_in))]
 fn outcome_of(
     alloc: Global,
     program: &Program,
@@ -125,18 +123,51 @@ pub(crate) fn reach(
     }
 }
 
-fn is_undeclared(fault: &ExecutionError) -> bool
-    ensures { result ≡ is_undeclared (fault_view fault.now) }
+/// Reports whether an expression whose evaluation ended with this fault can't be evaluated here.
+fn is_limit(fault: &ExecutionError) -> bool
+    ensures { result ≡ is_limit (fault_view fault.now) }
 {
-    matches!(fault, ExecutionError::UndeclaredReference(_))
+    matches!(
+        fault,
+        ExecutionError::UndeclaredReference(_) | ExecutionError::InvalidPattern(_)
+    )
+}
+
+/// Reports whether an expression met a double.
+fn is_double(fault: &ExecutionError) -> bool
+    ensures { result ≡ is_double (fault_view fault.now) }
+{
+    match fault {
+        ExecutionError::UndeclaredReference(name) => name.as_str() == "double",
+        ExecutionError::NoSuchKey(_) => false,
+        ExecutionError::NoSuchOverload(_) => false,
+        ExecutionError::FunctionError { .. } => false,
+        ExecutionError::Overflow => false,
+        ExecutionError::DivisionByZero => false,
+        ExecutionError::RemainderByZero => false,
+        ExecutionError::IndexOutOfBounds => false,
+        ExecutionError::UnsupportedKey => false,
+        ExecutionError::DuplicateKey => false,
+        ExecutionError::InvalidPattern(_) => false,
+    }
+}
+
+/// Returns what is said of a fault.
+fn fault_message(alloc: Global, fault: &ExecutionError) -> Result<String, AllocError>
+    ensures { IfOk result (λ s. string_bytes s ≡ fault_message (fault_view fault.now)) }
+{
+    if is_double(fault) {
+        return String::from_str(alloc, "numbers of kind double aren't supported");
+    }
+    format!(in alloc; "evaluation error: {fault}")
 }
 
 /// Returns the report of an expression whose evaluation ended with a fault.
 pub(crate) fn fault_report(alloc: Global, fault: &ExecutionError) -> Result<ItemReport, AllocError>
     ensures { IfOk result (λ t. report_view t ≡ fault_report (fault_view fault.now)) }
 {
-    let message = format!(in alloc; "evaluation error: {fault}")?;
-    if is_undeclared(fault) {
+    let message = fault_message(alloc, fault)?;
+    if is_limit(fault) {
         return Ok(ItemReport::NotCompiled(message));
     }
     Ok(ItemReport::Error(message))

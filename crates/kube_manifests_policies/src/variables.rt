@@ -2,34 +2,49 @@
 ghost use Rattle.cel_patterns.specs.Book.{Extends, Book};
 ghost use Rattle.cel_patterns.specs.Entries.{entries_of};
 ghost use Rattle.cel_semantics.specs.Members.{put_in};
-ghost use Rattle.cel_semantics.specs.Outcome.{and_then, outcome_view};
+ghost use Rattle.cel_semantics.specs.Outcome.{outcome_view};
 ghost use Rattle.cel_value.specs.Data.{text};
+ghost use Rattle.cel_value.specs.Faults.{fault_view};
 ghost use Rattle.cel_value.specs.View.{view};
 ghost use Rattle.kube_manifests_admission.specs.Policies.{item_view};
-ghost use Rattle.kube_manifests_policies.specs.Scopes.{Alike, outcome_seen, scope_view, variable_step, variables_after, with_stored, with_values, with_variable, without_value};
+ghost use Rattle.kube_manifests_policies.specs.Scopes.{Alike, fault_report, is_new, is_no, outcome_seen, scope_view, variable_step, variables_after, with_stored, with_values, with_variable, without_value};
 ghost use Rattle.kube_manifests_policies.specs.Verdicts.{report_view};
-ghost use Rattle.std.specs.Prelude.{◌≡◌, IfOk, map};
+ghost use Rattle.std.specs.Prelude.{◌≡◌, IfOk, map, Ok, true};
 
 use crate::scope::{Scope, evaluate, fault_report};
 use crate::verdict::{ItemReport, with_report};
-use cel::{Answer, PatternBook, Value};
-use cel_semantics::members::put;
+use cel::{Answer, ExecutionError, Key, PatternBook, Text, Value};
+use cel_semantics::members::{has, put};
 use kube_manifests_admission::Item;
 use kube_types_refused::Refused;
 use std::alloc::Global;
 
-/// Returns the map of variables with one more variable, if `answer` is a value. Otherwise its
-/// error.
-fn stored(alloc: Global, values: &Value, name: &str, answer: Answer) -> Result<Answer, Refused>
+/// Returns the map of variables with one more variable, or an error if it has one of this name.
+fn stored(alloc: Global, values: &Value, name: &str, value: &Value) -> Result<Answer, Refused>
     ensures value { IfOk result (λ r. outcome_view r
-        ≡ and_then (outcome_view answer) (λ v. put_in (view values.now) (text name.now) v)) }
+        ≡ put_in (view values.now) (text name.now) (view value.now)) }
 {
-    match answer {
-        Err(fault) => Ok(Err(fault)),
-        Ok(value) => {
-            let key = Value::from_text(alloc, String::from_str(alloc, name)?)?;
-            put(alloc, values.try_clone()?, &key, &value)
-        }
+    let key = Value::from_text(alloc, String::from_str(alloc, name)?)?;
+    put(alloc, values.try_clone()?, &key, value)
+}
+
+fn is_no(there: Option<bool>) -> bool
+    ensures { result ≡ is_no there }
+{
+    match there {
+        Some(there) => !there,
+        None => false,
+    }
+}
+
+/// Reports whether a map of variables has none of this name.
+fn is_new(alloc: Global, values: &Value, name: &str) -> Result<bool, Refused>
+    ensures new { IfOk result (λ b. b ≡ is_new (view values.now) name.now) }
+{
+    let key = Key::String(Text::of(alloc, String::from_str(alloc, name)?)?);
+    match has(alloc, &key, values)? {
+        Ok(there) => Ok(is_no(there.as_bool())),
+        Err(_) => Ok(false),
     }
 }
 
@@ -78,6 +93,20 @@ fn with_values<'a>(scope: Scope<'a>, map: Value) -> Result<Scope<'a>, Refused>
     })
 }
 
+/// Adds a variable that fails to a scope.
+fn without_fault<'a>(
+    alloc: Global,
+    scope: Scope<'a>,
+    name: &str,
+    fault: &ExecutionError,
+) -> Result<Scope<'a>, Refused>
+    ensures scope { IfOk result (λ s. Alike (scope_view s)
+        (without_value (scope_view scope.entry) name.now (fault_report (fault_view fault.now)))) }
+{
+    let reported = fault_report(alloc, fault)?;
+    without_value(alloc, scope, name, reported)
+}
+
 /// Replaces the map of variables in a scope if `answer` is a value. Otherwise the variable has
 /// none.
 fn with_stored<'a>(
@@ -91,12 +120,67 @@ fn with_stored<'a>(
 {
     match answer {
         Ok(map) => with_values(scope, map),
-        Err(fault) => {
-            let reported = fault_report(alloc, &fault)?;
-            let kept = without_value(alloc, scope, name, reported)?;
-            Ok(kept)
-        }
+        Err(fault) => without_fault(alloc, scope, name, &fault),
     }
+}
+
+/// Returns the map of variables with one more variable, of a new name.
+fn put_new(alloc: Global, values: Value, name: &str, value: &Value) -> Result<Value, Refused>
+    requires { is_new (view values) name.now ≡ true }
+    ensures map { IfOk result (λ m. Ok (view m) ≡ put_in (view values) (text name.now) (view value.now)) }
+{
+    let key = Value::from_text(alloc, String::from_str(alloc, name)?)?;
+    match put(alloc, values, &key, value)? {
+        Ok(map) => Ok(map),
+        // A map takes every new name.
+        Err(_) => Ok(Value::Null),
+    }
+}
+
+/// Adds a variable of a new name to the map of variables in a scope. Nothing else holds the map
+/// meanwhile, so that it isn't copied.
+fn with_new<'a>(
+    alloc: Global,
+    scope: Scope<'a>,
+    name: &str,
+    value: &Value,
+) -> Result<Scope<'a>, Refused>
+    requires { is_new (view scope.values) name.now ≡ true }
+    ensures scope { IfOk result (λ s. Alike (scope_view s) (with_stored (scope_view scope.entry)
+        name.now (put_in (view scope.entry.values) (text name.now) (view value.now)))) }
+{
+    let Scope {
+        mut context,
+        absent,
+        values,
+        missing,
+    } = scope;
+    drop(context.take_variable("variables"));
+    let values = put_new(alloc, values, name, value)?;
+    context.add_variable("variables", values.try_clone()?)?;
+    Ok(Scope {
+        context,
+        absent,
+        values,
+        missing,
+    })
+}
+
+/// Adds a variable with this value to a scope.
+fn with_value<'a>(
+    alloc: Global,
+    scope: Scope<'a>,
+    name: &str,
+    value: &Value,
+) -> Result<Scope<'a>, Refused>
+    ensures scope { IfOk result (λ s. Alike (scope_view s) (with_stored (scope_view scope.entry)
+        name.now (put_in (view scope.entry.values) (text name.now) (view value.now)))) }
+{
+    if is_new(alloc, &scope.values, name)? {
+        return with_new(alloc, scope, name, value);
+    }
+    let stored = stored(alloc, &scope.values, name, value)?;
+    with_stored(alloc, scope, name, stored)
 }
 
 /// Adds a variable to a scope, given its result.
@@ -111,10 +195,8 @@ fn with_variable<'a>(
 {
     match reached {
         Err(reported) => without_value(alloc, scope, name, reported),
-        Ok(answer) => {
-            let stored = stored(alloc, &scope.values, name, answer)?;
-            with_stored(alloc, scope, name, stored)
-        }
+        Ok(Err(fault)) => without_fault(alloc, scope, name, &fault),
+        Ok(Ok(value)) => with_value(alloc, scope, name, &value),
     }
 }
 

@@ -1,8 +1,8 @@
 //! Verdicts of policies.
-ghost use Rattle.kube_manifests_policies.specs.Verdicts.{after_conditions, any_is, decision_of, decision_text, is_problem, result_view, report_text, report_view, with_report};
+ghost use Rattle.kube_manifests_policies.specs.Verdicts.{after_conditions, any_is, any_refused, decision_of, decision_text, is_problem, result_view, report_text, report_view, with_report};
 ghost use Rattle.std.specs.Prelude.{◌≡◌, IfOk, map, Some};
 
-use crate::inputs::Input;
+use kube_manifests_names::Input;
 use kube_types_refused::Refused;
 use std::alloc::{AllocError, Global};
 use std::fmt;
@@ -22,8 +22,9 @@ pub enum ItemReport {
     Error(String),
     /// The expression wasn't evaluated, because it reads an input that isn't given.
     NotGiven(Input),
-    /// The expression doesn't compile, for this reason: it doesn't parse, or its evaluation came to
-    /// a name that isn't declared. Kubernetes refuses a policy with such an expression.
+    /// The expression doesn't compile, for this reason: it doesn't parse, it names what isn't there,
+    /// or its value is of a kind that it can't have. Kubernetes refuses a policy with such an
+    /// expression. Or it is one of those that can't be evaluated here.
     NotCompiled(String),
 }
 
@@ -63,10 +64,12 @@ impl ItemReport {
 /// A kind of result that may keep a policy from admitting a request.
 #[derive(Clone, Copy, Drop)]
 pub(crate) enum Problem {
+    /// The expression doesn't compile.
+    Refused,
     False,
     Error,
-    /// The expression reads an input that isn't given, or doesn't compile.
-    NotJudged,
+    /// The expression reads an input that isn't given.
+    NotGiven,
 }
 
 impl Problem {
@@ -80,8 +83,8 @@ impl Problem {
             ItemReport::Text(_) => false,
             ItemReport::Null => false,
             ItemReport::Error(_) => matches!(self, Problem::Error),
-            ItemReport::NotGiven(_) => matches!(self, Problem::NotJudged),
-            ItemReport::NotCompiled(_) => matches!(self, Problem::NotJudged),
+            ItemReport::NotGiven(_) => matches!(self, Problem::NotGiven),
+            ItemReport::NotCompiled(_) => matches!(self, Problem::Refused),
         }
     }
 }
@@ -117,10 +120,13 @@ pub enum PolicyDecision {
     Admitted,
     /// The policy denies the request.
     Denied,
-    /// The policy doesn't apply to the request.
+    /// The policy doesn't apply to the request: a match condition is false.
     Skipped,
-    /// Nothing denies the request, but an expression reads an input that isn't given, or doesn't
-    /// compile.
+    /// A match condition failed, none is false, and `failurePolicy` is `Ignore`: the policy is
+    /// skipped.
+    Ignored,
+    /// An expression doesn't compile; or nothing denies the request, but an expression reads an
+    /// input that isn't given.
     NotJudged,
 }
 
@@ -132,6 +138,7 @@ impl fmt::Display for PolicyDecision {
             PolicyDecision::Admitted => write!(f, "admitted"),
             PolicyDecision::Denied => write!(f, "denied"),
             PolicyDecision::Skipped => write!(f, "skipped"),
+            PolicyDecision::Ignored => write!(f, "skipped, as a match condition failed"),
             PolicyDecision::NotJudged => write!(f, "not judged"),
         }
     }
@@ -170,19 +177,29 @@ fn any_is(problem: Problem, results: &[PolicyResult]) -> bool
 pub(crate) fn after_conditions(ignores: bool, conditions: &[PolicyResult]) -> Option<PolicyDecision>
     ensures { result ≡ after_conditions ignores (map result_view conditions.now) }
 {
+    if any_is(Problem::Refused, conditions) {
+        return Some(PolicyDecision::NotJudged);
+    }
     if any_is(Problem::False, conditions) {
         return Some(PolicyDecision::Skipped);
     }
-    if any_is(Problem::NotJudged, conditions) {
+    if any_is(Problem::NotGiven, conditions) {
         return Some(PolicyDecision::NotJudged);
     }
     if !any_is(Problem::Error, conditions) {
         return None;
     }
     if ignores {
-        return Some(PolicyDecision::Skipped);
+        return Some(PolicyDecision::Ignored);
     }
     Some(PolicyDecision::Denied)
+}
+
+/// Reports whether any of these doesn't compile.
+fn any_refused(validations: &[PolicyResult], annotations: &[PolicyResult]) -> bool
+    ensures { result ≡ any_refused (map result_view validations.now) (map result_view annotations.now) }
+{
+    any_is(Problem::Refused, validations) || any_is(Problem::Refused, annotations)
 }
 
 /// Returns what the validations and audit annotations decide.
@@ -194,13 +211,16 @@ pub(crate) fn decision_of(
     ensures { result ≡ decision_of ignores (map result_view validations.now)
         (map result_view annotations.now) }
 {
+    if any_refused(validations, annotations) {
+        return PolicyDecision::NotJudged;
+    }
     if any_is(Problem::False, validations) {
         return PolicyDecision::Denied;
     }
     if !ignores && (any_is(Problem::Error, validations) || any_is(Problem::Error, annotations)) {
         return PolicyDecision::Denied;
     }
-    if any_is(Problem::NotJudged, validations) || any_is(Problem::NotJudged, annotations) {
+    if any_is(Problem::NotGiven, validations) || any_is(Problem::NotGiven, annotations) {
         return PolicyDecision::NotJudged;
     }
     PolicyDecision::Admitted

@@ -1,5 +1,5 @@
 use Rattle.cel_semantics.specs.Bindings.{bindings_of}
-use Rattle.kube_cel_vap.specs.Variables.{policy_bindings}
+use Rattle.kube_manifests_policies.specs.Bound.{policy_bindings}
 use Rattle.kube_manifests_policies.proofs.Alike.{policy_names, under_no_values}
 use Rattle.kube_manifests_policies.proofs.context.policy_scope.Goals as goal
 use Rattle.kube_manifests_admission.specs.Inputs.{inputs_view}

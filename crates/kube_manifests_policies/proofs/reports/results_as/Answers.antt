@@ -1,5 +1,5 @@
 use Rattle.cel_patterns.proofs.Books.{Extends-trans}
-use Rattle.kube_cel_vap.proofs.Listed.{one_more_seen}
+use Rattle.kube_manifests_policies.proofs.Listed.{one_more_seen}
 use Rattle.kube_manifests_admission.proofs.Entries.{no_item}
 use Rattle.kube_manifests_policies.proofs.reports.results_as.Goals as goal
 use Rattle.kube_manifests_policies.specs.Reports.{result_as, results_as}

@@ -1,0 +1,5 @@
+pub mod Inputs
+pub mod Names
+pub mod Requests
+pub mod Unstructured
+pub mod Uses
