@@ -12,8 +12,8 @@ use Rattle.clap.specs.declared.builder.command.Command.TheViews.{out-Command}
 use Rattle.clap.specs.declared.builder.value_parser.ValueParser.TheVariants.{Names}
 use Rattle.clap.specs.declared.parser.matches.Found.{Found}
 use Rattle.kubecel_cli.specs.Commands.{AdmitData, Asked, CheckData, admit, check, review}
-use Rattle.kubecel_io.specs.declared.output.Output.{Output}
-use Rattle.kubecel_io.specs.declared.output.Output.TheVariants as form
+use Rattle.kubecel_report.specs.declared.output.Output.{Output}
+use Rattle.kubecel_report.specs.declared.output.Output.TheVariants as form
 use Rattle.std.specs.Borrow.{Bor}
 use Rattle.std.specs.Option.{option_map_or}
 use Rattle.std.specs.Prelude.{◌≡◌, ℕ, List, [], ◌∷◌, Bool, true, false, Some, if◌then◌else◌, option_map, unwrap_or, codes}
@@ -41,6 +41,10 @@ files name = record (file name) { action = Some Append }
 abbrev pub flag : List ℕ → Rule
 flag name = record (new_rule name) { long = Some name; action = Some SetTrue }
 
+-- the option for the folders within folders, also by its letter, R: the character 82
+abbrev pub recursive : Rule
+recursive = record (flag (codes "recursive")) { short = Some 82 }
+
 abbrev pub required : Rule → Rule
 required a = record a { required = true }
 
@@ -67,16 +71,16 @@ policy = record (new_rule (codes "policy")) { action = Some Set; value_names = 1
 
 -- a command with the options that all commands have
 abbrev pub command : Texts → List ℕ → App
-command forms name = with_rule (with_rule (new_app name) (output forms)) (files (codes "converted"))
+command forms name = with_rule (new_app name) (output forms)
 
 unfoldable pub check_words : Texts → App
 check_words forms =
-    with_rule (with_rule (with_rule (with_rule (command forms (codes "check")) (required (files (codes "crds"))))
-    (files (codes "old"))) (flag (codes "ignore-missing-crds"))) objects
+    with_rule (with_rule (with_rule (with_rule (with_rule (with_rule (command forms (codes "check")) (files (codes "crds")))
+    (files (codes "old"))) (flag (codes "ignore-missing-crds"))) (flag (codes "allow-none"))) recursive) objects
 
 unfoldable pub review_words : Texts → App
 review_words forms =
-    with_rule (command forms (codes "review")) (one_or_more (required (files (codes "crds"))))
+    with_rule (with_rule (command forms (codes "review")) (one_or_more (required (files (codes "crds"))))) recursive
 
 unfoldable pub admit_words : Texts → App
 admit_words forms =
@@ -112,6 +116,7 @@ check_asked f = record {
   olds = all_of f (codes "old");
   objects = all_of f (codes "objects");
   ignores_missing = is_set f (codes "ignore-missing-crds");
+  allows_none = is_set f (codes "allow-none");
 }
 
 abbrev pub admit_asked : Found → AdmitData

@@ -1,6 +1,6 @@
 //! Defines and reads the command line.
 ghost use Rattle.clap.specs.Matches.{found_of};
-ghost use Rattle.kubecel.specs.Words.{IsOption, Texts, Understands, admit_words, all_of, check_words, command, command_of, file, files, flag, form_named, form_names, is_set, objects, one_or_more, output, output_of, policy, program_words, required, review_words, text_form, words};
+ghost use Rattle.kubecel.specs.Words.{IsOption, Texts, Understands, admit_words, all_of, check_words, command, command_of, file, files, flag, form_named, form_names, is_set, objects, one_or_more, output, output_of, policy, program_words, recursive, required, review_words, text_form, words};
 ghost use Rattle.kubecel_cli.specs.Commands.{command_view};
 ghost use Rattle.std.specs.Prelude.{◌≡◌, IfOk, codes, map};
 
@@ -52,37 +52,37 @@ fn output<'a>(alloc: Global, forms: &'a [&'a str]) -> Arg<'a>
         .help("The format of the output")
 }
 
-/// The option for files that are read in place of others.
-fn converted<'a>(alloc: Global) -> Arg<'a>
-    ensures { IsOption (files (codes "converted")) result }
-{
-    files(
-        alloc,
-        "converted",
-        "Reads the file JSON in place of FILE (the same content as JSON)",
-    )
-    .value_name("FILE=JSON")
-}
-
-/// The option for files of definitions.
+/// The option for files of definitions, where others may follow.
 fn crds<'a>(alloc: Global) -> Arg<'a>
-    ensures { IsOption (required (files (codes "crds"))) result }
+    ensures { IsOption (files (codes "crds")) result }
 {
     files(
         alloc,
         "crds",
         "A file with CustomResourceDefinitions; may be given several times",
     )
-    .required(true)
 }
 
-/// The same option, where nothing follows that could be taken for one of its files.
+/// The same option, which is needed, where nothing follows that could be taken for one of its
+/// files.
 fn all_crds<'a>(alloc: Global) -> Arg<'a>
     ensures { IsOption (one_or_more (required (files (codes "crds")))) result }
 {
-    crds(alloc).num_args(1..).help(
+    crds(alloc).required(true).num_args(1..).help(
         "Files with CustomResourceDefinitions; may be given several times",
     )
+}
+
+/// The option for the folders within folders. The script around this program walks folders.
+fn recursive<'a>(alloc: Global) -> Arg<'a>
+    ensures { IsOption recursive result }
+{
+    flag(
+        alloc,
+        "recursive",
+        "Takes the files of the folders within a folder too",
+    )
+    .short('R')
 }
 
 /// The arguments for files of objects.
@@ -90,11 +90,11 @@ fn objects<'a>(alloc: Global) -> Arg<'a>
     ensures { IsOption objects result }
 {
     Arg::new(alloc, "objects")
-        .value_name("OBJECT")
+        .value_name("FILE")
         .required(true)
         .num_args(1..)
         .action(ArgAction::Append)
-        .help("Files with objects; - is standard input")
+        .help("Files with objects, and with CustomResourceDefinitions; - is standard input")
 }
 
 /// The argument for the file of a policy.
@@ -119,8 +119,7 @@ fn command<'a>(
 {
     Words::new(alloc, name)
         .about(about)
-        .arg(output(alloc, forms))?
-        .arg(converted(alloc))
+        .arg(output(alloc, forms))
 }
 
 /// The command line of `check`.
@@ -140,6 +139,12 @@ fn check_words<'a>(alloc: Global, forms: &'a [&'a str]) -> Result<Words<'a>, All
         "ignore-missing-crds",
         "Skips objects without a CustomResourceDefinition; at least one object needs to have one",
     ))?
+    .arg(flag(
+        alloc,
+        "allow-none",
+        "Ends with status 0 if there is nothing to judge",
+    ))?
+    .arg(recursive(alloc))?
     .arg(objects(alloc))
 }
 
@@ -153,7 +158,8 @@ fn review_words<'a>(alloc: Global, forms: &'a [&'a str]) -> Result<Words<'a>, Al
         "review",
         "Reviews CustomResourceDefinitions for mistakes",
     )?
-    .arg(all_crds(alloc))
+    .arg(all_crds(alloc))?
+    .arg(recursive(alloc))
 }
 
 /// The command line of `admit`.
@@ -184,12 +190,12 @@ fn program_words<'a>(alloc: Global) -> Words<'a>
 {
     Words::new(alloc, "kubecel")
         .about(
-            "Checks Kubernetes objects against their CEL rules, without a cluster. Each FILE holds a document, a List, or several documents, as JSON; the script kubecel also takes YAML and folders.",
+            "Checks Kubernetes objects against their CEL rules, without a cluster. FILE holds a document, a List, or several documents, as JSON or YAML, or is a folder of such files.",
         )
         .after_help(
             "Exit status: 0 if everything was judged and passes, 1 if a rule fails, 2 if something couldn't be judged.",
         )
-        .version("0.1.0")
+        .version("0.2.0")
         .subcommand_required(true)
         .arg_required_else_help(true)
 }
@@ -233,6 +239,7 @@ pub fn command_of<'m, 'a>(name: &str, found: &'m ArgMatches<'a>) -> Command<'m, 
             olds: all_of(found, "old"),
             objects: all_of(found, "objects"),
             ignores_missing: is_set(found, "ignore-missing-crds"),
+            allows_none: is_set(found, "allow-none"),
         }),
         "review" => Command::Review(all_of(found, "crds")),
         _ => Command::Admit(Admit {

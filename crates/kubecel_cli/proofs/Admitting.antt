@@ -1,5 +1,5 @@
 -- The inputs that a request is judged over.
-use Rattle.kube_cel_vap.specs.Variables.{Variables}
+use Rattle.kube_manifests_admission.specs.Inputs.{Variables}
 use Rattle.kube_manifests_admission.specs.Inputs.{inputs_view}
 use Rattle.kube_manifests_policies.specs.Reports.{IsVerdictOf}
 use Rattle.kube_manifests_admission.specs.declared.inputs.PolicyInputs.{PolicyInputs}
@@ -7,7 +7,7 @@ use Rattle.kube_manifests_policies.specs.declared.verdict.PolicyVerdict.{PolicyV
 use Rattle.kube_manifests_policies.specs.Verdicts.{verdict_view}
 use Rattle.kubecel_io.specs.Reads.{document_view}
 use Rattle.kubecel_io.specs.declared.sources.Document.{Document}
-use Rattle.kubecel_io.specs.Items.{ItemData}
+use Rattle.kubecel_report.specs.Items.{ItemData}
 use Rattle.kubecel_cli.specs.Runs.{instead}
 use Rattle.kubecel_cli.specs.Reports.{policy_item}
 use Rattle.serde_json.specs.Data.{Data}

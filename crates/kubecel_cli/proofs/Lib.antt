@@ -2,6 +2,5 @@ pub mod Judging
 pub mod Writes
 pub mod Alone
 pub mod Definitions
-pub mod Held
 pub mod Checking
 pub mod Admitting

@@ -6,13 +6,14 @@ use Rattle.kubecel_cli.specs.declared.command.Command.{Command}
 use Rattle.kubecel_cli.specs.declared.command.Command.TheVariants as command
 use Rattle.std.specs.Prelude.{ℕ, List, map, Bool, Option, option_map}
 
--- the paths of definitions, of the old objects, and of the objects; and whether objects are skipped
--- for which there is no definition
+-- the paths of definitions, of the old objects, and of the objects, among which there may be definitions; whether objects
+-- are skipped for which there is no definition; and whether it is allowed that none is left to judge
 pub record CheckData : Type 0 where
   pub crds : List (List ℕ)
   pub olds : List (List ℕ)
   pub objects : List (List ℕ)
   pub ignores_missing : Bool
+  pub allows_none : Bool
 
 -- the paths of a policy, of an AdmissionReview, and of further inputs
 pub record AdmitData : Type 0 where
@@ -37,6 +38,7 @@ check_view c = record {
   olds = map (λ s. s.now) c.olds.now;
   objects = map (λ s. s.now) c.objects.now;
   ignores_missing = c.ignores_missing;
+  allows_none = c.allows_none;
 }
 
 abbrev pub admit_view : Admit → AdmitData

@@ -1,74 +1,25 @@
 -- Trusted by the clauses of kubecel.
--- The reports on objects, definitions and policies, given the library's answers.
-use Rattle.kube_cel_walk.specs.ErrorLists.{errors_in}
-use Rattle.kube_cel_walk.specs.Errors.{ErrorData, error_view}
-use Rattle.kube_manifests.specs.Documents.{is_crd}
-use Rattle.kube_manifests.specs.Texts.{reason_text}
-use Rattle.kube_manifests.specs.declared.judgement.Judgement.{Judgement}
-use Rattle.kube_manifests.specs.declared.judgement.Judgement.TheVariants as judgement
-use Rattle.kube_manifests.specs.declared.judgement.NotJudged.{NotJudged}
-use Rattle.kube_manifests.specs.declared.judgement.NotJudged.TheVariants as reason
+-- The reports on definitions and policies, given the library's answers.
 use Rattle.kube_manifests_policies.specs.Verdicts.{Labelled, ItemReportData, VerdictData, holds, fails, says, nothing, erred, not_given, not_compiled, report_text}
 use Rattle.kube_manifests_policies.specs.declared.verdict.PolicyDecision.{PolicyDecision}
 use Rattle.kube_manifests_policies.specs.declared.verdict.PolicyDecision.TheVariants as decision
 use Rattle.kube_manifests_review.specs.Candidates.{Finding, kind_text}
+use Rattle.kube_manifests_review.specs.Unread.{unread_findings}
 use Rattle.kube_manifests_review.specs.declared.finding.ReviewKind.{ReviewKind}
 use Rattle.kube_manifests_review.specs.declared.finding.ReviewKind.TheVariants as kind
-use Rattle.kubecel_io.specs.Objects.{identity_of}
+use Rattle.kubecel_check.specs.Judgements.{item_of, remark}
+use Rattle.kubecel_cli.specs.declared.place.Expressions as declared
+use Rattle.kubecel_io.specs.Objects.{each_item, text_at}
 use Rattle.kubecel_io.specs.Reads.{Found}
-use Rattle.kubecel_io.specs.Items.{FindingData, ItemData}
-use Rattle.kubecel_io.specs.declared.item.Verdict.{Verdict}
-use Rattle.kubecel_io.specs.declared.item.Verdict.TheVariants as verdict
+use Rattle.kubecel_report.specs.Items.{FindingData, ItemData}
+use Rattle.kubecel_report.specs.declared.item.Verdict.{Verdict}
+use Rattle.kubecel_report.specs.declared.item.Verdict.TheVariants as verdict
 use Rattle.serde_json.specs.Data.{Data}
-use Rattle.std.specs.List.{flat_map}
-use Rattle.std.specs.Prelude.{ℕ, List, [], ◌∷◌, ◌++◌, map, Bool, true, false, ◌&&◌, Ok, Err, if◌then◌else◌, codes}
-
--- the item of an object: its file, kind, namespace and name, with its verdict and findings
-abbrev pub item_of : Found → Verdict → List FindingData → ItemData
-item_of f v findings = record {
-  file = f.file;
-  index = f.index;
-  kind = (identity_of f.value).kind;
-  namespace = (identity_of f.value).namespace;
-  name = (identity_of f.value).name;
-  verdict = v;
-  findings = findings;
-}
-
--- a single finding, which is about the whole thing
-abbrev pub remark : List ℕ → List FindingData
-remark message = record { location = []; rule = []; message = message } ∷ []
-
--- ---- objects
-
-abbrev pub error_finding : ErrorData → FindingData
-error_finding e = record { location = e.field_path; rule = e.rule; message = e.message }
-
--- the reason why an object isn't judged; for a definition it says where definitions belong
-abbrev pub why_not : Data → NotJudged → List ℕ
-why_not d r =
-    reason_text r ++ (if is_crd d then codes " (pass CustomResourceDefinitions with --crds)" else [])
-
--- whether the reason is that no definition has the object's group and kind
-abbrev pub is_missing : NotJudged → Bool
-is_missing reason.NotAnObject = false
-is_missing reason.NoApiVersion = false
-is_missing reason.NoKind = false
-is_missing reason.NoSuchKind = true
-is_missing reason.NoSuchVersion = false
-is_missing reason.NotServed = false
-
--- an object for which there is no definition is skipped if missing ones are ignored; otherwise, and
--- for any other reason, it couldn't be judged
-abbrev pub verdict_for : Bool → NotJudged → Verdict
-verdict_for ignores_missing r = if ignores_missing && is_missing r then verdict.Skip else verdict.NotJudged
-
-abbrev pub judged_item : Bool → Found → Judgement → ItemData
-judged_item ignores_missing f (judgement.Judged (Ok u)) = item_of f verdict.Pass []
-judged_item ignores_missing f (judgement.Judged (Err es)) =
-    item_of f verdict.Fail (map (λ e. error_finding (error_view e)) (errors_in es))
-judged_item ignores_missing f (judgement.NotJudged r) =
-    item_of f (verdict_for ignores_missing r) (remark (why_not f.value r))
+use Rattle.serde_json.specs.Find.{as_array, get}
+use Rattle.std.specs.List.{find, flat_map, list_any, position_or_len}
+use Rattle.std.specs.Option.{option_map_or}
+use Rattle.std.specs.Prelude.{ℕ, List, [], ◌∷◌, ◌++◌, map, option_and_then, Bool, true, false, if◌then◌else◌, codes, decimal}
+use Rattle.std.specs.Str.{bytes_eq}
 
 -- ---- definitions
 
@@ -79,12 +30,30 @@ review_finding f = record {
   message = kind_text f.kind ++ (codes ": " ++ f.message);
 }
 
-abbrev pub pass_unless : List FindingData → Verdict
+-- whether a finding says that this tool lacks something
+abbrev pub is_unsupported : ReviewKind → Bool
+is_unsupported (kind.Lint k) = false
+is_unsupported kind.Document = false
+is_unsupported kind.Call = false
+is_unsupported kind.Pattern = false
+is_unsupported kind.Literal = false
+is_unsupported kind.Unsupported = true
+is_unsupported kind.Message = false
+is_unsupported kind.Keyword = false
+is_unsupported kind.Rules = false
+is_unsupported kind.NoRules = false
+
+abbrev pub pass_unless : List Finding → Verdict
 pass_unless [] = verdict.Pass
 pass_unless (f ∷ fs) = verdict.Fail
 
+-- a definition that uses what this tool lacks isn't judged; any other finding fails it
+abbrev pub review_verdict : List Finding → Verdict
+review_verdict fs =
+    if list_any (λ f. is_unsupported f.kind) fs then verdict.NotJudged else pass_unless fs
+
 abbrev pub reviewed_item : Found → List Finding → ItemData
-reviewed_item f findings = item_of f (pass_unless (map review_finding findings)) (map review_finding findings)
+reviewed_item f findings = item_of f (review_verdict findings) (map review_finding findings)
 
 abbrev pub no_crd_item : Found → ItemData
 no_crd_item f = item_of f verdict.NotJudged
@@ -92,36 +61,16 @@ no_crd_item f = item_of f verdict.NotJudged
 
 -- ---- definitions with parts that aren't read
 
--- whether the finding is about something that isn't read, though rules may have been meant there: a
--- key that no schema or rule has, or `x-kubernetes-validations` that isn't a list or that no object
--- is judged by
-abbrev pub is_unread : ReviewKind → Bool
-is_unread (kind.Lint k) = false
-is_unread kind.Document = false
-is_unread kind.Call = false
-is_unread kind.Pattern = false
-is_unread kind.Literal = false
-is_unread kind.Double = false
-is_unread kind.OldSelf = false
-is_unread kind.Message = false
-is_unread kind.Keyword = true
-is_unread kind.Rules = true
-is_unread kind.NoRules = false
-
-abbrev pub unread_finding : Finding → List FindingData
-unread_finding f = if is_unread f.kind then review_finding f ∷ [] else []
-
--- such findings among those of a review, in order
-abbrev pub unread_findings : List Finding → List FindingData
-unread_findings fs = flat_map unread_finding fs
-
 abbrev pub is_none : List FindingData → Bool
 is_none [] = true
 is_none (f ∷ fs) = false
 
 -- nothing can be judged by such a definition; a definition that is read whole isn't reported
-abbrev pub unread_items : Found → List FindingData → List ItemData
-unread_items f findings = if is_none findings then [] else item_of f verdict.NotJudged findings ∷ []
+abbrev pub unless_none : Found → List FindingData → List ItemData
+unless_none f findings = if is_none findings then [] else item_of f verdict.NotJudged findings ∷ []
+
+abbrev pub unread_items : Found → List ItemData
+unread_items f = unless_none f (map review_finding (unread_findings f.value))
 
 -- ---- policies
 
@@ -129,6 +78,7 @@ abbrev pub decision_verdict : PolicyDecision → Verdict
 decision_verdict decision.Admitted = verdict.Pass
 decision_verdict decision.Denied = verdict.Fail
 decision_verdict decision.Skipped = verdict.Skip
+decision_verdict decision.Ignored = verdict.Skip
 decision_verdict decision.NotJudged = verdict.NotJudged
 
 -- whether the result of an expression isn't reported
@@ -141,22 +91,68 @@ is_quiet (erred m) = false
 is_quiet (not_given i) = false
 is_quiet (not_compiled m) = false
 
--- the findings of an expression; their location is the kind of the expression and its label
-abbrev pub result_findings : List ℕ → Labelled → List FindingData
-result_findings what r =
+-- a list of expressions in a policy: its field in `spec`, and the fields of an entry that name the entry and hold its
+-- expression
+pub record Expressions : Type 0 where
+  pub list : List ℕ
+  pub label : List ℕ
+  pub expression : List ℕ
+
+abbrev pub conditions : Expressions
+conditions = record { list = codes "matchConditions"; label = codes "name"; expression = codes "expression" }
+
+abbrev pub variables : Expressions
+variables = record { list = codes "variables"; label = codes "name"; expression = codes "expression" }
+
+abbrev pub validations : Expressions
+validations = record { list = codes "validations"; label = codes "expression"; expression = codes "expression" }
+
+abbrev pub annotations : Expressions
+annotations = record { list = codes "auditAnnotations"; label = codes "key"; expression = codes "valueExpression" }
+
+-- the entries of such a list in a policy, none if there is no such list
+abbrev pub entries_in : Expressions → Data → List Data
+entries_in e d =
+    option_map_or each_item (option_and_then as_array (option_and_then (get e.list) (get (codes "spec") d))) []
+
+abbrev pub is_labelled : Expressions → List ℕ → Data → Bool
+is_labelled e label d = bytes_eq (text_at e.label d) label
+
+-- an entry is named by its label; by its number if the label is its expression: that of the first entry with it
+abbrev pub name_in : Expressions → Data → List ℕ → List ℕ
+name_in e d label =
+    if bytes_eq e.label e.expression then decimal (position_or_len (is_labelled e label) (entries_in e d)) else label
+
+-- the path of the entry in the policy, such as `spec.validations[0]` and `spec.variables[limit]`, as an API server writes
+-- those of fields
+abbrev pub path_to : Expressions → Data → List ℕ → List ℕ
+path_to e d label = codes "spec." ++ (e.list ++ (codes "[" ++ (name_in e d label ++ codes "]")))
+
+-- the expression of the first entry with this label
+abbrev pub source_of : Expressions → Data → List ℕ → List ℕ
+source_of e d label = option_map_or (text_at e.expression) (find (is_labelled e label) (entries_in e d)) []
+
+-- the findings of an expression of a policy
+abbrev pub result_findings : Expressions → Data → Labelled → List FindingData
+result_findings e d r =
     if is_quiet r.reported then []
     else record {
-      location = what ++ (codes " " ++ r.label);
-      rule = [];
+      location = path_to e d r.label;
+      rule = source_of e d r.label;
       message = report_text r.reported;
     } ∷ []
 
-abbrev pub verdict_findings : VerdictData → List FindingData
-verdict_findings v =
-    flat_map (result_findings (codes "match condition")) v.conditions
-    ++ (flat_map (result_findings (codes "variable")) v.variables
-    ++ (flat_map (result_findings (codes "validation")) v.validations
-    ++ flat_map (result_findings (codes "audit annotation")) v.annotations))
+abbrev pub verdict_findings : Data → VerdictData → List FindingData
+verdict_findings d v =
+    flat_map (result_findings conditions d) v.conditions
+    ++ (flat_map (result_findings variables d) v.variables
+    ++ (flat_map (result_findings validations d) v.validations
+    ++ flat_map (result_findings annotations d) v.annotations))
 
 abbrev pub policy_item : Found → VerdictData → ItemData
-policy_item f v = item_of f (decision_verdict v.decision) (verdict_findings v)
+policy_item f v = item_of f (decision_verdict v.decision) (verdict_findings f.value v)
+
+-- ---- views of the code's values
+
+abbrev pub expressions_view : declared.Expressions → Expressions
+expressions_view e = record { list = e.list.now; label = e.label.now; expression = e.expression.now }

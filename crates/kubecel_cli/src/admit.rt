@@ -3,25 +3,65 @@ ghost use Rattle.kube_manifests_admission.specs.Inputs.{inputs_view};
 ghost use Rattle.kube_manifests_policies.specs.Reports.{IsVerdictOf};
 ghost use Rattle.kube_manifests_policies.specs.Verdicts.{result_view, verdict_view};
 ghost use Rattle.kubecel_io.specs.Reads.{document_view};
-ghost use Rattle.kubecel_io.specs.Items.{finding_view, item_view};
+ghost use Rattle.kubecel_report.specs.Items.{finding_view, item_view};
 ghost use Rattle.kubecel_cli.specs.Commands.{admit_view};
 ghost use Rattle.kubecel_cli.specs.Runs.{AreAdmitted, IsOneRead, IsOneReadWhereNamed, base_of, instead};
-ghost use Rattle.kubecel_cli.specs.Reports.{decision_verdict, policy_item, result_findings, verdict_findings};
+ghost use Rattle.kubecel_cli.specs.Reports.{annotations, conditions, decision_verdict, expressions_view, policy_item, result_findings, validations, variables, verdict_findings};
 ghost use Rattle.serde_json.specs.View.{view};
 ghost use Rattle.std.specs.List.{flat_map};
 ghost use Rattle.std.specs.Prelude.{◌≡◌, ◌++◌, ◌∷◌, [], IfOk, Ok, OnOk, map, option_map, string_bytes};
 
 use crate::command::Admit;
-use crate::item::item_of;
+use crate::place::Expressions;
 use crate::report::Report;
 use kube_manifests_policies::{
     ItemReport, PolicyDecision, PolicyInputs, PolicyResult, PolicyVerdict, evaluate_policy,
 };
-use kubecel_io::{
-    Document, Finding, Identity, Item, Sources, Stop, Subject, Verdict, read_documents,
-};
+use kubecel_check::item_of;
+use kubecel_io::{Document, Identity, Sources, Stop, Subject, read_documents};
+use kubecel_report::{Finding, Verdict};
 use serde_json::Value;
 use std::alloc::{AllocError, Global};
+
+fn conditions() -> Expressions
+    ensures { expressions_view result ≡ conditions }
+{
+    Expressions {
+        list: "matchConditions",
+        label: "name",
+        expression: "expression",
+    }
+}
+
+fn variables() -> Expressions
+    ensures { expressions_view result ≡ variables }
+{
+    Expressions {
+        list: "variables",
+        label: "name",
+        expression: "expression",
+    }
+}
+
+fn validations() -> Expressions
+    ensures { expressions_view result ≡ validations }
+{
+    Expressions {
+        list: "validations",
+        label: "expression",
+        expression: "expression",
+    }
+}
+
+fn annotations() -> Expressions
+    ensures { expressions_view result ≡ annotations }
+{
+    Expressions {
+        list: "auditAnnotations",
+        label: "key",
+        expression: "valueExpression",
+    }
+}
 
 /// Judges a request by a policy. All files are read, in order, before anything is judged.
 pub(crate) fn admitted<S: Sources>(
@@ -137,7 +177,7 @@ fn report_of(
         value: &policy.value,
         identity: Identity::of(&policy.value),
     };
-    let findings = verdict_findings(alloc, verdict)?;
+    let findings = verdict_findings(alloc, &policy.value, verdict)?;
     let reported = decision_verdict(verdict.decision);
     let mut items = Vec::new(alloc);
     items.push(item_of(alloc, &subject, reported, findings)?)?;
@@ -146,7 +186,6 @@ fn report_of(
         noun: "policies",
         rules: Some(verdict.validations.len() as u64),
         compared: None,
-        skipped: None,
         fault: None,
     })
 }
@@ -158,59 +197,89 @@ fn decision_verdict(decision: PolicyDecision) -> Verdict
         PolicyDecision::Admitted => Verdict::Pass,
         PolicyDecision::Denied => Verdict::Fail,
         PolicyDecision::Skipped => Verdict::Skip,
+        PolicyDecision::Ignored => Verdict::Skip,
         PolicyDecision::NotJudged => Verdict::NotJudged,
     }
 }
 
 /// Returns the findings about a policy's expressions.
-fn verdict_findings(alloc: Global, verdict: &PolicyVerdict) -> Result<Vec<Finding>, AllocError>
-    ensures { IfOk result (λ v. map finding_view v.items ≡ verdict_findings (verdict_view verdict.now)) }
+fn verdict_findings(
+    alloc: Global,
+    policy: &Value,
+    verdict: &PolicyVerdict,
+) -> Result<Vec<Finding>, AllocError>
+    ensures { IfOk result (λ v. map finding_view v.items
+        ≡ verdict_findings (view policy.now) (verdict_view verdict.now)) }
 {
     let mut findings = Vec::new(alloc);
-    add_results(alloc, "match condition", &verdict.conditions, &mut findings)?;
-    add_results(alloc, "variable", &verdict.variables, &mut findings)?;
-    add_results(alloc, "validation", &verdict.validations, &mut findings)?;
     add_results(
         alloc,
-        "audit annotation",
+        conditions(),
+        policy,
+        &verdict.conditions,
+        &mut findings,
+    )?;
+    add_results(
+        alloc,
+        variables(),
+        policy,
+        &verdict.variables,
+        &mut findings,
+    )?;
+    add_results(
+        alloc,
+        validations(),
+        policy,
+        &verdict.validations,
+        &mut findings,
+    )?;
+    add_results(
+        alloc,
+        annotations(),
+        policy,
         &verdict.annotations,
         &mut findings,
     )?;
     Ok(findings)
 }
 
-/// Adds the findings about these expressions.
+/// Adds the findings about these expressions of a policy.
 fn add_results(
     alloc: Global,
-    what: &str,
+    expressions: Expressions,
+    policy: &Value,
     results: &[PolicyResult],
     findings: &mut Vec<Finding>,
 ) -> Result<(), AllocError>
     ensures { OnOk result (map finding_view findings.new.items
         ≡ map finding_view findings.old.items
-        ++ flat_map (result_findings what.now) (map result_view results.now)) }
+        ++ flat_map (result_findings (expressions_view expressions) (view policy.now))
+        (map result_view results.now)) }
 {
     for one in results {
-        add_result(alloc, what, one, findings)?;
+        add_result(alloc, expressions, policy, one, findings)?;
     }
     Ok(())
 }
 
 fn add_result(
     alloc: Global,
-    what: &str,
+    expressions: Expressions,
+    policy: &Value,
     one: &PolicyResult,
     findings: &mut Vec<Finding>,
 ) -> Result<(), AllocError>
     ensures { OnOk result (map finding_view findings.new.items
-        ≡ map finding_view findings.old.items ++ result_findings what.now (result_view one.now)) }
+        ≡ map finding_view findings.old.items
+        ++ result_findings (expressions_view expressions) (view policy.now) (result_view one.now)) }
 {
     if matches!(one.reported, ItemReport::True | ItemReport::Null) {
         return Ok(());
     }
+    let label = one.label.as_str();
     findings.push(Finding {
-        location: format!(in alloc; "{what} {}", one.label)?,
-        rule: String::new(alloc),
+        location: expressions.path_to(alloc, policy, label)?,
+        rule: expressions.source_of(alloc, policy, label)?,
         message: format!(in alloc; "{}", one.reported)?,
     })?;
     Ok(())

@@ -1,38 +1,31 @@
 //! `check`: judges objects by their CustomResourceDefinitions.
-ghost use Rattle.kube_cel_walk.specs.Errors.{error_view};
-ghost use Rattle.kube_manifests.specs.Sets.{IsJudgement, with_tree, set_view};
-ghost use Rattle.kube_manifests.specs.Versions.{Version};
-ghost use Rattle.kube_manifests.specs.declared.judgement.Judgement as spec;
-ghost use Rattle.kubecel_io.specs.Reads.{document_view};
-ghost use Rattle.kubecel_io.specs.Subjects.{subject_view};
-ghost use Rattle.kubecel_io.specs.Items.{finding_view, item_view};
+ghost use Rattle.kubecel_check.specs.Definitions.{IsSetOf, passed_over};
+ghost use Rattle.kubecel_check.specs.Judgements.{passed_over_item};
 ghost use Rattle.kubecel_cli.specs.Commands.{check_view};
-ghost use Rattle.kubecel_cli.specs.Runs.{AreChecked, AreItems, IsJudgedBy, IsSetOf, UnlessAny};
-ghost use Rattle.kubecel_cli.specs.Reports.{error_finding, is_missing, judged_item, verdict_for, why_not};
-ghost use Rattle.serde_json.specs.Data.{Data};
-ghost use Rattle.serde_json.specs.View.{view};
-ghost use Rattle.std.specs.Prelude.{◌≡◌, IfOk, List, map, option_map, string_bytes};
+ghost use Rattle.kubecel_cli.specs.Runs.{AreBehind, AreChecked, AreJudged, AreJudgedBySet, UnlessAny, UnlessFault};
+ghost use Rattle.kubecel_io.specs.Subjects.{subject_view};
+ghost use Rattle.kubecel_report.specs.Items.{item_view};
+ghost use Rattle.std.specs.Prelude.{◌≡◌, ◌||◌, IfOk, None, false, map};
 
 use crate::command::Check;
-use crate::defined::refuse_unless_defined;
-use crate::item::{item_of, remark};
-use crate::olds::{refuse_unless_compared, refuse_unless_held};
-use crate::report::{Report, ReportFormat};
-use crate::set::set_or_fault;
-use crate::unread::unread_items;
-use kube_manifests::{CrdSet, Judgement, NotJudged, PatternBook, ValidationError, is_crd};
-use kubecel_io::{
-    Document, Finding, Item, Refused, Sources, Stop, Subject, Verdict, objects_of, old_of,
-    read_documents,
+use crate::in_part::{checked_in_part, is_any_unusable};
+use crate::report::{Report, ReportFormat, with_items_before};
+use crate::unread::all_unread;
+use kube_manifests::{CrdSet, PatternBook};
+use kubecel_check::{
+    definitions_of, judge, judged_subjects, passed_over, passed_over_item, refuse_unless_compared,
+    refuse_unless_defined, refuse_unless_held, refuse_unless_some, set_or_fault, subjects_of,
 };
-use serde_json::Value;
+use kubecel_io::{OldObjects, Refused, Sources, Stop, Subject, read_files, whole_documents};
+use kubecel_report::Item;
 use std::alloc::{AllocError, Global};
 use std::io::Write;
 
 /// The number of objects after which a run reports its progress.
 const STEP: usize = 100;
 
-/// Judges objects. All files are read, in order, before anything is judged.
+/// Judges objects. All files are tried, in order, before anything is judged. If one isn't used, the
+/// report says so beside what was judged.
 pub(crate) fn checked<S: Sources, E: Write>(
     alloc: Global,
     check: Check<'_, '_>,
@@ -41,123 +34,220 @@ pub(crate) fn checked<S: Sources, E: Write>(
     err: &mut E,
 ) -> Result<Report, Stop>
     ensures { IfOk result (λ r.
-        AreChecked S.reads files.old (check_view check.entry) files.new (map item_view r.items.items)) }
+        UnlessFault r (AreChecked S.reads files.old (check_view check.entry) files.new)) }
 {
-    let crds = read_documents(alloc, check.crds, files)?;
-    let olds = read_documents(alloc, check.olds, files)?;
-    let objects = read_documents(alloc, check.objects, files)?;
-    let set = set_of(alloc, crds.as_slice())?;
-    let definitions = objects_of(alloc, crds.as_slice())?;
-    let olds = objects_of(alloc, olds.as_slice())?;
-    let subjects = objects_of(alloc, objects.as_slice())?;
-    if subjects.is_empty() {
-        return Err(Stop::Said(String::from_str(alloc, "no object to judge")?));
+    let crds = read_files(alloc, check.crds, files)?;
+    let olds = read_files(alloc, check.olds, files)?;
+    let objects = read_files(alloc, check.objects, files)?;
+    if is_any_unusable(&crds, &olds, &objects) {
+        let ignores_missing = check.ignores_missing;
+        return Ok(checked_in_part(alloc, ignores_missing, crds, olds, objects, form, err)?);
     }
-    refuse_unless_held(alloc, check.olds, &set, olds.as_slice())?;
-    refuse_unless_compared(alloc, check.olds, olds.as_slice(), subjects.as_slice())?;
-    refuse_unless_defined(alloc, check.ignores_missing, &set, subjects.as_slice())?;
-    let unread = unread_items(alloc, definitions.as_slice())?;
+    let given = whole_documents(alloc, crds.documents.as_slice())?;
+    let earlier = whole_documents(alloc, olds.documents.as_slice())?;
+    let present = whole_documents(alloc, objects.documents.as_slice())?;
+    judged(
+        alloc,
+        check,
+        given.as_slice(),
+        earlier.as_slice(),
+        present.as_slice(),
+        form,
+        err,
+    )
+}
+
+/// Judges the objects of these documents, of which the first are those of files of definitions.
+fn judged<E: Write>(
+    alloc: Global,
+    check: Check<'_, '_>,
+    crds: &[Subject<'_>],
+    olds: &[Subject<'_>],
+    objects: &[Subject<'_>],
+    form: ReportFormat,
+    err: &mut E,
+) -> Result<Report, Stop>
+    ensures { IfOk result (λ r. UnlessFault r (AreJudged (check_view check.entry)
+        (map subject_view crds.now) (map subject_view olds.now) (map subject_view objects.now))) }
+{
+    let ignores_missing = check.ignores_missing;
+    let definitions = definitions_of(alloc, ignores_missing, crds, objects)?;
+    let set = set_of(alloc, definitions.as_slice())?;
+    let earlier = subjects_of(alloc, &set, olds)?;
+    let subjects = judged_subjects(alloc, &set, objects)?;
+    refuse_unless_some(alloc, check.allows_none, subjects.as_slice())?;
+    refuse_unless_held(alloc, check.olds, &set, earlier.as_slice())?;
+    let indexed = OldObjects::of(alloc, earlier.as_slice())?;
+    refuse_unless_compared(alloc, check.olds, &indexed, subjects.as_slice())?;
+    refuse_unless_defined(
+        alloc,
+        ignores_missing,
+        check.allows_none,
+        &set,
+        subjects.as_slice(),
+    )?;
+    let unread = all_unread(alloc, definitions.as_slice())?;
+    let passed = passed_items(alloc, ignores_missing, crds)?;
     Ok(judge_unless_any(
         alloc,
         unread,
-        check.ignores_missing,
+        passed,
+        ignores_missing,
         &set,
-        olds.as_slice(),
+        &indexed,
         subjects.as_slice(),
         form,
         err,
     )?)
 }
 
-/// Compiles the definitions in these documents.
-fn set_of(alloc: Global, documents: &[Document]) -> Result<CrdSet, Stop>
-    ensures { IfOk result (IsSetOf (map document_view documents.now)) }
+/// Compiles these definitions.
+fn set_of(alloc: Global, definitions: &[Subject<'_>]) -> Result<CrdSet, Stop>
+    ensures { IfOk result (IsSetOf (map subject_view definitions.now)) }
 {
-    match set_or_fault(alloc, documents)? {
+    match set_or_fault(alloc, definitions)? {
         Ok(set) => Ok(set),
         Err(fault) => Err(Stop::Said(fault)),
     }
 }
 
-/// Judges objects by a set. If some definitions have parts that aren't read, reports only these
-/// definitions.
-fn judge_unless_any<E: Write>(
+/// Returns the items of what is passed over in files of definitions.
+pub(crate) fn passed_items(
+    alloc: Global,
+    ignores_missing: bool,
+    crds: &[Subject<'_>],
+) -> Result<Vec<Item>, AllocError>
+    ensures { IfOk result (λ v. map item_view v.items
+        ≡ map passed_over_item (passed_over ignores_missing (map subject_view crds.now))) }
+{
+    let passed = passed_over(alloc, ignores_missing, crds)?;
+    items_of_passed(alloc, passed.as_slice())
+}
+
+fn items_of_passed(alloc: Global, passed: &[Subject<'_>]) -> Result<Vec<Item>, AllocError>
+    ensures { IfOk result (λ v. map item_view v.items ≡ map passed_over_item (map subject_view passed.now)) }
+{
+    let mut items = Vec::with_capacity(alloc, passed.len())?;
+    for document in passed {
+        items.push(passed_over_item(alloc, document)?)?;
+    }
+    Ok(items)
+}
+
+/// Judges objects by a set, and reports them behind what is passed over. If some definitions have
+/// parts that aren't read, reports only these definitions.
+pub(crate) fn judge_unless_any<E: Write>(
     alloc: Global,
     unread: Vec<Item>,
+    passed: Vec<Item>,
     ignores_missing: bool,
     set: &CrdSet,
-    olds: &[Subject<'_>],
+    olds: &OldObjects<'_, '_>,
     subjects: &[Subject<'_>],
     form: ReportFormat,
     err: &mut E,
 ) -> Result<Report, Refused>
-    ensures { IfOk result (λ r. UnlessAny (map item_view unread.items)
-        (AreItems (IsJudgedBy ignores_missing set.now (map (λ f. f.value) (map subject_view olds.now)))
-        (map subject_view subjects.now)) (map item_view r.items.items)) }
+    ensures { IfOk result (λ r. UnlessFault r (UnlessAny (map item_view unread.items)
+        (AreBehind (map item_view passed.items) (AreJudgedBySet ignores_missing set.now
+        (map (λ f. f.value) (map subject_view olds.now.objects.now)) (map subject_view subjects.now))))) }
 {
     match unread.as_slice() {
-        [] => judge_all(alloc, ignores_missing, set, olds, subjects, form, err),
+        [] => judge_behind(
+            alloc,
+            passed,
+            ignores_missing,
+            set,
+            olds,
+            subjects,
+            form,
+            err,
+        ),
         [_, ..] => Ok(Report {
             items: unread,
             noun: "no object was judged; definitions with mistakes",
             rules: None,
             compared: None,
-            skipped: None,
             fault: None,
         }),
     }
 }
 
-/// Judges each object by a set, all with one book of patterns.
-fn judge_all<E: Write>(
+/// Judges objects by a set, and reports them behind these items.
+fn judge_behind<E: Write>(
     alloc: Global,
+    passed: Vec<Item>,
     ignores_missing: bool,
     set: &CrdSet,
-    olds: &[Subject<'_>],
+    olds: &OldObjects<'_, '_>,
     subjects: &[Subject<'_>],
     form: ReportFormat,
     err: &mut E,
 ) -> Result<Report, Refused>
-    ensures { IfOk result (λ r.
-        AreItems (IsJudgedBy ignores_missing set.now (map (λ f. f.value) (map subject_view olds.now)))
-        (map subject_view subjects.now) (map item_view r.items.items)) }
+    ensures { IfOk result (λ r. UnlessFault r (AreBehind (map item_view passed.items)
+        (AreJudgedBySet ignores_missing set.now
+        (map (λ f. f.value) (map subject_view olds.now.objects.now)) (map subject_view subjects.now)))) }
+{
+    let report = judge_all(alloc, ignores_missing, set, olds, subjects, form, err)?;
+    Ok(with_items_before(passed, report)?)
+}
+
+/// Judges each object by a set, all with one book of patterns. If one is denied though not all of its
+/// rules could be evaluated, the report says so, too.
+fn judge_all<E: Write>(
+    alloc: Global,
+    ignores_missing: bool,
+    set: &CrdSet,
+    olds: &OldObjects<'_, '_>,
+    subjects: &[Subject<'_>],
+    form: ReportFormat,
+    err: &mut E,
+) -> Result<Report, Refused>
+    ensures { IfOk result (λ r. UnlessFault r (AreJudgedBySet ignores_missing set.now
+        (map (λ f. f.value) (map subject_view olds.now.objects.now)) (map subject_view subjects.now))) }
 {
     let mut items = Vec::with_capacity(alloc, subjects.len())?;
     let (mut rules, mut compared) = (0u64, 0u64);
+    let mut partly = false;
     let mut book = PatternBook::new(alloc);
     for subject in subjects {
-        let old = old_of(olds, subject);
-        items.push(judge(alloc, ignores_missing, set, subject, old, &mut book)?)?;
+        let old = olds.old_of(alloc, subject)?;
+        let judged = judge(alloc, ignores_missing, set, subject, old, &mut book)?;
+        partly = either(partly, judged.1);
+        items.push(judged.0)?;
         rules = rules.saturating_add(set.rule_count(subject.value).unwrap_or(0));
         compared = compared.saturating_add(u64::from(old.is_some()));
         if form.progress {
             report_progress(items.len(), subjects.len(), err);
         }
     }
-    let skipped = count_skipped(items.as_slice());
     Ok(Report {
         items,
         noun: "objects",
         rules: Some(rules),
-        compared: if olds.is_empty() {
+        compared: if olds.objects.is_empty() {
             None
         } else {
             Some(compared)
         },
-        skipped: if ignores_missing { Some(skipped) } else { None },
-        fault: None,
+        fault: fault_if(alloc, partly)?,
     })
 }
 
-/// Returns how many of these things were skipped.
-fn count_skipped(items: &[Item]) -> u64 {
-    let mut count = 0u64;
-    for item in items {
-        if let Verdict::Skip = item.verdict {
-            count = count.saturating_add(1);
-        }
+fn either(first: bool, second: bool) -> bool
+    ensures { result ≡ (first || second) }
+{
+    first || second
+}
+
+/// Says, if it is so, that an object was denied though not all of its rules could be evaluated.
+fn fault_if(alloc: Global, partly: bool) -> Result<Option<String>, AllocError>
+    ensures { IfOk result (λ f. f ≡ None → partly ≡ false) }
+{
+    if !partly {
+        return Ok(None);
     }
-    count
+    let why = "not all rules of an object that fails could be evaluated";
+    Ok(Some(String::from_str(alloc, why)?))
 }
 
 /// Writes how many objects were judged so far, if there are many, and clears that line at the end.
@@ -168,100 +258,4 @@ fn report_progress<E: Write>(judged: usize, all: usize, err: &mut E) {
     if all > STEP && judged == all {
         let _ = write!(err, "\r\u{1b}[K");
     }
-}
-
-/// Judges an object by a set, with a lent book of patterns.
-fn judge(
-    alloc: Global,
-    ignores_missing: bool,
-    set: &CrdSet,
-    subject: &Subject<'_>,
-    old: Option<&Value>,
-    book: &mut PatternBook,
-) -> Result<Item, Refused>
-    ensures { IfOk result (λ i. (j : spec.Judgement)
-        × ((versions : List (Version Data)) → set_view set.now ≡ map with_tree versions
-        → IsJudgement versions (view subject.now.value.now) (option_map (λ v. view v.now) old.entry) j)
-        × (item_view i ≡ judged_item ignores_missing (subject_view subject.now) j)) }
-{
-    let judgement = set.validate_in(alloc, subject.value, old, book)?;
-    Ok(judged_item(alloc, ignores_missing, subject, &judgement)?)
-}
-
-/// Builds the item of an object from its judgement.
-fn judged_item(
-    alloc: Global,
-    ignores_missing: bool,
-    subject: &Subject<'_>,
-    judgement: &Judgement,
-) -> Result<Item, AllocError>
-    ensures { IfOk result (λ i. item_view i
-        ≡ judged_item ignores_missing (subject_view subject.now) judgement.now) }
-{
-    match judgement {
-        Judgement::Judged(Ok(())) => item_of(alloc, subject, Verdict::Pass, Vec::new(alloc)),
-        Judgement::Judged(Err(errors)) => {
-            let findings = error_findings(alloc, errors.as_slice())?;
-            item_of(alloc, subject, Verdict::Fail, findings)
-        }
-        Judgement::NotJudged(reason) => {
-            let findings = remark(alloc, why_not(alloc, subject.value, *reason)?)?;
-            let verdict = verdict_for(ignores_missing, *reason);
-            item_of(alloc, subject, verdict, findings)
-        }
-    }
-}
-
-/// Returns the verdict on an object that isn't judged for this reason.
-fn verdict_for(ignores_missing: bool, reason: NotJudged) -> Verdict
-    ensures { result ≡ verdict_for ignores_missing reason }
-{
-    if ignores_missing && is_missing(reason) {
-        Verdict::Skip
-    } else {
-        Verdict::NotJudged
-    }
-}
-
-/// Reports whether the reason is that no definition has the object's group and kind.
-fn is_missing(reason: NotJudged) -> bool
-    ensures { result ≡ is_missing reason }
-{
-    match reason {
-        NotJudged::NoSuchKind => true,
-        NotJudged::NotAnObject
-        | NotJudged::NoApiVersion
-        | NotJudged::NoKind
-        | NotJudged::NoSuchVersion
-        | NotJudged::NotServed => false,
-    }
-}
-
-/// Returns the reason why an object isn't judged. If it is a definition, says where definitions
-/// belong.
-fn why_not(alloc: Global, object: &Value, reason: NotJudged) -> Result<String, AllocError>
-    ensures { IfOk result (λ s. string_bytes s ≡ why_not (view object.now) reason) }
-{
-    let further = if is_crd(object) {
-        " (pass CustomResourceDefinitions with --crds)"
-    } else {
-        ""
-    };
-    format!(in alloc; "{reason}{further}")
-}
-
-/// Turns the errors of an object into findings.
-fn error_findings(alloc: Global, errors: &[ValidationError]) -> Result<Vec<Finding>, AllocError>
-    ensures { IfOk result (λ v. map finding_view v.items
-        ≡ map (λ e. error_finding (error_view e)) errors.now) }
-{
-    let mut findings = Vec::with_capacity(alloc, errors.len())?;
-    for error in errors {
-        findings.push(Finding {
-            location: error.field_path.clone()?,
-            rule: error.rule.clone()?,
-            message: error.message.clone()?,
-        })?;
-    }
-    Ok(findings)
 }

@@ -14,15 +14,17 @@ pub enum Command<'l, 'w> {
 /// What `check` is given.
 #[derive(Clone, Copy)]
 pub struct Check<'l, 'w> {
-    /// The files of CustomResourceDefinitions.
+    /// The files of CustomResourceDefinitions alone.
     pub crds: &'l [&'w str],
     /// The files of the old objects.
     pub olds: &'l [&'w str],
-    /// The files of the objects.
+    /// The files of the objects. There may be CustomResourceDefinitions among them.
     pub objects: &'l [&'w str],
-    /// Whether an object is skipped if no definition has its group and kind. Otherwise it counts as
-    /// not judged.
+    /// Whether an object is skipped if no definition has its group and kind, or if it has neither
+    /// apiVersion nor kind. Otherwise it counts as not judged.
     pub ignores_missing: bool,
+    /// Whether it is allowed that no object is left to judge.
+    pub allows_none: bool,
 }
 
 /// The paths that `admit` is given.

@@ -4,17 +4,15 @@
 mod admit;
 mod check;
 mod command;
-mod defined;
-mod item;
-mod olds;
+mod in_part;
+mod place;
 mod report;
 mod review;
-mod set;
 mod unread;
 
 ghost use Rattle.kubecel_cli.specs.Commands.{command_view};
 ghost use Rattle.kubecel_cli.specs.Runs.{AreFound, IsReported, UnlessFault};
-ghost use Rattle.kubecel_io.specs.Output.{output_text};
+ghost use Rattle.kubecel_report.specs.Output.{output_text};
 ghost use Rattle.std.specs.Io.KnownBytes.{Appends};
 ghost use Rattle.std.specs.Prelude.{◌≤◌, IfOk};
 
@@ -23,7 +21,8 @@ use crate::check::checked;
 use crate::report::{Report, report_found};
 use crate::review::reviewed;
 pub use command::{Admit, Check, Command};
-pub use kubecel_io::{Output, Refused, Sources, Stop};
+pub use kubecel_io::{Refused, Sources, Stop};
+pub use kubecel_report::Output;
 pub use report::ReportFormat;
 use std::alloc::Global;
 use std::io::Write;
@@ -34,10 +33,13 @@ use std::io::Write;
 /// everything was judged and some rule doesn't hold. In both cases exactly the files that the
 /// command names were read, in order; the result of each thing is what the definitions state for
 /// the contents of the files; and the whole report was written to `out`, in the requested form. In
-/// all other cases the status is 2: a file can't be read, isn't JSON or has no document, a definition
-/// or policy is malformed, an object couldn't be judged, there is nothing to judge, no object has an
-/// old one though old ones are named, no object is of a definition though missing ones are ignored, memory is refused, or a write fails. No contract can rule out a status of 2 in further cases, since no caller knows
-/// whether there is memory or whether a write succeeds.
+/// all other cases the status is 2: a file can't be read, isn't JSON or has no document (it is
+/// reported then, and `check` and `review` judge what the others hold), a definition or policy is
+/// malformed, an object, or one of its rules, couldn't be judged, there is nothing to judge, though
+/// that isn't allowed, no object has an old one though old ones are named, no object is of a
+/// definition though missing ones are ignored, memory is refused, or a write fails. No contract can
+/// rule out a status of 2 in further cases, since no caller knows whether there is memory or whether
+/// a write succeeds.
 pub fn run<S: Sources, O: Write, E: Write>(
     alloc: Global,
     command: Command<'_, '_>,

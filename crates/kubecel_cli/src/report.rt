@@ -1,12 +1,15 @@
 //! Writes the report on what a command found.
-ghost use Rattle.kubecel_io.specs.Items.{item_view, items_status};
-ghost use Rattle.kubecel_io.specs.Output.{output_text};
+ghost use Rattle.kubecel_report.specs.Items.{item_view, items_status};
+ghost use Rattle.kubecel_report.specs.Output.{output_text};
+ghost use Rattle.kubecel_report.specs.Summary.{summary_text};
+ghost use Rattle.kubecel_io.specs.Stops.{stopped_text};
 ghost use Rattle.kubecel_cli.specs.Runs.{IfReport};
 ghost use Rattle.std.specs.Io.KnownBytes.{Appends};
-ghost use Rattle.std.specs.Prelude.{◌≡◌, ◌≤◌, None, OnOk, map};
+ghost use Rattle.std.specs.Prelude.{◌≡◌, ◌≤◌, ◌++◌, IfOk, None, OnOk, map};
 
-use kubecel_io::{Item, Output, Refused, Stop, status_of, write_items};
-use std::alloc::Global;
+use kubecel_io::{Stop, add_items, write_stop, write_stopped};
+use kubecel_report::{Item, Output, status_of, write_items, write_said, write_summary};
+use std::alloc::{AllocError, Global};
 use std::io;
 use std::io::Write;
 
@@ -31,8 +34,6 @@ pub(crate) struct Report {
     pub(crate) rules: Option<u64>,
     /// The number of objects that were compared with an old one, if old objects were given.
     pub(crate) compared: Option<u64>,
-    /// The number of objects that were skipped, if missing definitions are ignored.
-    pub(crate) skipped: Option<u64>,
     /// What is wrong with a definition, beside the items.
     pub(crate) fault: Option<String>,
 }
@@ -52,7 +53,8 @@ pub(crate) fn report_found<O: Write, E: Write>(
     match found {
         Ok(report) => write_report(alloc, form, &report, out, err),
         Err(stop) => {
-            let _ = report_stop(&stop, err);
+            let _ = report_stop(alloc, form, &stop, out);
+            let _ = write_stop(alloc, &stop, err);
             STOPPED
         }
     }
@@ -74,17 +76,28 @@ fn write_report<O: Write, E: Write>(
     let items = report.items.as_slice();
     match write_all(alloc, form, items, out) {
         Ok(()) => {
+            let status = status_or_stopped(alloc, report, err);
             let _ = summarize(report, err);
-            match &report.fault {
-                None => status_of(items),
-                Some(fault) => {
-                    let _ = writeln!(err, "kubecel: {fault}");
-                    STOPPED
-                }
-            }
+            status
         }
         Err(error) => {
             let _ = writeln!(err, "kubecel: can't write: {error}");
+            STOPPED
+        }
+    }
+}
+
+/// Returns the exit status of a report. Says first what is wrong with a definition, if it is reported
+/// beside the items.
+fn status_or_stopped<E: Write>(alloc: Global, report: &Report, err: &mut E) -> u8
+    ensures reported { result ≤ 1 → (report.now.fault ≡ None)
+        × (result ≡ items_status (map item_view report.now.items.items)) }
+    ensures statuses { result ≤ 2 }
+{
+    match &report.fault {
+        None => status_of(report.items.as_slice()),
+        Some(fault) => {
+            let _ = write_said(alloc, fault.as_str(), err);
             STOPPED
         }
     }
@@ -105,30 +118,55 @@ fn write_all<O: Write>(
     out.flush()
 }
 
-/// Writes why nothing was judged.
-fn report_stop<E: Write>(stop: &Stop, err: &mut E) -> io::Result<()> {
-    match stop {
-        Stop::Refused(Refused::Memory) => writeln!(err, "kubecel: out of memory"),
-        Stop::Refused(Refused::TooLarge) => writeln!(err, "kubecel: a text is too large"),
-        Stop::Said(why) => writeln!(err, "kubecel: {why}"),
-    }
+/// Writes the report of a run that stops, and flushes the writer.
+fn report_stop<O: Write>(
+    alloc: Global,
+    form: ReportFormat,
+    stop: &Stop,
+    out: &mut O,
+) -> io::Result<()>
+    ensures { OnOk result
+        (Appends (O.contents out.old) (O.contents out.new) (stopped_text form.output stop.now)) }
+{
+    write_stopped(alloc, form.output, stop, out)?;
+    out.flush()
 }
 
-/// Writes a summary: how much was judged.
-fn summarize<E: Write>(report: &Report, err: &mut E) -> io::Result<()> {
-    let mut findings = 0usize;
-    for item in report.items.as_slice() {
-        findings = findings.saturating_add(item.findings.len());
-    }
-    write!(err, "kubecel: {}: {}", report.noun, report.items.len())?;
-    if let Some(compared) = report.compared {
-        write!(err, ", with an old object: {compared}")?;
-    }
-    if let Some(skipped) = report.skipped {
-        write!(err, ", skipped: {skipped}")?;
-    }
-    if let Some(rules) = report.rules {
-        write!(err, ", rules: {rules}")?;
-    }
-    writeln!(err, ", findings: {findings}")
+/// Writes the last line: how much was judged, and with which results.
+fn summarize<E: Write>(report: &Report, err: &mut E) -> io::Result<()>
+    ensures { OnOk result (Appends (E.contents err.old) (E.contents err.new)
+        (summary_text report.now.noun.now report.now.compared report.now.rules
+        (map item_view report.now.items.items))) }
+{
+    write_summary(
+        report.noun,
+        report.compared,
+        report.rules,
+        report.items.as_slice(),
+        err,
+    )
+}
+
+/// Puts these items before those of a report.
+pub(crate) fn with_items_before(first: Vec<Item>, report: Report) -> Result<Report, AllocError>
+    ensures items { IfOk result (λ r. map item_view r.items.items
+        ≡ map item_view first.items ++ map item_view report.items.items) }
+    ensures fault { IfOk result (λ r. r.fault ≡ report.fault) }
+{
+    let Report {
+        items,
+        noun,
+        rules,
+        compared,
+        fault,
+    } = report;
+    let mut all = first;
+    add_items(&mut all, items)?;
+    Ok(Report {
+        items: all,
+        noun,
+        rules,
+        compared,
+        fault,
+    })
 }

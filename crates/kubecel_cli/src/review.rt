@@ -3,23 +3,27 @@ ghost use Rattle.kube_manifests.specs.Versions.{Version};
 ghost use Rattle.kube_manifests_review.specs.Candidates as candidates;
 ghost use Rattle.kubecel_io.specs.Reads.{document_view};
 ghost use Rattle.kubecel_io.specs.Subjects.{subject_view};
-ghost use Rattle.kubecel_io.specs.Items.{finding_view, item_view};
-ghost use Rattle.kubecel_cli.specs.Runs.{AreItems, AreReviewed, AreWhole, IsReviewed, UnlessFault};
-ghost use Rattle.kubecel_cli.specs.Reports.{pass_unless, review_finding};
+ghost use Rattle.kubecel_report.specs.Items.{finding_view, item_view};
+ghost use Rattle.kubecel_check.specs.Definitions.{AreWhole};
+ghost use Rattle.kubecel_cli.specs.Runs.{AreItems, AreReviewed, IsReviewed, UnlessFault};
+ghost use Rattle.kubecel_cli.specs.Reports.{is_unsupported, review_finding, review_verdict};
 ghost use Rattle.serde_json.specs.Data.{Data};
+ghost use Rattle.std.specs.List.{list_any};
 ghost use Rattle.std.specs.Prelude.{◌≡◌, IfOk, List, None, map};
 
-use crate::item::{item_of, remark};
+use crate::in_part::reviewed_in_part;
 use crate::report::Report;
-use crate::set::set_or_fault;
 use kube_manifests::is_crd;
-use kube_manifests_review::{ReviewFinding, review_crd};
+use kube_manifests_review::{ReviewFinding, ReviewKind, review_crd};
+use kubecel_check::{item_of, remark, set_or_fault};
 use kubecel_io::{
-    Document, Finding, Item, Refused, Sources, Stop, Subject, Verdict, objects_of, read_documents,
+    Contents, Document, Refused, Sources, Stop, Subject, objects_of, read_files, whole_documents,
 };
+use kubecel_report::{Finding, Item, Verdict};
 use std::alloc::{AllocError, Global};
 
-/// Reviews the definitions at these paths. If one is malformed, the report says so, too.
+/// Reviews the definitions at these paths. If one is malformed, or a file isn't used, the report says
+/// so, too.
 pub(crate) fn reviewed<S: Sources>(
     alloc: Global,
     crds: &[&str],
@@ -28,7 +32,11 @@ pub(crate) fn reviewed<S: Sources>(
     ensures { IfOk result (λ r.
         UnlessFault r (AreReviewed S.reads files.old (map (λ s. s.now) crds.now) files.new)) }
 {
-    let documents = read_documents(alloc, crds, files)?;
+    let contents = read_files(alloc, crds, files)?;
+    if !contents.is_whole() {
+        return Ok(reviewed_in_part(alloc, contents)?);
+    }
+    let Contents { documents, .. } = contents;
     let subjects = objects_of(alloc, documents.as_slice())?;
     if subjects.is_empty() {
         return Err(Stop::Said(String::from_str(alloc, "no CustomResourceDefinition to review")?));
@@ -38,24 +46,32 @@ pub(crate) fn reviewed<S: Sources>(
         noun: "definitions",
         rules: None,
         compared: None,
-        skipped: None,
         fault: fault_in(alloc, documents.as_slice())?,
     })
 }
 
 /// Returns the first fault of the first definition that has one, with its place.
-fn fault_in(alloc: Global, documents: &[Document]) -> Result<Option<String>, Refused>
+pub(crate) fn fault_in(alloc: Global, documents: &[Document]) -> Result<Option<String>, Refused>
     ensures { IfOk result (λ f. f ≡ None
         → (versions : List (Version Data)) × AreWhole (map document_view documents.now) versions) }
 {
-    match set_or_fault(alloc, documents)? {
+    let whole = whole_documents(alloc, documents)?;
+    fault_among(alloc, whole.as_slice())
+}
+
+/// Returns the first fault of the first of these definitions that has one, with its place.
+fn fault_among(alloc: Global, definitions: &[Subject<'_>]) -> Result<Option<String>, Refused>
+    ensures { IfOk result (λ f. f ≡ None
+        → (versions : List (Version Data)) × AreWhole (map subject_view definitions.now) versions) }
+{
+    match set_or_fault(alloc, definitions)? {
         Ok(_) => Ok(None),
         Err(fault) => Ok(Some(fault)),
     }
 }
 
 /// Reviews each definition.
-fn review_all(alloc: Global, subjects: &[Subject<'_>]) -> Result<Vec<Item>, Refused>
+pub(crate) fn review_all(alloc: Global, subjects: &[Subject<'_>]) -> Result<Vec<Item>, Refused>
     ensures { IfOk result (λ v. AreItems IsReviewed (map subject_view subjects.now) (map item_view v.items)) }
 {
     let mut items = Vec::with_capacity(alloc, subjects.len())?;
@@ -76,22 +92,59 @@ fn review(alloc: Global, subject: &Subject<'_>) -> Result<Item, Refused>
     }
     let found = review_crd(alloc, subject.value)?;
     let findings = review_findings(alloc, found.as_slice())?;
-    let verdict = pass_unless(findings.as_slice());
+    let verdict = review_verdict(found.as_slice());
     Ok(item_of(alloc, subject, verdict, findings)?)
 }
 
-/// Returns pass if there are no findings, else fail.
-fn pass_unless(findings: &[Finding]) -> Verdict
-    ensures { result ≡ pass_unless (map finding_view findings.now) }
+/// Returns the verdict on a definition with these findings: not judged if it uses what this tool
+/// lacks, else pass if there are none, else fail.
+fn review_verdict(found: &[ReviewFinding]) -> Verdict
+    ensures { result ≡ review_verdict (map candidates.finding_view found.now) }
 {
-    match findings {
+    if any_unsupported(found) {
+        return Verdict::NotJudged;
+    }
+    match found {
         [] => Verdict::Pass,
         [_, ..] => Verdict::Fail,
     }
 }
 
+/// Reports whether one of these findings says that this tool lacks something.
+fn any_unsupported(found: &[ReviewFinding]) -> bool
+    ensures { result ≡ list_any (λ f. is_unsupported f.kind) (map candidates.finding_view found.now) }
+{
+    for finding in found {
+        if is_unsupported(finding.kind) {
+            return true;
+        }
+    }
+    false
+}
+
+/// Reports whether findings of this kind say that this tool lacks something.
+fn is_unsupported(kind: ReviewKind) -> bool
+    ensures { result ≡ is_unsupported kind }
+{
+    match kind {
+        ReviewKind::Unsupported => true,
+        ReviewKind::Lint(_)
+        | ReviewKind::Document
+        | ReviewKind::Call
+        | ReviewKind::Pattern
+        | ReviewKind::Literal
+        | ReviewKind::Message
+        | ReviewKind::Keyword
+        | ReviewKind::Rules
+        | ReviewKind::NoRules => false,
+    }
+}
+
 /// Turns the findings of a review into those of a report.
-fn review_findings(alloc: Global, found: &[ReviewFinding]) -> Result<Vec<Finding>, AllocError>
+pub(crate) fn review_findings(
+    alloc: Global,
+    found: &[ReviewFinding],
+) -> Result<Vec<Finding>, AllocError>
     ensures { IfOk result (λ v. map finding_view v.items
         ≡ map review_finding (map candidates.finding_view found.now)) }
 {
@@ -103,7 +156,7 @@ fn review_findings(alloc: Global, found: &[ReviewFinding]) -> Result<Vec<Finding
 }
 
 /// Turns a finding of a review into one of a report.
-pub(crate) fn review_finding(alloc: Global, found: &ReviewFinding) -> Result<Finding, AllocError>
+fn review_finding(alloc: Global, found: &ReviewFinding) -> Result<Finding, AllocError>
     ensures { IfOk result (λ f. finding_view f ≡ review_finding (candidates.finding_view found.now)) }
 {
     let kind = found.kind;

@@ -1,15 +1,14 @@
 -- A text read one byte at a time.
 use Rattle.kubecel_io.specs.Documents.{IsAt, IsFirstRefused, all_read, before, depth_after, documents, ends, is_space, read_document, with_documents, with_piece, mode_after, pieces}
-use Rattle.kubecel_io.specs.Faults.{IsFault, is_repeated_key}
+use Rattle.kubecel_io.specs.Faults.{IsFault, IsKindOf}
 use Rattle.kubecel_io.specs.declared.cut.Mode.{Mode}
 use Rattle.kubecel_io.specs.declared.cut.Mode.TheVariants.{Outside, Within, Escaped}
 use Rattle.kubecel_io.specs.declared.documents.Reading.{Reading}
 use Rattle.kubecel_io.specs.declared.fault.Fault.{Fault}
 use Rattle.kubecel_io.specs.declared.fault.FaultKind.{FaultKind}
 use Rattle.serde_json.specs.Data.{Data}
-use Rattle.serde_json.specs.Read.{read}
 use Rattle.serde_json.specs.View.{view}
-use Rattle.std.proofs.Common.{◌≡◌, ℕ, suc, ◌+◌, ◌-◌, ◌<◌, ◌≤◌, ◌⊎◌, inl, inr, List, [], ◌∷◌, ◌++◌, append-nil, append_assoc, drop, drop-cons, get_or, length, length-append, length-drop, map, take, Bool, true, false, if◌then◌else◌, Option, Some, None, option_and_then, is_some, Result, Ok, Err, IfErr, IfOk, OnOk, refl, sym, ap, subst, arith, ◌∙◌}
+use Rattle.std.proofs.Common.{◌≡◌, ℕ, suc, ◌+◌, ◌-◌, ◌<◌, ◌≤◌, ◌⊎◌, inl, inr, List, [], ◌∷◌, ◌++◌, append-nil, append_assoc, drop, drop-cons, get_or, length, length-append, length-drop, map, take, Bool, true, false, if◌then◌else◌, Option, Some, None, option_and_then, Result, Ok, Err, IfErr, IfOk, OnOk, refl, sym, ap, subst, arith, ◌∙◌}
 use Rattle.std.proofs.lemmas.List.{drop_at, get_or_at, length-take-le, take_at}
 use Rattle.std.proofs.lemmas.Str.{IsCharBoundary-after_ascii, IsUtf8-drop, IsUtf8-take}
 use Rattle.std.specs.List.{list_all}
@@ -184,8 +183,8 @@ at_ended text r s p x rest ended piece read begun at =
 
 -- the document is refused
 pub at_refused : (text : List ℕ) (r : Reading) (p : List ℕ) (x : ℕ) (rest : List ℕ) (kind : FaultKind) → ends r.mode r.depth x ≡ true → p ≡ r.piece.now ++ x ∷ []
-    → (list_all is_space p ≡ false) × (IsUtf8 p → (read_document p ≡ None) × (is_repeated_key kind ≡ is_some (read p))) → IsAt text r (x ∷ rest)
-    → (b : List ℕ) × IsFirstRefused text b p rest × (is_repeated_key kind ≡ is_some (read p))
+    → (list_all is_space p ≡ false) × (IsUtf8 p → (read_document p ≡ None) × (IsKindOf p kind)) → IsAt text r (x ∷ rest)
+    → (b : List ℕ) × IsFirstRefused text b p rest × (IsKindOf p kind)
 at_refused text r p x rest kind ended piece refused at =
     let whole = at.whole ∙ ap (λ ys. at.before ++ ys) (shifted r.piece.now p x rest piece) in
     let characters = whole_before r.piece.now x rest (ends_ascii r.mode r.depth x ended) at.characters in
@@ -215,8 +214,8 @@ at_end text r s read at =
     ∙ read [] ∙ none_behind (map view s.found.items)
 
 pub at_end_refused : (text : List ℕ) (r : Reading) (kind : FaultKind)
-    → (list_all is_space r.piece.now ≡ false) × (IsUtf8 r.piece.now → (read_document r.piece.now ≡ None) × (is_repeated_key kind ≡ is_some (read r.piece.now)))
-    → IsAt text r [] → (b : List ℕ) × IsFirstRefused text b r.piece.now [] × (is_repeated_key kind ≡ is_some (read r.piece.now))
+    → (list_all is_space r.piece.now ≡ false) × (IsUtf8 r.piece.now → (read_document r.piece.now ≡ None) × (IsKindOf r.piece.now kind))
+    → IsAt text r [] → (b : List ℕ) × IsFirstRefused text b r.piece.now [] × (IsKindOf r.piece.now kind)
 at_end_refused text r kind refused at =
     let p = r.piece.now in
     let why = refused.1 (subst IsUtf8 (append-nil p) at.characters) in
@@ -259,8 +258,8 @@ ends_last text b d first = sym (ap length first.whole ∙ length-append b (d ++ 
 
 -- the fault of a text is that of its bytes
 pub same_fault : (text bytes b piece slice behind : List ℕ) (n : ℕ) (kind : FaultKind) (f : Fault) → IsFirstRefused text b piece behind → bytes ≡ text → slice ≡ piece
-    → is_repeated_key kind ≡ is_some (read piece) → length b + length piece ≡ n
-    → ((c e : List ℕ) → IsFirstRefused bytes c slice e → is_repeated_key kind ≡ is_some (read slice) → length c + length slice ≡ n → IsFault bytes f) → IsFault text f
+    → IsKindOf piece kind → length b + length piece ≡ n
+    → ((c e : List ℕ) → IsFirstRefused bytes c slice e → IsKindOf slice kind → length c + length slice ≡ n → IsFault bytes f) → IsFault text f
 same_fault text bytes b piece slice behind n kind f first same part why ends fault =
     let again = subst (λ t. IsFirstRefused t b slice behind) (sym same) (subst (λ d. IsFirstRefused text b d behind) (sym part) first) in
-    subst (λ t. IsFault t f) same (fault b behind again (subst (λ d. is_repeated_key kind ≡ is_some (read d)) (sym part) why) (subst (λ d. length b + length d ≡ n) (sym part) ends))
+    subst (λ t. IsFault t f) same (fault b behind again (subst (λ d. IsKindOf d kind) (sym part) why) (subst (λ d. length b + length d ≡ n) (sym part) ends))

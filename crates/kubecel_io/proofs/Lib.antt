@@ -1,6 +1,8 @@
 pub mod Cuts
+pub mod Deep
 pub mod Distinct
 pub mod Files
+pub mod Indexed
 pub mod Lists
-pub mod Statuses
+pub mod Marks
 pub mod Writes

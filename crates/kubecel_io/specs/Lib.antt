@@ -3,9 +3,6 @@ pub mod Documents
 pub mod Reads
 pub mod Objects
 pub mod Subjects
+pub mod Index
 pub mod Faults
-pub mod Items
-pub mod Lines
-pub mod Escapes
-pub mod Json
-pub mod Output
+pub mod Stops

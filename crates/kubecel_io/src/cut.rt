@@ -1,6 +1,6 @@
 //! Cuts a text into its documents, one byte at a time.
 ghost use Rattle.kubecel_io.specs.Documents.{closes, depth_after, ends, is_space, mode_after, opens};
-ghost use Rattle.std.specs.Prelude.{◌≡◌, IfSome};
+ghost use Rattle.std.specs.Prelude.{◌≡◌, ◌≤◌, IfSome};
 
 /// The position of a byte relative to the strings of a document.
 #[derive(Clone, Copy, Drop, PartialEq, Eq)]
@@ -54,6 +54,18 @@ impl Mode {
             Mode::Outside if opens(byte) => depth.checked_add(1),
             Mode::Outside if closes(byte) => Some(depth.saturating_sub(1)),
             Mode::Outside | Mode::Within | Mode::Escaped => Some(depth),
+        }
+    }
+
+    /// Returns the number of open brackets after a byte, if at most 127 are open before it.
+    pub(crate) fn level_after(self, depth: usize, byte: u8) -> usize
+        requires { depth ≤ 127 }
+        ensures { result ≡ depth_after self depth byte }
+    {
+        match self {
+            Mode::Outside if opens(byte) => depth + 1,
+            Mode::Outside if closes(byte) => depth.saturating_sub(1),
+            Mode::Outside | Mode::Within | Mode::Escaped => depth,
         }
     }
 

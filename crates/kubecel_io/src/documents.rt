@@ -1,15 +1,14 @@
 //! Reads the documents of a text.
 ghost use Rattle.kubecel_io.specs.Documents.{IsAt, IsFirstRefused, all_read, documents, is_space, read_document, with_documents, with_piece};
-ghost use Rattle.kubecel_io.specs.Faults.{IsFault, is_repeated_key};
+ghost use Rattle.kubecel_io.specs.Faults.{IsFault, IsKindOf};
 ghost use Rattle.kubecel_io.specs.declared.cut.Mode.TheVariants.{Outside};
 ghost use Rattle.serde_json.specs.View.{view};
 ghost use Rattle.std.specs.List.{list_all};
-ghost use Rattle.serde_json.specs.Read.{read};
-ghost use Rattle.std.specs.Prelude.{◌≡◌, ◌∷◌, ◌++◌, ◌⊎◌, [], ℕ, List, Some, None, false, IfErr, IfOk, OnErr, OnOk, is_some, map};
+ghost use Rattle.std.specs.Prelude.{◌≡◌, ◌∷◌, ◌++◌, ◌⊎◌, [], ℕ, List, Some, None, false, IfErr, IfOk, OnErr, OnOk, map};
 ghost use Rattle.std.specs.Str.{IsUtf8};
 
 use crate::cut::{Mode, is_space};
-use crate::fault::{Fault, FaultKind, Flaw, fault_in};
+use crate::fault::{Fault, FaultKind, Flaw, fault_in, flaw_of};
 use crate::keys::repeated_key;
 use crate::unique::has_unique_keys;
 use kube_types_refused::Refused;
@@ -43,7 +42,7 @@ fn is_blank(piece: &[u8]) -> bool
 fn read_document(alloc: Global, document: &[u8]) -> Result<Result<Value, Flaw>, Refused>
     ensures read { IfOk result (λ r. IfOk r (λ v. read_document document.now ≡ Some (view v))) }
     ensures refused { IfOk result (λ r. IfErr r (λ flaw. IsUtf8 document.now
-        → (read_document document.now ≡ None) × (is_repeated_key flaw.kind ≡ is_some (read document.now)))) }
+        → (read_document document.now ≡ None) × (IsKindOf document.now flaw.kind))) }
 {
     let Ok(text) = str::from_utf8(document) else {
         let kind = FaultKind::NotJson;
@@ -58,7 +57,7 @@ fn read_document(alloc: Global, document: &[u8]) -> Result<Result<Value, Flaw>, 
             Ok(Err(Flaw { kind, offset }))
         }
         Err(error) if error.is_memory() => Err(Refused::Memory),
-        Err(error) => Ok(Err(Flaw::of_error(document, &error))),
+        Err(error) => Ok(Err(flaw_of(alloc, document, &error)?)),
     }
 }
 
@@ -80,7 +79,7 @@ impl<'t> Reading<'t> {
             ((self.new.piece.now ≡ piece.now) ⊎ (self.new.piece.now ≡ []))) }
         ensures refused { IfOk result (λ r. IfErr r (λ flaw. (text rest : List ℕ) → IsAt text self.old (byte ∷ rest)
             → (before : List ℕ) × IsFirstRefused text before piece.now rest
-            × (is_repeated_key flaw.kind ≡ is_some (read piece.now)))) }
+            × (IsKindOf piece.now flaw.kind))) }
     {
         let depth = self
             .mode
@@ -108,7 +107,7 @@ impl<'t> Reading<'t> {
             × (self.new.piece.now ≡ []))) }
         ensures refused { IfOk result (λ r. IfErr r (λ flaw. (list_all is_space self.old.piece.now ≡ false)
             × (IsUtf8 self.old.piece.now → (read_document self.old.piece.now ≡ None)
-            × (is_repeated_key flaw.kind ≡ is_some (read self.old.piece.now))))) }
+            × (IsKindOf self.old.piece.now flaw.kind)))) }
     {
         if !is_blank(self.piece) {
             match read_document(alloc, self.piece)? {

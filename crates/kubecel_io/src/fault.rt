@@ -1,11 +1,15 @@
 //! Locates the place where a text isn't JSON or has a key twice.
 ghost use Rattle.kubecel_io.specs.Documents.{IsFirstRefused};
-ghost use Rattle.kubecel_io.specs.Faults.{IsFault, column_behind, fault_text, fault_words, is_repeated_key, line_behind};
-ghost use Rattle.serde_json.specs.Read.{read};
-ghost use Rattle.std.specs.Prelude.{◌≡◌, ◌≤◌, ◌+◌, ℕ, List, Some, false, is_some, length};
+ghost use Rattle.kubecel_io.specs.Faults.{IsFault, IsKindOf, column_behind, fault_text, fault_words, is_deep, is_repeated_key, is_too_deep, line_behind};
+ghost use Rattle.std.specs.Prelude.{◌≡◌, ◌≤◌, ◌+◌, ℕ, IfOk, IfSome, List, Some, false, is_some, length};
 
-use serde_json::Error;
+use crate::cut::{Mode, is_space};
+use serde_json::{Error, Value};
+use std::alloc::{AllocError, Global};
 use std::fmt;
+
+/// The number of levels that a document may have.
+const MOST_LEVELS: usize = 127;
 
 /// What is wrong with a document.
 #[derive(Clone, Copy, Drop)]
@@ -14,6 +18,15 @@ pub enum FaultKind {
     NotJson,
     /// It isn't JSON, because the text ends before the document does.
     CutShort,
+    /// It isn't JSON, because a comma stands before a closing bracket.
+    CommaBeforeEnd,
+    /// It isn't JSON, because a string has a control character, an escape that JSON doesn't have, or
+    /// half of a surrogate pair.
+    BadString,
+    /// It has a number that no double holds.
+    NumberOutOfRange,
+    /// It nests deeper than 127 levels.
+    TooDeep,
     /// It is JSON, but an object in it has a key twice.
     RepeatedKey,
 }
@@ -73,26 +86,130 @@ fn offset_of(text: &[u8], line: usize, column: usize) -> usize
         .min(text.len())
 }
 
-impl Flaw {
-    /// Returns what is wrong with a document that isn't JSON, given the parser's error.
-    pub(crate) fn of_error(document: &[u8], error: &Error) -> Flaw
-        ensures { is_repeated_key result.kind ≡ false }
-    {
-        let kind = if error.is_eof() {
-            FaultKind::CutShort
-        } else {
-            FaultKind::NotJson
-        };
-        let offset = offset_of(document, error.line(), error.column());
-        Flaw { kind, offset }
+/// Returns the offset of the first bracket in a document that is open together with more than 127
+/// others, if there is one.
+fn too_deep_at(document: &[u8]) -> Option<usize>
+    ensures { is_some result ≡ is_deep document.now }
+{
+    let mut mode = Mode::Outside;
+    let mut depth = 0usize;
+    for (offset, byte) in document.iter().enumerate() {
+        depth = mode.level_after(depth, *byte);
+        if depth > MOST_LEVELS {
+            return Some(offset);
+        }
+        mode = mode.after(*byte);
     }
+    None
+}
+
+/// Returns what is wrong with a document that isn't read, given the parser's error.
+pub(crate) fn flaw_of(alloc: Global, document: &[u8], error: &Error) -> Result<Flaw, AllocError>
+    ensures { IfOk result (λ flaw. (is_repeated_key flaw.kind ≡ false)
+        × (is_too_deep flaw.kind ≡ is_deep document.now)) }
+{
+    if let Some(offset) = too_deep_at(document) {
+        let kind = FaultKind::TooDeep;
+        return Ok(Flaw { kind, offset });
+    }
+    let offset = offset_of(document, error.line(), error.column());
+    let kind = kind_of(alloc, document, offset, error)?;
+    let offset = if let FaultKind::NumberOutOfRange = kind {
+        begin_of_number(document, offset)
+    } else {
+        offset
+    };
+    Ok(Flaw { kind, offset })
+}
+
+/// Reports whether a byte may stand in a number.
+fn is_in_number(byte: u8) -> bool {
+    matches!(byte, b'0'..=b'9' | b'+' | b'-' | b'.' | b'e' | b'E')
+}
+
+/// Returns the offset in a document where the number begins that ends at this one.
+fn begin_of_number(document: &[u8], end: usize) -> usize {
+    let mut begin = end.min(document.len());
+    for byte in document[..begin].iter().rev() {
+        if !is_in_number(*byte) {
+            return begin;
+        }
+        begin = begin.saturating_sub(1);
+    }
+    begin
+}
+
+/// Returns the kind of a fault at an offset of a document, given the parser's error, unless the
+/// document nests too deep.
+fn kind_of(
+    alloc: Global,
+    document: &[u8],
+    offset: usize,
+    error: &Error,
+) -> Result<FaultKind, AllocError>
+    ensures { IfOk result (λ kind. (is_repeated_key kind ≡ false) × (is_too_deep kind ≡ false)) }
+{
+    if error.is_eof() {
+        return Ok(FaultKind::CutShort);
+    }
+    let words = format!(in alloc; "{error}")?;
+    if words.as_str().starts_with("number out of range") {
+        return Ok(FaultKind::NumberOutOfRange);
+    }
+    kind_at(alloc, document, offset)
+}
+
+/// Returns the kind of a fault by what stands at its offset.
+fn kind_at(alloc: Global, document: &[u8], offset: usize) -> Result<FaultKind, AllocError>
+    ensures { IfOk result (λ kind. (is_repeated_key kind ≡ false) × (is_too_deep kind ≡ false)) }
+{
+    match document.get(offset) {
+        Some(b'"') => kind_of_string(alloc, string_at(document, offset)),
+        Some(b'}' | b']') if follows_comma(document, offset) => Ok(FaultKind::CommaBeforeEnd),
+        Some(_) | None => Ok(FaultKind::NotJson),
+    }
+}
+
+/// Returns the kind of a fault at a string: the string may be no JSON, or stand where none may.
+fn kind_of_string(alloc: Global, string: &[u8]) -> Result<FaultKind, AllocError>
+    ensures { IfOk result (λ kind. (is_repeated_key kind ≡ false) × (is_too_deep kind ≡ false)) }
+{
+    match Value::from_slice(alloc, string) {
+        Ok(_) => Ok(FaultKind::NotJson),
+        Err(error) if error.is_memory() => Err(AllocError),
+        Err(_) => Ok(FaultKind::BadString),
+    }
+}
+
+/// Returns the string that begins at an offset of a document.
+fn string_at(document: &[u8], offset: usize) -> &[u8] {
+    let rest = &document[offset.min(document.len())..];
+    let mut mode = Mode::Outside;
+    for (end, byte) in rest.iter().enumerate() {
+        mode = mode.after(*byte);
+        if mode == Mode::Outside {
+            return &rest[..=end];
+        }
+    }
+    rest
+}
+
+/// Reports whether the last byte before an offset that isn't white space is a comma.
+fn follows_comma(document: &[u8], offset: usize) -> bool {
+    let before = &document[..offset.min(document.len())];
+    for byte in before.iter().rev() {
+        if !is_space(*byte) {
+            return *byte == b',';
+        }
+    }
+    false
 }
 
 /// Returns what is wrong with a text, given what is wrong with its first refused document, which
 /// ends at the offset `end` of the text.
 pub(crate) fn fault_in(text: &[u8], document: &[u8], end: usize, flaw: Flaw) -> Fault
     ensures { (before behind : List ℕ) → IsFirstRefused text.now before document.now behind
-        → is_repeated_key flaw.kind ≡ is_some (read document.now)
+        → IsKindOf document.now flaw.kind
         → length before + length document.now ≡ end → IsFault text.now result }
 {
     let begin = end.saturating_sub(document.len());
@@ -110,6 +227,12 @@ fn fault_words(kind: FaultKind) -> &'static str
     match kind {
         FaultKind::NotJson => "invalid JSON",
         FaultKind::CutShort => "unexpected end of JSON",
+        FaultKind::CommaBeforeEnd => "invalid JSON: a comma before a closing bracket",
+        FaultKind::BadString => {
+            "invalid JSON: a string with a character or an escape that JSON doesn't have"
+        }
+        FaultKind::NumberOutOfRange => "a number out of the range of a double",
+        FaultKind::TooDeep => "more than 127 levels of lists and objects",
         FaultKind::RepeatedKey => "repeated key",
     }
 }

@@ -16,8 +16,8 @@ pub struct Identity<'v> {
     pub name: &'v str,
 }
 
-/// The string in a member. Empty if there is none.
-fn text_at<'v>(value: &'v Value, key: &str) -> &'v str
+/// Returns the string in a member. Empty if there is none.
+pub fn text_at<'v>(value: &'v Value, key: &str) -> &'v str
     ensures { result.now ≡ text_at key.now (view value.now) }
 {
     match value.get(key) {

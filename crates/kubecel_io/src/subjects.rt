@@ -11,9 +11,47 @@ use crate::subject::Subject;
 use serde_json::Value;
 use std::alloc::{AllocError, Global};
 
+/// Returns a document as a whole, even if it is a list.
+fn whole_document(document: &Document) -> Subject<'_>
+    ensures { subject_view result ≡ document_view document.now }
+{
+    let index = document.index;
+    Subject {
+        file: document.file.as_str(),
+        index,
+        value: &document.value,
+        identity: Identity::of(&document.value),
+    }
+}
+
+/// Returns all documents as they are, in order.
+pub fn whole_documents(
+    alloc: Global,
+    documents: &[Document],
+) -> Result<Vec<Subject<'_>>, AllocError>
+    ensures { IfOk result (λ v. map subject_view v.items ≡ map document_view documents.now) }
+{
+    let mut subjects = Vec::with_capacity(alloc, documents.len())?;
+    for document in documents {
+        subjects.push(whole_document(document))?;
+    }
+    Ok(subjects)
+}
+
 /// Returns the objects of all documents, in order.
 pub fn objects_of(alloc: Global, documents: &[Document]) -> Result<Vec<Subject<'_>>, AllocError>
     ensures { IfOk result (λ v. map subject_view v.items ≡ all_objects (map document_view documents.now)) }
+{
+    let whole = whole_documents(alloc, documents)?;
+    objects_among(alloc, whole.as_slice())
+}
+
+/// Returns the objects of all these documents, in order.
+pub fn objects_among<'d>(
+    alloc: Global,
+    documents: &[Subject<'d>],
+) -> Result<Vec<Subject<'d>>, AllocError>
+    ensures { IfOk result (λ v. map subject_view v.items ≡ all_objects (map subject_view documents.now)) }
 {
     let mut subjects = Vec::with_capacity(alloc, documents.len())?;
     for document in documents {
@@ -24,17 +62,17 @@ pub fn objects_of(alloc: Global, documents: &[Document]) -> Result<Vec<Subject<'
 
 /// Appends the objects of a document.
 fn add_objects<'d>(
-    document: &'d Document,
+    document: &Subject<'d>,
     subjects: &mut Vec<Subject<'d>>,
 ) -> Result<(), AllocError>
     ensures { OnOk result (map subject_view subjects.new.items
         ≡ map subject_view subjects.old.items
-        ++ map (object_of (document_view document.now)) (objects_in (view document.now.value))) }
+        ++ map (object_of (subject_view document.now)) (objects_in (view document.now.value.now))) }
 {
-    let values = objects_in(&document.value);
+    let values = objects_in(document.value);
     for value in values {
         subjects.push(Subject {
-            file: document.file.as_str(),
+            file: document.file,
             index: document.index,
             value,
             identity: Identity::of(value),

@@ -1,4 +1,4 @@
-use Rattle.kubecel_io.specs.Output.{output_text}
+use Rattle.kubecel_report.specs.Output.{output_text}
 use Rattle.kubecel_cli.proofs.Judging.{reported_so}
 use Rattle.kubecel_cli.proofs.run.Goals as goal
 use Rattle.kubecel_cli.specs.Commands.{command_view}

@@ -8,4 +8,4 @@ use Rattle.std.proofs.lemmas.Result.{IfOk-weaker}
 pub returns : goal.returns
 returns c =
     let start : Understands (new_app c.args.name.now) c.about.result = search rules in
-    IfOk-weaker c.arg-2.result _ _ (λ n h. with_option h (with_option c.in_ok-arg.ensures start c.output.ensures) c.converted.ensures) c.arg-2.ensures
+    IfOk-weaker c.arg.result _ _ (λ n h. with_option h start c.output.ensures) c.arg.ensures

@@ -1,5 +1,5 @@
 use Rattle.kube_manifests_admission.specs.Inputs.{inputs_view}
-use Rattle.kubecel_io.specs.Items.{item_view}
+use Rattle.kubecel_report.specs.Items.{item_view}
 use Rattle.kubecel_cli.proofs.Admitting.{judged_so, reported_of_file}
 use Rattle.kubecel_cli.proofs.admit.admitted.Goals as goal
 use Rattle.serde_json.specs.View.{view}

@@ -1,5 +1,5 @@
-use Rattle.kubecel_io.specs.Items.{item_view}
-use Rattle.kubecel_io.specs.Output.{output_text}
+use Rattle.kubecel_report.specs.Items.{item_view}
+use Rattle.kubecel_report.specs.Output.{output_text}
 use Rattle.kubecel_cli.proofs.Writes.{kept_behind}
 use Rattle.kubecel_cli.proofs.report.write_all.Goals as goal
 use Rattle.std.proofs.Common.{map}

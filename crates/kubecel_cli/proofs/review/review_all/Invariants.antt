@@ -1,6 +1,6 @@
 use Rattle.kubecel_cli.proofs.review.review_all.Given as goal
 use Rattle.kubecel_io.specs.Subjects.{subject_view}
-use Rattle.kubecel_io.specs.Items.{item_view}
+use Rattle.kubecel_report.specs.Items.{item_view}
 use Rattle.kubecel_cli.specs.Runs.{AreItems, IsReviewed}
 use Rattle.std.proofs.Common.{map, take}
 

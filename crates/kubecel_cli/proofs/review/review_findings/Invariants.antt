@@ -1,6 +1,6 @@
 use Rattle.kubecel_cli.proofs.review.review_findings.Given as goal
 use Rattle.kube_manifests_review.specs.Candidates as candidates
-use Rattle.kubecel_io.specs.Items.{finding_view}
+use Rattle.kubecel_report.specs.Items.{finding_view}
 use Rattle.kubecel_cli.specs.Reports.{review_finding}
 use Rattle.std.proofs.Common.{◌≡◌, map, take}
 

@@ -1,36 +1,23 @@
-use Rattle.kubecel_io.proofs.Files.{path_among, stops_behind, none_read, one_more_path, one_more_read}
+use Rattle.kubecel_io.proofs.Files.{all_read, stops_for}
 use Rattle.kubecel_io.proofs.sources.read_documents.Goals as goal
-use Rattle.kubecel_io.specs.Reads.{AreRead, words_of, document_view, with_indices}
-use Rattle.serde_json.specs.View.{view}
-use Rattle.std.proofs.Common.{◌+◌, ◌<◌, ℕ, List, [], ◌++◌, drop, get_or, length, map, take, sym, subst, arith}
-use denote.Ref.{Bor}
+use Rattle.kubecel_report.specs.Items.{ItemData, item_view}
+use Rattle.kubecel_io.specs.Reads.{AreRead, AreTried, Found, document_view}
+use Rattle.std.proofs.Common.{List, [], map, sym, subst}
+use Rattle.std.proofs.lemmas.Result.{IfOk-weaker}
 
-pub loop-path-init : goal.loop-path-init
-loop-path-init g c = subst (λ ds. AreRead g.S.Sources.reads c.args.files.now [] (map document_view ds) c.args.files.now) (sym c.new-found.ensures.items) (none_read g.S.Sources.reads c.args.files.now)
-
-pub loop-path-preserved : goal.loop-path-preserved
-loop-path-preserved g c =
+pub returns-clause-read : goal.returns-clause-read
+returns-clause-read g c =
     let reads = g.S.Sources.reads in
-    let paths = c.args.paths.now in
-    let i = c.loop-path.path-index in
-    let below : i < length paths = omega arith in
-    let none : Bor (List ℕ) = record { ref_ptr = (0, 0); now = [] } in
-    let path = (get_or paths i none).now in
-    let values = map view c.in_ok-values.values.items in
-    let before = map (λ p. p.now) (take i paths) in
-    let more = one_more_read reads c.args.files.now c.loop-path.files c.read_file.new.files before path (map document_view c.loop-path.found.items) values c.loop-path.invariant c.in_ok-values.ensures.read in
-    subst (λ fs. AreRead reads c.args.files.now (map (λ p. p.now) (take (i + 1) paths)) fs c.read_file.new.files) (sym c.in_ok-add_values.ensures)
-    (subst (λ ps. AreRead reads c.args.files.now ps (map document_view c.loop-path.found.items ++ with_indices path 0 values) c.read_file.new.files) (one_more_path paths i none below) more)
+    let paths = map (λ s. s.now) c.args.paths.now in
+    let contents = c.in_ok-contents.contents in
+    IfOk-weaker c.all_or_stop.result _ _ (λ v h. subst (λ d. AreRead reads c.args.files.now paths (map document_view d.items) c.read_files.new.files) (sym h.0)
+    (all_read reads c.args.files.now c.read_files.new.files paths (map document_view contents.documents.items) (map item_view contents.unusable.items) c.in_ok-contents.ensures.tried h.1))
+    c.all_or_stop.ensures.all
 
-pub returns-in_err-values-clause-stops : goal.returns-in_err-values-clause-stops
-returns-in_err-values-clause-stops g c =
+pub returns-clause-stops : goal.returns-clause-stops
+returns-clause-stops g c =
     let reads = g.S.Sources.reads in
-    let paths = c.args.paths.now in
-    let i = c.loop-path.path-index in
-    let none : Bor (List ℕ) = record { ref_ptr = (0, 0); now = [] } in
-    let first = map (λ p. p.now) (take i paths) in
-    let others = map (λ p. p.now) (drop (i + 1) paths) in
-    let stops =
-    stops_behind reads c.args.files.now c.loop-path.files c.read_file.new.files (map (λ p. p.now) paths) first others (get_or paths i none).now
-    (map document_view c.loop-path.found.items) (words_of c.in_err-values.field-0.0) (path_among paths i none (omega arith)) c.loop-path.invariant c.in_err-values.ensures.unread in
-    grind (arith, stops, c.from_residual.ensures)
+    let paths = map (λ s. s.now) c.args.paths.now in
+    let contents = c.in_ok-contents.contents in
+    stops_for (λ (unusable : List ItemData). (found : List Found) × AreTried reads c.args.files.now paths [] [] found unusable c.read_files.new.files) (map item_view contents.unusable.items)
+    c.all_or_stop.result c.all_or_stop.ensures.some (map document_view contents.documents.items, c.in_ok-contents.ensures.tried)

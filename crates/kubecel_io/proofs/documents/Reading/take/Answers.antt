@@ -1,11 +1,10 @@
 use Rattle.kubecel_io.proofs.Cuts.{at_ended, at_goes, at_refused, if_both, if_refused}
 use Rattle.kubecel_io.proofs.documents.Reading.take.Goals as goal
 use Rattle.kubecel_io.specs.Documents.{IsAt, IsFirstRefused, all_read, is_space, read_document, with_documents, with_piece}
-use Rattle.kubecel_io.specs.Faults.{is_repeated_key}
+use Rattle.kubecel_io.specs.Faults.{IsKindOf}
 use Rattle.kubecel_io.specs.declared.cut.Mode.TheVariants.{Outside}
-use Rattle.serde_json.specs.Read.{read}
 use Rattle.serde_json.specs.View.{view}
-use Rattle.std.proofs.Common.{◌≡◌, ◌∷◌, [], List, ℕ, None, false, is_some, map, refl, sym, arith}
+use Rattle.std.proofs.Common.{◌≡◌, ◌∷◌, [], List, ℕ, None, false, map, refl, sym, arith}
 use Rattle.std.specs.List.{list_all}
 use Rattle.std.specs.Str.{IsUtf8}
 
@@ -27,8 +26,8 @@ returns-then-ends-clause-refused c =
     let r = c.args.self.now in
     let p = c.args.piece.now in
     let x = c.args.byte in
-    if_refused (λ flaw. (list_all is_space p ≡ false) × (IsUtf8 p → (read_document p ≡ None) × (is_repeated_key flaw.kind ≡ is_some (read p))))
-    (λ flaw. (text rest : List ℕ) → IsAt text r (x ∷ rest) → (before : List ℕ) × IsFirstRefused text before p rest × (is_repeated_key flaw.kind ≡ is_some (read p)))
+    if_refused (λ flaw. (list_all is_space p ≡ false) × (IsUtf8 p → (read_document p ≡ None) × (IsKindOf p flaw.kind)))
+    (λ flaw. (text rest : List ℕ) → IsAt text r (x ∷ rest) → (before : List ℕ) × IsFirstRefused text before p rest × (IsKindOf p flaw.kind))
     c.end.result
     (λ flaw refused text rest at. at_refused text r p x rest flaw.kind (sym (c.if-ends.ensures)) c.requires refused at)
     c.end.ensures.refused

@@ -1,0 +1,105 @@
+-- The files that hold an object of a definition.
+use Rattle.kube_manifests.specs.Versions.{Version}
+use Rattle.kubecel_check.specs.HeldFiles.{AreHeld}
+use Rattle.kubecel_check.specs.Objects.{holds_object, is_defined, is_held}
+use Rattle.kubecel_io.specs.Reads.{Found}
+use Rattle.kubecel_io.specs.Subjects.{subject_view}
+use Rattle.kubecel_io.specs.declared.subject.Subject.{Subject}
+use Rattle.std.proofs.Common.{◌≡◌, ◌<◌, ℕ, ◌+◌, List, [], ◌∷◌, ◌++◌, get_or, length, map, take, Bool, true, false, ◌||◌, ◌&&◌, cond, Result, OnOk, Ok, Err, refl, sym, ap, subst, ◌∙◌, String, string_bytes}
+use Rattle.std.proofs.lemmas.List.{map-append, take_more}
+use Rattle.std.proofs.lemmas.Map.Text.{btree_set_updates_text}
+use Rattle.std.proofs.lemmas.Slice.Eq.{bytes_eq-Decides}
+use Rattle.std.specs.BTreeSet.{BTreeSet, UpdatesBy, contains_text}
+use Rattle.std.specs.Cmp.Lexicographic.{slice_cmp}
+use Rattle.std.specs.List.{list_all, list_any}
+use Rattle.std.specs.Ordering.{nat_cmp}
+use Rattle.std.specs.Str.{bytes_eq}
+use Rattle.std.specs.String.{string_cmp}
+use Rattle.std.specs.declared.alloc.Global.{Global}
+use denote.Ref.{Bor}
+
+same_bool : (a b : Bool) → (a ≡ true → b ≡ true) → (b ≡ true → a ≡ true) → a ≡ b
+same_bool true b h g = sym (h refl)
+same_bool false true h g = g refl
+same_bool false false h g = refl
+
+bytes_eq_flip : (x y : List ℕ) → bytes_eq x y ≡ bytes_eq y x
+bytes_eq_flip x y = same_bool (bytes_eq x y) (bytes_eq y x)
+    (λ h. (bytes_eq-Decides y x).1 (sym ((bytes_eq-Decides x y).0 h)))
+    (λ h. (bytes_eq-Decides x y).1 (sym ((bytes_eq-Decides y x).0 h)))
+
+or_of_cond : (e s : Bool) → cond e true s ≡ (s || e)
+or_of_cond true true = refl
+or_of_cond true false = refl
+or_of_cond false true = refl
+or_of_cond false false = refl
+
+-- a set with one more path
+pub inserted : (path : List ℕ) (s n : BTreeSet (String Global)) (key : List ℕ) → key ≡ path
+    → UpdatesBy string_cmp (λ k. slice_cmp nat_cmp key (string_bytes k)) s n true
+    → (x : List ℕ) → contains_text n x ≡ (contains_text s x || bytes_eq x path)
+inserted path s n key is u x =
+    btree_set_updates_text key s n true u x ∙ or_of_cond (bytes_eq key x) (contains_text s x)
+    ∙ ap (λ e. contains_text s x || e) (bytes_eq_flip key x ∙ ap (bytes_eq x) is)
+
+no_change : (c e : Bool) → (e ≡ true → c ≡ true) → c ≡ (c || e)
+no_change true e h = refl
+no_change false true h = h refl
+no_change false false h = refl
+
+-- adding a path that is there changes nothing
+pub already_there : (path : List ℕ) (s : BTreeSet (String Global)) → contains_text s path ≡ true → (x : List ℕ) → contains_text s x ≡ (contains_text s x || bytes_eq x path)
+already_there path s there x = no_change (contains_text s x) (bytes_eq x path) (λ e. ap (contains_text s) ((bytes_eq-Decides x path).0 e) ∙ there)
+
+or_assoc : (a b c : Bool) → (a || (b || c)) ≡ ((a || b) || c)
+or_assoc true b c = refl
+or_assoc false b c = refl
+
+or_none : (a : Bool) → (a || false) ≡ a
+or_none true = refl
+or_none false = refl
+
+-- an object that is of no definition adds nothing
+pub is_as_it_was : {A : Type 0} (s : BTreeSet (String Global)) (versions : List (Version A)) (f : Found) → is_defined versions f ≡ false
+    → (path : List ℕ) → contains_text s path ≡ (contains_text s path || is_held versions path f)
+is_as_it_was s versions f none path = sym (ap (λ b. contains_text s path || (b && bytes_eq path f.file)) none ∙ or_none (contains_text s path))
+
+-- one that is of a definition adds its file
+pub is_where_defined : {A E : Type 0} (s n : BTreeSet (String Global)) (versions : List (Version A)) (f : Found) (r : Result (Unit {0}) E) → is_defined versions f ≡ true
+    → OnOk r ((path : List ℕ) → contains_text n path ≡ (contains_text s path || bytes_eq path f.file))
+    → OnOk r ((path : List ℕ) → contains_text n path ≡ (contains_text s path || is_held versions path f))
+is_where_defined s n versions f (Ok u) some added = λ path. added path ∙ sym (ap (λ b. contains_text s path || (b && bytes_eq path f.file)) some)
+is_where_defined s n versions f (Err e) some added = tt
+
+any_more : (p : Found → Bool) (fs : List Found) (f : Found) → list_any p (fs ++ f ∷ []) ≡ (list_any p fs || p f)
+any_more p [] f = or_none (p f)
+any_more p (g ∷ fs) f = ap (λ c. p g || c) (any_more p fs f) ∙ or_assoc (p g) (list_any p fs) (p f)
+
+-- one more object
+pub one_more_held : {A : Type 0} (versions : List (Version A)) (xs : List Subject) (i : ℕ) (x : Subject) (s n : BTreeSet (String Global)) → i < length xs → x ≡ get_or xs i x
+    → AreHeld s versions (map subject_view (take i xs)) → ((path : List ℕ) → contains_text n path ≡ (contains_text s path || is_held versions path (subject_view x)))
+    → AreHeld n versions (map subject_view (take (i + 1) xs))
+one_more_held versions xs i x s n below is held added = λ path.
+    let all = map subject_view (take i xs) in
+    let grown : all ++ subject_view x ∷ [] ≡ map subject_view (take (i + 1) xs) =
+    ap (λ y. all ++ subject_view y ∷ []) is ∙ sym (ap (map subject_view) (take_more xs i x below) ∙ map-append subject_view (take i xs) (get_or xs i x ∷ [])) in
+    added path ∙ ap (λ b. b || is_held versions path (subject_view x)) (held path) ∙ sym (any_more (is_held versions path) all (subject_view x))
+    ∙ ap (list_any (is_held versions path)) grown
+
+all_more_of : (p : List ℕ → Bool) (ps : List (List ℕ)) (q : List ℕ) → list_all p ps ≡ true → p q ≡ true → list_all p (ps ++ q ∷ []) ≡ true
+all_more_of p [] q all one = ap (λ b. b && true) one
+all_more_of p (x ∷ ps) q all one = by (p x) all (λ rest. all_more_of p ps q rest one)
+  where
+    by : (b : Bool) → (b && list_all p ps) ≡ true → (list_all p ps ≡ true → list_all p (ps ++ q ∷ []) ≡ true) → (b && list_all p (ps ++ q ∷ [])) ≡ true
+    by true rest more = more rest
+    by false rest more = cc
+
+-- one more path
+pub all_more : (p : List ℕ → Bool) (xs : List (Bor (List ℕ))) (i : ℕ) (d : Bor (List ℕ)) → i < length xs → list_all p (map (λ s. s.now) (take i xs)) ≡ true
+    → p (get_or xs i d).now ≡ true → list_all p (map (λ s. s.now) (take (i + 1) xs)) ≡ true
+all_more p xs i d below all one =
+    let some = map (λ s. s.now) (take i xs) in
+    let x = get_or xs i d in
+    let grown : some ++ x.now ∷ [] ≡ map (λ s. s.now) (take (i + 1) xs) =
+    sym (ap (map (λ s. s.now)) (take_more xs i d below) ∙ map-append (λ s. s.now) (take i xs) (x ∷ [])) in
+    subst (λ ps. list_all p ps ≡ true) grown (all_more_of p some x.now all one)

@@ -1,0 +1,80 @@
+-- Trusted by the clauses of kubecel.
+-- Which documents are definitions: those of files of their own, and the CustomResourceDefinitions among the objects.
+-- Sources: Kubernetes documentation, "Extend the Kubernetes API with CustomResourceDefinitions"; API conventions, "Types
+-- (Kinds)" (apiVersion and kind of a resource, lists).
+use Rattle.kube_manifests.specs.Documents.{is_crd}
+use Rattle.kube_manifests.specs.Sets.{set_view, versions_of, with_tree}
+use Rattle.kube_manifests.specs.Versions.{Version}
+use Rattle.kube_manifests.specs.declared.set.CrdSet.{CrdSet}
+use Rattle.kubecel_io.specs.Objects.{all_objects, list_items, text_at}
+use Rattle.kubecel_io.specs.Reads.{Found}
+use Rattle.serde_json.specs.Data.{Data}
+use Rattle.serde_json.specs.Find.{as_object, get}
+use Rattle.serde_json.specs.View.{items_of}
+use Rattle.std.specs.List.{flat_map}
+use Rattle.std.specs.Str.{bytes_eq}
+use Rattle.std.specs.Prelude.{◌≡◌, ℕ, ◌&&◌, ◌||◌, not, List, [], ◌∷◌, ◌++◌, map, Bool, true, false, is_some, if◌then◌else◌, Ok, codes}
+
+-- ---- documents that aren't judged
+
+-- whether a document is a mapping with neither apiVersion nor kind, such as the values of a chart: it is no resource
+abbrev pub is_no_resource : Data → Bool
+is_no_resource d =
+    is_some (as_object d)
+    && (not (is_some (get (codes "apiVersion") d)) && not (is_some (get (codes "kind") d)))
+
+-- whether a document is declared a definition, of whatever apiVersion
+abbrev pub is_called_crd : Data → Bool
+is_called_crd d = bytes_eq (text_at (codes "kind") d) (codes "CustomResourceDefinition")
+
+abbrev pub is_full : List ℕ → Bool
+is_full [] = false
+is_full (b ∷ bs) = true
+
+-- whether a document is a resource of another kind, and no list
+abbrev pub is_other_resource : Data → Bool
+is_other_resource d =
+    (is_full (text_at (codes "apiVersion") d) && is_full (text_at (codes "kind") d))
+    && not (is_called_crd d || is_some (list_items d))
+
+-- whether a document of a file of definitions is passed over if missing definitions are ignored
+abbrev pub is_passed_over : Data → Bool
+is_passed_over d = is_no_resource d || is_other_resource d
+
+-- ---- definitions
+
+abbrev pub unless_passed_over : Found → List Found
+unless_passed_over f = if is_passed_over f.value then [] else f ∷ []
+
+abbrev pub where_passed_over : Found → List Found
+where_passed_over f = if is_passed_over f.value then f ∷ [] else []
+
+abbrev pub where_definition : Found → List Found
+where_definition f = if is_crd f.value then f ∷ [] else []
+
+-- the documents in files of definitions that have to be definitions. The Bool says whether missing definitions are
+-- ignored; if not, all have to be
+abbrev pub given_definitions : Bool → List Found → List Found
+given_definitions false crds = crds
+given_definitions true crds = flat_map unless_passed_over (all_objects crds)
+
+-- those that are passed over
+abbrev pub passed_over : Bool → List Found → List Found
+passed_over false crds = []
+passed_over true crds = flat_map where_passed_over (all_objects crds)
+
+-- the definitions: those in files of definitions, and those among the objects
+abbrev pub definitions : Bool → List Found → List Found → List Found
+definitions ignores_missing crds objects =
+    given_definitions ignores_missing crds ++ flat_map where_definition (all_objects objects)
+
+-- the definitions are well-formed, and have these versions
+abbrev pub AreWhole : List Found → List (Version Data) → Type 0
+AreWhole crds versions = versions_of (items_of (map (λ f. f.value) crds)) ≡ Ok versions
+
+-- ---- for private clauses
+
+-- the set consists of the versions of these definitions
+abbrev pub IsSetOf : List Found → CrdSet → Type 0
+IsSetOf crds set =
+    (versions : List (Version Data)) × AreWhole crds versions × (set_view set ≡ map with_tree versions)

@@ -1,0 +1,5 @@
+pub mod Doubles
+pub mod Definitions
+pub mod Objects
+pub mod HeldFiles
+pub mod Judgements

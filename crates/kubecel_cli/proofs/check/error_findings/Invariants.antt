@@ -1,8 +1,0 @@
-use Rattle.kubecel_cli.proofs.check.error_findings.Given as goal
-use Rattle.kube_cel_walk.specs.Errors.{error_view}
-use Rattle.kubecel_io.specs.Items.{finding_view}
-use Rattle.kubecel_cli.specs.Reports.{error_finding}
-use Rattle.std.proofs.Common.{◌≡◌, map, take}
-
-abbrev pub invariant-loop-error : goal.invariant-loop-error
-invariant-loop-error l = map finding_view l.findings.items ≡ map (λ e. error_finding (error_view e)) (take l.error-index l.errors)

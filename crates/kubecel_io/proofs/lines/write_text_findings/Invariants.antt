@@ -1,8 +1,0 @@
-use Rattle.kubecel_io.proofs.lines.write_text_findings.Given as goal
-use Rattle.kubecel_io.specs.Items.{finding_view}
-use Rattle.kubecel_io.specs.Lines.{text_finding}
-use Rattle.std.proofs.Common.{map, take, flat_map}
-use Rattle.std.specs.Io.KnownBytes.{Appends}
-
-abbrev pub invariant-loop-finding : goal.invariant-loop-finding
-invariant-loop-finding g l = Appends (g.O.Write.contents l.fn.out) (g.O.Write.contents l.out) (flat_map text_finding (map finding_view (take l.finding-index l.findings)))

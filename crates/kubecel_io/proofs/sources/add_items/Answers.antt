@@ -1,0 +1,9 @@
+use Rattle.kubecel_io.proofs.sources.add_items.Goals as goal
+use Rattle.std.proofs.Common.{◌++◌, ap, map, sym, ◌∙◌}
+use Rattle.std.proofs.lemmas.Iterator.Adapters.{YieldsList-from_vec, fact_from_extend}
+use Rattle.std.proofs.lemmas.List.{map-id}
+
+pub returns : goal.returns
+returns c =
+    fact_from_extend (λ x. x) c.extend.result c.extend.ensures.ran (λ it b. YieldsList-from_vec {s = it} _ b.0 (b.1 ∙ c.args.more.ok.0))
+    (λ xs e h. h.0 ∙ ap (λ ys. c.args.items.now.items ++ ys) (sym (map-id xs) ∙ e))

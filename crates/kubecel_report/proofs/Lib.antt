@@ -1,0 +1,6 @@
+pub mod Counted
+pub mod Escaped
+pub mod Seen
+pub mod Statuses
+pub mod Summed
+pub mod Writes

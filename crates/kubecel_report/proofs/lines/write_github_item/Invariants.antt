@@ -1,0 +1,8 @@
+use Rattle.kubecel_report.proofs.lines.write_github_item.Given as goal
+use Rattle.kubecel_report.specs.Items.{finding_view, item_view}
+use Rattle.kubecel_report.specs.Lines.{github_finding}
+use Rattle.std.proofs.Common.{map, take, flat_map}
+use Rattle.std.specs.Io.KnownBytes.{Appends}
+
+abbrev pub invariant-loop-finding : goal.invariant-loop-finding
+invariant-loop-finding g l = Appends (g.O.Write.contents l.fn.out) (g.O.Write.contents l.out) (flat_map (github_finding (item_view l.item)) (map finding_view (take l.finding-index l.item.findings.items)))
