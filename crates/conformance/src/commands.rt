@@ -1,7 +1,6 @@
-//! Answers rows about the programs: runs commands over files in memory, also with reads and writes
+//! Answers rows about `celcheck`: runs command lines over files in memory, also with reads and writes
 //! that fail.
 
-use crate::kubecel;
 use crate::memory::Files;
 use celcheck_cli::run;
 use conformance_rows::texts::words_of;
@@ -13,9 +12,8 @@ fn limit(given: &[Field], key: &'static str, found: &mut Found) -> u64 {
     rows::number(given, key, &mut found.other).unwrap_or(MANY)
 }
 
-/// Runs a row's command line of `celcheck`. Standard output accepts `writes` writes and refuses
-/// further ones.
-fn run_line(alloc: Global, given: &[Field], line: &str, writes: u64, found: &mut Found) -> Ran {
+/// Runs a row's command line. Standard output accepts `writes` writes and refuses further ones.
+fn run_given(alloc: Global, given: &[Field], writes: u64, found: &mut Found) -> Ran {
     let mut files = Files {
         given,
         reads: 0,
@@ -25,22 +23,13 @@ fn run_line(alloc: Global, given: &[Field], line: &str, writes: u64, found: &mut
     let error_writes = limit(given, "refused error write", found).saturating_sub(1);
     let mut out = Narrow::new(alloc, writes);
     let mut err = Narrow::new(alloc, error_writes);
+    let line = found.required(given, "command");
     let words = found.take(words_of(alloc, line)).unwrap_or(Vec::new(alloc));
     let status = run(alloc, words.as_slice(), &mut files, &mut out, &mut err);
     Ran {
         status,
         out: out.bytes,
         err: err.bytes,
-        is_alone: true,
-    }
-}
-
-/// Runs a row's command: a command line of `celcheck` if it gives one, otherwise a command of
-/// `kubecel`. Standard output accepts `writes` writes and refuses further ones.
-fn run_given(alloc: Global, given: &[Field], writes: u64, found: &mut Found) -> Ran {
-    match rows::text(given, "command") {
-        Some(line) => run_line(alloc, given, line, writes, found),
-        None => kubecel::run_given(alloc, given, writes, found),
     }
 }
 

@@ -1,7 +1,7 @@
-//! Runs rows (docs/ROWS.md) about the language, schemas with objects, the commands of both
-//! programs, policies and the analysis, each in every way that the library offers, and checks texts
-//! made from a grammar. The arguments name the files. With `measure` as the first argument it makes a
-//! run that `bench/run` times and whose allocations `refusals/run` refuses ([`benchmarks`]); it is
+//! Runs rows (docs/ROWS.md) about the language, schemas with objects, the commands of `celcheck`,
+//! policies and the analysis, each in every way that the library offers, and checks texts made from a
+//! grammar. The arguments name the files. With `measure` as the first argument it makes a
+//! run that `bench/run` times and whose allocations `refusals/run` refuses ([`measure`]); it is
 //! part of this program since each further program costs the gate many minutes.
 #![tactic(auto)]
 
@@ -11,8 +11,8 @@ mod case;
 mod commands;
 mod errors;
 mod findings;
-mod kubecel;
 mod made;
+mod measure;
 mod memory;
 mod parts;
 mod policies;
@@ -36,7 +36,7 @@ fn is_measured(rt: &HostRuntime) -> io::Result<bool> {
 
 fn main(rt: HostRuntime) -> io::Result<ExitCode> {
     if is_measured(&rt)? {
-        benchmarks::run(&rt)?;
+        measure::run(&rt)?;
         return Ok(ExitCode::SUCCESS);
     }
     let mut rows = Rows::new(rt.alloc());

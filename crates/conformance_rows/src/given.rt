@@ -3,7 +3,7 @@
 use crate::output::Output;
 use crate::row::{Field, Stop};
 use serde_json::Value;
-use std::alloc::{AllocError, Global};
+use std::alloc::Global;
 
 /// The text last given under a key, if any.
 pub fn text<'a>(given: &'a [Field], key: &str) -> Option<&'a str> {
@@ -24,14 +24,6 @@ pub fn required<'a>(given: &'a [Field], key: &'static str, out: &mut Output) -> 
             out.stop(Stop::Unfit(key));
             ""
         }
-    }
-}
-
-/// The lines of the text last given under a key. Empty if there is none.
-pub fn lines<'a>(alloc: Global, given: &'a [Field], key: &str) -> Result<Vec<&'a str>, AllocError> {
-    match text(given, key) {
-        Some(text) => text.lines().collect(alloc),
-        None => Ok(Vec::new(alloc)),
     }
 }
 

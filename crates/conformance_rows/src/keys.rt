@@ -3,21 +3,16 @@
 use crate::questions::maker;
 use crate::row::Field;
 
-/// The keys of fields that give a value, except those for bound names, items and files.
-const GIVEN: [&str; 52] = [
-    "admit",
+/// The keys of fields that give a value, except those for bound names and items.
+const GIVEN: [&str; 40] = [
     "after",
     "before",
-    "by",
-    "check",
     "command",
     "depth",
     "expression",
     "expressions",
     "failing read",
-    "form",
     "functions",
-    "ignore missing",
     "json",
     "levels",
     "limit",
@@ -38,12 +33,10 @@ const GIVEN: [&str; 52] = [
     "params",
     "pattern",
     "policy",
-    "progress",
     "refused error write",
     "refused read",
     "refused write",
     "request",
-    "review",
     "root context",
     "rule",
     "schema",
@@ -51,11 +44,6 @@ const GIVEN: [&str; 52] = [
     "text",
     "text length",
     "type",
-    "with namespace",
-    "with object",
-    "with old object",
-    "with params",
-    "with request",
     "within",
 ];
 
@@ -77,18 +65,6 @@ pub fn bound_name(key: &str) -> Option<&str> {
     }
 }
 
-/// The contents last given for the file at a path. The key of such a field is `file` followed by
-/// the path.
-pub fn file_given<'g>(given: &'g [Field], path: &str) -> Option<&'g str> {
-    let mut last = None;
-    for field in given {
-        if field.key.as_str().strip_prefix("file ") == Some(path) {
-            last = Some(field.text.as_str());
-        }
-    }
-    last
-}
-
 /// The type of the item that a field with this key gives, and whether it is the other item.
 pub fn item_type(key: &str) -> (&str, bool) {
     match key.strip_prefix("other ") {
@@ -99,10 +75,7 @@ pub fn item_type(key: &str) -> (&str, bool) {
 
 /// Reports whether fields with this key give a value.
 pub fn gives(key: &str) -> bool {
-    GIVEN.contains(&key)
-        || key.starts_with("file ")
-        || bound_name(key).is_some()
-        || maker(item_type(key).0).is_some()
+    GIVEN.contains(&key) || bound_name(key).is_some() || maker(item_type(key).0).is_some()
 }
 
 /// The field that last gave the item, or the other item.

@@ -9,8 +9,6 @@ pub struct Ran {
     pub status: u8,
     pub out: Vec<u8>,
     pub err: Vec<u8>,
-    /// Whether the run may write to only one of the two streams.
-    pub is_alone: bool,
 }
 
 impl Ran {
@@ -27,7 +25,7 @@ impl Ran {
 
     /// Answers with what was written to one stream. Unless the field's text is empty or ends in a
     /// line feed, the last line feed is left out. If there is none, or if the run wrote to the
-    /// other stream and may not, the answer says so and shows the other stream.
+    /// other stream too, the answer says so and shows the other stream.
     fn put(&self, written: &[u8], other: &[u8], text: &str, found: &mut Found) {
         found.other.push_lossy(written);
         let written = found.other.as_str();
@@ -37,7 +35,7 @@ impl Ran {
             written.strip_suffix("\n")
         };
         match compared {
-            Some(compared) if other.is_empty() || !self.is_alone => found.text.push(compared),
+            Some(compared) if other.is_empty() => found.text.push(compared),
             _ => {
                 found.text.push(written);
                 found.text.push("with no line feed, or beside this: ");
@@ -52,10 +50,10 @@ impl Ran {
     }
 
     /// Reports whether this run was cut short: its status is 2, its output is a prefix of the whole
-    /// run's output, and it wrote no errors if it may write to only one stream.
+    /// run's output, and it wrote no errors.
     pub fn is_cut(&self, whole: &Ran) -> bool {
         self.status == 2
-            && (self.err.is_empty() || !self.is_alone)
+            && self.err.is_empty()
             && whole.out.as_slice().starts_with(self.out.as_slice())
     }
 }

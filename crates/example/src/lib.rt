@@ -1,4 +1,4 @@
-//! Prints whether an object meets the rules of a schema, and if not, why.
+//! Decides whether an object meets the rules of a schema, and if not, says why.
 #![tactic(auto)]
 
 ghost use Rattle.kube_cel.specs.Answers.{IsReportOf};
@@ -10,12 +10,11 @@ ghost use Rattle.kube_cel_walk.specs.declared.error.ValidationErrors.{Validation
 ghost use Rattle.std.specs.Prelude.{◌≡◌, Err, IfOk, IfSome, None, Ok, string_bytes};
 
 use kube_cel::{Refused, validate};
-use serde_json::{Value, json};
+use serde_json::Value;
 use std::alloc::Global;
-use std::io;
 
 /// Returns why an object is denied, or `None` if it is admitted. `Refused` is neither: memory ran out.
-fn denial(alloc: Global, schema: &Value, object: &Value) -> Result<Option<String>, Refused>
+pub fn denial(alloc: Global, schema: &Value, object: &Value) -> Result<Option<String>, Refused>
     ensures admitted { result ≡ Ok None
         → IsReportOf raw_accessors (call_start schema.now object.now None None) (Ok tt) }
     ensures denied { IfOk result (λ why. IfSome why (λ text. (errors : ValidationErrors)
@@ -26,19 +25,4 @@ fn denial(alloc: Global, schema: &Value, object: &Value) -> Result<Option<String
         Ok(()) => Ok(None),
         Err(errors) => Ok(Some(errors.to_string(alloc)?)),
     }
-}
-
-fn main(rt: HostRuntime) -> io::Result<()> {
-    let alloc = rt.alloc();
-    let schema = json!(in alloc; {"properties": {"replicas": {"x-kubernetes-validations": [
-        {"rule": "self >= 1", "message": "at least one replica"}]}}})?;
-    for replicas in [3, 0] {
-        let object = json!(in alloc; {"replicas": replicas})?;
-        match denial(alloc, &schema, &object) {
-            Ok(None) => println!(rt; "{object} is admitted")?,
-            Ok(Some(why)) => println!(rt; "{object} is denied: {why}")?,
-            Err(_) => return Err(io::Error::from(io::ErrorKind::OutOfMemory)),
-        }
-    }
-    Ok(())
 }

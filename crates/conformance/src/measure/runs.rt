@@ -1,6 +1,6 @@
 //! The runs to measure. What they need from their texts is made before the first of the two.
 
-use crate::twice::{Run, compile, evaluated, make_twice};
+use crate::measure::twice::{Run, compile, evaluated, make_twice};
 use kube_cel::{Context, KubeCelExt, VapEvaluator, VapExpression, compile_schema};
 use serde_json::Value;
 use std::io;

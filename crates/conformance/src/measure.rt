@@ -2,7 +2,6 @@
 //! the run; each further line is a text that it works on. For each of the two, standard output gets
 //! a line with the result, or `refused` if memory was refused, and standard error a line with the
 //! time it took, in nanoseconds. `bench/run` and `refusals/run` start it, as `conformance measure`.
-#![tactic(auto)]
 
 mod runs;
 mod twice;
@@ -10,7 +9,7 @@ mod twice;
 use std::io::{self, Input};
 
 /// Makes the run that standard input names.
-pub fn run(rt: &HostRuntime) -> io::Result<()> {
+pub(crate) fn run(rt: &HostRuntime) -> io::Result<()> {
     let text = io::read_to_string(rt.alloc(), rt.reader())?;
     let mut lines = text.as_str().lines();
     let name = lines.next().unwrap_or("");
