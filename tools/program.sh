@@ -43,9 +43,10 @@ note() { # WORD..
     [[ -n $quiet ]] || say "$* (${name^^}_QUIET=1 hides this line)"
 }
 
-# Is the kit here, which builds programs?
+# Is the kit here, which builds programs? (Others have a command 'rt' too.)
 has_kit() {
-    type -P rt >/dev/null
+    local rt
+    rt=$(type -P rt) && rt=$(realpath -- "$rt") && [[ -f ${rt%/*}/rtlib.py ]]
 }
 
 # Is there a program at PATH? (bash runs an empty file as an empty script.)

@@ -29,6 +29,8 @@ compare_release() { # NAME PROGRAM
 # one of the record, or doesn't run here.
 unpack_released() { # NAME PLACE
     fault="there is no room for the program at $2"
+    # (what one left that was killed)
+    find "${2%/*}" -maxdepth 1 -name "${2##*/}.??????" -mmin +60 -delete
     left+=("$(mktemp -- "$2.XXXXXX")") || return
     if ! grep -q -x -F -e "$(sum_of <"$release/$1.gz")  $1.gz" -- "$release/SHA256SUMS"; then
         fault="$release/$1.gz isn't the file that SHA256SUMS names there"
