@@ -21,8 +21,8 @@ use cel_syntax_lexer::punctuator::Punctuator;
 use cel_syntax_lexer::token::Token;
 use cel_syntax_lexer::{literal, takes_minus};
 use cel_syntax_nodes::{
-    binary, call, conditional, ident, identifier, index, method, parts_level, select, selector,
-    unary,
+    binary, both, call, conditional, ident, identifier, index, method, parts_level, select,
+    selector, unary,
 };
 use std::alloc::Global;
 
@@ -77,6 +77,7 @@ impl<F: Fn(Global, &mut Cursor<'_>, u8) -> Result<(Expr, usize), SyntaxError>> G
         if level < usize::from(self.limit) + slack(&tree) {
             Ok((tree, level + 1))
         } else {
+            drop(tree);
             Err(SyntaxError::Invalid)
         }
     }
@@ -113,9 +114,10 @@ impl<F: Fn(Global, &mut Cursor<'_>, u8) -> Result<(Expr, usize), SyntaxError>> G
     {
         let key = self.sub(tokens)?;
         if !tokens.eat(Punctuator::Colon) {
+            drop(key);
             return Err(SyntaxError::Invalid);
         }
-        let value = self.sub(tokens)?;
+        let (value, key) = both(self.sub(tokens), Ok(key))?;
         Ok(((key.0, value.0), key.1.max(value.1)))
     }
 
@@ -153,6 +155,7 @@ impl<F: Fn(Global, &mut Cursor<'_>, u8) -> Result<(Expr, usize), SyntaxError>> G
         if tokens.eat(Punctuator::CloseRound) {
             Ok(found)
         } else {
+            drop(found);
             Err(SyntaxError::Invalid)
         }
     }
@@ -181,6 +184,7 @@ impl<F: Fn(Global, &mut Cursor<'_>, u8) -> Result<(Expr, usize), SyntaxError>> G
         if tokens.eat(punctuator) {
             self.above(inside.1, inside.0)
         } else {
+            drop(inside);
             Err(SyntaxError::Invalid)
         }
     }
@@ -346,7 +350,7 @@ impl<F: Fn(Global, &mut Cursor<'_>, u8) -> Result<(Expr, usize), SyntaxError>> G
         ensures { Reads (spec.method self.now.limit (spec.below self.now.limit) (term target.0)
             target.1 name.now (tokens_left tokens.old)) result (tokens_left tokens.new) }
     {
-        let arguments = self.arguments(tokens)?;
+        let (arguments, target) = both(self.arguments(tokens), Ok(target))?;
         self.method_with(target, name, arguments)
     }
 
@@ -379,7 +383,10 @@ impl<F: Fn(Global, &mut Cursor<'_>, u8) -> Result<(Expr, usize), SyntaxError>> G
                     self.select(target, name)
                 }
             }
-            None => Err(SyntaxError::Invalid),
+            None => {
+                drop(target);
+                Err(SyntaxError::Invalid)
+            }
         }
     }
 
@@ -427,7 +434,7 @@ impl<F: Fn(Global, &mut Cursor<'_>, u8) -> Result<(Expr, usize), SyntaxError>> G
         ensures { Reads (spec.index self.now.limit (spec.below self.now.limit) (term target.0)
             target.1 (tokens_left tokens.old)) result (tokens_left tokens.new) }
     {
-        let at = self.sub(tokens)?;
+        let (at, target) = both(self.sub(tokens), Ok(target))?;
         self.at_index(tokens, target, at)
     }
 
@@ -483,6 +490,7 @@ impl<F: Fn(Global, &mut Cursor<'_>, u8) -> Result<(Expr, usize), SyntaxError>> G
         let limit = usize::from(self.limit);
         let level = operand.1;
         if level > limit || count > limit - level {
+            drop(operand);
             return Err(SyntaxError::Invalid);
         }
         Ok((wrap(self.alloc, sign, count, operand.0)?, level + count))
@@ -546,7 +554,7 @@ impl<F: Fn(Global, &mut Cursor<'_>, u8) -> Result<(Expr, usize), SyntaxError>> G
             operator (term left.0) left.1 (drop 1 (spec_left tokens.old))) result (spec_left tokens.new) }
     {
         let _operator = tokens.next();
-        let right = self.chain(tokens, below)?;
+        let (right, left) = both(self.chain(tokens, below), Ok(left))?;
         self.with_operator(operator, left, right)
     }
 
@@ -636,11 +644,12 @@ impl<F: Fn(Global, &mut Cursor<'_>, u8) -> Result<(Expr, usize), SyntaxError>> G
         ensures { Reads (spec.branches self.now.limit (spec.below self.now.limit)
             (term test.0) test.1 (tokens_left tokens.old)) result (tokens_left tokens.new) }
     {
-        let yes = self.chain(tokens, 5)?;
+        let (yes, test) = both(self.chain(tokens, 5), Ok(test))?;
         if !tokens.eat(Punctuator::Colon) {
+            drop((test, yes));
             return Err(SyntaxError::Invalid);
         }
-        let no = self.sub(tokens)?;
+        let (no, (test, yes)) = both(self.sub(tokens), Ok((test, yes)))?;
         self.with_branches(test, yes, no)
     }
 

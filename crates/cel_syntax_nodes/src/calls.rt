@@ -6,6 +6,7 @@ ghost use Rattle.cel_syntax_ast.specs.Term.{term, terms_of};
 ghost use Rattle.cel_syntax_nodes.specs.Calls as spec;
 
 use crate::macros::{has, kind_of, macro_of, one};
+use crate::owned::{both, in_box};
 use crate::qualified::qualified_name;
 use crate::words::is_word;
 use cel_syntax_ast::Expr;
@@ -27,8 +28,8 @@ fn method_call(alloc: Global, target: Expr, name: &str, args: Vec<Expr>) -> Resu
     ensures { IfOk result (λ e. term e ≡ tree.call (tree.term_and (term target) tree.no_terms)
         name.now (terms_of (map term args.items))) }
 {
-    let name = Text::of_str(alloc, name)?;
-    let target = Box::new(alloc, target)?;
+    let target = in_box(alloc, target);
+    let (name, (target, args)) = both(Text::of_str(alloc, name), both(target, Ok(args)))?;
     Ok(call_on(target, name, args))
 }
 
@@ -42,9 +43,14 @@ fn plain_method(
     ensures { IfOk result (λ e. term e
         ≡ spec.plain_method (term target) name.now (map term args.items)) }
 {
-    match qualified_name(alloc, &target, name)? {
-        Some(name) => Ok(Expr::Qualified { name, args }),
-        None => Ok(method_call(alloc, target, name, args)?),
+    let found = qualified_name(alloc, &target, name);
+    let (found, (target, args)) = both(found, Ok((target, args)))?;
+    match found {
+        Some(name) => {
+            drop(target);
+            Ok(Expr::Qualified { name, args })
+        }
+        None => method_call(alloc, target, name, args),
     }
 }
 
@@ -74,9 +80,10 @@ pub fn call(alloc: Global, name: &str, args: Vec<Expr>) -> Result<Option<Expr>, 
     if is_word(name.as_bytes(), b"has") && args.len() == 1 {
         return Ok(has(one(args)));
     }
+    let (name, args) = both(Text::of_str(alloc, name), Ok(args))?;
     Ok(Some(Expr::Call {
         target: None,
-        name: Text::of_str(alloc, name)?,
+        name,
         args,
     }))
 }

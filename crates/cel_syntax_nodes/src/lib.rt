@@ -5,9 +5,11 @@
 mod calls;
 mod macros;
 mod nodes;
+mod owned;
 mod qualified;
 mod words;
 
 pub use calls::{call, method, parts_level};
 pub use nodes::{binary, conditional, ident, index, select, unary};
+pub use owned::both;
 pub use words::{identifier, selector};

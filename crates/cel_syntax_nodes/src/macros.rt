@@ -5,6 +5,7 @@ ghost use Rattle.cel_syntax_ast.specs.Term as tree;
 ghost use Rattle.cel_syntax_ast.specs.Term.{term};
 ghost use Rattle.cel_syntax_nodes.specs.Calls as spec;
 
+use crate::owned::{both, boxed, in_box};
 use crate::words::is_word;
 use cel_syntax_ast::{Expr, MacroKind};
 use cel_value::Text;
@@ -82,17 +83,11 @@ fn variable_of(tree: Expr) -> Option<Text>
 {
     match tree {
         Expr::Ident(name) => Some(name),
-        _ => None,
+        other => {
+            drop(other);
+            None
+        }
     }
-}
-
-/// Moves both trees into boxes.
-fn boxed(alloc: Global, first: Expr, second: Expr) -> Result<(Box<Expr>, Box<Expr>), AllocError>
-    ensures { IfOk result (λ both. (term both.0.value ≡ term first)
-        × (term both.1.value ≡ term second)) }
-{
-    let first = Box::new(alloc, first)?;
-    Ok((first, Box::new(alloc, second)?))
 }
 
 fn unfiltered(kind: MacroKind, range: Box<Expr>, variable: Text, body: Box<Expr>) -> Expr
@@ -153,8 +148,7 @@ fn macro_of_three(
         (λ e. term e ≡ tree.macro kind (term range) variable
         (tree.term_and (term filter) tree.no_terms) (term body)) }
 {
-    let filter = Box::new(alloc, filter)?;
-    let (range, body) = boxed(alloc, range, body)?;
+    let (range, (filter, body)) = both(in_box(alloc, range), boxed(alloc, filter, body))?;
     Ok(filtered(kind, range, variable, filter, body))
 }
 
@@ -171,7 +165,10 @@ fn with_body(
     let (name, body) = args;
     match variable_of(name) {
         Some(variable) => Ok(Some(macro_of_two(alloc, kind, range, variable, body)?)),
-        None => Ok(None),
+        None => {
+            drop((range, body));
+            Ok(None)
+        }
     }
 }
 
@@ -189,7 +186,10 @@ fn with_filter(
     let (name, filter, body) = args;
     match variable_of(name) {
         Some(variable) => Ok(Some(macro_of_three(alloc, kind, range, variable, filter, body)?)),
-        None => Ok(None),
+        None => {
+            drop((range, filter, body));
+            Ok(None)
+        }
     }
 }
 
@@ -206,7 +206,10 @@ pub(crate) fn macro_of(
     match args.len() {
         2 => with_body(alloc, kind, range, two(args)),
         3 => with_filter(alloc, kind, range, three(args)),
-        _ => Ok(None),
+        _ => {
+            drop((range, args));
+            Ok(None)
+        }
     }
 }
 
@@ -215,7 +218,10 @@ pub(crate) fn has(argument: Expr) -> Option<Expr>
 {
     match argument {
         Expr::Select(operand, name) => Some(Expr::Has(operand, name)),
-        _ => None,
+        other => {
+            drop(other);
+            None
+        }
     }
 }
 

@@ -4,6 +4,7 @@ ghost use Rattle.std.specs.Prelude.{◌≡◌, IfOk};
 ghost use Rattle.cel_syntax_ast.specs.Term as tree;
 ghost use Rattle.cel_syntax_ast.specs.Term.{term};
 
+use crate::owned::{both, boxed, in_box};
 use cel_syntax_ast::{BinaryOperator, Expr, UnaryOperator};
 use cel_value::Text;
 use std::alloc::{AllocError, Global};
@@ -19,16 +20,16 @@ pub fn ident(alloc: Global, name: &str) -> Result<Expr, AllocError>
 pub fn select(alloc: Global, operand: Expr, name: &str) -> Result<Expr, AllocError>
     ensures { IfOk result (λ e. term e ≡ tree.select (term operand) name.now) }
 {
-    let operand = Box::new(alloc, operand)?;
-    Ok(Expr::Select(operand, Text::of_str(alloc, name)?))
+    let (operand, name) = both(in_box(alloc, operand), Text::of_str(alloc, name))?;
+    Ok(Expr::Select(operand, name))
 }
 
 /// Builds an index expression.
 pub fn index(alloc: Global, target: Expr, index: Expr) -> Result<Expr, AllocError>
     ensures { IfOk result (λ e. term e ≡ tree.index (term target) (term index)) }
 {
-    let target = Box::new(alloc, target)?;
-    Ok(Expr::Index(target, Box::new(alloc, index)?))
+    let (target, index) = boxed(alloc, target, index)?;
+    Ok(Expr::Index(target, index))
 }
 
 /// Builds a unary expression.
@@ -47,15 +48,14 @@ pub fn binary(
 ) -> Result<Expr, AllocError>
     ensures { IfOk result (λ e. term e ≡ tree.binary operator (term left) (term right)) }
 {
-    let left = Box::new(alloc, left)?;
-    Ok(Expr::Binary(operator, left, Box::new(alloc, right)?))
+    let (left, right) = boxed(alloc, left, right)?;
+    Ok(Expr::Binary(operator, left, right))
 }
 
 /// Builds a conditional expression.
 pub fn conditional(alloc: Global, test: Expr, yes: Expr, no: Expr) -> Result<Expr, AllocError>
     ensures { IfOk result (λ e. term e ≡ tree.conditional (term test) (term yes) (term no)) }
 {
-    let test = Box::new(alloc, test)?;
-    let yes = Box::new(alloc, yes)?;
-    Ok(Expr::Cond(test, yes, Box::new(alloc, no)?))
+    let (test, (yes, no)) = both(in_box(alloc, test), boxed(alloc, yes, no))?;
+    Ok(Expr::Cond(test, yes, no))
 }

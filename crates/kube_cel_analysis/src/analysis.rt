@@ -156,7 +156,11 @@ pub fn estimate_rule_cost(
 {
     match parse(alloc, rule)? {
         Err(_) => Ok(Vec::new(alloc)),
-        Ok(expression) => Ok(estimated(alloc, rule, &expression, &schema.root())?),
+        Ok(expression) => {
+            let warnings = estimated(alloc, rule, &expression, &schema.root());
+            drop(expression);
+            Ok(warnings?)
+        }
     }
 }
 
@@ -201,6 +205,10 @@ pub fn analyze_rule(
 {
     match parse(alloc, rule)? {
         Err(_) => Ok(Vec::new(alloc)),
-        Ok(expression) => analyze_expression(alloc, rule, &expression, &schema.root(), scope),
+        Ok(expression) => {
+            let warnings = analyze_expression(alloc, rule, &expression, &schema.root(), scope);
+            drop(expression);
+            warnings
+        }
     }
 }

@@ -181,6 +181,10 @@ pub fn check_rule_scope(
 {
     match parse(alloc, rule)? {
         Err(_) => Ok(Vec::new(alloc)),
-        Ok(expression) => check_expression_scope(alloc, rule, &expression, scope),
+        Ok(expression) => {
+            let warnings = check_expression_scope(alloc, rule, &expression, scope);
+            drop(expression);
+            warnings
+        }
     }
 }

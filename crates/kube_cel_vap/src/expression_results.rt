@@ -77,7 +77,9 @@ fn false_message(
         return Ok(own_message(alloc, compiled)?);
     };
     let outcome = outcome_of(alloc, program, context, book)?;
-    Ok(report_message(alloc, compiled, &outcome)?)
+    let message = report_message(alloc, compiled, &outcome);
+    drop(outcome);
+    Ok(message?)
 }
 
 /// Returns the message of an expression that is false, by the outcome of its messageExpression.
@@ -162,8 +164,9 @@ fn message_of(
         (λ b. message_in b (bindings_of context.now) (compiled_view compiled.now))) }
 {
     let outcome = outcome_of(alloc, &compiled.program, context, book)?;
-    let message = outcome_message(alloc, compiled, &outcome, context, book)?;
-    Ok(message)
+    let message = outcome_message(alloc, compiled, &outcome, context, book);
+    drop(outcome);
+    message
 }
 
 /// Returns the result of an expression that doesn't compile.

@@ -8,6 +8,7 @@ pub mod evaluator;
 mod expression;
 mod expression_results;
 pub mod laws;
+mod owned;
 mod request;
 mod value;
 mod variables;

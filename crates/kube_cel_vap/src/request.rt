@@ -1,6 +1,7 @@
 //! Admission requests (Kubernetes API reference, AdmissionRequest of `admission.k8s.io/v1`).
 ghost use Rattle.std.specs.Prelude.{◌≡◌, IfOk, map, string_bytes};
 
+use crate::owned::{both, or_refused};
 use kube_types_refused::Refused;
 use serde::{Deserialize, Serialize};
 use std::alloc::{AllocError, Global};
@@ -145,16 +146,23 @@ impl AdmissionRequest {
         ensures same { IfOk result (λ r. request_view r ≡ request_view self.now) }
         ensures memory { IfErr result (λ e. e ≡ Refused.Memory) }
     {
+        let groups = clone_texts(*self.groups.allocator(), self.groups.as_slice());
+        let user = both(self.username.clone(), both(self.uid.clone(), groups));
+        let object = both(self.name.clone(), self.namespace.clone());
+        let texts = both(self.operation.clone(), both(user, object));
+        let kinds = both(self.kind.try_clone(), self.resource.try_clone());
+        let (texts, (kind, resource)) = both(or_refused(texts), kinds)?;
+        let (operation, ((username, (uid, groups)), (name, namespace))) = texts;
         Ok(AdmissionRequest {
-            operation: self.operation.clone()?,
-            username: self.username.clone()?,
-            uid: self.uid.clone()?,
-            groups: clone_texts(*self.groups.allocator(), self.groups.as_slice())?,
-            name: self.name.clone()?,
-            namespace: self.namespace.clone()?,
+            operation,
+            username,
+            uid,
+            groups,
+            name,
+            namespace,
             dry_run: self.dry_run,
-            kind: self.kind.try_clone()?,
-            resource: self.resource.try_clone()?,
+            kind,
+            resource,
         })
     }
 }

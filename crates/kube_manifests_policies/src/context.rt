@@ -2,14 +2,17 @@
 ghost use Rattle.cel_semantics.specs.Bindings.{binding, bindings_of};
 ghost use Rattle.cel_value.specs.Data.{map_of, no_entries};
 ghost use Rattle.cel_value.specs.View.{view};
-ghost use Rattle.kube_manifests_policies.specs.Bound.{bindings_always, request_or_null, value_or_null, with_given};
+ghost use Rattle.kube_manifests_policies.specs.Bound.{bindings_always, policy_bindings, request_or_null, value_or_null, with_given};
 ghost use Rattle.kube_manifests_admission.specs.Inputs.{inputs_view};
 ghost use Rattle.kube_manifests_names.specs.Inputs.{without_namespace};
 ghost use Rattle.kube_manifests_admission.specs.Policies.{item_view};
 ghost use Rattle.kube_manifests_policies.specs.Scopes.{Alike, first_scope, scope_for, scope_view, with_no_values};
 ghost use Rattle.serde_json.specs.View.{view as json_view};
-ghost use Rattle.std.specs.Prelude.{◌≡◌, [], ℕ, IfOk, List, map, OnOk, option_map};
+ghost use Rattle.std.specs.Prelude.{◌≡◌, [], ℕ, if◌then◌else◌, IfOk, List, map, OnOk, option_map, Some};
+ghost use Rattle.std.specs.Result.{IsOkAnd};
+ghost use Rattle.std.specs.Str.{bytes_eq};
 
+use crate::owned::both;
 use crate::scope::{PolicyContext, Scope};
 use cel::{Context, Entries, Value};
 use kube_manifests_admission::{Item, PolicyInputs};
@@ -17,6 +20,7 @@ use kube_manifests_names::{absent_inputs, request_value, unstructured};
 use kube_types_refused::Refused;
 use serde_json::Value as Json;
 use std::alloc::Global;
+use std::mem::replace;
 
 /// Returns a context that binds no name and has all functions that a policy's expressions may call.
 fn empty_context<'a>(alloc: Global) -> PolicyContext<'a>
@@ -45,6 +49,18 @@ fn request_or_null(alloc: Global, request: &Option<Json>) -> Result<Value, Refus
     }
 }
 
+/// Binds a name to a value, if it was made.
+pub(crate) fn bind(
+    context: &mut PolicyContext<'_>,
+    name: &str,
+    value: Result<Value, Refused>,
+) -> Result<(), Refused>
+    ensures bound { OnOk result (IsOkAnd value (λ v. (x : List ℕ) → binding x (bindings_of context.new)
+        ≡ (if bytes_eq name.now x then Some (view v) else binding x (bindings_of context.old)))) }
+{
+    context.add_variable(name, value?)
+}
+
 /// Binds a name to a value, if the value is given.
 fn bind_given(
     alloc: Global,
@@ -61,15 +77,34 @@ fn bind_given(
     context.add_variable(name, unstructured(alloc, value)?)
 }
 
+/// Binds the names that are always bound, in a context without bindings.
+fn bind_always(
+    alloc: Global,
+    context: &mut PolicyContext<'_>,
+    inputs: &PolicyInputs,
+) -> Result<(), Refused>
+    requires { bindings_of context.old ≡ [] }
+    ensures bound { OnOk result ((x : List ℕ) → binding x (bindings_of context.new)
+        ≡ binding x (bindings_always (inputs_view inputs.now))) }
+{
+    bind(context, "object", value_or_null(alloc, &inputs.object))?;
+    bind(
+        context,
+        "oldObject",
+        value_or_null(alloc, &inputs.old_object),
+    )?;
+    bind(context, "request", request_or_null(alloc, &inputs.request))?;
+    Ok(())
+}
+
 /// Returns a context with the names that are always bound: `object`, `oldObject` and `request`.
 fn context_always<'a>(alloc: Global, inputs: &PolicyInputs) -> Result<PolicyContext<'a>, Refused>
     ensures bound { IfOk result (λ c. (x : List ℕ) → binding x (bindings_of c)
         ≡ binding x (bindings_always (inputs_view inputs.now))) }
 {
     let mut context = empty_context(alloc);
-    context.add_variable("object", value_or_null(alloc, &inputs.object)?)?;
-    context.add_variable("oldObject", value_or_null(alloc, &inputs.old_object)?)?;
-    context.add_variable("request", request_or_null(alloc, &inputs.request)?)?;
+    let bound = bind_always(alloc, &mut context, inputs);
+    let (_, context) = both(bound, Ok(context))?;
     Ok(context)
 }
 
@@ -117,11 +152,29 @@ fn bind_no_values(
     Ok(())
 }
 
+/// Binds the further names of a policy's variables and validations, in a context with the names that
+/// the match conditions see.
+fn bind_policy(
+    alloc: Global,
+    context: &mut PolicyContext<'_>,
+    inputs: &PolicyInputs,
+    variables: &[Item<'_>],
+) -> Result<(), Refused>
+    requires { (x : List ℕ) → binding x (bindings_of context.old)
+        ≡ binding x (policy_bindings (without_namespace (inputs_view inputs.now))) }
+    ensures bound { OnOk result ((x : List ℕ) → binding x (bindings_of context.new)
+        ≡ binding x (with_no_values (map item_view variables.now) (policy_bindings (inputs_view inputs.now)))) }
+{
+    bind_given(alloc, context, "namespaceObject", &inputs.namespace_object)?;
+    bind_no_values(alloc, context, variables)?;
+    Ok(())
+}
+
 /// Turns the scope of the match conditions into that of the first variable or, if the policy has no
 /// variables, of its validations.
 pub(crate) fn policy_scope<'a>(
     alloc: Global,
-    scope: Scope<'a>,
+    mut scope: Scope<'a>,
     inputs: &PolicyInputs,
     variables: &[Item<'_>],
 ) -> Result<Scope<'a>, Refused>
@@ -129,20 +182,10 @@ pub(crate) fn policy_scope<'a>(
     ensures scope { IfOk result (λ s. Alike (scope_view s)
         (scope_for (inputs_view inputs.now) (map item_view variables.now))) }
 {
-    let Scope {
-        mut context,
-        absent: _,
-        values,
-        missing,
-    } = scope;
-    let namespace = &inputs.namespace_object;
-    bind_given(alloc, &mut context, "namespaceObject", namespace)?;
-    bind_no_values(alloc, &mut context, variables)?;
-    let absent = absent_inputs(alloc, inputs, namespace)?;
-    Ok(Scope {
-        context,
-        absent,
-        values,
-        missing,
-    })
+    let bound = bind_policy(alloc, &mut scope.context, inputs, variables);
+    let (_, scope) = both(bound, Ok(scope))?;
+    let absent = absent_inputs(alloc, inputs, &inputs.namespace_object);
+    let (absent, mut scope) = both(absent, Ok(scope))?;
+    drop(replace(&mut scope.absent, absent));
+    Ok(scope)
 }

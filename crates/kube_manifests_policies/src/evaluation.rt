@@ -11,6 +11,7 @@ ghost use Rattle.serde_json.specs.View.{view};
 ghost use Rattle.std.specs.Prelude.{◌≡◌, IfOk, map};
 
 use crate::context::{condition_scope, policy_scope};
+use crate::owned::both;
 use crate::refusals::{is_refused, refusals_of};
 use crate::reports::{Subject, results_as};
 use crate::scope::Scope;
@@ -55,18 +56,27 @@ fn verdict_in(
         (policy_view policy.now) (map result_view conditions.items))) }
 {
     let items = policy.validations.as_slice();
-    let validations = results_as(alloc, Subject::Validation, items, &scope, book)?;
+    let validations = results_as(alloc, Subject::Validation, items, &scope, book);
+    let (validations, scope) = both(validations, Ok(scope))?;
     let items = policy.annotations.as_slice();
-    let annotations = results_as(alloc, Subject::Annotation, items, &scope, book)?;
+    let annotations = results_as(alloc, Subject::Annotation, items, &scope, book);
+    let (annotations, scope) = both(annotations, Ok(scope))?;
     let decision = decision_of(
         policy.ignores,
         validations.as_slice(),
         annotations.as_slice(),
     );
+    let Scope {
+        context,
+        absent,
+        values,
+        missing,
+    } = scope;
+    drop((context, absent, values));
     Ok(PolicyVerdict {
         decision,
         conditions,
-        variables: scope.missing,
+        variables: missing,
         validations,
         annotations,
     })
@@ -85,9 +95,13 @@ fn evaluated_verdict(
 {
     let scope = condition_scope(alloc, inputs)?;
     let items = policy.conditions.as_slice();
-    let conditions = results_as(alloc, Subject::Condition, items, &scope, book)?;
+    let conditions = results_as(alloc, Subject::Condition, items, &scope, book);
+    let (conditions, scope) = both(conditions, Ok(scope))?;
     match after_conditions(policy.ignores, conditions.as_slice()) {
-        Some(decision) => Ok(verdict_of_conditions(alloc, conditions, decision)),
+        Some(decision) => {
+            drop(scope);
+            Ok(verdict_of_conditions(alloc, conditions, decision))
+        }
         None => {
             let variables = policy.variables.as_slice();
             let first = policy_scope(alloc, scope, inputs, variables)?;
@@ -134,10 +148,10 @@ fn policy_verdict(
 /// and audit annotations. Neither `matchConstraints` nor bindings are considered.
 ///
 /// An expression that reads an input that isn't given, itself or through a variable, is not
-/// evaluated: it is reported as [`ItemReport::NotGiven`](crate::ItemReport), and the policy then
-/// never admits. If the value of a validation or match condition is no bool, or that of a
-/// messageExpression no string, the policy is not judged, whatever `failurePolicy` is: an API server
-/// refuses it when it is made.
+/// evaluated: it is reported as [`ItemReport::NotGiven`](crate::ItemReport). If a match condition, a
+/// validation or an audit annotation reads one, the policy never admits. If the value of a validation
+/// or match condition is no bool, or that of a messageExpression no string, the policy is not judged,
+/// whatever `failurePolicy` is: an API server refuses it when it is made.
 ///
 /// The inner error is the first [`PolicyFault`] if the document is not such a policy.
 ///

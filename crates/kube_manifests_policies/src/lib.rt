@@ -34,6 +34,7 @@
 mod context;
 mod evaluation;
 pub mod laws;
+mod owned;
 mod refusals;
 mod reports;
 mod scope;

@@ -55,7 +55,11 @@ fn outcome_report(alloc: Global, answer: Answer) -> Result<ItemReport, AllocErro
     ensures { IfOk result (λ t. report_view t ≡ outcome_report (outcome_view answer)) }
 {
     match answer {
-        Ok(value) => truth_report(alloc, &value),
+        Ok(value) => {
+            let reported = truth_report(alloc, &value);
+            drop(value);
+            reported
+        }
         Err(fault) => fault_report(alloc, &fault),
     }
 }
@@ -96,7 +100,11 @@ fn annotation_outcome(alloc: Global, answer: Answer) -> Result<ItemReport, Alloc
     ensures { IfOk result (λ t. report_view t ≡ annotation_outcome (outcome_view answer)) }
 {
     match answer {
-        Ok(value) => annotation_value(alloc, &value),
+        Ok(value) => {
+            let reported = annotation_value(alloc, &value);
+            drop(value);
+            reported
+        }
         Err(fault) => fault_report(alloc, &fault),
     }
 }
@@ -287,7 +295,9 @@ fn false_report(
         return Ok(ItemReport::False(own_message(alloc, item)?));
     };
     let reached = reach(alloc, program, scope, book)?;
-    Ok(message_report(alloc, item, &reached)?)
+    let reported = message_report(alloc, item, &reached);
+    drop(reached);
+    Ok(reported?)
 }
 
 /// Replaces the report of a validation if it says that it is false.

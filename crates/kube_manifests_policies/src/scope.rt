@@ -203,8 +203,9 @@ pub(crate) fn evaluate(
     match read(alloc, text)? {
         Err(reported) => Ok(Err(reported)),
         Ok(program) => {
-            let reached = reach(alloc, &program, scope, book)?;
-            Ok(reached)
+            let reached = reach(alloc, &program, scope, book);
+            drop(program);
+            reached
         }
     }
 }

@@ -7,25 +7,30 @@ ghost use Rattle.cel_value.specs.Data.{text};
 ghost use Rattle.cel_value.specs.Faults.{fault_view};
 ghost use Rattle.cel_value.specs.View.{view};
 ghost use Rattle.kube_manifests_admission.specs.Policies.{item_view};
-ghost use Rattle.kube_manifests_policies.specs.Scopes.{Alike, fault_report, is_new, is_no, outcome_seen, scope_view, variable_step, variables_after, with_stored, with_values, with_variable, without_value};
-ghost use Rattle.kube_manifests_policies.specs.Verdicts.{report_view};
-ghost use Rattle.std.specs.Prelude.{◌≡◌, IfOk, map, Ok, true};
+ghost use Rattle.kube_manifests_policies.specs.Scopes.{Alike, fault_report, is_absent, is_new, is_no, outcome_seen, scope_view, variable_step, variables_after, with_stored, with_values, with_variable, without_value};
+ghost use Rattle.kube_manifests_policies.specs.Verdicts.{report_view, result_view, with_report};
+ghost use Rattle.std.specs.Prelude.{◌≡◌, ◌++◌, [], ◌∷◌, IfOk, map, Ok, OnOk, true};
 
+use crate::context::bind;
+use crate::owned::both;
 use crate::scope::{Scope, evaluate, fault_report};
-use crate::verdict::{ItemReport, with_report};
+use crate::verdict::{ItemReport, PolicyResult, with_report};
 use cel::{Answer, ExecutionError, Key, PatternBook, Text, Value};
 use cel_semantics::members::{has, put};
 use kube_manifests_admission::Item;
 use kube_types_refused::Refused;
-use std::alloc::Global;
+use std::alloc::{AllocError, Global};
+use std::mem::replace;
 
 /// Returns the map of variables with one more variable, or an error if it has one of this name.
 fn stored(alloc: Global, values: &Value, name: &str, value: &Value) -> Result<Answer, Refused>
     ensures value { IfOk result (λ r. outcome_view r
         ≡ put_in (view values.now) (text name.now) (view value.now)) }
 {
-    let key = Value::from_text(alloc, String::from_str(alloc, name)?)?;
-    put(alloc, values.try_clone()?, &key, value)
+    let (key, values) = both(Value::of_str(alloc, name), values.try_clone())?;
+    let answer = put(alloc, values, &key, value);
+    drop(key);
+    answer
 }
 
 fn is_no(there: Option<bool>) -> bool
@@ -37,60 +42,67 @@ fn is_no(there: Option<bool>) -> bool
     }
 }
 
+/// Reports whether an answer says that a map has no variable of some name.
+fn is_absent(there: &Answer) -> bool
+    ensures { result ≡ is_absent (outcome_view there.now) }
+{
+    match there {
+        Ok(there) => is_no(there.as_bool()),
+        Err(_) => false,
+    }
+}
+
 /// Reports whether a map of variables has none of this name.
 fn is_new(alloc: Global, values: &Value, name: &str) -> Result<bool, Refused>
     ensures new { IfOk result (λ b. b ≡ is_new (view values.now) name.now) }
 {
-    let key = Key::String(Text::of(alloc, String::from_str(alloc, name)?)?);
-    match has(alloc, &key, values)? {
-        Ok(there) => Ok(is_no(there.as_bool())),
-        Err(_) => Ok(false),
-    }
+    let key = Key::String(Text::of_str(alloc, name)?);
+    let there = has(alloc, &key, values);
+    drop(key);
+    let there = there?;
+    let new = is_absent(&there);
+    drop(there);
+    Ok(new)
+}
+
+/// Adds a variable without a value.
+fn add_missing(
+    alloc: Global,
+    name: &str,
+    reported: ItemReport,
+    missing: &mut Vec<PolicyResult>,
+) -> Result<(), AllocError>
+    ensures { OnOk result (map result_view missing.new.items
+        ≡ map result_view missing.old.items ++ with_report name.now (report_view reported) ∷ []) }
+{
+    missing.push(with_report(alloc, name, reported)?)?;
+    Ok(())
 }
 
 /// Adds a variable without a value to a scope.
 fn without_value<'a>(
     alloc: Global,
-    scope: Scope<'a>,
+    mut scope: Scope<'a>,
     name: &str,
     reported: ItemReport,
 ) -> Result<Scope<'a>, Refused>
     ensures scope { IfOk result (λ s. Alike (scope_view s)
         (without_value (scope_view scope.entry) name.now (report_view reported))) }
 {
-    let Scope {
-        context,
-        absent,
-        values,
-        mut missing,
-    } = scope;
-    missing.push(with_report(alloc, name, reported)?)?;
-    Ok(Scope {
-        context,
-        absent,
-        values,
-        missing,
-    })
+    let added = add_missing(alloc, name, reported, &mut scope.missing);
+    let (_, scope) = both(added, Ok(scope))?;
+    Ok(scope)
 }
 
 /// Replaces the map of variables in a scope.
-fn with_values<'a>(scope: Scope<'a>, map: Value) -> Result<Scope<'a>, Refused>
+fn with_values<'a>(mut scope: Scope<'a>, map: Value) -> Result<Scope<'a>, Refused>
     ensures scope { IfOk result (λ s. Alike (scope_view s)
         (with_values (scope_view scope.entry) (view map))) }
 {
-    let Scope {
-        mut context,
-        absent,
-        values: _,
-        missing,
-    } = scope;
-    context.add_variable("variables", map.try_clone()?)?;
-    Ok(Scope {
-        context,
-        absent,
-        values: map,
-        missing,
-    })
+    let bound = bind(&mut scope.context, "variables", map.try_clone());
+    drop(replace(&mut scope.values, map));
+    let (_, scope) = both(bound, Ok(scope))?;
+    Ok(scope)
 }
 
 /// Adds a variable that fails to a scope.
@@ -103,7 +115,7 @@ fn without_fault<'a>(
     ensures scope { IfOk result (λ s. Alike (scope_view s)
         (without_value (scope_view scope.entry) name.now (fault_report (fault_view fault.now)))) }
 {
-    let reported = fault_report(alloc, fault)?;
+    let (reported, scope) = both(fault_report(alloc, fault), Ok(scope))?;
     without_value(alloc, scope, name, reported)
 }
 
@@ -129,8 +141,10 @@ fn put_new(alloc: Global, values: Value, name: &str, value: &Value) -> Result<Va
     requires { is_new (view values) name.now ≡ true }
     ensures map { IfOk result (λ m. Ok (view m) ≡ put_in (view values) (text name.now) (view value.now)) }
 {
-    let key = Value::from_text(alloc, String::from_str(alloc, name)?)?;
-    match put(alloc, values, &key, value)? {
+    let (key, values) = both(Value::of_str(alloc, name), Ok(values))?;
+    let answer = put(alloc, values, &key, value);
+    drop(key);
+    match answer? {
         Ok(map) => Ok(map),
         // A map takes every new name.
         Err(_) => Ok(Value::Null),
@@ -141,7 +155,7 @@ fn put_new(alloc: Global, values: Value, name: &str, value: &Value) -> Result<Va
 /// meanwhile, so that it isn't copied.
 fn with_new<'a>(
     alloc: Global,
-    scope: Scope<'a>,
+    mut scope: Scope<'a>,
     name: &str,
     value: &Value,
 ) -> Result<Scope<'a>, Refused>
@@ -149,21 +163,11 @@ fn with_new<'a>(
     ensures scope { IfOk result (λ s. Alike (scope_view s) (with_stored (scope_view scope.entry)
         name.now (put_in (view scope.entry.values) (text name.now) (view value.now)))) }
 {
-    let Scope {
-        mut context,
-        absent,
-        values,
-        missing,
-    } = scope;
-    drop(context.take_variable("variables"));
-    let values = put_new(alloc, values, name, value)?;
-    context.add_variable("variables", values.try_clone()?)?;
-    Ok(Scope {
-        context,
-        absent,
-        values,
-        missing,
-    })
+    drop(scope.context.take_variable("variables"));
+    let values = replace(&mut scope.values, Value::Null);
+    let map = put_new(alloc, values, name, value);
+    let (map, scope) = both(map, Ok(scope))?;
+    with_values(scope, map)
 }
 
 /// Adds a variable with this value to a scope.
@@ -176,10 +180,13 @@ fn with_value<'a>(
     ensures scope { IfOk result (λ s. Alike (scope_view s) (with_stored (scope_view scope.entry)
         name.now (put_in (view scope.entry.values) (text name.now) (view value.now)))) }
 {
-    if is_new(alloc, &scope.values, name)? {
+    let new = is_new(alloc, &scope.values, name);
+    let (new, scope) = both(new, Ok(scope))?;
+    if new {
         return with_new(alloc, scope, name, value);
     }
-    let stored = stored(alloc, &scope.values, name, value)?;
+    let stored = stored(alloc, &scope.values, name, value);
+    let (stored, scope) = both(stored, Ok(scope))?;
     with_stored(alloc, scope, name, stored)
 }
 
@@ -196,7 +203,11 @@ fn with_variable<'a>(
     match reached {
         Err(reported) => without_value(alloc, scope, name, reported),
         Ok(Err(fault)) => without_fault(alloc, scope, name, &fault),
-        Ok(Ok(value)) => with_value(alloc, scope, name, &value),
+        Ok(Ok(value)) => {
+            let added = with_value(alloc, scope, name, &value);
+            drop(value);
+            added
+        }
     }
 }
 
@@ -212,7 +223,8 @@ fn variable_step<'a>(
     ensures scope { IfOk result (λ s. (b : Book) → Extends b (entries_of book.new)
         → Alike (scope_view s) (variable_step b (scope_view scope.entry) (item_view item.now))) }
 {
-    let reached = evaluate(alloc, item.expression, &scope, book)?;
+    let reached = evaluate(alloc, item.expression, &scope, book);
+    let (reached, scope) = both(reached, Ok(scope))?;
     with_variable(alloc, scope, item.label, reached)
 }
 

@@ -31,10 +31,13 @@ fn fails_at(alloc: Global, name: &str, text: &str, book: &mut PatternBook) -> Re
         Form::Unknown => Ok(false),
         Form::Wrong => Ok(false),
         Form::Known => {
-            let value = CelValue::from_text(alloc, String::from_str(alloc, text)?)?;
-            let args = [value];
-            let answer = AllFunctions.call(alloc, name, None, &args, book)?;
-            Ok(answer.is_err())
+            let args = [CelValue::from_text(alloc, String::from_str(alloc, text)?)?];
+            let answer = AllFunctions.call(alloc, name, None, &args, book);
+            drop(args);
+            let answer = answer?;
+            let failed = answer.is_err();
+            drop(answer);
+            Ok(failed)
         }
     }
 }

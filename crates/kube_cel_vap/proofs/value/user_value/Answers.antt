@@ -1,20 +1,10 @@
-use Rattle.cel_value.specs.Data.{map_of, text}
-use Rattle.cel_value.specs.View.{entries_view, view}
-use Rattle.kube_cel_vap.proofs.Entries.{one_more, one_text_more}
+use Rattle.cel_value.specs.View.{entries_view}
+use Rattle.kube_cel_vap.proofs.Entries.{all_inserted}
 use Rattle.kube_cel_vap.proofs.value.user_value.Goals as goal
-use Rattle.kube_cel_vap.specs.Requests.{map_with, texts_value, user_value}
-use Rattle.std.proofs.Common.{[], ◌∷◌, map, codes, string_bytes, ap, ◌∙◌}
+use Rattle.std.proofs.Common.{ap}
+
+pub put_user-inserted-requires : goal.put_user-inserted-requires
+put_user-inserted-requires c = ap entries_view c.new-entries.ensures.empty
 
 pub returns-clause-value : goal.returns-clause-value
-unfolding user_value map_with
-returns-clause-value c =
-    let r = c.args.request.now in
-    let groups = texts_value (map string_bytes r.groups.items) in
-    let m0 = entries_view c.new-entries.result.entries in
-    let m1 = entries_view c.put_value.new.entries.entries in
-    let m2 = entries_view c.put_text.new.entries.entries in
-    let m3 = entries_view c.put_text-2.new.entries.entries in
-    let e1 = one_more (codes "groups") (view c.in_ok-groups.groups) groups m0 m1 [] c.in_ok-put_value.ensures.entered (c.in_ok-groups.ensures.value ∙ ap (λ ts. texts_value (map string_bytes ts)) c.as_slice.ensures.value) (ap entries_view c.new-entries.ensures.empty) in
-    let e2 = one_text_more (codes "uid") c.as_str.result.now (string_bytes r.uid) m1 m2 ((codes "groups", groups) ∷ []) c.in_ok-put_text.ensures.entered c.as_str.ensures.value e1 in
-    let e3 = one_text_more (codes "username") c.as_str-2.result.now (string_bytes r.username) m2 m3 ((codes "uid", text (string_bytes r.uid)) ∷ (codes "groups", groups) ∷ []) c.in_ok-put_text-2.ensures.entered c.as_str-2.ensures.value e2 in
-    c.in_ok-value.ensures.value ∙ ap map_of e3
+returns-clause-value c = all_inserted c.put_user-inserted.result c.map_value.result _ _ c.map_value.ensures.value c.put_user-inserted.ensures.entered
