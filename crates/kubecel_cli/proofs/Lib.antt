@@ -4,3 +4,4 @@ pub mod Alone
 pub mod Definitions
 pub mod Checking
 pub mod Admitting
+pub mod Labels

@@ -118,27 +118,27 @@ entries_in e d =
 abbrev pub is_labelled : Expressions → List ℕ → Data → Bool
 is_labelled e label d = bytes_eq (text_at e.label d) label
 
--- an entry is named by its label; by its number if the label is its expression: that of the first entry with it
-abbrev pub name_in : Expressions → Data → List ℕ → List ℕ
-name_in e d label =
-    if bytes_eq e.label e.expression then decimal (position_or_len (is_labelled e label) (entries_in e d)) else label
+-- one of these entries is named by its label; by its number if the label is its expression: that of the first entry with it
+abbrev pub name_of : Expressions → List Data → List ℕ → List ℕ
+name_of e ds label =
+    if bytes_eq e.label e.expression then decimal (position_or_len (is_labelled e label) ds) else label
 
--- the path of the entry in the policy, such as `spec.validations[0]` and `spec.variables[limit]`, as an API server writes
+-- the path of an entry in the policy, such as `spec.validations[0]` and `spec.variables[limit]`, as an API server writes
 -- those of fields
-abbrev pub path_to : Expressions → Data → List ℕ → List ℕ
-path_to e d label = codes "spec." ++ (e.list ++ (codes "[" ++ (name_in e d label ++ codes "]")))
+abbrev pub path_of : Expressions → List Data → List ℕ → List ℕ
+path_of e ds label = codes "spec." ++ (e.list ++ (codes "[" ++ (name_of e ds label ++ codes "]")))
 
 -- the expression of the first entry with this label
-abbrev pub source_of : Expressions → Data → List ℕ → List ℕ
-source_of e d label = option_map_or (text_at e.expression) (find (is_labelled e label) (entries_in e d)) []
+abbrev pub expression_of : Expressions → List Data → List ℕ → List ℕ
+expression_of e ds label = option_map_or (text_at e.expression) (find (is_labelled e label) ds) []
 
 -- the findings of an expression of a policy
 abbrev pub result_findings : Expressions → Data → Labelled → List FindingData
 result_findings e d r =
     if is_quiet r.reported then []
     else record {
-      location = path_to e d r.label;
-      rule = source_of e d r.label;
+      location = path_of e (entries_in e d) r.label;
+      rule = expression_of e (entries_in e d) r.label;
       message = report_text r.reported;
     } ∷ []
 

@@ -5,14 +5,16 @@ ghost use Rattle.kube_manifests_policies.specs.Verdicts.{result_view, verdict_vi
 ghost use Rattle.kubecel_io.specs.Reads.{document_view};
 ghost use Rattle.kubecel_report.specs.Items.{finding_view, item_view};
 ghost use Rattle.kubecel_cli.specs.Commands.{admit_view};
+ghost use Rattle.kubecel_cli.specs.Indexed.{IsIndexed};
 ghost use Rattle.kubecel_cli.specs.Runs.{AreAdmitted, IsOneRead, IsOneReadWhereNamed, base_of, instead};
-ghost use Rattle.kubecel_cli.specs.Reports.{annotations, conditions, decision_verdict, expressions_view, policy_item, result_findings, validations, variables, verdict_findings};
+ghost use Rattle.kubecel_cli.specs.Reports.{annotations, conditions, decision_verdict, entries_in, expressions_view, policy_item, result_findings, validations, variables, verdict_findings};
+ghost use Rattle.serde_json.specs.Data.{Data};
 ghost use Rattle.serde_json.specs.View.{view};
 ghost use Rattle.std.specs.List.{flat_map};
 ghost use Rattle.std.specs.Prelude.{◌≡◌, ◌++◌, ◌∷◌, [], IfOk, Ok, OnOk, map, option_map, string_bytes};
 
 use crate::command::Admit;
-use crate::place::Expressions;
+use crate::place::{Entries, Expressions};
 use crate::report::Report;
 use kube_manifests_policies::{
     ItemReport, PolicyDecision, PolicyInputs, PolicyResult, PolicyVerdict, evaluate_policy,
@@ -256,30 +258,31 @@ fn add_results(
         ++ flat_map (result_findings (expressions_view expressions) (view policy.now))
         (map result_view results.now)) }
 {
+    let entries = Entries::find_in(alloc, expressions, policy)?;
     for one in results {
-        add_result(alloc, expressions, policy, one, findings)?;
+        add_result(alloc, &entries, one, findings)?;
     }
     Ok(())
 }
 
 fn add_result(
     alloc: Global,
-    expressions: Expressions,
-    policy: &Value,
+    entries: &Entries<'_>,
     one: &PolicyResult,
     findings: &mut Vec<Finding>,
 ) -> Result<(), AllocError>
-    ensures { OnOk result (map finding_view findings.new.items
-        ≡ map finding_view findings.old.items
-        ++ result_findings (expressions_view expressions) (view policy.now) (result_view one.now)) }
+    requires { IsIndexed entries.now }
+    ensures { OnOk result ((d : Data) → map view entries.now.entries.now ≡ entries_in (expressions_view entries.now.expressions) d
+        → map finding_view findings.new.items ≡ map finding_view findings.old.items
+        ++ result_findings (expressions_view entries.now.expressions) d (result_view one.now)) }
 {
     if matches!(one.reported, ItemReport::True | ItemReport::Null) {
         return Ok(());
     }
     let label = one.label.as_str();
     findings.push(Finding {
-        location: expressions.path_to(alloc, policy, label)?,
-        rule: expressions.source_of(alloc, policy, label)?,
+        location: entries.path_to(alloc, label)?,
+        rule: entries.source_of(alloc, label)?,
         message: format!(in alloc; "{}", one.reported)?,
     })?;
     Ok(())

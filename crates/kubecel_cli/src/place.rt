@@ -1,10 +1,12 @@
 //! Finds the places of a policy's expressions.
-ghost use Rattle.kubecel_cli.specs.Reports.{entries_in, expressions_view, is_labelled, name_in, path_to, source_of};
+ghost use Rattle.kubecel_cli.specs.Indexed.{IsIndexOf, IsIndexed};
+ghost use Rattle.kubecel_cli.specs.Reports.{entries_in, expression_of, expressions_view, is_labelled, name_of, path_of};
 ghost use Rattle.serde_json.specs.Find.{as_array, get};
 ghost use Rattle.serde_json.specs.View.{items_view, view};
 ghost use Rattle.std.specs.List.{find, position_or_len};
 ghost use Rattle.std.specs.Prelude.{◌≡◌, IfOk, codes, map, option_and_then, option_map, string_bytes};
 
+use kube_manifests_index::Index;
 use kubecel_io::text_at;
 use serde_json::Value;
 use std::alloc::{AllocError, Global};
@@ -39,80 +41,94 @@ impl Expressions {
             None => &[],
         }
     }
+}
 
-    /// Reports whether an entry has this label.
-    fn is_labelled(self, label: &str, entry: &Value) -> bool
-        ensures { result ≡ is_labelled (expressions_view self) label.now (view entry.now) }
-    {
-        text_at(entry, self.label) == label
-    }
+/// The entries of such a list in a policy, with where each label stands first.
+#[derive(Drop)]
+pub(crate) struct Entries<'p> {
+    expressions: Expressions,
+    entries: &'p [Value],
+    /// By an empty text and the label.
+    positions: Index,
+}
 
-    /// Returns the number of the first of these entries with this label, or how many there are.
-    fn number_of(self, label: &str, entries: &[Value]) -> usize
-        ensures { result ≡ position_or_len (is_labelled (expressions_view self) label.now) (map view entries.now) }
+impl<'p> Entries<'p> {
+    /// Finds the entries of such a list in a policy.
+    pub(crate) fn find_in(
+        alloc: Global,
+        expressions: Expressions,
+        policy: &'p Value,
+    ) -> Result<Entries<'p>, AllocError>
+        ensures { IfOk result (IsIndexOf (expressions_view expressions) (view policy.now)) }
     {
+        let entries = expressions.entries_in(policy);
+        let mut positions = Index::new(alloc);
         let mut number = 0usize;
         for entry in entries {
-            if self.is_labelled(label, entry) {
-                return number;
-            }
+            positions.insert_first(alloc, "", text_at(entry, expressions.label), number)?;
             number += 1;
         }
-        number
+        Ok(Entries {
+            expressions,
+            entries,
+            positions,
+        })
     }
 
-    /// Returns the first of these entries with this label, if there is one.
-    fn first_of<'e>(self, label: &str, entries: &'e [Value]) -> Option<&'e Value>
-        ensures { option_map (λ v. view v.now) result
-            ≡ find (is_labelled (expressions_view self) label.now) (map view entries.now) }
+    /// Returns the number of the first entry with this label, or how many entries there are.
+    fn number_of(&self, label: &str) -> usize
+        requires { IsIndexed self.now }
+        ensures { result ≡ position_or_len (is_labelled (expressions_view self.now.expressions) label.now)
+            (map view self.now.entries.now) }
     {
-        for entry in entries {
-            if self.is_labelled(label, entry) {
-                return Some(entry);
-            }
+        match self.positions.get("", label) {
+            Some(number) => number,
+            None => self.entries.len(),
         }
-        None
     }
 
-    /// Returns the name of a policy's entry with this label: the label, or the number of the first such
-    /// entry if the label is its expression.
-    fn name_in(self, alloc: Global, policy: &Value, label: &str) -> Result<String, AllocError>
-        ensures { IfOk result (λ s. string_bytes s
-            ≡ name_in (expressions_view self) (view policy.now) label.now) }
+    /// Returns the first entry with this label, if there is one.
+    fn first_of(&self, label: &str) -> Option<&'p Value>
+        requires { IsIndexed self.now }
+        ensures { option_map (λ v. view v.now) result
+            ≡ find (is_labelled (expressions_view self.now.expressions) label.now) (map view self.now.entries.now) }
     {
-        if self.label != self.expression {
+        let entries = self.entries;
+        entries.get(self.positions.get("", label)?)
+    }
+
+    /// Returns the name of an entry with this label: the label, or the number of the first such entry if
+    /// the label is its expression.
+    fn name_of(&self, alloc: Global, label: &str) -> Result<String, AllocError>
+        requires { IsIndexed self.now }
+        ensures { IfOk result (λ s. string_bytes s
+            ≡ name_of (expressions_view self.now.expressions) (map view self.now.entries.now) label.now) }
+    {
+        if self.expressions.label != self.expressions.expression {
             return String::from_str(alloc, label);
         }
-        let number = self.number_of(label, self.entries_in(policy));
+        let number = self.number_of(label);
         format!(in alloc; "{number}")
     }
 
-    /// Returns the path of a policy's entry with this label.
-    pub(crate) fn path_to(
-        self,
-        alloc: Global,
-        policy: &Value,
-        label: &str,
-    ) -> Result<String, AllocError>
+    /// Returns the path of an entry with this label.
+    pub(crate) fn path_to(&self, alloc: Global, label: &str) -> Result<String, AllocError>
+        requires { IsIndexed self.now }
         ensures { IfOk result (λ s. string_bytes s
-            ≡ path_to (expressions_view self) (view policy.now) label.now) }
+            ≡ path_of (expressions_view self.now.expressions) (map view self.now.entries.now) label.now) }
     {
-        let (list, name) = (self.list, self.name_in(alloc, policy, label)?);
+        let (list, name) = (self.expressions.list, self.name_of(alloc, label)?);
         format!(in alloc; "spec.{list}[{name}]")
     }
 
-    /// Returns the expression of a policy's first entry with this label. Empty if there is none.
-    pub(crate) fn source_of(
-        self,
-        alloc: Global,
-        policy: &Value,
-        label: &str,
-    ) -> Result<String, AllocError>
+    /// Returns the expression of the first entry with this label. Empty if there is none.
+    pub(crate) fn source_of(&self, alloc: Global, label: &str) -> Result<String, AllocError>
+        requires { IsIndexed self.now }
         ensures { IfOk result (λ s. string_bytes s
-            ≡ source_of (expressions_view self) (view policy.now) label.now) }
+            ≡ expression_of (expressions_view self.now.expressions) (map view self.now.entries.now) label.now) }
     {
-        match self.first_of(label, self.entries_in(policy)) {
-            Some(entry) => String::from_str(alloc, text_at(entry, self.expression)),
+        match self.first_of(label) {
+            Some(entry) => String::from_str(alloc, text_at(entry, self.expressions.expression)),
             None => Ok(String::new(alloc)),
         }
     }
