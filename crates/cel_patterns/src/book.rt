@@ -1,6 +1,6 @@
 //! A book of patterns. It builds each pattern once, keeps at most 256 built patterns, and
 //! remembers for each text whether it was accepted.
-ghost use Rattle.std.specs.Prelude.{◌≡◌, ◌≢◌, ◌↔◌, ◌<◌, ◌≤◌, ℕ, is_some, string_bytes, All, IfErr, IfOk, IfSome, IsSome, IsTrue, List, None, Some, false, true, if◌then◌else◌, option_map, vec_len};
+ghost use Rattle.std.specs.Prelude.{◌≡◌, ◌≢◌, ◌↔◌, ◌<◌, ◌≤◌, ℕ, is_some, string_bytes, All, IfErr, IfOk, IfSome, IsSome, IsTrue, List, None, Ok, Some, false, true, if◌then◌else◌, option_map, vec_len};
 ghost use Rattle.cel_patterns.specs.Book.{Extends, found_by, IsBook, IsPlain, IsRefused, IsSpanIn, matched_by, pattern_of_text};
 ghost use Rattle.cel_patterns.specs.Built.{FindsAll, IsFaithful, IsMatchAnswer};
 ghost use Rattle.cel_patterns.specs.Stored.{IsStoredAt};
@@ -136,6 +136,7 @@ impl PatternBook {
         ensures answer { IfOk result (λ found. entries_of self.new pattern.now ≡ Some (is_some found)) }
         ensures slot { IfOk result (λ found.
             IfSome found (λ slot. IsStoredAt self.new.patterns.items slot pattern.now)) }
+        ensures once { entries_of self.old pattern.now ≡ Some false → result ≡ Ok None }
     {
         match self.answers.get(pattern) {
             Some(None) => Ok(None),
@@ -181,6 +182,8 @@ impl PatternBook {
     /// Reports whether the pattern matches anywhere in the
     /// text. Returns `None` if the pattern is refused.
     ///
+    /// A pattern that was refused before isn't built again, and is refused without taking memory.
+    ///
     /// # Errors
     /// Only [`Refused::Memory`], if memory is refused. The book keeps its entries even then.
     pub fn matches(&mut self, pattern: &str, text: &str) -> Result<Option<bool>, Refused>
@@ -193,6 +196,7 @@ impl PatternBook {
             (λ book. matched_by book pattern.now text.now)) }
         ensures refused { IfOk result
             (λ found. (found ≡ None) ↔ IsRefused (entries_of self.new) pattern.now) }
+        ensures once { entries_of self.old pattern.now ≡ Some false → result ≡ Ok None }
         ensures memory { IfErr result (λ e. e ≡ Refused.Memory) }
     {
         match self.ask(pattern)? {
@@ -204,7 +208,8 @@ impl PatternBook {
     /// Returns the byte spans where the pattern matches: the first `limit` of them, or
     /// all. Returns `None` if the pattern is refused.
     ///
-    /// The spans are in order and don't overlap.
+    /// The spans are in order and don't overlap. A pattern that was refused
+    /// before isn't built again, and is refused without taking memory.
     ///
     /// # Errors
     /// Only [`Refused::Memory`], if memory is refused. The book keeps its entries even then.
@@ -224,6 +229,7 @@ impl PatternBook {
         ensures refused { IfOk result
             (λ found. (found ≡ None) ↔ IsRefused (entries_of self.new) pattern.now) }
         ensures within { IfOk result (λ found. IfSome found (λ v. All (IsSpanIn text.now) v.items)) }
+        ensures once { entries_of self.old pattern.now ≡ Some false → result ≡ Ok None }
         ensures memory { IfErr result (λ e. e ≡ Refused.Memory) }
     {
         match self.ask(pattern)? {

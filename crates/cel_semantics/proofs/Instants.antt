@@ -3,10 +3,10 @@ use Rattle.std.proofs.Common.{◌≡◌, ◌↔◌, ℤ, Bool, true, false, cond
 use Rattle.std.proofs.lemmas.Int.{ints}
 use Rattle.cel_value.specs.Data.{Data, timestamp, duration}
 use Rattle.cel_value.specs.Faults.{overflow}
-use Rattle.cel_value_times.specs.Instants.{instant, HasTimestamp}
-use Rattle.cel_value_times.specs.Ranges.{IsDuration, IsNanosecond, local_nanosecond}
-use Rattle.cel_value_times.specs.declared.duration.Duration.{Duration}
-use Rattle.cel_value_times.specs.declared.timestamp.Timestamp.{Timestamp}
+use Rattle.cel_value.specs.Instants.{instant, HasTimestamp}
+use Rattle.cel_value.specs.Ranges.{IsDuration, IsNanosecond, local_nanosecond}
+use Rattle.cel_value.specs.Duration.{Duration}
+use Rattle.cel_value.specs.Timestamp.{Timestamp}
 use Rattle.cel_semantics.specs.Arithmetic.{or_overflow, is_int, is_instant, timestamp_or_overflow, duration_or_overflow}
 use Rattle.cel_semantics.proofs.Numbers.{is_int-fits, is_int-past}
 

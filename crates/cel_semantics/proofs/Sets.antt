@@ -9,14 +9,13 @@ use mathlib.Core.List.{is_set}
 use mathlib.Core.Sum.{⊎_set}
 use Rattle.std.specs.Coded.{Coded-set}
 use Rattle.cel_value.specs.Data.{KeyData, bool_key, int_key, uint_key, text_key, Data, null, bool, int, uint, double, text, bytes, list, map_of, timestamp, duration, optional, ip, cidr, quantity, semver, url, format, Items, no_items, item, Entries, no_entries, entry}
-use Rattle.kube_types_address.specs.Addresses.{Address}
-use Rattle.kube_types_address.specs.Prefixes.{Network}
+use Rattle.kube_types.specs.Addresses.{Address}
+use Rattle.kube_types.specs.Prefixes.{Network}
 use Rattle.kube_types_formats.specs.contracts.kind.FormatKind as format_kind
-use Rattle.kube_types_formats.specs.declared.kind.FormatKind.{FormatKind}
-use Rattle.kube_types_quantity.specs.Decimal.{Decimal}
-use Rattle.kube_types_url.specs.Shown.{Shown}
-use Rattle.semver.specs.Parse.{Parts}
-use Rattle.url.specs.Parts.{parts_code}
+use Rattle.kube_types.specs.FormatKind.{FormatKind}
+use Rattle.kube_types.specs.Quantity.Decimal.{Decimal}
+use Rattle.kube_types.specs.Version.Shown.{Parts}
+use Rattle.kube_types.specs.Url.Shown.{Shown}
 
 -- a type that maps into a set and back is a set
 pub retract_set : {A B : Type 0} (to : A → B) (from : B → A) → ((x : A) → from (to x) ≡ x) → IsSet B → IsSet A
@@ -161,7 +160,7 @@ version_set : IsSet Parts
 version_set = hlevel (ℕ_set, text_set)
 
 shown_set : IsSet Shown
-shown_set = hlevel (Coded-set parts_code, Bool-set)
+shown_set = hlevel (text_set, Bool-set)
 
 format_set : IsSet FormatKind
 format_set = Coded-set (format_kind.the_row).coded

@@ -8,7 +8,7 @@ use Rattle.std.specs.Option.{option_map_or}
 use Rattle.std.specs.Int.RustNames.{int_div, int_rem, unsigned_abs}
 use Rattle.cel_value.specs.Data.{Data, int, uint, text, bytes, list, timestamp, duration, Items, no_items, item}
 use Rattle.cel_value.specs.Faults.{overflow, no_overload, division_by_zero, remainder_by_zero}
-use Rattle.cel_value_times.specs.Ranges.{local_nanosecond}
+use Rattle.cel_value.specs.Ranges.{local_nanosecond}
 use Rattle.cel_semantics.specs.Outcome.{Outcome}
 
 -- the range of an int: from -2^63 to 2^63 - 1

@@ -1,11 +1,12 @@
 //! The functions that an expression may call.
-ghost use Rattle.std.specs.Prelude.{◌≡◌, length, map, option_map, is_some, IfOk};
+ghost use Rattle.std.specs.Prelude.{◌≡◌, ℕ, List, Bool, length, map, option_map, is_some, IfOk};
 ghost use Rattle.cel_patterns.specs.Book.{Extends};
 ghost use Rattle.cel_patterns.specs.Entries.{entries_of};
 ghost use Rattle.cel_patterns.specs.Extensions.{HoldsForExtensions};
 ghost use Rattle.cel_value.specs.View.{view};
 ghost use Rattle.cel_semantics.specs.Library.{Library};
 ghost use Rattle.cel_semantics.specs.Outcome.{outcome_view};
+ghost use Rattle.cel_semantics.specs.declared.functions.Form.TheVariants.{Unknown};
 
 use cel_patterns::PatternBook;
 use cel_value::{ExecutionError, Refused, Value};
@@ -30,6 +31,12 @@ pub trait Functions: Copy {
     ghost library: { Self → Library };
 
     ghost first: { Self };
+
+    /// A name that is unknown in one form (with or without a
+    /// receiver, with some number of arguments) is unknown in every form.
+    ghost names_alone: { (functions : Self) (name : List ℕ) (receiver other : Bool) (count number : ℕ)
+        → (library functions).form_of name receiver count ≡ Unknown
+        → (library functions).form_of name other number ≡ Unknown };
 
     /// The set that a context starts with.
     fn start() -> Self

@@ -15,10 +15,19 @@ const FEW: usize = 16;
 
 /// Names with their values. The first few are in a list, which is
 /// faster than a map as long as there are no others.
-#[derive(Drop)]
 pub struct Names {
     first: Vec<(String, Value)>,
     others: BTreeMap<String, Value>,
+}
+
+// By hand, so that a proof about code that owns one doesn't go through its parts.
+impl Drop for Names {
+    fn drop(self) {
+        let Names {
+            first: _,
+            others: _,
+        } = self;
+    }
 }
 
 impl Names {

@@ -2,7 +2,7 @@
 ghost use Rattle.std.specs.Prelude.{◌≡◌, ◌+ℤ◌, ◌-ℤ◌, IfOk};
 ghost use Rattle.cel_value.specs.Data.{timestamp, duration};
 ghost use Rattle.cel_value.specs.View.{view};
-ghost use Rattle.cel_value_times.specs.Instants.{instant};
+ghost use Rattle.cel_value.specs.Instants.{instant};
 ghost use Rattle.cel_semantics.specs.Arithmetic.{or_overflow, timestamp_or_overflow, duration_or_overflow, sum_of, difference_of};
 ghost use Rattle.cel_semantics.specs.Outcome.{outcome_view};
 

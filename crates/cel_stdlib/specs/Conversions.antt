@@ -11,8 +11,8 @@ use Rattle.std.specs.Str.Lossy.{utf8_lossy}
 use Rattle.std.specs.Str.Parse.{digits_value, signed_digits_value, without_leading_plus, without_leading_sign}
 use Rattle.cel_value.specs.Data.{Data, int, uint, text, bytes, timestamp, duration}
 use Rattle.cel_value.specs.Faults.{Fault, no_overload, overflow, function_error}
-use Rattle.cel_value_times.specs.DurationTexts.{duration_text}
-use Rattle.cel_value_times.specs.TextFunctions as times
+use Rattle.cel_value.specs.DurationTexts.{duration_text}
+use Rattle.cel_value.specs.TextFunctions as times
 use Rattle.cel_semantics.specs.Arithmetic.{is_int, int_or_overflow}
 use Rattle.cel_semantics.specs.Outcome.{Outcome}
 

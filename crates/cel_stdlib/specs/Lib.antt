@@ -5,3 +5,4 @@ pub mod Optionals
 pub mod Extremes
 pub mod Table
 pub mod Standard
+pub mod Names

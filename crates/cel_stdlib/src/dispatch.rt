@@ -8,6 +8,7 @@ ghost use Rattle.cel_value.specs.Faults.{no_overload};
 ghost use Rattle.cel_value.specs.View.{view, items_view};
 ghost use Rattle.cel_semantics.specs.Members.{nth_item};
 ghost use Rattle.cel_semantics.specs.Outcome.{outcome_view};
+ghost use Rattle.cel_stdlib.specs.Names.{standard_unknown};
 ghost use Rattle.cel_stdlib.specs.Standard as spec;
 ghost use Rattle.cel_stdlib.specs.Table.{function_named};
 
@@ -183,6 +184,8 @@ impl Functions for StandardFunctions {
     ghost library = { λ _. spec.standard_library };
 
     ghost first = { record {} };
+
+    ghost names_alone = { λ _. standard_unknown };
 
     fn start() -> StandardFunctions {
         StandardFunctions

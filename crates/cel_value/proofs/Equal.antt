@@ -5,32 +5,30 @@ use Rattle.std.proofs.lemmas.Cmp.{eq_by_cmp_equiv}
 use Rattle.std.proofs.lemmas.Int.{ints}
 use Rattle.std.proofs.lemmas.Grind.{common_steps}
 use Rattle.std.specs.Cmp.{IsEquivalence, both_ways, Equal-is, int_eq_equiv, first_so, second_so}
-use Rattle.std.specs.Cmp.Lexicographic.{pointwise, nat_list_eq_equiv}
+use Rattle.std.specs.Cmp.Lexicographic.{pointwise, nat_list_eq_equiv, same_text}
 use Rattle.std.specs.FinMap.{int_cmp-IsAntisymmetric}
 use Rattle.std.specs.Ordering.{int_cmp, int_eq, eq_by_cmp}
 use Rattle.std.specs.Prelude.{nat_eq}
 use denote.Enum.Bare.{sameb, same_true, true_same}
 use mathlib.Core.Bool.{beq}
-use Rattle.kube_types_address.specs.Addresses.{Address, four, six}
-use Rattle.kube_types_address.specs.Prefixes.{Network}
+use Rattle.kube_types.specs.Addresses.{Address, four, six}
+use Rattle.kube_types.specs.Prefixes.{Network}
 use Rattle.kube_types_formats.proofs.KindLemmas.{names_apart}
-use Rattle.kube_types_formats.specs.Formats.{name_of}
+use Rattle.kube_types.specs.Formats.{name_of}
 use Rattle.kube_types_formats.specs.contracts.kind.FormatKind.{the_type}
-use Rattle.kube_types_formats.specs.declared.kind.FormatKind.{FormatKind}
-use Rattle.kube_types_quantity.proofs.Forms.{normal_form-normal, normal_form-same}
-use Rattle.kube_types_quantity.specs.Decimal.{Decimal, SameNumber, decimal_cmp}
-use Rattle.kube_types_quantity.specs.Normal.{normal_form}
-use Rattle.kube_types_quantity.specs.NormalLaws.{normal_unique}
-use Rattle.kube_types_quantity.specs.OrderLaws.{tied_same, same_tied}
-use Rattle.kube_types_quantity.specs.Scales.{decimal_cmp_total}
-use Rattle.kube_types_quantity.specs.Shown.{number}
-use Rattle.kube_types_quantity.specs.declared.quantity.KubeQuantity.{KubeQuantity}
-use Rattle.kube_types_semver.specs.Order.{same_parts}
-use Rattle.kube_types_url.specs.Equality.{same_url}
-use Rattle.kube_types_url.specs.Shown.{Shown}
-use Rattle.semver.specs.OrderLaws.{same_text}
-use Rattle.semver.specs.Parse.{Parts}
-use Rattle.url.specs.Parts.{serialize}
+use Rattle.kube_types.specs.FormatKind.{FormatKind}
+use Rattle.kube_types.proofs.Quantity.Forms.{normal_form-normal, normal_form-same}
+use Rattle.kube_types.specs.Quantity.Decimal.{Decimal, SameNumber, decimal_cmp}
+use Rattle.kube_types.specs.Quantity.Normal.{normal_form}
+use Rattle.kube_types.specs.Quantity.NormalLaws.{normal_unique}
+use Rattle.kube_types.specs.Quantity.OrderLaws.{tied_same, same_tied}
+use Rattle.kube_types.specs.Quantity.Scales.{decimal_cmp_total}
+use Rattle.kube_types.specs.Quantity.Shown.{number}
+use Rattle.kube_types.specs.declared.quantities.quantity.KubeQuantity.{KubeQuantity}
+use Rattle.kube_types.specs.Version.Order.{same_parts}
+use Rattle.kube_types.specs.Version.Shown.{Parts}
+use Rattle.kube_types.specs.Url.Equality.{same_url}
+use Rattle.kube_types.specs.Url.Shown.{Shown}
 use Rattle.cel_value.specs.Data.{Data, map_of, ip, cidr, quantity, semver, url, format, Entries}
 use Rattle.cel_value.specs.Parts.{entries_in, quantity_in, semver_in, url_in, format_in}
 use Rattle.cel_value.specs.Same.{same, same_shapes, entry_shapes, bool_number, amount}
@@ -99,13 +97,13 @@ path_tests true true true = refl
 pub same_urls : (u : Shown) (b : Data) (w : Shown) → Some w ≡ url_in b → same (url u) b ≡ same_url u w
 same_urls u (url v) w h =
     let held : v ≡ w = cc in
-    ap (λ p. same (url u) (url p)) held ∙ path_tests u.1 w.1 (pointwise nat_eq (serialize u.0) (serialize w.0))
+    ap (λ p. same (url u) (url p)) held ∙ path_tests u.is_path w.is_path (pointwise nat_eq u.text w.text)
 same_urls u _ w h = grind arith
 
 -- formats differ exactly if their names do
 pub same_names : (f g : FormatKind) → pointwise nat_eq (name_of f) (name_of g) ≡ sameb the_type f g
 same_names f g = both_ways (pointwise nat_eq (name_of f) (name_of g)) (sameb the_type f g)
-    (λ e. true_same the_type f g (names_apart f g (same_text (name_of f) (name_of g) e)))
+    (λ e. true_same the_type f g (names_apart f g (same_text (name_of f) (name_of g) (sym e))))
     (λ e. ap (λ k. pointwise nat_eq (name_of f) (name_of k)) (sym (same_true the_type (search rules) f g e)) ∙ nat_list_eq_equiv.refl (name_of f))
 
 pub same_formats : (f : FormatKind) (b : Data) (g : FormatKind) → Some g ≡ format_in b → same (format f) b ≡ sameb the_type f g
@@ -152,10 +150,10 @@ quantities_by_number x y =
     )
 
 same_address : (a b : Address) → same (ip a) (ip b) ≡ true → a ≡ b
-same_address (four s) (four t) e = ap four (same_text s t e)
+same_address (four s) (four t) e = ap four (same_text s t (sym e))
 same_address (four s) (six t) e = absurd (false≢true e)
 same_address (six s) (four t) e = absurd (false≢true e)
-same_address (six s) (six t) e = ap six (same_text s t e)
+same_address (six s) (six t) e = ap six (same_text s t (sym e))
 
 pub addresses_by_parts : (a b : Address) → (same (ip a) (ip b) ≡ true) ↔ (a ≡ b)
 addresses_by_parts a b = (same_address a b, (λ e. ap (λ x. same (ip a) (ip x)) (sym e) ∙ same-equiv.refl (ip a)))

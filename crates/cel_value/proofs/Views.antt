@@ -2,10 +2,10 @@
 use Rattle.std.proofs.Common.{◌≡◌, refl}
 use Rattle.cel_value.specs.Data.{list, map_of, optional, quantity, semver, url, format}
 use Rattle.cel_value.specs.View.{view}
-use Rattle.kube_types_formats.specs.Formats.{kind_of}
-use Rattle.kube_types_quantity.specs.Shown.{number}
-use Rattle.kube_types_semver.specs.Shown.{parts}
-use Rattle.kube_types_url.specs.Shown.{url_view}
+use Rattle.kube_types.specs.Formats.{kind_of}
+use Rattle.kube_types.specs.Quantity.Shown.{number}
+use Rattle.kube_types.specs.Version.Shown.{parts}
+use Rattle.kube_types.specs.Url.Shown.{url_view}
 use Rattle.cel_value.specs.declared.value.Value.TheVariants as value
 
 pub view_list : (v : _) → view (value.List v) ≡ list v.value

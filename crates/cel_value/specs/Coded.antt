@@ -2,12 +2,12 @@
 -- Lists and maps as a flat list of marks, from which they can be restored.
 use Rattle.std.specs.Prelude.{ℕ, ℤ, List, [], ◌∷◌, ◌≡◌, Bool, refl}
 use Rattle.std.specs.Coded.{Coded, codes, code_by}
-use Rattle.kube_types_address.specs.Addresses.{Address}
-use Rattle.kube_types_address.specs.Prefixes.{Network}
-use Rattle.kube_types_formats.specs.declared.kind.FormatKind.{FormatKind}
-use Rattle.kube_types_quantity.specs.Decimal.{Decimal}
-use Rattle.kube_types_url.specs.Shown.{Shown}
-use Rattle.semver.specs.Parse.{Parts}
+use Rattle.kube_types.specs.Addresses.{Address}
+use Rattle.kube_types.specs.Prefixes.{Network}
+use Rattle.kube_types.specs.FormatKind.{FormatKind}
+use Rattle.kube_types.specs.Quantity.Decimal.{Decimal}
+use Rattle.kube_types.specs.Version.Shown.{Parts}
+use Rattle.kube_types.specs.Url.Shown.{Shown}
 use Rattle.cel_value.specs.Data.{KeyData, Data, null, bool, int, uint, double, text, bytes, list, map_of, timestamp, duration, optional, ip, cidr, quantity, semver, url, format, Items, no_items, item, Entries, no_entries, entry}
 
 -- a mark: a value without parts, or one made of the parts that follow

@@ -1,12 +1,12 @@
 -- Trusted by the headline.
 -- Values and keys as contracts see them.
 use Rattle.std.specs.Prelude.{ℕ, ℤ, List, Bool}
-use Rattle.kube_types_address.specs.Addresses.{Address}
-use Rattle.kube_types_address.specs.Prefixes.{Network}
-use Rattle.kube_types_formats.specs.declared.kind.FormatKind.{FormatKind}
-use Rattle.kube_types_quantity.specs.Decimal.{Decimal}
-use Rattle.kube_types_url.specs.Shown.{Shown}
-use Rattle.semver.specs.Parse.{Parts}
+use Rattle.kube_types.specs.Addresses.{Address}
+use Rattle.kube_types.specs.Prefixes.{Network}
+use Rattle.kube_types.specs.FormatKind.{FormatKind}
+use Rattle.kube_types.specs.Quantity.Decimal.{Decimal}
+use Rattle.kube_types.specs.Version.Shown.{Parts}
+use Rattle.kube_types.specs.Url.Shown.{Shown}
 
 pub data KeyData : Type 0 where
   bool_key : Bool → KeyData
@@ -36,7 +36,7 @@ mutual
     cidr : Network → Data
     quantity : Decimal → Data
     semver : Parts → Data
-    -- its parts, and whether it was read from a path
+    -- its text, its parts, and whether it was read from a path
     url : Shown → Data
     format : FormatKind → Data
 

@@ -1,3 +1,11 @@
+pub use Rattle.cel_value_times.specs.Digits
+pub use Rattle.cel_value_times.specs.DurationTexts
+pub use Rattle.cel_value_times.specs.Instants
+pub use Rattle.cel_value_times.specs.Ranges
+pub use Rattle.cel_value_times.specs.TextFunctions
+pub use Rattle.cel_value_times.specs.TimestampTexts
+pub use Rattle.cel_value_times.specs.declared.duration.Duration
+pub use Rattle.cel_value_times.specs.declared.timestamp.Timestamp
 pub mod Blocks
 pub mod Coded
 pub mod Data

@@ -2,12 +2,12 @@
 -- The contents of values of one kind.
 use Rattle.std.specs.Prelude.{ℕ, ℤ, pos, List, Bool, Option, None, Some}
 use Rattle.cel_value.specs.Data.{Data, bool, int, uint, text, bytes, list, map_of, timestamp, duration, optional, ip, cidr, quantity, semver, url, format, Items, Entries}
-use Rattle.kube_types_address.specs.Addresses.{Address}
-use Rattle.kube_types_address.specs.Prefixes.{Network}
-use Rattle.kube_types_formats.specs.declared.kind.FormatKind.{FormatKind}
-use Rattle.kube_types_quantity.specs.Decimal.{Decimal}
-use Rattle.kube_types_url.specs.Shown.{Shown}
-use Rattle.semver.specs.Parse.{Parts}
+use Rattle.kube_types.specs.Addresses.{Address}
+use Rattle.kube_types.specs.Prefixes.{Network}
+use Rattle.kube_types.specs.FormatKind.{FormatKind}
+use Rattle.kube_types.specs.Quantity.Decimal.{Decimal}
+use Rattle.kube_types.specs.Version.Shown.{Parts}
+use Rattle.kube_types.specs.Url.Shown.{Shown}
 
 -- the number of an int or a uint
 abbrev pub number_in : Data → Option ℤ

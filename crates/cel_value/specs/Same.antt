@@ -7,12 +7,11 @@ use Rattle.std.specs.Prelude.{ℕ, ℤ, pos, ◌&&◌, ◌==◌, List, [], ◌�
 use Rattle.std.specs.declared.cmp.Ordering.{Ordering}
 use Rattle.std.specs.Ordering.{int_eq, int_cmp, nat_cmp, eq_by_cmp, ordering_then}
 use Rattle.std.specs.Cmp.Lexicographic.{slice_cmp, pointwise}
-use Rattle.kube_types_address.specs.Addresses.{Address, four, six, family}
-use Rattle.kube_types_formats.specs.Formats.{name_of}
-use Rattle.kube_types_quantity.specs.Decimal.{Decimal}
-use Rattle.kube_types_quantity.specs.Normal.{normal_form}
-use Rattle.semver.specs.Parse.{Parts}
-use Rattle.url.specs.Parts.{serialize}
+use Rattle.kube_types.specs.Addresses.{Address, four, six, family}
+use Rattle.kube_types.specs.Formats.{name_of}
+use Rattle.kube_types.specs.Quantity.Decimal.{Decimal}
+use Rattle.kube_types.specs.Quantity.Normal.{normal_form}
+use Rattle.kube_types.specs.Version.Shown.{Parts}
 use Rattle.cel_value.specs.Data.{KeyData, Data, null, bool, int, uint, double, text, bytes, list, map_of, timestamp, duration, optional, ip, cidr, quantity, semver, url, format, Items, no_items, item, Entries, no_entries, entry}
 use Rattle.cel_value.specs.Keys.{key_order}
 use Rattle.cel_value.specs.declared.kind.Kind.{Kind}
@@ -68,7 +67,7 @@ abbrev mutual
   shape (ip a) = leaf 12 (pos (family a) ∷ []) (address_parts a)
   shape (cidr c) = leaf 13 (pos (family c.ip) ∷ pos c.prefix ∷ []) (address_parts c.ip)
   shape (semver v) = version_shape v
-  shape (url u) = leaf 15 (bool_number u.1 ∷ []) (serialize u.0)
+  shape (url u) = leaf 15 (bool_number u.is_path ∷ []) u.text
   shape (format f) = leaf 16 [] (name_of f)
 
   pub shapes : Items → Shapes

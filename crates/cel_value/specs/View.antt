@@ -12,12 +12,12 @@ use Rattle.cel_value.specs.declared.value.Held.{Held}
 use Rattle.cel_value.specs.declared.value.Value.{Value}
 use Rattle.cel_value.specs.declared.value.Value.TheVariants as value
 use Rattle.cel_value_times.specs.Instants.{instant}
-use Rattle.kube_types_address.specs.Networks.{network}
-use Rattle.kube_types_address.specs.Shown.{address}
-use Rattle.kube_types_formats.specs.Formats as formats
-use Rattle.kube_types_quantity.specs.Shown.{number}
-use Rattle.kube_types_semver.specs.Shown.{parts}
-use Rattle.kube_types_url.specs.Shown.{url_view}
+use Rattle.kube_types.specs.Networks.{network}
+use Rattle.kube_types.specs.Shown.{address}
+use Rattle.kube_types.specs.Formats as formats
+use Rattle.kube_types.specs.Quantity.Shown.{number}
+use Rattle.kube_types.specs.Version.Shown.{parts}
+use Rattle.kube_types.specs.Url.Shown.{url_view}
 
 abbrev pub items_of : List Data → Items
 items_of [] = no_items

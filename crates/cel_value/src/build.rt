@@ -11,7 +11,7 @@ use crate::error::ExecutionError;
 use crate::key::Key;
 use crate::string::Text;
 use crate::value::{Entries, List, Map, SharedEntries, Value};
-use kube_types_refused::Refused;
+use kube_types::Refused;
 use std::alloc::Global;
 use std::rc::Rc;
 

@@ -6,7 +6,7 @@ ghost use Rattle.cel_value.specs.Keys.{key_view};
 use crate::key::Key;
 use crate::kind::Kind;
 use crate::value::Value;
-use kube_types_refused::Refused;
+use kube_types::Refused;
 
 impl Key {
     /// Returns a copy of the key. Its text is shared if it is long, so it allocates nothing.

@@ -1,9 +1,11 @@
 //! The errors of an execution.
 use crate::key::Key;
-use kube_types_refused::Refused;
+use kube_types::Refused;
 
 /// Why an expression has no value. The display text is fixed and says no more than this.
-#[derive(Debug, Drop)]
+///
+/// Two errors are equal if they are of the same variant and their parts are equal.
+#[derive(Debug, Drop, PartialEq, Eq)]
 pub enum ExecutionError {
     /// A name isn't declared.
     UndeclaredReference(String),

@@ -42,7 +42,7 @@ pub use cel_value_times::{Duration, Timestamp, laws as time_laws};
 pub use error::ExecutionError;
 pub use key::Key;
 pub use kind::Kind;
-pub use kube_types_refused::Refused;
+pub use kube_types::Refused;
 pub use string::Text;
 pub use value::{
     Entries, List, MAX_VALUE_LEVELS, Map, MapKeys, MapRows, OptionalValue, SharedEntries, Value,

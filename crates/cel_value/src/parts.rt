@@ -3,20 +3,16 @@ ghost use Rattle.std.specs.Prelude.{◌≡◌, option_map};
 ghost use Rattle.cel_value.specs.View.{view};
 ghost use Rattle.cel_value.specs.Parts.{number_in, int_in, uint_in, bool_in, text_in, bytes_in, items_in, entries_in, held_in, timestamp_in, duration_in, ip_in, cidr_in, quantity_in, semver_in, url_in, format_in};
 ghost use Rattle.cel_value_times.specs.Instants.{instant};
-ghost use Rattle.kube_types_address.specs.Networks.{network};
-ghost use Rattle.kube_types_address.specs.Shown.{address};
-ghost use Rattle.kube_types_formats.specs.Formats.{kind_of};
-ghost use Rattle.kube_types_quantity.specs.Shown.{number};
-ghost use Rattle.kube_types_semver.specs.Shown.{parts};
-ghost use Rattle.kube_types_url.specs.Shown.{url_view};
+ghost use Rattle.kube_types.specs.Networks.{network};
+ghost use Rattle.kube_types.specs.Shown.{address};
+ghost use Rattle.kube_types.specs.Formats.{kind_of};
+ghost use Rattle.kube_types.specs.Quantity.Shown.{number};
+ghost use Rattle.kube_types.specs.Version.Shown.{parts};
+ghost use Rattle.kube_types.specs.Url.Shown.{url_view};
 
 use crate::value::{List, Map, OptionalValue, Value};
 use cel_value_times::{Duration, Timestamp};
-use kube_types_address::{KubeCIDR, KubeIP};
-use kube_types_formats::KubeFormat;
-use kube_types_quantity::KubeQuantity;
-use kube_types_semver::KubeSemver;
-use kube_types_url::KubeUrl;
+use kube_types::{KubeCIDR, KubeFormat, KubeIP, KubeQuantity, KubeSemver, KubeUrl};
 
 impl Value {
     /// The value as a bool.

@@ -38,9 +38,15 @@ enum Stored {
 }
 
 /// The text of a string: up to 14 bytes are held in the value itself, more are shared.
-#[derive(Drop)]
 pub struct Text {
     stored: Stored,
+}
+
+// By hand, so that a proof about code that owns one doesn't go through its parts.
+impl Drop for Text {
+    fn drop(self) {
+        let Text { stored: _ } = self;
+    }
 }
 
 // A text is moved as two words.

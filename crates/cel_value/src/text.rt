@@ -9,7 +9,7 @@ use crate::error::ExecutionError;
 use crate::key::Key;
 use crate::kind::Kind;
 use crate::value::{List, Map, Value};
-use kube_types_refused::Refused;
+use kube_types::Refused;
 use std::alloc::{AllocError, Global};
 use std::fmt;
 use std::fmt::Write;

@@ -19,11 +19,7 @@ mod stored;
 use crate::key::Key;
 use crate::string::Text;
 use cel_value_times::{Duration, Timestamp};
-use kube_types_address::{KubeCIDR, KubeIP};
-use kube_types_formats::KubeFormat;
-use kube_types_quantity::KubeQuantity;
-use kube_types_semver::KubeSemver;
-use kube_types_url::KubeUrl;
+use kube_types::{KubeCIDR, KubeFormat, KubeIP, KubeQuantity, KubeSemver, KubeUrl};
 use std::alloc::AllocError;
 use std::collections::BTreeMap;
 use std::fmt;
@@ -86,12 +82,24 @@ pub struct SharedEntries {
 }
 
 /// The items of a list.
-#[derive(Debug, Drop)]
+#[derive(Debug)]
 #[cycle(values)]
 pub struct List {
     items: Vec<Value>,
     doubles: bool,
     levels: u16,
+}
+
+// By hand, so that the drop of values is proved once, here, and not again in each crate above.
+impl Drop for List {
+    #[cycle(values)]
+    fn drop(self) {
+        let List {
+            items: _,
+            doubles: _,
+            levels: _,
+        } = self;
+    }
 }
 
 /// Whether a map has a double, at any depth, and how many levels it has.

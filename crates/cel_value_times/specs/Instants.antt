@@ -1,4 +1,4 @@
--- Trusted by the headline.
+-- Trusted by the clauses of policies.
 -- Timestamps as contracts see them: the instant, and the time that the local clock shows.
 use Rattle.std.specs.Prelude.{ℤ, pos, ◌+ℤ◌, ◌*ℤ◌}
 use Rattle.cel_value_times.specs.declared.timestamp.Timestamp.{Timestamp}

@@ -1,5 +1,5 @@
 -- Dotted names: the parser takes exactly those of the table as one name.
-use Rattle.cel_syntax_nodes.specs.Calls.{functions_of, is_qualified}
+use Rattle.cel_syntax_ast.specs.Calls.{functions_of, is_qualified}
 use Rattle.kube_functions.specs.Table.{function_named, globals, methods}
 use Rattle.kube_functions.specs.declared.functions.Declaration.{Declaration}
 use Rattle.std.proofs.Common.{◌≡◌, ℕ, Bool, true, false, cond, ◌&&◌, ◌||◌, List, [], ◌∷◌, ◌++◌, Option, Some, None, refl, sym, ap, ◌∙◌}

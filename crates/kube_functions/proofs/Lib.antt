@@ -2,5 +2,4 @@ pub mod Alike
 pub mod Dotted
 pub mod Forms
 pub mod Kept
-pub mod Names
 pub mod UnderBooks

@@ -1,3 +1,7 @@
+pub use Rattle.kube_functions_strings.specs.Operands as StringsOperands
+pub use Rattle.kube_functions_strings.specs.Regex as StringsRegex
+pub use Rattle.kube_functions_types.specs.NamedFormat
+pub use Rattle.kube_functions_types.specs.Strings as TypesStrings
 pub mod Operands
 pub mod Overloads
 pub mod Strings
@@ -14,3 +18,4 @@ pub mod Format
 pub mod Table
 pub mod Calls
 pub mod Kube
+pub mod Names

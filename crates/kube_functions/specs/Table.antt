@@ -7,8 +7,8 @@ use Rattle.std.specs.List.{filter}
 use Rattle.std.specs.Map.{lookup}
 use Rattle.std.specs.Option.{option_map_or}
 use Rattle.std.specs.Str.{bytes_eq}
-use Rattle.kube_types_formats.specs.declared.kind.FormatKind.{FormatKind}
-use Rattle.kube_types_formats.specs.declared.kind.FormatKind.TheVariants as kind
+use Rattle.kube_types.specs.FormatKind.{FormatKind}
+use Rattle.kube_types.specs.FormatKind.TheVariants as kind
 use Rattle.kube_functions.specs.declared.functions.Declaration.{Declaration}
 use Rattle.kube_functions.specs.declared.functions.Function.{Function}
 use Rattle.kube_functions.specs.declared.functions.Function.TheVariants.{Strings, Lists, Math, Sets, Encoders, Regex, Net, Semver, Quantity, Url, Format}

@@ -6,7 +6,7 @@ ghost use Rattle.cel_semantics.specs.Meaning.{meaning};
 ghost use Rattle.cel_semantics.specs.declared.functions.Form.TheVariants.{Known, Unknown};
 ghost use Rattle.cel_stdlib.specs.Standard.{standard_library};
 ghost use Rattle.cel_syntax_ast.specs.Term.{Term};
-ghost use Rattle.cel_syntax_nodes.specs.Calls.{is_qualified};
+ghost use Rattle.cel_syntax_ast.specs.Calls.{is_qualified};
 ghost use Rattle.cel_value.specs.Data.{Data};
 ghost use Rattle.kube_functions.specs.Kube.{all_library, kube_library};
 ghost use Rattle.kube_functions.specs.Overloads.{address_operand, is_address};

@@ -7,6 +7,7 @@ ghost use Rattle.cel_value.specs.View.{view};
 ghost use Rattle.cel_semantics.specs.Outcome.{outcome_view};
 ghost use Rattle.cel_stdlib.specs.Table.{function_named};
 ghost use Rattle.kube_functions.specs.Kube as spec;
+ghost use Rattle.kube_functions.specs.Names.{kube_unknown, unknown_by_name};
 
 use crate::calls::answer_of;
 use crate::functions::takes;
@@ -125,6 +126,8 @@ impl Functions for AllFunctions {
 
     ghost first = { record {} };
 
+    ghost names_alone = { λ _. kube_unknown };
+
     fn start() -> AllFunctions {
         AllFunctions
     }
@@ -159,6 +162,8 @@ impl Functions for KubeFunctions {
     ghost library = { spec.kube_library };
 
     ghost first = { KubeFunctions.Standard };
+
+    ghost names_alone = { unknown_by_name };
 
     fn start() -> KubeFunctions {
         KubeFunctions::Standard

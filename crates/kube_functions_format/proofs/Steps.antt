@@ -10,7 +10,7 @@ use Rattle.cel_value.specs.declared.error.ExecutionError.{ExecutionError}
 use Rattle.cel_value.specs.declared.value.Value.{Value}
 use Rattle.cel_semantics.specs.Ranges.{items_list}
 use Rattle.cel_semantics.proofs.Lookups.{items_list-items_of}
-use Rattle.kube_types_refused.specs.declared.Refused.{Refused}
+use Rattle.kube_types.specs.Refused.{Refused}
 use Rattle.kube_functions_format.specs.Formatted.{before, text_of_pieces}
 use Rattle.kube_functions_format.specs.Pieces.{pieces}
 use Rattle.kube_functions_format.specs.Progress.{written_on, unless_fault, shown_view}

@@ -1,5 +1,5 @@
 -- Looking values up by their keys.
-use Rattle.std.proofs.Common.{◌≡◌, ℕ, List, [], ◌∷◌, ◌++◌, Bool, true, false, cond, ◌&&◌, ◌||◌, Some, None, is_some, map, refl, ap, sym, ◌∙◌, ◌+◌, ◌<◌, ◌≤◌, drop, length, get_or}
+use Rattle.std.proofs.Common.{◌≡◌, ℕ, Bool, true, false, cond, ◌&&◌, ◌||◌, Some, None, is_some, refl, ap, sym, ◌∙◌}
 use Rattle.std.specs.Prelude.{◌==◌, nat_lt}
 use Rattle.std.specs.BTreeSet.{BTreeSet, Updates}
 use Rattle.std.specs.Cmp.Lexicographic.{texts_ties}
@@ -12,14 +12,10 @@ use Rattle.cel_value.specs.Data.{KeyData, bool_key, int_key, uint_key, text_key,
 use Rattle.cel_value.specs.Keys.{key_view, key_order}
 use Rattle.cel_value.specs.Same.{Shape, shape_of, shape, class_of, same, same_shape}
 use Rattle.cel_value.specs.SameLaws.{same-equiv}
-use Rattle.cel_value.specs.View.{view}
 use Rattle.cel_value.specs.declared.key.Key.{Key}
-use Rattle.cel_value.specs.declared.value.Value.{Value}
 use Rattle.cel_semantics.specs.Members.{key_of}
-use Rattle.kube_functions_lists.specs.Keyed.{key_data, key_cmp, has_key, HasKeysOf, AddsKeyOf}
-use Rattle.kube_functions_lists.specs.Lists.{with_new}
-use Rattle.kube_functions_lists.specs.Sets.{is_in}
-use Rattle.kube_functions_lists.proofs.Distinct.{among_same, among_more, rest_is, drop_past}
+use Rattle.kube_functions_lists.specs.Hashed.{or_same}
+use Rattle.kube_functions_lists.specs.Keyed.{key_data, key_cmp, has_key, HasKeysOf}
 
 -- ---- equality of keys
 
@@ -123,10 +119,6 @@ its_key k d h = ap (λ o. option_map_or key_data o d) h ∙ key_back d
 
 -- ---- one more value
 
-or_true : (a : Bool) → (a || true) ≡ true
-or_true true = refl
-or_true false = refl
-
 or_false : (a : Bool) → (a || false) ≡ a
 or_false true = refl
 or_false false = refl
@@ -137,55 +129,21 @@ or_cond true false = refl
 or_cond false true = refl
 or_cond false false = refl
 
-among_new : (ds : List Data) (x e : Data) → is_in (with_new ds x) e ≡ (is_in ds e || same e x)
-among_new ds x e = at (is_in ds x) refl (same e x) refl
-  where
-    at : (b : Bool) → is_in ds x ≡ b → (c : Bool) → same e x ≡ c → is_in (with_new ds x) e ≡ (is_in ds e || same e x)
-    at true h true k = ap (λ b. is_in (cond b ds (ds ++ x ∷ [])) e) h ∙ among_same e x k ds ∙ h ∙ sym (or_true (is_in ds e)) ∙ ap (λ b. is_in ds e || b) (sym k)
-    at true h false k = ap (λ b. is_in (cond b ds (ds ++ x ∷ [])) e) h ∙ sym (or_false (is_in ds e)) ∙ ap (λ b. is_in ds e || b) (sym k)
-    at false h c k = ap (λ b. is_in (cond b ds (ds ++ x ∷ [])) e) h ∙ among_more ds x e
-
-pub key_put : (s n : BTreeSet Key) (k : Key) (d : Data) → Some (key_view k) ≡ key_of d → Updates key_cmp s n k true → AddsKeyOf s n d
-key_put s n k d is up q =
+-- a key that was put into the set
+pub key_put : (s n : BTreeSet Key) (k : Key) (d : Data) → Some (key_view k) ≡ key_of d → Updates key_cmp s n k true
+    → (test : Data → Bool) → HasKeysOf s test → HasKeysOf n (or_same test d)
+key_put s n k d is up test has q =
     up.0 q ∙ or_cond (eq_by_cmp key_order (key_view k) (key_view q)) (has_key s q)
     ∙ ap (λ b. has_key s q || b)
     (sym (same_keys (key_view k) (key_view q)) ∙ ap (λ e. same e (key_data (key_view q))) (its_key (key_view k) d is) ∙ same-equiv.symm d (key_data (key_view q)))
+    ∙ ap (λ b. b || same (key_data (key_view q)) d) (has q)
 
-pub no_key_put : (s : BTreeSet Key) (d : Data) → None ≡ key_of d → AddsKeyOf s s d
-no_key_put s d is q = sym (ap (λ b. has_key s q || b) (no_key (key_view q) d is) ∙ or_false (has_key s q))
+-- a value that can't be a key
+pub no_key_put : (s : BTreeSet Key) (d : Data) → None ≡ key_of d → (test : Data → Bool) → HasKeysOf s test → HasKeysOf s (or_same test d)
+no_key_put s d is test has q =
+    has q ∙ sym (ap (λ b. test (key_data (key_view q)) || b) (no_key (key_view q) d is) ∙ or_false (test (key_data (key_view q))))
 
-put_new : (s n : BTreeSet Key) (ds : List Data) (d : Data) → HasKeysOf s ds → AddsKeyOf s n d → HasKeysOf n (with_new ds d)
-put_new s n ds d h more q = more q ∙ ap (λ b. b || same (key_data (key_view q)) d) (h q) ∙ sym (among_new ds d (key_data (key_view q)))
-
-pub key_added : (s n : BTreeSet Key) (ds : List Data) (k : Key) (d : Data) → HasKeysOf s ds → Some (key_view k) ≡ key_of d → Updates key_cmp s n k true → HasKeysOf n (with_new ds d)
-key_added s n ds k d h is up = put_new s n ds d h (key_put s n k d is up)
-
-pub no_key_added : (s : BTreeSet Key) (ds : List Data) (d : Data) → HasKeysOf s ds → None ≡ key_of d → HasKeysOf s (with_new ds d)
-no_key_added s ds d h is = put_new s s ds d h (no_key_put s d is)
-
-pub none_kept : (s : BTreeSet Key) (vs : List Value) → s.keys ≡ [] → vs ≡ [] → HasKeysOf s (map view vs)
-none_kept s vs h k q = rw (h, k) refl
-
--- ---- the keys of all items
-
-or_assoc : (a b c : Bool) → ((a || b) || c) ≡ (a || (b || c))
-or_assoc true b c = refl
-or_assoc false b c = refl
-
--- the keys found so far, together with the remaining items, make up the list
-abbrev pub HasRest : BTreeSet Key → List Data → List Data → Type 0
-HasRest s all rest = (k : Key) → (has_key s k || is_in rest (key_data (key_view k))) ≡ is_in all (key_data (key_view k))
-
-pub none_taken : (s : BTreeSet Key) (vs : List Value) → s.keys ≡ [] → HasRest s (map view vs) (map view vs)
-none_taken s vs h k = rw h refl
-
-pub one_taken : (s n : BTreeSet Key) (all : List Data) (xs : List Value) (i : ℕ) (x : Value) → i < length xs → x ≡ get_or xs i x → AddsKeyOf s n (view x)
-    → HasRest s all (map view (drop i xs)) → HasRest n all (map view (drop (i + 1) xs))
-one_taken s n all xs i x lt is more h k =
-    ap (λ b. b || is_in (map view (drop (i + 1) xs)) (key_data (key_view k))) (more k)
-    ∙ or_assoc (has_key s k) (same (key_data (key_view k)) (view x)) (is_in (map view (drop (i + 1) xs)) (key_data (key_view k)))
-    ∙ ap (λ ys. has_key s k || is_in (map view ys) (key_data (key_view k))) (sym (rest_is xs i x lt is)) ∙ h k
-
-pub all_taken : (s : BTreeSet Key) (all : List Data) (xs : List Value) (i : ℕ) → length xs ≤ i → HasRest s all (map view (drop i xs)) → HasKeysOf s all
-all_taken s all xs i past h k =
-    sym (or_false (has_key s k)) ∙ ap (λ ys. has_key s k || is_in (map view ys) (key_data (key_view k))) (sym (drop_past xs i past)) ∙ h k
+-- a key equals no value that can't be a key
+pub differs : (k : KeyData) (d e : Data) → Some k ≡ key_of d → key_of e ≡ None → same e d ≡ false
+differs k d e is none =
+    same-equiv.symm e d ∙ ap (λ x. same x e) (sym (its_key k d is)) ∙ no_key k e (sym none)

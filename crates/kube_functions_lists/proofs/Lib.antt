@@ -4,4 +4,5 @@ pub mod Stable
 pub mod Classes
 pub mod Occurrences
 pub mod ByKey
+pub mod Hashed
 pub mod InOrder

@@ -1,14 +1,12 @@
 -- Scaffolding: only proofs and private clauses cite it.
--- Sets of keys beside lists of values. Bools, numbers and strings
+-- Sets of the keys of values. Bools, numbers and strings
 -- can be keys of maps, and two of them are equal if their keys are.
-use Rattle.std.specs.Prelude.{◌≡◌, ◌||◌, List, Bool}
+use Rattle.std.specs.Prelude.{◌≡◌, Bool}
 use Rattle.std.specs.BTreeSet.{BTreeSet, contains}
 use Rattle.std.specs.declared.cmp.Ordering.{Ordering}
 use Rattle.cel_value.specs.Data.{KeyData, bool_key, int_key, uint_key, text_key, Data, bool, int, uint, text}
 use Rattle.cel_value.specs.Keys.{key_view, key_order}
-use Rattle.cel_value.specs.Same.{same}
 use Rattle.cel_value.specs.declared.key.Key.{Key}
-use Rattle.kube_functions_lists.specs.Sets.{is_in}
 
 -- the value of a key
 abbrev pub key_data : KeyData → Data
@@ -23,10 +21,6 @@ key_cmp a b = key_order (key_view a) (key_view b)
 abbrev pub has_key : BTreeSet Key → Key → Bool
 has_key s k = contains key_cmp s k
 
--- a key is in the set exactly if its value is in the list
-abbrev pub HasKeysOf : BTreeSet Key → List Data → Type 0
-HasKeysOf s ds = (k : Key) → has_key s k ≡ is_in ds (key_data (key_view k))
-
--- the second set holds the keys of the first, and the key of the value if it can be one
-abbrev pub AddsKeyOf : BTreeSet Key → BTreeSet Key → Data → Type 0
-AddsKeyOf s n d = (k : Key) → has_key n k ≡ (has_key s k || same (key_data (key_view k)) d)
+-- a key is in the set exactly if the test is true of its value
+abbrev pub HasKeysOf : BTreeSet Key → (Data → Bool) → Type 0
+HasKeysOf s test = (k : Key) → has_key s k ≡ test (key_data (key_view k))

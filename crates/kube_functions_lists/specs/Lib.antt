@@ -6,3 +6,5 @@ pub mod Orders
 pub mod Math
 pub mod Bits
 pub mod Keyed
+pub mod Hashes
+pub mod Hashed

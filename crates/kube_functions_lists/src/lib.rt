@@ -5,6 +5,7 @@
 #![tactic(auto)]
 
 pub mod bits;
+mod hashes;
 pub mod indices;
 mod items;
 mod keyed;

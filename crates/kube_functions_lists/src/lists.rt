@@ -3,16 +3,15 @@ ghost use Rattle.std.specs.Prelude.{◌≡◌, pos, length, IfOk, OnOk, Ok, Err,
 ghost use Rattle.cel_value.specs.Faults.{fault_view};
 ghost use Rattle.cel_value.specs.View.{view};
 ghost use Rattle.cel_semantics.specs.Outcome.{outcome_view};
-ghost use Rattle.kube_functions_lists.specs.Keyed.{HasKeysOf};
+ghost use Rattle.kube_functions_lists.specs.Hashed.{Knows, among};
 ghost use Rattle.kube_functions_lists.specs.Lists as spec;
 
 use crate::items::{as_ints, copies, items_of, list_of};
-use crate::keyed::add_new;
+use crate::keyed::Known;
 use cel_semantics::operators::{Answer, no_such_overload};
 use cel_stdlib::faults::function_error;
-use cel_value::{ExecutionError, Key, OptionalValue, Refused, Value};
+use cel_value::{ExecutionError, OptionalValue, Refused, Value};
 use std::alloc::{AllocError, Global};
-use std::collections::BTreeSet;
 
 fn slice_message(alloc: Global, start: i64, end: i64, length: usize) -> Result<String, AllocError>
     ensures { IfOk result (λ s. string_bytes s ≡ spec.slice_message start end length) }
@@ -155,13 +154,17 @@ pub fn reverse(alloc: Global, value: &Value) -> Result<Answer, Refused>
     }
 }
 
-fn push_new(kept: &mut Vec<Value>, keys: &mut BTreeSet<Key>, item: &Value) -> Result<(), Refused>
-    requires { HasKeysOf keys.old (map view kept.old.items) }
+fn push_new<'a>(
+    kept: &mut Vec<Value>,
+    known: &mut Known<'a>,
+    item: &'a Value,
+) -> Result<(), Refused>
+    requires { Knows known.old (among kept.old.items) }
     ensures pushed { OnOk result (map view kept.new.items
         ≡ spec.with_new (map view kept.old.items) (view item.now)) }
-    ensures keys { OnOk result (HasKeysOf keys.new (map view kept.new.items)) }
+    ensures known { OnOk result (Knows known.new (among kept.new.items)) }
 {
-    if add_new(keys, kept.as_slice(), item)? {
+    if known.add_new(kept.as_slice(), item)? {
         kept.push(item.try_clone()?)?;
     }
     Ok(())
@@ -171,9 +174,9 @@ fn distinct_items(alloc: Global, items: &[Value]) -> Result<Vec<Value>, Refused>
     ensures value { IfOk result (λ v. map view v.items ≡ spec.distinct_items (map view items.now)) }
 {
     let mut kept = Vec::new(alloc);
-    let mut keys = BTreeSet::new(alloc);
+    let mut known = Known::new(alloc);
     for item in items {
-        push_new(&mut kept, &mut keys, item)?;
+        push_new(&mut kept, &mut known, item)?;
     }
     Ok(kept)
 }

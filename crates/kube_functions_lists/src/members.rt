@@ -2,24 +2,23 @@
 ghost use Rattle.std.specs.Prelude.{◌≡◌, IfOk, map};
 ghost use Rattle.std.specs.Option.{ForSome};
 ghost use Rattle.cel_value.specs.View.{view};
-ghost use Rattle.kube_functions_lists.specs.Keyed.{HasKeysOf};
+ghost use Rattle.kube_functions_lists.specs.Hashed.{Knows, among};
 ghost use Rattle.kube_functions_lists.specs.Sets as spec;
 
-use crate::keyed::{is_among, keys_of};
+use crate::keyed::Known;
 use crate::sets::is_in;
-use cel_value::{Key, Refused, Value};
+use cel_value::{Refused, Value};
 use std::alloc::Global;
-use std::collections::BTreeSet;
 
-// With fewer look-ups, building a set of keys costs more than it saves.
+// With fewer look-ups, to learn what is known of the items costs more than it saves.
 const MANY_LOOKUPS: usize = 16;
 
-/// Items, with a set of their keys if many values are to be looked up.
+/// Items, with what is known of them if many values are to be looked up.
 #[derive(Drop)]
 pub(crate) struct Members<'a> {
     items: &'a [Value],
-    keys: Option<BTreeSet<Key>>,
-    ghost keyed: { ForSome keys (λ s. HasKeysOf s (map view items.now)) },
+    known: Option<Known<'a>>,
+    ghost knows: { ForSome known (λ k. Knows k (among items.now)) },
 }
 
 impl<'a> Members<'a> {
@@ -35,12 +34,12 @@ impl<'a> Members<'a> {
         ensures items { IfOk result (λ m. m.items.now ≡ items.now) }
     {
         if lookups < MANY_LOOKUPS {
-            return Ok(Members { items, keys: None });
+            return Ok(Members { items, known: None });
         }
-        let keys = keys_of(alloc, items)?;
+        let known = Known::of(alloc, items)?;
         Ok(Members {
             items,
-            keys: Some(keys),
+            known: Some(known),
         })
     }
 
@@ -52,8 +51,8 @@ impl<'a> Members<'a> {
         ensures value { IfOk result (λ found. found
             ≡ spec.is_in (map view self.now.items.now) (view value.now)) }
     {
-        match &self.keys {
-            Some(keys) => is_among(keys, self.items, value),
+        match &self.known {
+            Some(known) => known.has(self.items, value),
             None => Ok(is_in(self.items, value)),
         }
     }

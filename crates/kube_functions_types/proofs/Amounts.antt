@@ -1,7 +1,7 @@
 -- Integers as quantities.
 use Rattle.std.proofs.Common.{◌≡◌, Bool, true, false, cond, Some, None}
-use Rattle.kube_types_quantity.specs.Decimal.{Decimal}
-use Rattle.kube_types_quantity.specs.Normal.{fits, quantity_holding, normal_form}
+use Rattle.kube_types.specs.Quantity.Decimal.{Decimal}
+use Rattle.kube_types.specs.Quantity.Normal.{fits, quantity_holding, normal_form}
 
 chosen : (t : Bool) (q r : Decimal) → Some q ≡ cond t (Some r) None → q ≡ r
 chosen true q r e = cc

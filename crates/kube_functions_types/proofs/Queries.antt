@@ -14,8 +14,8 @@ use Rattle.std.proofs.lemmas.Map.Keys.{sorted_head, sorted_tail}
 use Rattle.std.proofs.lemmas.Map.Lookups.{exact_bytes}
 use Rattle.std.proofs.lemmas.Map.Text.{is_eq-slice_cmp}
 use Rattle.std.proofs.lemmas.Slice.Eq.{bytes_eq-Decides}
-use Rattle.kube_types_url.specs.Query.{values_of, values_or_none}
-use Rattle.kube_types_url.specs.Shown.{texts}
+use Rattle.kube_types.specs.Url.Query.{values_of, values_or_none}
+use Rattle.kube_types.specs.Url.Shown.{texts}
 use Rattle.cel_value.specs.Data.{Entries, no_entries, entry, text_key}
 use Rattle.cel_value.specs.Keys.{put}
 use Rattle.kube_functions_types.specs.Lists.{text_list}

@@ -3,10 +3,10 @@
 -- `k8s.io/apiserver/pkg/cel/library`). A CIDR is the set of its addresses: it contains an address
 -- that is in the set, and another CIDR all of whose addresses are.
 use Rattle.std.specs.Prelude.{ℕ, pos, ◌==◌, List, codes, Bool, false, Result, Ok, Err, is_ok}
-use Rattle.kube_types_address.specs.Addresses.{family}
-use Rattle.kube_types_address.specs.CidrTexts as cidr_texts
-use Rattle.kube_types_address.specs.Prefixes as prefixes
-use Rattle.kube_types_address.specs.Texts as texts
+use Rattle.kube_types.specs.Addresses.{family}
+use Rattle.kube_types.specs.CidrTexts as cidr_texts
+use Rattle.kube_types.specs.Prefixes as prefixes
+use Rattle.kube_types.specs.Texts as texts
 use Rattle.cel_value.specs.Data.{Data, int, text, ip, cidr}
 use Rattle.cel_value.specs.Faults.{Fault, function_error}
 use Rattle.cel_semantics.specs.Outcome.{Outcome, and_then}

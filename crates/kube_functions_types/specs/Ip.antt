@@ -2,9 +2,9 @@
 -- Functions on IP addresses (Kubernetes documentation, "CEL in Kubernetes", IP address library;
 -- `IP` in `k8s.io/apiserver/pkg/cel/library`).
 use Rattle.std.specs.Prelude.{ℕ, pos, ◌==◌, List, codes, Bool, false, Result, Ok, Err, is_ok}
-use Rattle.kube_types_address.specs.Addresses.{Address, family}
-use Rattle.kube_types_address.specs.Kinds.{loopback, unspecified, link_local_multicast, link_local_unicast, global_unicast}
-use Rattle.kube_types_address.specs.Texts as texts
+use Rattle.kube_types.specs.Addresses.{Address, family}
+use Rattle.kube_types.specs.Kinds.{loopback, unspecified, link_local_multicast, link_local_unicast, global_unicast}
+use Rattle.kube_types.specs.Texts as texts
 use Rattle.cel_value.specs.Data.{Data, bool, int, text, ip}
 use Rattle.cel_semantics.specs.Outcome.{Outcome}
 use Rattle.kube_functions_types.specs.Answers.{wrong_kind, bool_answer, value_or_why}

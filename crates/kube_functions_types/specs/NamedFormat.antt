@@ -4,9 +4,9 @@
 use Rattle.std.specs.Prelude.{ℕ, List, [], ◌∷◌, codes, Option, find, Ok}
 use Rattle.std.specs.Option.{option_map_or}
 use Rattle.std.specs.Str.{bytes_eq}
-use Rattle.kube_types_formats.specs.Formats.{name_of, faults_of}
-use Rattle.kube_types_formats.specs.declared.kind.FormatKind.{FormatKind}
-use Rattle.kube_types_formats.specs.declared.kind.FormatKind.TheVariants.{Dns1123Label, Dns1035Label, Dns1035LabelPrefix, Dns1123LabelPrefix, Dns1123Subdomain, Dns1123SubdomainPrefix, QualifiedName, LabelValue, Uri, Uuid, Byte, Date, DateTime}
+use Rattle.kube_types.specs.Formats.{name_of, faults_of}
+use Rattle.kube_types.specs.FormatKind.{FormatKind}
+use Rattle.kube_types.specs.FormatKind.TheVariants.{Dns1123Label, Dns1035Label, Dns1035LabelPrefix, Dns1123LabelPrefix, Dns1123Subdomain, Dns1123SubdomainPrefix, QualifiedName, LabelValue, Uri, Uuid, Byte, Date, DateTime}
 use Rattle.cel_value.specs.Data.{Data, null, text, optional, format, Items, no_items, item}
 use Rattle.cel_semantics.specs.Outcome.{Outcome}
 use Rattle.kube_functions_types.specs.Answers.{wrong_kind}

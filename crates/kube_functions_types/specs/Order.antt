@@ -5,8 +5,8 @@ use Rattle.std.specs.Prelude.{ℕ, ℤ, pos, negsuc, List, codes, Option, None, 
 use Rattle.std.specs.Ordering.{is_lt, is_gt}
 use Rattle.std.specs.declared.cmp.Ordering.{Ordering}
 use Rattle.std.specs.declared.cmp.Ordering.TheVariants.{Less, Equal, Greater}
-use Rattle.kube_types_quantity.specs.Decimal.{decimal_cmp}
-use Rattle.kube_types_semver.specs.Order.{parts_cmp}
+use Rattle.kube_types.specs.Quantity.Decimal.{decimal_cmp}
+use Rattle.kube_types.specs.Version.Order.{parts_cmp}
 use Rattle.cel_value.specs.Data.{Data, bool, int, quantity, semver}
 use Rattle.cel_semantics.specs.Outcome.{Outcome}
 use Rattle.kube_functions_types.specs.Answers.{wrong_kind, value_or}

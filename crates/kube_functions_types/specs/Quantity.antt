@@ -5,12 +5,12 @@
 use Rattle.std.specs.Prelude.{ℕ, ℤ, pos, List, codes, Option, None, Some, option_map, Result, Ok, Err, is_ok, is_some}
 use Rattle.std.specs.Option.{option_map_or}
 use Rattle.std.specs.Int.{int_signum}
-use Rattle.kube_types_quantity.specs.Decimal.{Decimal}
-use Rattle.kube_types_quantity.specs.Integers.{integer_of, integer_error_text}
-use Rattle.kube_types_quantity.specs.Normal.{normal_form}
-use Rattle.kube_types_quantity.specs.Reading as reading
-use Rattle.kube_types_quantity.specs.Sums.{decimal_at, sum_of, difference_of}
-use Rattle.kube_types_quantity.specs.declared.integer.IntegerError.{IntegerError}
+use Rattle.kube_types.specs.Quantity.Decimal.{Decimal}
+use Rattle.kube_types.specs.Quantity.Integers.{integer_of, integer_error_text}
+use Rattle.kube_types.specs.Quantity.Normal.{normal_form}
+use Rattle.kube_types.specs.Quantity.Reading as reading
+use Rattle.kube_types.specs.Quantity.Sums.{decimal_at, sum_of, difference_of}
+use Rattle.kube_types.specs.declared.quantities.integer.IntegerError.{IntegerError}
 use Rattle.cel_value.specs.Data.{Data, int, uint, text, quantity}
 use Rattle.cel_semantics.specs.Outcome.{Outcome}
 use Rattle.kube_functions_types.specs.Answers.{refusal, wrong_kind, bool_answer, value_or}

@@ -3,7 +3,7 @@
 -- semver library; `Semver` in `k8s.io/apiserver/pkg/cel/library`).
 use Rattle.std.specs.Prelude.{ℕ, List, ◌++◌, codes, Bool, false, Option, None, Some, is_some}
 use Rattle.std.specs.Option.{option_map_or}
-use Rattle.kube_types_semver.specs.Reading.{version_of, integer_of}
+use Rattle.kube_types.specs.Version.Reading.{version_of, integer_of}
 use Rattle.cel_value.specs.Data.{Data, bool, int, text, semver}
 use Rattle.cel_semantics.specs.Outcome.{Outcome}
 use Rattle.kube_functions_types.specs.Answers.{refusal, wrong_kind, bool_answer, value_or}

@@ -2,8 +2,8 @@
 -- `string` of IP addresses and CIDRs (Kubernetes documentation,
 -- "CEL in Kubernetes", IP address library, CIDR library, `string`).
 use Rattle.std.specs.Prelude.{codes, Ok}
-use Rattle.kube_types_address.specs.CidrTexts.{cidr_text}
-use Rattle.kube_types_address.specs.Texts.{address_text}
+use Rattle.kube_types.specs.CidrTexts.{cidr_text}
+use Rattle.kube_types.specs.Texts.{address_text}
 use Rattle.cel_value.specs.Data.{Data, text, ip, cidr}
 use Rattle.cel_semantics.specs.Outcome.{Outcome}
 use Rattle.kube_functions_types.specs.Answers.{wrong_kind}

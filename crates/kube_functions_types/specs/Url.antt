@@ -1,11 +1,10 @@
 -- Trusted by the headline.
 -- Functions on URLs (Kubernetes documentation, "CEL in Kubernetes",
 -- URL library; `URLs` in `k8s.io/apiserver/pkg/cel/library`).
-use Rattle.std.specs.Prelude.{ℕ, List, [], ◌∷◌, codes, unwrap_or, Ok, is_some}
-use Rattle.kube_types_url.specs.Query.{pairs_of, values_of, values_or_none}
-use Rattle.kube_types_url.specs.Reading as reading
-use Rattle.kube_types_url.specs.Shown.{Shown, scheme_of, hostname_of, port_text}
-use Rattle.kube_types_url.specs.Shown as shown
+use Rattle.std.specs.Prelude.{ℕ, List, [], ◌∷◌, codes, Ok, is_some}
+use Rattle.kube_types.specs.Url.Query.{pairs_of, values_of, values_or_none}
+use Rattle.kube_types.specs.Url.Reading as reading
+use Rattle.kube_types.specs.Url.Shown.{Shown}
 use Rattle.cel_value.specs.Data.{Data, text, map_of, url, text_key, Entries, no_entries}
 use Rattle.cel_value.specs.Keys.{put}
 use Rattle.cel_semantics.specs.Outcome.{Outcome}
@@ -24,32 +23,32 @@ is_url _ = wrong_kind (codes "isURL")
 
 -- `getScheme`: the scheme, which is empty for a path
 abbrev pub get_scheme : Data → Outcome
-get_scheme (url u) = Ok (text (scheme_of u))
+get_scheme (url u) = Ok (text u.scheme)
 get_scheme _ = wrong_kind (codes "getScheme")
 
 -- `getHost`: the host, with the port if the URL has one
 abbrev pub get_host : Data → Outcome
-get_host (url u) = Ok (text (shown.host_of u))
+get_host (url u) = Ok (text u.host)
 get_host _ = wrong_kind (codes "getHost")
 
 -- `getHostname`: the host without port and brackets
 abbrev pub get_hostname : Data → Outcome
-get_hostname (url u) = Ok (text (hostname_of u))
+get_hostname (url u) = Ok (text u.hostname)
 get_hostname _ = wrong_kind (codes "getHostname")
 
 -- `getPort`: the port in decimal, or nothing if the URL has none
 abbrev pub get_port : Data → Outcome
-get_port (url u) = Ok (text (port_text (u.0).port))
+get_port (url u) = Ok (text u.port)
 get_port _ = wrong_kind (codes "getPort")
 
 -- `getEscapedPath`: the path, percent-encoded
 abbrev pub get_escaped_path : Data → Outcome
-get_escaped_path (url u) = Ok (text (u.0).path)
+get_escaped_path (url u) = Ok (text u.path)
 get_escaped_path _ = wrong_kind (codes "getEscapedPath")
 
 -- the names and values of the query, in order
 abbrev pub query_pairs : Shown → List (List ℕ × List ℕ)
-query_pairs u = pairs_of (unwrap_or (u.0).query [])
+query_pairs u = pairs_of u.query
 
 -- for each of the names among the second pairs, its values among the first
 abbrev pub entries_among : List (List ℕ × List ℕ) → List (List ℕ × List ℕ) → Entries

@@ -3,8 +3,8 @@ ghost use Rattle.std.specs.Prelude.{◌≡◌, IfOk};
 ghost use Rattle.cel_value.specs.Data as plain;
 ghost use Rattle.cel_value.specs.View.{view};
 ghost use Rattle.cel_semantics.specs.Outcome.{outcome_view};
-ghost use Rattle.kube_types_address.specs.CidrTexts.{cidr_of};
-ghost use Rattle.kube_types_address.specs.Networks.{network};
+ghost use Rattle.kube_types.specs.CidrTexts.{cidr_of};
+ghost use Rattle.kube_types.specs.Networks.{network};
 ghost use Rattle.kube_functions_types.specs.Cidr as spec;
 
 use crate::answers::{refusal, wrong_kind};

@@ -2,7 +2,7 @@
 ghost use Rattle.std.specs.Prelude.{◌≡◌, IfOk};
 ghost use Rattle.cel_value.specs.View.{view};
 ghost use Rattle.cel_semantics.specs.Outcome.{outcome_view};
-ghost use Rattle.kube_types_address.specs.Texts.{ip_of};
+ghost use Rattle.kube_types.specs.Texts.{ip_of};
 ghost use Rattle.kube_functions_types.specs.Ip as spec;
 
 use crate::answers::{refusal, wrong_kind};

@@ -3,7 +3,7 @@ ghost use Rattle.std.specs.Prelude.{◌≡◌, Ok, map, option_map, string_bytes
 ghost use Rattle.cel_value.specs.Data as plain;
 ghost use Rattle.cel_value.specs.View.{view};
 ghost use Rattle.cel_semantics.specs.Outcome.{outcome_view};
-ghost use Rattle.kube_types_formats.specs.Formats.{kind_of};
+ghost use Rattle.kube_types.specs.Formats.{kind_of};
 ghost use Rattle.kube_functions_types.specs.NamedFormat as spec;
 
 use crate::answers::{text_values, wrong_kind};

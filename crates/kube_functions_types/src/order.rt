@@ -3,8 +3,8 @@ ghost use Rattle.std.specs.Prelude.{◌≡◌, IfOk};
 ghost use Rattle.cel_value.specs.Data as plain;
 ghost use Rattle.cel_value.specs.View.{view};
 ghost use Rattle.cel_semantics.specs.Outcome.{outcome_view};
-ghost use Rattle.kube_types_quantity.specs.Shown.{number};
-ghost use Rattle.kube_types_semver.specs.Shown.{parts};
+ghost use Rattle.kube_types.specs.Quantity.Shown.{number};
+ghost use Rattle.kube_types.specs.Version.Shown.{parts};
 ghost use Rattle.kube_functions_types.specs.Order as spec;
 
 use crate::answers::wrong_kind;

@@ -3,9 +3,9 @@ ghost use Rattle.std.specs.Prelude.{◌≡◌, pos, IfOk, option_map};
 ghost use Rattle.cel_value.specs.Data as plain;
 ghost use Rattle.cel_value.specs.View.{view};
 ghost use Rattle.cel_semantics.specs.Outcome.{outcome_view};
-ghost use Rattle.kube_types_quantity.specs.Normal.{normal_form};
-ghost use Rattle.kube_types_quantity.specs.Shown.{number};
-ghost use Rattle.kube_types_quantity.specs.Sums.{decimal_at};
+ghost use Rattle.kube_types.specs.Quantity.Normal.{normal_form};
+ghost use Rattle.kube_types.specs.Quantity.Shown.{number};
+ghost use Rattle.kube_types.specs.Quantity.Sums.{decimal_at};
 ghost use Rattle.kube_functions_types.specs.Answers.{refusal, value_or};
 ghost use Rattle.kube_functions_types.specs.Quantity as spec;
 

@@ -3,7 +3,7 @@ ghost use Rattle.std.specs.Prelude.{◌≡◌, IfOk, option_map, is_some, codes}
 ghost use Rattle.cel_value.specs.Data as plain;
 ghost use Rattle.cel_value.specs.View.{view};
 ghost use Rattle.cel_semantics.specs.Outcome.{outcome_view};
-ghost use Rattle.kube_types_semver.specs.Reading.{version_of};
+ghost use Rattle.kube_types.specs.Version.Reading.{version_of};
 ghost use Rattle.kube_functions_types.specs.Answers.{refusal, bool_answer, value_or};
 ghost use Rattle.kube_functions_types.specs.Semver as spec;
 

@@ -1,0 +1,14 @@
+pub use Rattle.kube_types_address.specs.Addresses
+pub use Rattle.kube_types_address.specs.CidrTexts
+pub use Rattle.kube_types_address.specs.Kinds
+pub use Rattle.kube_types_address.specs.Networks
+pub use Rattle.kube_types_address.specs.Prefixes
+pub use Rattle.kube_types_address.specs.Shown
+pub use Rattle.kube_types_address.specs.Texts
+pub use Rattle.kube_types_formats.specs.Formats
+pub use Rattle.kube_types_formats.specs.declared.format.KubeFormat
+pub use Rattle.kube_types_formats.specs.declared.kind.FormatKind
+pub use Rattle.kube_types_refused.specs.declared.Refused
+pub mod Quantity
+pub mod Version
+pub mod Url

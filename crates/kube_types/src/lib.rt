@@ -26,9 +26,13 @@
 //! quantities is total, a printed address parses to the same address, and more.
 #![tactic(auto)]
 
+mod quantities;
+mod urls;
+mod versions;
+
 pub use kube_types_address::{KubeCIDR, KubeIP, laws as address_laws};
 pub use kube_types_formats::{FormatKind, KubeFormat, laws as format_laws};
-pub use kube_types_quantity::{IntegerError, KubeQuantity, laws as quantity_laws};
 pub use kube_types_refused::Refused;
-pub use kube_types_semver::{KubeSemver, laws as semver_laws};
-pub use kube_types_url::{KubeUrl, laws as url_laws};
+pub use quantities::{IntegerError, KubeQuantity, laws as quantity_laws};
+pub use urls::{KubeUrl, laws as url_laws};
+pub use versions::{KubeSemver, laws as semver_laws};

@@ -1,4 +1,4 @@
--- Trusted by the headline.
+-- Trusted by the clauses of policies.
 -- The view of a CIDR in contracts.
 use Rattle.std.specs.Prelude.{List, ℕ, Result, Ok, Err}
 use Rattle.std.specs.Borrow.{Bor}

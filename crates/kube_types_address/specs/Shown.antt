@@ -1,4 +1,4 @@
--- Trusted by the headline.
+-- Trusted by the clauses of policies.
 -- The view of an address in contracts.
 use Rattle.std.specs.Prelude.{List, ℕ, Option, Result, Ok, Err, option_map}
 use Rattle.std.specs.Borrow.{Bor}

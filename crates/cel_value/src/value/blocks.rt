@@ -14,7 +14,7 @@ ghost use Rattle.cel_value.specs.View.{view, entries_view};
 use super::shared::put_copy;
 use super::{Entries, EntriesIter, MapBlock, SingleMap, Value};
 use crate::key::Key;
-use kube_types_refused::Refused;
+use kube_types::Refused;
 use std::alloc::Global;
 use std::mem;
 

@@ -6,7 +6,7 @@ ghost use Rattle.cel_value.specs.Same.{items_have_double};
 ghost use Rattle.cel_value.specs.View.{view, items_view};
 
 use super::{List, Value, level_around};
-use kube_types_refused::Refused;
+use kube_types::Refused;
 use std::slice::Iter;
 
 /// The item at an index, if any.

@@ -14,7 +14,7 @@ ghost use Rattle.cel_value.specs.View.{view, entries_view};
 
 use super::{Entries, EntriesIter, Map, MapBlock, SharedEntries, SingleMap, Value};
 use crate::key::Key;
-use kube_types_refused::Refused;
+use kube_types::Refused;
 use std::alloc::Global;
 use std::mem;
 use std::rc::Rc;

@@ -5,7 +5,7 @@ ghost use Rattle.cel_value.specs.Find.{first_item, option_items};
 ghost use Rattle.cel_value.specs.View.{view};
 
 use super::{Held, OptionalValue, Value, level_around};
-use kube_types_refused::Refused;
+use kube_types::Refused;
 use std::alloc::Global;
 use std::rc::Rc;
 

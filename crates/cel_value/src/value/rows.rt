@@ -14,7 +14,7 @@ ghost use Rattle.cel_value.specs.View.{view, entries_view};
 use super::shared::{SharedIter, value_at};
 use super::{Map, MapBlock, MapKeys, MapRows, Value};
 use crate::key::Key;
-use kube_types_refused::Refused;
+use kube_types::Refused;
 use std::alloc::Global;
 use std::rc::Rc;
 

@@ -17,7 +17,7 @@ ghost use Rattle.cel_value.specs.declared.key.Key.{Key};
 use super::single::put_into;
 use super::{Entries, MapKeys, SharedEntries, Slots, Value, Values};
 use crate::key::Key;
-use kube_types_refused::Refused;
+use kube_types::Refused;
 use std::alloc::Global;
 use std::cmp::{Ordering, max};
 use std::marker::Model;

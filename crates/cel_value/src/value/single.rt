@@ -17,7 +17,7 @@ use super::{
     Entries, EntriesIter, MapEntries, Nesting, SharedEntries, SingleMap, Value, level_around,
 };
 use crate::key::Key;
-use kube_types_refused::Refused;
+use kube_types::Refused;
 use std::alloc::Global;
 use std::mem;
 

@@ -15,7 +15,7 @@ ghost use Rattle.cel_value.specs.View.{view, entries_view};
 use super::shared::{SharedIter, joined};
 use super::{Entries, Tree, Value};
 use crate::key::Key;
-use kube_types_refused::Refused;
+use kube_types::Refused;
 use std::alloc::{AllocError, AllocFailed, Global};
 use std::cmp::{Ordering, min};
 use std::collections::BTreeMap;

@@ -1,11 +1,11 @@
 use Rattle.std.proofs.Common.{sym, ap, ◌∙◌}
 use Rattle.cel_value.specs.View.{view}
 use Rattle.cel_value.specs.Same.{same}
-use Rattle.kube_types_formats.specs.Formats.{kind_of}
-use Rattle.kube_types_semver.specs.Order.{same_parts}
-use Rattle.kube_types_semver.specs.Shown.{parts}
-use Rattle.kube_types_url.specs.Equality.{same_url}
-use Rattle.kube_types_url.specs.Shown.{url_view}
+use Rattle.kube_types.specs.Formats.{kind_of}
+use Rattle.kube_types.specs.Version.Order.{same_parts}
+use Rattle.kube_types.specs.Version.Shown.{parts}
+use Rattle.kube_types.specs.Url.Equality.{same_url}
+use Rattle.kube_types.specs.Url.Shown.{url_view}
 use Rattle.cel_value.proofs.Views.{view_quantity, view_semver, view_url, view_format}
 use Rattle.cel_value.proofs.Equal.{same_fields, same_quantities, same_versions, same_urls, same_formats}
 use Rattle.cel_value.proofs.same.+same.Goals as goal

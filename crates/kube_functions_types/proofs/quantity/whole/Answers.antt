@@ -1,7 +1,7 @@
 use Rattle.std.proofs.Common.{◌≡◌, Some, pos, rules}
-use Rattle.kube_types_quantity.specs.Normal.{quantity_holding}
-use Rattle.kube_types_quantity.specs.Shown.{number}
-use Rattle.kube_types_quantity.specs.Sums.{decimal_at}
+use Rattle.kube_types.specs.Quantity.Normal.{quantity_holding}
+use Rattle.kube_types.specs.Quantity.Shown.{number}
+use Rattle.kube_types.specs.Quantity.Sums.{decimal_at}
 use Rattle.kube_functions_types.proofs.Amounts.{held_is}
 use Rattle.kube_functions_types.proofs.quantity.whole.Goals as goal
 

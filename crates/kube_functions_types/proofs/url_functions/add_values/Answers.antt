@@ -1,7 +1,7 @@
 use Rattle.std.proofs.Common.{◌∙◌, ap, string_bytes}
 use Rattle.cel_value.specs.Data.{list, text_key}
 use Rattle.cel_value.specs.declared.key.Key.TheVariants as key
-use Rattle.kube_types_url.specs.Shown.{texts}
+use Rattle.kube_types.specs.Url.Shown.{texts}
 use Rattle.kube_functions_types.specs.Lists.{text_list}
 use Rattle.kube_functions_types.proofs.Pushed.{inserted}
 use Rattle.kube_functions_types.proofs.url_functions.add_values.Goals as goal

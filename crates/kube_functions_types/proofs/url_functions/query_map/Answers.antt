@@ -1,5 +1,5 @@
 use Rattle.kube_functions_types.specs.Url.{query_pairs}
-use Rattle.kube_types_url.specs.Shown.{url_view}
+use Rattle.kube_types.specs.Url.Shown.{url_view}
 use Rattle.kube_functions_types.proofs.url_functions.query_map.Goals as goal
 
 pub returns : goal.returns

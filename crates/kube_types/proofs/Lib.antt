@@ -1,0 +1,3 @@
+pub mod Quantity
+pub mod Version
+pub mod Url

@@ -1,0 +1,4 @@
+pub mod Keys
+pub mod Lenient
+pub mod Texts
+pub mod TextsOf

@@ -1,0 +1,5 @@
+pub mod Equality
+pub mod Parts
+pub mod Query
+pub mod Reading
+pub mod Shown

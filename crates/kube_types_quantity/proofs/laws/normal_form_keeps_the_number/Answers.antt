@@ -1,5 +1,0 @@
-use Rattle.kube_types_quantity.proofs.Forms.{normal_form-normal, normal_form-same}
-use Rattle.kube_types_quantity.proofs.laws.normal_form_keeps_the_number.Goals as goal
-
-pub returns : goal.returns
-returns c = λ x. (normal_form-normal x, normal_form-same x)

@@ -1,3 +1,0 @@
-pub mod Lenient
-pub mod Texts
-pub mod TextsOf

@@ -1,4 +1,0 @@
-pub mod Equality
-pub mod Query
-pub mod Reading
-pub mod Shown
