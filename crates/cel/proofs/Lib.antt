@@ -1,3 +1,4 @@
 mod Fresh
 pub mod Unread
 pub mod Bound
+pub mod Checks

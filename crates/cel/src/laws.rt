@@ -4,8 +4,8 @@ ghost use Rattle.cel_patterns.specs.Book.{Book};
 ghost use Rattle.cel_semantics.specs.Bindings.{Bindings, binding};
 ghost use Rattle.cel_semantics.specs.Library.{Library};
 ghost use Rattle.cel_semantics.specs.Meaning.{meaning};
-ghost use Rattle.cel_syntax_ast.specs.FreeNames.{is_free};
-ghost use Rattle.cel_syntax_ast.specs.Term.{Term};
+ghost use Rattle.cel_syntax.specs.FreeNames.{is_free};
+ghost use Rattle.cel_syntax.specs.Term.{Term};
 ghost use Rattle.cel_vm_code.specs.Code.{code_of};
 ghost use Rattle.cel_vm_code.specs.Size.{nodes};
 

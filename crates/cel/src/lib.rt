@@ -28,20 +28,27 @@
 //! that running the code ends with the tree's meaning is a theorem.
 #![tactic(auto)]
 
+pub mod check;
+pub mod compiler;
+pub mod evaluator;
 pub mod laws;
 pub mod program;
 
 pub use cel_patterns::PatternBook;
 pub use cel_semantics::{Answer, Context, Form, Functions};
 pub use cel_stdlib::StandardFunctions;
-pub use cel_syntax::{ParseErrors, References, laws as syntax_laws};
-pub use cel_syntax_ast::{BinaryOperator, Expr, MacroKind, UnaryOperator};
+pub use cel_syntax::{
+    BinaryOperator, Expr, MacroKind, ParseErrors, References, UnaryOperator, laws as syntax_laws,
+};
 pub use cel_value::{
     Duration, Entries, ExecutionError, Key, Kind, List, MAX_VALUE_LEVELS, Map, OptionalValue,
     Refused, Text, Timestamp, Value, laws as value_laws,
 };
 pub use cel_vm::{Stacks, run_code};
 pub use cel_vm_code::{Instr, Operation, Test};
+pub use check::{Check, CheckError, Judgement, judge, message_text};
+pub use compiler::{Compiler, Untyped};
+pub use evaluator::Evaluator;
 pub use kube_types::{
     FormatKind, IntegerError, KubeCIDR, KubeFormat, KubeIP, KubeQuantity, KubeSemver, KubeUrl,
 };

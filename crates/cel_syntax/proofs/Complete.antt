@@ -14,7 +14,7 @@ use Rattle.cel_syntax_ast.specs.declared.expr.UnaryOperator.TheVariants as u
 use Rattle.cel_syntax_ast.specs.declared.expr.BinaryOperator.{BinaryOperator}
 use Rattle.cel_syntax_lexer.specs.Literal.{literal_value}
 use Rattle.cel_syntax.specs.Operator.{sign, operator, operator_of, is_operator_before}
-use Rattle.cel_syntax_nodes.specs.Calls.{parts_level}
+use Rattle.cel_syntax_ast.specs.Calls.{parts_level}
 use Rattle.cel_syntax.specs.Grammar.{OptionalComma, without, with_comma, Expression, plain, conditional, Chain, operand, tighter, binary, Prefixed, unary_expression, Signed, unsigned, signed_member, Member, primary, select, method, index, Primary, ident, call, round, list, map, literal, negative, Items, no_items, items, SomeItems, last_item, more_items, Entries, no_entries, entries, SomeEntries, last_entry, more_entries, Pair, pair, Derives}
 use Rattle.cel_syntax.specs.Ahead as ahead
 use Rattle.cel_syntax.specs.Parser as p

@@ -7,7 +7,7 @@ use Rattle.cel_syntax_ast.specs.Term as tree
 use Rattle.cel_syntax_ast.specs.Term.{Term, Terms, terms_of}
 use Rattle.cel_syntax_ast.specs.declared.expr.UnaryOperator.{UnaryOperator}
 use Rattle.cel_syntax_ast.specs.declared.expr.MacroKind.{MacroKind}
-use Rattle.cel_syntax_nodes.specs.Calls.{call_of, method_of, parts_level, plain_method, macro_of, macro_with, has_of, by_kind, kind_of, call_by, dotted_by, identifier_of}
+use Rattle.cel_syntax_ast.specs.Calls.{call_of, method_of, parts_level, plain_method, macro_of, macro_with, has_of, by_kind, kind_of, call_by, dotted_by, identifier_of}
 use Rattle.cel_syntax.specs.Grammar.{Expression, plain, conditional, Chain, operand, tighter, binary, unary_expression, Signed, unsigned, signed_member, Member, primary, select, method, index, Primary, ident, call, round, list, map, literal, negative, SomeItems, last_item, more_items}
 use Rattle.cel_syntax.specs.Parser.{slack}
 

@@ -13,9 +13,9 @@ use Rattle.cel_syntax_ast.specs.declared.expr.UnaryOperator.{UnaryOperator}
 use Rattle.cel_syntax_ast.specs.declared.expr.UnaryOperator.TheVariants as u
 use Rattle.cel_syntax_ast.specs.declared.expr.BinaryOperator.{BinaryOperator}
 use Rattle.cel_syntax_lexer.specs.Literal.{takes_minus, literal_value}
-use Rattle.cel_syntax_nodes.specs.Words.{is_identifier, is_selector}
+use Rattle.cel_syntax_ast.specs.Words.{is_identifier, is_selector}
 use Rattle.cel_syntax.specs.Operator.{sign, is_operator_before}
-use Rattle.cel_syntax_nodes.specs.Calls.{call_of, method_of, parts_level}
+use Rattle.cel_syntax_ast.specs.Calls.{call_of, method_of, parts_level}
 use Rattle.cel_syntax.specs.Grammar as g
 use Rattle.cel_syntax.specs.Grammar.{OptionalComma, Expression, Chain, Prefixed, Signed, Member, Primary, Items, SomeItems, Entries, SomeEntries, Pair, Derives}
 use Rattle.cel_syntax.specs.Ahead as ahead

@@ -12,7 +12,7 @@ use Rattle.cel_syntax_lexer.specs.declared.punctuator.Punctuator.{Punctuator}
 use Rattle.cel_syntax_lexer.specs.Token.{Token, word, punctuator}
 use Rattle.cel_syntax_ast.specs.Term.{Term}
 use Rattle.cel_syntax_ast.specs.declared.expr.BinaryOperator.{BinaryOperator}
-use Rattle.cel_syntax_nodes.specs.Words.{is_identifier, is_selector, is_literal, is_reserved}
+use Rattle.cel_syntax_ast.specs.Words.{is_identifier, is_selector, is_literal, is_reserved}
 use Rattle.cel_syntax_lexer.specs.Literal.{word_value, literal_value}
 use Rattle.cel_syntax.specs.Operator.{operator, operator_of}
 use Rattle.cel_syntax.specs.Ahead.{same_punctuator, sees, operator_at, if_level, is_end, sees_end}

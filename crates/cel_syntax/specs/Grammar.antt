@@ -14,9 +14,9 @@ use Rattle.cel_syntax_ast.specs.Term.{Term, terms_of, pairs_of}
 use Rattle.cel_syntax_ast.specs.declared.expr.UnaryOperator.{UnaryOperator}
 use Rattle.cel_syntax_ast.specs.declared.expr.BinaryOperator.{BinaryOperator}
 use Rattle.cel_syntax_lexer.specs.Literal.{takes_minus, literal_value}
-use Rattle.cel_syntax_nodes.specs.Words.{is_identifier, is_selector}
+use Rattle.cel_syntax_ast.specs.Words.{is_identifier, is_selector}
 use Rattle.cel_syntax.specs.Operator.{sign, operator, is_operator_before}
-use Rattle.cel_syntax_nodes.specs.Calls.{call_of, method_of, parts_level}
+use Rattle.cel_syntax_ast.specs.Calls.{call_of, method_of, parts_level}
 
 -- an optional comma
 pub data OptionalComma : List Token → List Token → Type 0 where

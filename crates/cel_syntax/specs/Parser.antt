@@ -11,9 +11,9 @@ use Rattle.cel_syntax_ast.specs.declared.expr.UnaryOperator.{UnaryOperator}
 use Rattle.cel_syntax_ast.specs.declared.expr.UnaryOperator.TheVariants as u
 use Rattle.cel_syntax_ast.specs.declared.expr.BinaryOperator.{BinaryOperator}
 use Rattle.cel_syntax_lexer.specs.Literal.{takes_minus, literal_value}
-use Rattle.cel_syntax_nodes.specs.Words.{is_identifier, is_selector}
+use Rattle.cel_syntax_ast.specs.Words.{is_identifier, is_selector}
 use Rattle.cel_syntax.specs.Ahead.{sees, after, operator_at, sees_end, goes_on, signs}
-use Rattle.cel_syntax_nodes.specs.Calls.{call_of, method_of, parts_level}
+use Rattle.cel_syntax_ast.specs.Calls.{call_of, method_of, parts_level}
 
 abbrev pub Outcome : Type 0 → Type 0
 Outcome A = Option (A × List Token)

@@ -6,7 +6,7 @@ ghost use Rattle.cel_syntax_lexer.specs.Token.{Token as SpecToken};
 ghost use Rattle.cel_syntax_ast.specs.Term as tree;
 ghost use Rattle.cel_syntax_ast.specs.Term.{term};
 ghost use Rattle.cel_syntax_lexer.specs.declared.punctuator.Punctuator.TheVariants.{CloseSquare as close_square};
-ghost use Rattle.cel_syntax_nodes.specs.Calls as calls;
+ghost use Rattle.cel_syntax_ast.specs.Calls as calls;
 ghost use Rattle.cel_syntax.specs.Parser as spec;
 ghost use Rattle.cel_syntax.specs.Ahead.{tokens_left, tokens_left as spec_left};
 ghost use Rattle.cel_syntax.specs.Reads.{Reads, ReadsItems, ReadsEntries, ReadsPair};
@@ -16,14 +16,13 @@ ghost use Rattle.cel_syntax.specs.declared.syntax_error.SyntaxError.TheVariants.
 
 use crate::cursor::Cursor;
 use crate::syntax_error::SyntaxError;
-use cel_syntax_ast::{BinaryOperator, Expr, UnaryOperator};
+use cel_syntax_ast::{
+    BinaryOperator, Expr, UnaryOperator, binary, both, call, conditional, ident, identifier, index,
+    method, parts_level, select, selector, unary,
+};
 use cel_syntax_lexer::punctuator::Punctuator;
 use cel_syntax_lexer::token::Token;
 use cel_syntax_lexer::{literal, takes_minus};
-use cel_syntax_nodes::{
-    binary, both, call, conditional, ident, identifier, index, method, parts_level, select,
-    selector, unary,
-};
 use std::alloc::Global;
 
 /// How many levels the tree may be over a limit.
@@ -403,7 +402,10 @@ impl<F: Fn(Global, &mut Cursor<'_>, u8) -> Result<(Expr, usize), SyntaxError>> G
     {
         match tokens.next() {
             Some(Token::Word(word)) => self.selection_or_method(tokens, target, word),
-            _ => Err(SyntaxError::Invalid),
+            _ => {
+                drop(target);
+                Err(SyntaxError::Invalid)
+            }
         }
     }
 
@@ -458,6 +460,7 @@ impl<F: Fn(Global, &mut Cursor<'_>, u8) -> Result<(Expr, usize), SyntaxError>> G
             }
         }
         if tokens.sees(Punctuator::Dot) || tokens.sees(Punctuator::OpenSquare) {
+            drop(found);
             return Err(SyntaxError::Invalid);
         }
         Ok(found)
@@ -580,7 +583,10 @@ impl<F: Fn(Global, &mut Cursor<'_>, u8) -> Result<(Expr, usize), SyntaxError>> G
             found = self.with_operand(tokens, below, operator, found)?;
         }
         match tokens.operator(below + 1) {
-            Some(_) => Err(SyntaxError::Invalid),
+            Some(_) => {
+                drop(found);
+                Err(SyntaxError::Invalid)
+            }
             None => Ok(found),
         }
     }

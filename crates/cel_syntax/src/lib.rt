@@ -39,6 +39,6 @@ mod variables;
 
 pub use cel_syntax_ast::{BinaryOperator, Expr, MacroKind, UnaryOperator};
 pub use error::ParseErrors;
-pub use kube_types_refused::Refused;
+pub use kube_types::Refused;
 pub use reading::parse;
 pub use references::References;

@@ -25,6 +25,7 @@ fn read(alloc: Global, tokens: &[Token<'_>]) -> Result<Option<Expr>, AllocError>
         Ok(found) => Ok(if cursor.len() == 0 && found.1 <= usize::from(MAX_LEVEL) {
             Some(found.0)
         } else {
+            drop(found);
             None
         }),
         Err(SyntaxError::Invalid) => Ok(None),

@@ -1,7 +1,7 @@
 //! Parses texts to trees.
 
 ghost use Rattle.std.specs.Prelude.{◌≡◌, MatchResult, IfOk, option_map};
-ghost use Rattle.kube_types_refused.specs.declared.Refused.TheVariants.{Memory};
+ghost use Rattle.kube_types.specs.Refused.TheVariants.{Memory};
 ghost use Rattle.cel_syntax_ast.specs.Term.{Term, term};
 ghost use Rattle.cel_syntax.specs.Reading.{TextDerives, tree_of, tree_seen};
 
@@ -9,7 +9,7 @@ use crate::error::ParseErrors;
 use crate::parser::parse_tokens;
 use cel_syntax_ast::Expr;
 use cel_syntax_lexer::lexer::tokens;
-use kube_types_refused::Refused;
+use kube_types::Refused;
 use std::alloc::{AllocError, Global};
 
 /// Returns the tree that a text derives, or `None` if it derives none.

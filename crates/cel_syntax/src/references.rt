@@ -2,7 +2,7 @@
 ghost use Rattle.std.specs.Prelude.{◌≡◌, IfOk, IfErr};
 ghost use Rattle.std.specs.List.{list_any};
 ghost use Rattle.std.specs.Str.{bytes_eq};
-ghost use Rattle.kube_types_refused.specs.declared.Refused.TheVariants.{Memory};
+ghost use Rattle.kube_types.specs.Refused.TheVariants.{Memory};
 ghost use Rattle.cel_syntax_ast.specs.FreeNames.{is_free};
 ghost use Rattle.cel_syntax_ast.specs.Term.{term};
 ghost use Rattle.cel_syntax.specs.CallNames.{is_called};
@@ -14,7 +14,7 @@ use crate::calls::add_calls;
 use crate::names::in_order;
 use crate::variables::add_variables;
 use cel_syntax_ast::Expr;
-use kube_types_refused::Refused;
+use kube_types::Refused;
 use std::alloc::Global;
 use std::collections::BTreeSet;
 

@@ -3,7 +3,7 @@
 ghost use Rattle.std.specs.Prelude.{◌≡◌};
 ghost use Rattle.cel_syntax.specs.declared.syntax_error.SyntaxError.TheVariants.{Memory};
 
-use kube_types_refused::Refused;
+use kube_types::Refused;
 use std::alloc::{AllocError, AllocFailed};
 
 #[derive(Clone, Copy, Debug, PartialEq, Eq)]

@@ -1,2 +1,5 @@
 pub mod Term
 pub mod FreeNames
+pub mod Nodes
+pub mod Words
+pub mod Calls

@@ -1,14 +1,14 @@
 //! The values of strings and bytes.
 
 ghost use Rattle.std.specs.Prelude.{◌≡◌, MatchResult, option_map, IfOk};
-ghost use Rattle.kube_types_refused.specs.declared.Refused.TheVariants.{Memory};
+ghost use Rattle.kube_types.specs.Refused.TheVariants.{Memory};
 ghost use Rattle.cel_value.specs.View.{view};
 ghost use Rattle.cel_syntax_lexer.specs.StringValues as spec;
 
 use crate::content::Content;
 use crate::escape::unescape;
 use cel_value::Value;
-use kube_types_refused::Refused;
+use kube_types::Refused;
 use std::alloc::{AllocError, Global};
 use std::rc::Rc;
 

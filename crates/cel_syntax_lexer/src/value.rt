@@ -2,7 +2,7 @@
 
 ghost use Rattle.std.specs.Prelude.{◌≡◌, MatchResult, option_map};
 ghost use Rattle.std.specs.Str.{bytes_eq};
-ghost use Rattle.kube_types_refused.specs.declared.Refused.TheVariants.{Memory};
+ghost use Rattle.kube_types.specs.Refused.TheVariants.{Memory};
 ghost use Rattle.cel_syntax_lexer.specs.Token.{token_of};
 ghost use Rattle.cel_value.specs.View.{view};
 ghost use Rattle.cel_syntax_lexer.specs.Literal as spec;
@@ -11,7 +11,7 @@ use crate::number_value::{goes_with_minus, number};
 use crate::string_value::quoted;
 use crate::token::Token;
 use cel_value::Value;
-use kube_types_refused::Refused;
+use kube_types::Refused;
 use std::alloc::Global;
 
 fn is_word(word: &[u8], name: &[u8]) -> bool

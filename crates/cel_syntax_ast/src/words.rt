@@ -3,7 +3,7 @@
 ghost use Rattle.std.specs.Prelude.{◌≡◌, MatchOption, true, false, map};
 ghost use Rattle.std.specs.List.{list_any};
 ghost use Rattle.std.specs.Str.{bytes_eq};
-ghost use Rattle.cel_syntax_nodes.specs.Words as spec;
+ghost use Rattle.cel_syntax_ast.specs.Words as spec;
 
 /// The words that denote values, and `in`, the operator that is a word.
 const LITERALS: [&[u8]; 4] = [b"true", b"false", b"null", b"in"];

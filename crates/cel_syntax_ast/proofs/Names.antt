@@ -2,7 +2,7 @@
 use Rattle.std.proofs.Common.{◌≡◌, ℕ, refl, Bool, true, false, List}
 use Rattle.std.specs.Str.{IsUtf8, is_utf8}
 use Rattle.std.proofs.lemmas.Str.{IsUtf8-from_is_utf8, is_utf8-from_IsUtf8}
-use Rattle.cel_syntax_nodes.specs.Words.{is_literal, is_selector}
+use Rattle.cel_syntax_ast.specs.Words.{is_literal, is_selector}
 
 pub selects : (w : List ℕ) → is_literal w ≡ false → IsUtf8 w → is_selector w ≡ true
 unfolding is_selector

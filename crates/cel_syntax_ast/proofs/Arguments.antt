@@ -3,7 +3,7 @@ use Rattle.std.proofs.Common.{◌≡◌, ◌≢◌, suc, refl, ap, arith, None, 
 use Rattle.cel_syntax_ast.specs.Term.{Term, term}
 use Rattle.cel_syntax_ast.specs.declared.expr.Expr.{Expr}
 use Rattle.cel_syntax_ast.specs.declared.expr.MacroKind.{MacroKind}
-use Rattle.cel_syntax_nodes.specs.Calls.{macro_of}
+use Rattle.cel_syntax_ast.specs.Calls.{macro_of}
 
 pub length_terms : (es : List Expr) → length (map term es) ≡ length es
 length_terms [] = refl

@@ -4,8 +4,8 @@ ghost use Rattle.std.specs.Prelude.{◌≡◌, IfOk};
 ghost use Rattle.cel_syntax_ast.specs.Term as tree;
 ghost use Rattle.cel_syntax_ast.specs.Term.{term};
 
+use crate::expr::{BinaryOperator, Expr, UnaryOperator};
 use crate::owned::{both, boxed, in_box};
-use cel_syntax_ast::{BinaryOperator, Expr, UnaryOperator};
 use cel_value::Text;
 use std::alloc::{AllocError, Global};
 

@@ -2,10 +2,10 @@
 
 ghost use Rattle.std.specs.Prelude.{◌≡◌, ◌∷◌, ◌++◌, IfOk, MatchOption, Some, None, map};
 ghost use Rattle.cel_syntax_ast.specs.Term.{term};
-ghost use Rattle.cel_syntax_nodes.specs.Calls as spec;
+ghost use Rattle.cel_syntax_ast.specs.Calls as spec;
 
+use crate::expr::Expr;
 use crate::words::{is_one_of, is_word};
-use cel_syntax_ast::Expr;
 use cel_value::Text;
 use std::alloc::{AllocError, Global};
 

@@ -3,13 +3,13 @@
 ghost use Rattle.std.specs.Prelude.{◌≡◌, map, option_map, IfOk};
 ghost use Rattle.cel_syntax_ast.specs.Term as tree;
 ghost use Rattle.cel_syntax_ast.specs.Term.{term, terms_of};
-ghost use Rattle.cel_syntax_nodes.specs.Calls as spec;
+ghost use Rattle.cel_syntax_ast.specs.Calls as spec;
 
+use crate::expr::Expr;
 use crate::macros::{has, kind_of, macro_of, one};
 use crate::owned::{both, in_box};
 use crate::qualified::qualified_name;
 use crate::words::is_word;
-use cel_syntax_ast::Expr;
 use cel_value::Text;
 use std::alloc::{AllocError, Global};
 

@@ -3,11 +3,11 @@
 ghost use Rattle.std.specs.Prelude.{◌≡◌, ◌∷◌, [], map, vec_len, option_map, MatchOption, Some, None, IfOk};
 ghost use Rattle.cel_syntax_ast.specs.Term as tree;
 ghost use Rattle.cel_syntax_ast.specs.Term.{term};
-ghost use Rattle.cel_syntax_nodes.specs.Calls as spec;
+ghost use Rattle.cel_syntax_ast.specs.Calls as spec;
 
+use crate::expr::{Expr, MacroKind};
 use crate::owned::{both, boxed, in_box};
 use crate::words::is_word;
-use cel_syntax_ast::{Expr, MacroKind};
 use cel_value::Text;
 use std::alloc::{AllocError, Global};
 
