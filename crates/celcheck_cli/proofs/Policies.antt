@@ -1,7 +1,7 @@
 -- The validations of a policy, read one after another.
 use Rattle.celcheck_cli.specs.Policies.{before, expression_in, expressions_in}
-use Rattle.kube_cel_vap.specs.declared.expression.VapExpression.{VapExpression}
-use Rattle.kube_cel_vap.specs.Validations.{ExpressionData, expression_view}
+use Rattle.kube_cel.specs.VapExpression.{VapExpression}
+use Rattle.kube_cel.specs.Validations.{ExpressionData, expression_view}
 use Rattle.serde_json.specs.View.{view, items_view}
 use Rattle.serde_json.specs.declared.value.Value.{Value}
 use Rattle.std.proofs.Common.{◌≡◌, ◌+◌, ◌<◌, ◌≤◌, ℕ, List, [], ◌∷◌, ◌++◌, get_or, length, map, drop, Option, Some, None, option_map, refl, sym, ap, ◌∙◌}

@@ -1,23 +1,23 @@
 -- The meaning of the exit statuses.
 use Rattle.cel_patterns.proofs.Books.{HoldsForExtensions-here}
-use Rattle.cel_patterns.specs.Book.{Book, IsBook}
-use Rattle.cel_patterns.specs.Extensions.{HoldsForExtensions}
-use Rattle.cel_semantics.specs.Bindings.{Bindings}
-use Rattle.cel_semantics.specs.Meaning.{meaning}
-use Rattle.cel_semantics.specs.Outcome.{Outcome}
+use Rattle.cel.specs.Book.{Book, IsBook}
+use Rattle.cel.specs.Extensions.{HoldsForExtensions}
+use Rattle.cel.specs.Bindings.{Bindings}
+use Rattle.cel.specs.Meaning.{meaning}
+use Rattle.cel.specs.Outcome.{Outcome}
 use Rattle.cel_syntax.specs.Reading.{tree_of}
 use Rattle.cel_syntax.specs.declared.error.ParseErrors.{ParseErrors}
-use Rattle.cel_syntax_ast.specs.Term.{Term}
+use Rattle.cel_syntax.specs.Term.{Term}
 use Rattle.celcheck_cli.specs.declared.eval.Found.{Found}
 use Rattle.celcheck_cli.specs.declared.eval.Found.TheVariants as found
 use Rattle.celcheck_cli.specs.declared.status.Stop.{Stop}
 use Rattle.celcheck_cli.specs.Runs.{IfErrors}
 use Rattle.celcheck_cli.specs.Reports.{IsEvaluated, IsFound, IsReportedAs, found_line, found_status, results_status}
-use Rattle.kube_cel_walk.specs.declared.error.ValidationErrors.{ValidationErrors}
-use Rattle.kube_cel_vap.specs.declared.expression.VapResult.{VapResult}
-use Rattle.kube_cel_vap.specs.Validations.{result_view}
+use Rattle.kube_cel.specs.ValidationErrors.{ValidationErrors}
+use Rattle.kube_cel.specs.VapResult.{VapResult}
+use Rattle.kube_cel.specs.Validations.{result_view}
 use Rattle.kube_functions.specs.Kube.{all_library}
-use Rattle.kube_types_refused.specs.declared.Refused.{Refused}
+use Rattle.kube_types.specs.Refused.{Refused}
 use Rattle.serde_json.specs.declared.value.Value.{Value}
 use Rattle.serde_json.specs.View.{view}
 use Rattle.std.proofs.Common.{◌≡◌, ◌+◌, ◌<◌, ◌≤◌, ℕ, List, [], ◌∷◌, ◌++◌, get_or, length, map, drop, true, false, if◌then◌else◌, Option, Some, None, option_map, Result, Ok, Err, IfOk, refl, sym, ap, subst, ◌∙◌}

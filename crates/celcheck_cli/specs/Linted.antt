@@ -1,11 +1,11 @@
 -- Trusted by the clauses of celcheck.
 -- The report of `lint`, and its exit status.
 use Rattle.celcheck_cli.specs.Runs.{IsRead}
-use Rattle.kube_cel_analysis.specs.declared.finding.LintFinding.{LintFinding}
-use Rattle.kube_cel_analysis.specs.declared.finding.LintKind.{LintKind}
-use Rattle.kube_cel_analysis.specs.declared.finding.LintKind.TheVariants.{Compile, Function, Scope, Cost, Bounds, Depth}
-use Rattle.kube_cel_analysis.specs.Findings.{Finding, Naming, finding_view}
-use Rattle.kube_cel_analysis.specs.Lint.{findings}
+use Rattle.kube_cel.specs.LintFinding.{LintFinding}
+use Rattle.kube_cel.specs.LintKind.{LintKind}
+use Rattle.kube_cel.specs.LintKind.TheVariants.{Compile, Function, Scope, Cost, Bounds, Depth}
+use Rattle.kube_cel.specs.Findings.{Finding, Naming, finding_view}
+use Rattle.kube_cel.specs.Lint.{findings}
 use Rattle.kube_schema.specs.View.{view_of}
 use Rattle.serde_json.specs.Data.{Data}
 use Rattle.std.specs.List.{flat_map}

@@ -2,7 +2,7 @@
 -- The validations of a policy in JSON (Kubernetes API reference, ValidatingAdmissionPolicySpec and
 -- Validation).
 use Rattle.celcheck_cli.specs.declared.policy.Parts.{Parts}
-use Rattle.kube_cel_vap.specs.Validations.{ExpressionData}
+use Rattle.kube_cel.specs.Validations.{ExpressionData}
 use Rattle.serde_json.specs.Data.{Data, null, boolean, number, string, array, object, Items, no_items, item}
 use Rattle.serde_json.specs.Find.{get, as_str, as_array}
 use Rattle.std.specs.Prelude.{ℕ, List, [], ◌∷◌, Option, Some, None, option_map, option_and_then, codes}

@@ -1,8 +1,8 @@
 -- Trusted by the clauses of celcheck.
 -- The reports of `eval` and `vap`, and their exit statuses.
-use Rattle.cel_patterns.specs.Book.{Book, IsBook}
-use Rattle.cel_semantics.specs.Meaning.{meaning}
-use Rattle.cel_semantics.specs.Outcome.{Outcome}
+use Rattle.cel.specs.Book.{Book, IsBook}
+use Rattle.cel.specs.Meaning.{meaning}
+use Rattle.cel.specs.Outcome.{Outcome}
 use Rattle.cel_syntax.specs.Reading.{tree_of}
 use Rattle.cel_value.specs.Faults.{fault_view}
 use Rattle.cel_value.specs.Kinds.{kind_name}
@@ -15,12 +15,12 @@ use Rattle.celcheck_cli.specs.declared.status.Stop.{Stop}
 use Rattle.celcheck_cli.specs.declared.status.Stop.TheVariants as stop
 use Rattle.celcheck_cli.specs.Policies.{validations_in}
 use Rattle.celcheck_cli.specs.Runs.{IsRead}
-use Rattle.kube_cel_vap.specs.declared.expression.VapResult.{VapResult}
-use Rattle.kube_cel_vap.specs.Validations.{ExpressionData, ResultData, result_view}
-use Rattle.kube_cel_vap.specs.CallResults.{AreResultsOf}
-use Rattle.kube_cel_vap.specs.Variables.{Variables, no_variables}
+use Rattle.kube_cel.specs.VapResult.{VapResult}
+use Rattle.kube_cel.specs.Validations.{ExpressionData, ResultData, result_view}
+use Rattle.kube_cel.specs.CallResults.{AreResultsOf}
+use Rattle.kube_cel.specs.Variables.{Variables, no_variables}
 use Rattle.kube_functions.specs.Kube.{all_library}
-use Rattle.kube_types_refused.specs.declared.Refused.TheVariants.{Memory}
+use Rattle.kube_types.specs.Refused.TheVariants.{Memory}
 use Rattle.serde_json.specs.Data.{Data}
 use Rattle.std.specs.declared.io.Error.{Error}
 use Rattle.std.specs.List.{flat_map}

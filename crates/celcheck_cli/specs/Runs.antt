@@ -5,7 +5,7 @@ use Rattle.celcheck_cli.specs.declared.status.Stop.{Stop}
 use Rattle.celcheck_cli.specs.Words.{Paths}
 use Rattle.kube_cel.specs.Answers.{IsReportOf}
 use Rattle.kube_cel.specs.Raw.{raw_accessors}
-use Rattle.kube_cel_walk.specs.declared.error.ValidationErrors.{ValidationErrors}
+use Rattle.kube_cel.specs.ValidationErrors.{ValidationErrors}
 use Rattle.kube_cel.specs.Starts.{defaulted_start}
 use Rattle.serde_json.specs.Data.{Data}
 use Rattle.serde_json.specs.Read.{read as read_text}

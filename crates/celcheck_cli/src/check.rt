@@ -4,9 +4,9 @@ ghost use Rattle.celcheck_cli.specs.Words.{named_view};
 ghost use Rattle.kube_cel.specs.Answers.{IsReportOf};
 ghost use Rattle.kube_cel.specs.Raw.{raw_accessors};
 ghost use Rattle.kube_cel.specs.Starts.{call_start};
-ghost use Rattle.kube_cel_walk.specs.declared.error.ValidationErrors.{ValidationErrors};
-ghost use Rattle.kube_cel_walk.specs.ErrorLists.{errors_in};
-ghost use Rattle.kube_cel_walk.specs.Texts.{errors_text};
+ghost use Rattle.kube_cel.specs.ValidationErrors.{ValidationErrors};
+ghost use Rattle.kube_cel.specs.ErrorLists.{errors_in};
+ghost use Rattle.kube_cel.specs.Texts.{errors_text};
 ghost use Rattle.std.specs.Io.KnownBytes.{Appends};
 ghost use Rattle.std.specs.Prelude.{◌≡◌, ◌≤◌, ◌++◌, ◌∷◌, [], Ok, Err, IfOk};
 

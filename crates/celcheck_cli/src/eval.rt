@@ -7,8 +7,7 @@ ghost use Rattle.std.specs.Prelude.{◌≡◌, ◌≤◌, ◌++◌, ◌∷◌, [
 use crate::status::{FAILED, PASSED, status_reported, stop_status};
 use kube_cel::Refused;
 use kube_cel::cel::{Context, ExecutionError, Kind, ParseErrors, Program, Value};
-use kube_functions::AllFunctions;
-use kube_functions_format::printed;
+use kube_functions::{AllFunctions, printed};
 use std::alloc::Global;
 use std::io::Write;
 

@@ -15,9 +15,9 @@ ghost use Rattle.celcheck_cli.specs.Linted.{IsLinted};
 ghost use Rattle.celcheck_cli.specs.Runs.{IsAnswered};
 ghost use Rattle.celcheck_cli.specs.Reports.{IsEvaluated, IsReviewed};
 ghost use Rattle.celcheck_cli.specs.Words.{command_of, command_view, IfCheck, IfEval, IfLint, IfVap};
-ghost use Rattle.kube_cel_walk.specs.declared.error.ValidationErrors.{ValidationErrors};
-ghost use Rattle.kube_cel_walk.specs.ErrorLists.{errors_in};
-ghost use Rattle.kube_cel_walk.specs.Texts.{errors_text};
+ghost use Rattle.kube_cel.specs.ValidationErrors.{ValidationErrors};
+ghost use Rattle.kube_cel.specs.ErrorLists.{errors_in};
+ghost use Rattle.kube_cel.specs.Texts.{errors_text};
 ghost use Rattle.std.specs.Io.KnownBytes.{Appends};
 ghost use Rattle.std.specs.Prelude.{◌≡◌, ◌≤◌, ◌++◌, ◌∷◌, [], None, Some, Ok, Err, map, string_bytes};
 

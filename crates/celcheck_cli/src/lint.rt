@@ -1,6 +1,6 @@
 //! `lint`: reviews the rules of a schema.
 ghost use Rattle.celcheck_cli.specs.Linted.{AreFindings, IsLinted, finding_line, findings_status, kind_text};
-ghost use Rattle.kube_cel_analysis.specs.Findings.{finding_view};
+ghost use Rattle.kube_cel.specs.Findings.{finding_view};
 ghost use Rattle.std.specs.Io.KnownBytes.{Appends};
 ghost use Rattle.std.specs.List.{flat_map};
 ghost use Rattle.std.specs.Prelude.{◌≡◌, ◌≤◌, IfOk, OnOk, map};

@@ -1,12 +1,11 @@
 //! Reads the validations of a policy from JSON (Kubernetes API reference,
 //! ValidatingAdmissionPolicySpec and Validation).
 ghost use Rattle.celcheck_cli.specs.Policies.{expression_in, expressions_in, parts_view, text_at, validation_items, validations_in};
-ghost use Rattle.kube_cel_vap.specs.Validations.{expression_view};
+ghost use Rattle.kube_cel.specs.Validations.{expression_view};
 ghost use Rattle.serde_json.specs.View.{items_view, view};
 ghost use Rattle.std.specs.Prelude.{◌≡◌, IfOk, map, option_map, string_bytes};
 
-use kube_cel::Refused;
-use kube_cel_vap::VapExpression;
+use kube_cel::{Refused, VapExpression};
 use serde_json::Value;
 use std::alloc::{AllocError, Global};
 

@@ -1,7 +1,7 @@
 //! Exit statuses, and the reasons why a command stops.
 ghost use Rattle.celcheck_cli.specs.Reports.{IsOfPath, status_after};
 ghost use Rattle.celcheck_cli.specs.declared.status.Stop.TheVariants as stop;
-ghost use Rattle.kube_types_refused.specs.declared.Refused.TheVariants.{Memory};
+ghost use Rattle.kube_types.specs.Refused.TheVariants.{Memory};
 ghost use Rattle.std.specs.Prelude.{◌≡◌};
 
 use kube_cel::Refused;

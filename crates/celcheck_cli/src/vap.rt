@@ -1,6 +1,6 @@
 //! `vap`: evaluates the validations of a policy.
 ghost use Rattle.celcheck_cli.specs.Reports.{AreResults, IsReviewed, result_line, results_status};
-ghost use Rattle.kube_cel_vap.specs.Validations.{result_view};
+ghost use Rattle.kube_cel.specs.Validations.{result_view};
 ghost use Rattle.std.specs.Io.KnownBytes.{Appends};
 ghost use Rattle.std.specs.List.{flat_map};
 ghost use Rattle.std.specs.Prelude.{◌≡◌, ◌≤◌, IfOk, OnOk, map};
@@ -8,7 +8,7 @@ ghost use Rattle.std.specs.Prelude.{◌≡◌, ◌≤◌, IfOk, OnOk, map};
 use crate::files::{Sources, read_json};
 use crate::policy::validations_of;
 use crate::status::{FAILED, PASSED, Stop, report_stop, status_reported};
-use kube_cel_vap::{VapEvaluator, VapResult};
+use kube_cel::{VapEvaluator, VapResult};
 use std::alloc::Global;
 use std::io;
 use std::io::Write;

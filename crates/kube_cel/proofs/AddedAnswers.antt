@@ -1,5 +1,5 @@
 -- Added rules leave all other errors as they were.
-use Rattle.cel_patterns.specs.Book.{Book}
+use Rattle.cel.specs.Book.{Book}
 use Rattle.kube_cel.proofs.AddedKept.{same_at}
 use Rattle.kube_cel.proofs.AddedParts.{added, at_key}
 use Rattle.kube_cel.proofs.Marks.{Marked, marked_steps, as_is, as_was, bound_alike, filled_alike, leads_is, leads_left, leads_was, places_are, places_were}
@@ -12,17 +12,17 @@ use Rattle.kube_cel_walk.specs.RuleErrors.{too_deep}
 use Rattle.kube_schema_rules.proofs.Candidates.{visit_places}
 use Rattle.kube_schema_rules.proofs.Found.{flat_map_same}
 use Rattle.kube_schema_rules.proofs.Raw.{raw_counts_all}
-use Rattle.kube_schema_rules.specs.declared.branches.BranchKind.TheVariants.{AllOf, OneOf, AnyOf}
-use Rattle.kube_schema_rules.specs.Raw.{raw_steps}
-use Rattle.kube_schema_rules.specs.Visit.{Root, Visit, candidates, goes, root_visit}
-use Rattle.kube_schema_rules.specs.Step.{Step}
-use Rattle.kube_schema_rules.specs.Walk.{answers, if_some, leads, places}
+use Rattle.kube_schema.specs.BranchKind.TheVariants.{AllOf, OneOf, AnyOf}
+use Rattle.kube_schema.specs.RulesRaw.{raw_steps}
+use Rattle.kube_schema.specs.Visit.{Root, Visit, candidates, goes, root_visit}
+use Rattle.kube_schema.specs.Step.{Step}
+use Rattle.kube_schema.specs.Walk.{answers, if_some, leads, places}
 use Rattle.kube_cel.specs.Visits.{with_node_of}
 use Rattle.kube_cel_walk.specs.Verdicts.{list_of_option, verdict, with_old, with_root}
 use Rattle.kube_cel_walk.specs.Answers.{answer, bound_at, place_bindings, rule_verdicts, verdicts}
-use Rattle.kube_schema_values.specs.Conversion.{levels}
-use Rattle.kube_schema_rules.specs.Compilation.{Compiled, Malformed, compiled_rule, compiled_rules}
-use Rattle.kube_schema_rules.specs.Rules.{rule_items}
+use Rattle.kube_schema.specs.Conversion.{levels}
+use Rattle.kube_schema.specs.Compilation.{Compiled, Malformed, compiled_rule, compiled_rules}
+use Rattle.kube_schema.specs.Rules.{rule_items}
 use Rattle.serde_json.specs.Data.{Data, null, boolean, number, string, array, object, Items, no_items, item}
 use Rattle.serde_json.specs.Find.{as_array, get}
 use Rattle.std.proofs.Common.{◌≡◌, ◌==◌, List, [], ◌∷◌, ◌++◌, Bool, true, false, if◌then◌else◌, Option, Some, None, option_map, option_and_then, unwrap_or, is_some, codes, refl, sym, ap, subst, ◌∙◌, append-nil, Result}

@@ -5,13 +5,13 @@ use Rattle.std.specs.Option.{option_map_or}
 use Rattle.std.specs.Str.{bytes_eq}
 use Rattle.serde_json.specs.Data.{Data, Items}
 use Rattle.serde_json.specs.Find.{as_bool, as_object, get}
-use Rattle.kube_schema_rules.specs.declared.branches.BranchKind.{BranchKind}
-use Rattle.kube_schema_rules.specs.declared.branches.BranchKind.TheVariants.{AllOf, OneOf, AnyOf}
-use Rattle.kube_schema_rules.specs.Inside.{count_at}
-use Rattle.kube_schema_rules.specs.Raw.{undeclared_property}
-use Rattle.kube_schema_rules.specs.Step as step
-use Rattle.kube_schema_rules.specs.Step.{keyword}
-use Rattle.kube_schema_values.specs.DefaultsAccessors.{keys_in as names_in, members_or_none}
+use Rattle.kube_schema.specs.BranchKind.{BranchKind}
+use Rattle.kube_schema.specs.BranchKind.TheVariants.{AllOf, OneOf, AnyOf}
+use Rattle.kube_schema.specs.Inside.{count_at}
+use Rattle.kube_schema.specs.RulesRaw.{undeclared_property}
+use Rattle.kube_schema.specs.Step as step
+use Rattle.kube_schema.specs.Step.{keyword}
+use Rattle.kube_schema.specs.DefaultsAccessors.{keys_in as names_in, members_or_none}
 use Rattle.kube_cel.specs.Added.{NodeStep, to_property, to_items, to_additional, to_branch, left_after, with_rules}
 use Rattle.kube_cel.proofs.Changed.{where_true}
 use Rattle.kube_cel.proofs.AddedParts.{added, additional_added, at_key, bools_stay, change, changed_key, count_at_stays, if_object, names_at_stay, same_option}

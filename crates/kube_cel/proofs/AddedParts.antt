@@ -3,12 +3,12 @@ use Rattle.std.proofs.Common.{◌≡◌, ◌==◌, ◌&&◌, ℕ, List, [], ◌�
 use Rattle.std.specs.Str.{bytes_eq}
 use Rattle.serde_json.specs.Data.{Data, null, boolean, number, string, array, object, Items}
 use Rattle.serde_json.specs.Find.{as_bool, as_object, at, get}
-use Rattle.kube_schema_rules.specs.declared.branches.BranchKind.{BranchKind}
-use Rattle.kube_schema_rules.specs.declared.branches.BranchKind.TheVariants.{AllOf, OneOf, AnyOf}
-use Rattle.kube_schema_rules.specs.Inside.{count_at}
-use Rattle.kube_schema_rules.specs.Step as step
-use Rattle.kube_schema_rules.specs.Step.{keyword}
-use Rattle.kube_schema_values.specs.DefaultsAccessors.{keys_in as names_in, members_or_none}
+use Rattle.kube_schema.specs.BranchKind.{BranchKind}
+use Rattle.kube_schema.specs.BranchKind.TheVariants.{AllOf, OneOf, AnyOf}
+use Rattle.kube_schema.specs.Inside.{count_at}
+use Rattle.kube_schema.specs.Step as step
+use Rattle.kube_schema.specs.Step.{keyword}
+use Rattle.kube_schema.specs.DefaultsAccessors.{keys_in as names_in, members_or_none}
 use Rattle.kube_cel.specs.Added.{NodeStep, to_property, to_items, to_additional, to_branch, keyword_of, left_after, with_items, with_rules, with_key, with_index, within}
 use Rattle.kube_cel.proofs.Changed.{where_true, get_changed, at_changed, names_stay, length_stays}
 

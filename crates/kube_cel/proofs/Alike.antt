@@ -1,11 +1,11 @@
 -- A schema and its tree have the same answer.
-use Rattle.cel_patterns.specs.Book.{Book}
+use Rattle.cel.specs.Book.{Book}
 use Rattle.kube_cel.specs.Compiled.{compiled_accessors}
 use Rattle.kube_cel.specs.Raw.{raw_accessors}
 use Rattle.kube_cel.specs.Starts.{compiled_start, with_schema_defaults, source_start}
 use Rattle.kube_cel_walk.specs.RuleErrors.{too_deep}
 use Rattle.kube_schema_rules.proofs.Candidates.{CountsAll}
-use Rattle.kube_schema_rules.specs.Visit.{Visit, Root, root_visit}
+use Rattle.kube_schema.specs.Visit.{Visit, Root, root_visit}
 use Rattle.kube_cel.proofs.Counted.{compiled_counts_all}
 use Rattle.kube_cel.proofs.Same.{tree_answers}
 use Rattle.kube_cel.specs.Visits.{with_node_of}
@@ -13,14 +13,15 @@ use Rattle.kube_cel_walk.specs.declared.root.RootContext.{RootContext}
 use Rattle.kube_cel_walk.specs.Roots.{root_view}
 use Rattle.kube_cel_walk.specs.Verdicts.{list_of_option, verdict, with_old, with_root}
 use Rattle.kube_cel_walk.specs.Answers.{bound_at, place_bindings, rule_verdicts, verdicts, answer}
-use Rattle.kube_schema_values.specs.Conversion.{to_cel}
-use Rattle.kube_schema_values.specs.Conversion as accessors
-use Rattle.kube_schema_values.specs.Defaults.{defaulted_value}
-use Rattle.kube_schema_rules.specs.Compilation.{compiled_rules}
-use Rattle.kube_schema_rules.specs.Rules.{rule_items}
+use Rattle.kube_schema.specs.Conversion.{to_cel}
+use Rattle.kube_schema.specs.Conversion as accessors
+use Rattle.kube_schema.specs.Defaults.{defaulted_value}
+use Rattle.kube_schema.specs.Compilation.{compiled_rules}
+use Rattle.kube_schema.specs.Rules.{rule_items}
 use Rattle.kube_schema.proofs.SameDefaults.{filled_same}
 use Rattle.kube_schema.specs.CompiledDefaults as tree_fill
 use Rattle.kube_schema.specs.declared.node.CompiledSchema.{CompiledSchema}
+use Rattle.kube_schema.specs.declared.node_keywords.NodeKeywords.{Ghosts}
 use Rattle.kube_schema.specs.Shown.{whole}
 use Rattle.kube_schema.specs.Tree.{Node}
 use Rattle.kube_schema.specs.View.{view_of, own_view, children_view}
@@ -95,7 +96,7 @@ judged_alike b schema value old root tree e =
     ∙ (λ i. answer compiled_accessors b 65 (root_visit (view_of 65 schema) (sym (filled_same 65 schema value) i) (sym (defaults_alike schema old) i) root))
     ∙ sym (answered_alike b schema (with_schema_defaults schema value) (option_map (with_schema_defaults schema) old) root)
 
-pub compiled_found : (b : Book) (schema : Data) (c : CompiledSchema) (value : Value) (old : Option (Bor Value)) (root : Option (Bor RootContext)) → whole c ≡ view_of 65 schema
+pub compiled_found : {K : Type 0} {g : Ghosts K} (b : Book) (schema : Data) (c : CompiledSchema K g) (value : Value) (old : Option (Bor Value)) (root : Option (Bor RootContext)) → whole c ≡ view_of 65 schema
     → answer compiled_accessors b 65 (compiled_start c value old root) ≡ answer raw_accessors b 65 (source_start schema value old root)
 compiled_found b schema c value old root e =
     judged_alike b schema (view value) (option_map (λ v. view v.now) old) (option_map (λ r. root_view r.now) root) (whole c) e

@@ -7,7 +7,7 @@ use Rattle.serde_json.specs.Data.{Data, null, boolean, number, string, array, ob
 use Rattle.serde_json.specs.Events.{items_len}
 use Rattle.serde_json.specs.Find.{at, get, get_item, get_member}
 use Rattle.kube_schema_rules.proofs.Sorted.{key_cmp, same_key}
-use Rattle.kube_schema_values.specs.DefaultsAccessors.{keys_in as names_in}
+use Rattle.kube_schema.specs.DefaultsAccessors.{keys_in as names_in}
 use Rattle.kube_cel.specs.Added.{members_with, items_with, with_key, with_index}
 
 -- ---- look-ups

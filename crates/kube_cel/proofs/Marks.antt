@@ -4,19 +4,19 @@ use Rattle.std.proofs.Common.{◌≡◌, ◌+◌, ℕ, zero, suc, List, [], ◌�
 use Rattle.std.specs.Option.{option_map_or}
 use Rattle.serde_json.specs.Data.{Data, Items}
 use Rattle.serde_json.specs.Find.{as_bool, as_str, at, get}
-use Rattle.kube_schema_rules.specs.Raw as seen
-use Rattle.kube_schema_rules.specs.Raw.{raw_steps}
-use Rattle.kube_schema_rules.specs.StepAccessors.{StepAccessors}
-use Rattle.kube_schema_rules.specs.Visit.{Root, Visit, visit, candidates, goes, further, unless_there, member_path, item_path}
-use Rattle.kube_schema_rules.specs.Step as step
-use Rattle.kube_schema_rules.specs.Walk.{leads, places}
-use Rattle.kube_schema_values.specs.Conversion as bind
-use Rattle.kube_schema_values.specs.Conversion.{to_cel}
-use Rattle.kube_schema_values.specs.declared.format.SchemaFormat.TheVariants as formats
-use Rattle.kube_schema_values.specs.Formats.{format_named}
-use Rattle.kube_schema_values.specs.Node as asked
-use Rattle.kube_schema_values.specs.Defaults.{defaulted_value}
-use Rattle.kube_schema_values.specs.DefaultsAccessors as fill
+use Rattle.kube_schema.specs.RulesRaw as seen
+use Rattle.kube_schema.specs.RulesRaw.{raw_steps}
+use Rattle.kube_schema.specs.StepAccessors.{StepAccessors}
+use Rattle.kube_schema.specs.Visit.{Root, Visit, visit, candidates, goes, further, unless_there, member_path, item_path}
+use Rattle.kube_schema.specs.Step as step
+use Rattle.kube_schema.specs.Walk.{leads, places}
+use Rattle.kube_schema.specs.Conversion as bind
+use Rattle.kube_schema.specs.Conversion.{to_cel}
+use Rattle.kube_schema.specs.SchemaFormat.TheVariants as formats
+use Rattle.kube_schema.specs.Formats.{format_named}
+use Rattle.kube_schema.specs.Node as asked
+use Rattle.kube_schema.specs.Defaults.{defaulted_value}
+use Rattle.kube_schema.specs.DefaultsAccessors as fill
 use Rattle.kube_cel.specs.Added.{NodeStep, left_after, left_behind}
 use Rattle.kube_cel.specs.Visits.{with_node_of}
 use Rattle.kube_cel.proofs.PlacesAlike as walk

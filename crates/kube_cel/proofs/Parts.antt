@@ -1,15 +1,15 @@
 -- The value at a place is a part of the value at the root.
-use Rattle.cel_semantics.specs.Members.{index_outcome, nth_item, selection}
+use Rattle.cel.specs.Members.{index_outcome, nth_item, selection}
 use Rattle.cel_value.specs.Data as cel
 use Rattle.cel_value.specs.Data.{text_key}
 use Rattle.cel_value.specs.Faults.{no_key, out_of_bounds}
 use Rattle.kube_cel.specs.Compiled.{compiled_accessors}
 use Rattle.kube_cel.specs.Parts.{is_branch, part_along, part_at}
 use Rattle.kube_cel.specs.Raw.{raw_accessors}
-use Rattle.kube_schema_rules.specs.Raw.{declared_property, raw_steps, undeclared_property}
-use Rattle.kube_schema_rules.specs.Step.{Step, property, item, additional_property, branch}
-use Rattle.kube_schema_rules.specs.Visit.{Root, Visit, further, goes, item_path, member_path, unless_there, visit}
-use Rattle.kube_schema_rules.specs.Walk.{leads}
+use Rattle.kube_schema.specs.RulesRaw.{declared_property, raw_steps, undeclared_property}
+use Rattle.kube_schema.specs.Step.{Step, property, item, additional_property, branch}
+use Rattle.kube_schema.specs.Visit.{Root, Visit, further, goes, item_path, member_path, unless_there, visit}
+use Rattle.kube_schema.specs.Walk.{leads}
 use Rattle.kube_cel.specs.CompiledSteps.{compiled_steps}
 use Rattle.kube_cel_walk.specs.Answers.{bound_at}
 use Rattle.kube_cel_walk.specs.WalkAccessors.{WalkAccessors}
@@ -17,9 +17,9 @@ use Rattle.kube_schema.specs.CompiledConversion.{tree_accessors}
 use Rattle.kube_schema.specs.Tree.{own}
 use Rattle.kube_schema.specs.Tree as tree
 use Rattle.kube_schema_values.proofs.Fields.{found_in_object}
-use Rattle.kube_schema_values.specs.Conversion.{ConversionAccessors, items_by, member_by, member_key, member_node, or_else, raw, to_cel, to_cel_by}
-use Rattle.kube_schema_values.specs.Fields.{field_besides}
-use Rattle.kube_schema_values.specs.Node.{additional_of, items_of, property_of}
+use Rattle.kube_schema.specs.Conversion.{ConversionAccessors, items_by, member_by, member_key, member_node, or_else, raw, to_cel, to_cel_by}
+use Rattle.kube_schema.specs.Fields.{field_besides}
+use Rattle.kube_schema.specs.Node.{additional_of, items_of, property_of}
 use Rattle.serde_json.specs.Data.{Data, null, boolean, number, string, array, object, Items, no_items, item as one_item}
 use Rattle.serde_json.specs.Find.{as_bool, at, get, get_item}
 use Rattle.std.proofs.Common.{◌≡◌, ◌≤◌, ◌+◌, ◌-◌, ◌||◌, ℕ, zero, suc, List, [], ◌∷◌, length, Bool, true, false, if◌then◌else◌, codes, pos, Option, Some, None, option_map, option_and_then, Ok, Err, refl, sym, ap, ◌∙◌, arith}

@@ -4,13 +4,13 @@ use Rattle.std.specs.List.{flat_map}
 use Rattle.serde_json.specs.Data.{Data}
 use Rattle.serde_json.specs.Find.{at, get}
 use Rattle.kube_schema_rules.proofs.Found.{flat_map_same, answers_end, answers_more}
-use Rattle.kube_schema_rules.specs.declared.branches.BranchKind.{BranchKind}
-use Rattle.kube_schema_rules.specs.declared.branches.BranchKind.TheVariants.{AllOf, OneOf, AnyOf}
-use Rattle.kube_schema_rules.specs.Inside.{count_at, in_order, keys_at, up_to}
-use Rattle.kube_schema_rules.specs.StepAccessors.{StepAccessors}
-use Rattle.kube_schema_rules.specs.Visit.{Root, Visit, visit, further, unless_there, member_path, item_path, goes, candidates, property_steps, item_steps, additional_steps, branch_steps}
-use Rattle.kube_schema_rules.specs.Step.{Step, property, item, additional_property, branch}
-use Rattle.kube_schema_rules.specs.Walk.{if_some, leads, places, answers}
+use Rattle.kube_schema.specs.BranchKind.{BranchKind}
+use Rattle.kube_schema.specs.BranchKind.TheVariants.{AllOf, OneOf, AnyOf}
+use Rattle.kube_schema.specs.Inside.{count_at, in_order, keys_at, up_to}
+use Rattle.kube_schema.specs.StepAccessors.{StepAccessors}
+use Rattle.kube_schema.specs.Visit.{Root, Visit, visit, further, unless_there, member_path, item_path, goes, candidates, property_steps, item_steps, additional_steps, branch_steps}
+use Rattle.kube_schema.specs.Step.{Step, property, item, additional_property, branch}
+use Rattle.kube_schema.specs.Walk.{if_some, leads, places, answers}
 use Rattle.kube_cel.specs.Visits.{with_node_of}
 
 -- ---- one step

@@ -1,20 +1,19 @@
 -- The report of a list of errors.
 use Rattle.cel_patterns.proofs.Entries.{faithful-IsBook}
-use Rattle.cel_patterns.specs.Book.{Book, Extends, IsBook}
-use Rattle.cel_patterns.specs.declared.book.PatternBook.{PatternBook}
-use Rattle.cel_patterns.specs.Entries.{entries_of}
+use Rattle.cel.specs.Book.{Book, Extends, IsBook}
+use Rattle.cel.specs.PatternBook.{PatternBook}
+use Rattle.cel.specs.Entries.{entries_of}
 use Rattle.kube_cel.specs.Answers.{found_in, report_of, answer_view}
 use Rattle.kube_cel_walk.specs.declared.error.ValidationError.{ValidationError}
 use Rattle.kube_cel_walk.specs.declared.error.ValidationErrors.{ValidationErrors}
 use Rattle.kube_cel_walk.specs.ErrorLists.{errors_in}
 use Rattle.kube_cel_walk.specs.Errors.{ErrorData, error_view}
 use Rattle.kube_schema_rules.proofs.Candidates.{CountsAll, visit_answers}
-use Rattle.kube_schema_rules.specs.Visit.{Visit, Root, root_visit, goes}
-use Rattle.kube_schema_rules.specs.Walk.{AreFoundAtPlaces}
+use Rattle.kube_schema.specs.Visit.{Visit, goes}
+use Rattle.kube_schema.specs.Walk.{AreFoundAtPlaces}
 use Rattle.kube_cel_walk.specs.Answers.{answer, verdicts, IsAnswer}
 use Rattle.kube_cel_walk.specs.WalkAccessors.{WalkAccessors}
-use Rattle.serde_json.specs.Data.{Data}
-use Rattle.std.proofs.Common.{◌≡◌, ◌<◌, List, [], ◌∷◌, map, length, Option, Result, Ok, Err, IfOk, refl, sym, subst, ap, arith}
+use Rattle.std.proofs.Common.{◌≡◌, ◌<◌, List, [], ◌∷◌, map, length, Result, Ok, Err, IfOk, refl, sym, subst, ap, arith}
 
 pub agrees_itself : (b : Book) → Extends b b
 agrees_itself b = record { keeps = λ text built e. e }
@@ -47,7 +46,3 @@ is_answer form all b root found e = subst (λ f. AreFoundAtPlaces (goes form.ste
 pub if_ok_both : {T E : Type 0} {P Q R : T → Type 0} (r : Result T E) → ((x : T) → P x → Q x → R x) → IfOk r P → IfOk r Q → IfOk r R
 if_ok_both (Ok x) f p q = f x p q
 if_ok_both (Err e) f p q = tt
-
--- walks with equal values have equal starts
-pub filled_alike : {d e : Data} {o p : Option Data} (node : Data) (r : Option Root) → d ≡ e → o ≡ p → root_visit node d o r ≡ root_visit node e p r
-filled_alike node r d o = λ i. root_visit node (d i) (o i) r

@@ -3,15 +3,15 @@ use Rattle.std.proofs.Common.{◌≡◌, ◌+◌, ℕ, zero, suc, List, length, 
 use Rattle.serde_json.specs.Data.{Data, null, boolean, number, string, array, object, Items, no_items, item}
 use Rattle.serde_json.specs.Events.{items_len}
 use Rattle.serde_json.specs.Find.{as_array, at, get, get_item}
-use Rattle.kube_schema_rules.specs.declared.branches.BranchKind.{BranchKind}
-use Rattle.kube_schema_rules.specs.declared.branches.BranchKind.TheVariants.{AllOf, OneOf, AnyOf}
-use Rattle.kube_schema_rules.specs.Inside.{count_at, keys_at}
-use Rattle.kube_schema_rules.specs.Raw as seen
-use Rattle.kube_schema_rules.specs.Raw.{raw_steps}
-use Rattle.kube_schema_rules.specs.Visit.{Visit, goes, candidates}
-use Rattle.kube_schema_rules.specs.Step.{Step}
-use Rattle.kube_schema_rules.specs.Walk.{leads, places, answers}
-use Rattle.kube_schema_values.specs.DefaultsAccessors.{additional, declared_properties, members_or_none, preserves, property}
+use Rattle.kube_schema.specs.BranchKind.{BranchKind}
+use Rattle.kube_schema.specs.BranchKind.TheVariants.{AllOf, OneOf, AnyOf}
+use Rattle.kube_schema.specs.Inside.{count_at, keys_at}
+use Rattle.kube_schema.specs.RulesRaw as seen
+use Rattle.kube_schema.specs.RulesRaw.{raw_steps}
+use Rattle.kube_schema.specs.Visit.{Visit, goes, candidates}
+use Rattle.kube_schema.specs.Step.{Step}
+use Rattle.kube_schema.specs.Walk.{leads, places, answers}
+use Rattle.kube_schema.specs.DefaultsAccessors.{additional, declared_properties, members_or_none, preserves, property}
 use Rattle.kube_schema_values.proofs.Fills.{property_is}
 use Rattle.kube_schema.specs.Tree.{Node, nodes_length, nth_node}
 use Rattle.kube_schema.specs.View.{branches, children_view, items_or_none, nodes_view, own_view, view_of}

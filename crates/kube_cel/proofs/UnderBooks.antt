@@ -1,11 +1,12 @@
 -- The errors under books that refuse the same texts.
+use Rattle.cel.specs.Checks.{judgement}
 use Rattle.cel_patterns.proofs.Entries.{entries-IsBook}
-use Rattle.cel_patterns.specs.Book.{Book, Extends, IsBook, IsPlain, IsRefused}
-use Rattle.cel_patterns.specs.Entries.{entries_of}
-use Rattle.cel_patterns.specs.declared.book.PatternBook.{PatternBook}
+use Rattle.cel.specs.Book.{Book, Extends, IsBook, IsPlain, IsRefused}
+use Rattle.cel.specs.Entries.{entries_of}
+use Rattle.cel.specs.PatternBook.{PatternBook}
 use Rattle.cel_patterns.proofs.Books.{Extends-refl}
-use Rattle.cel_semantics.specs.Bindings.{Bindings}
-use Rattle.cel_syntax_ast.specs.Term.{Term}
+use Rattle.cel.specs.Bindings.{Bindings}
+use Rattle.cel_syntax.specs.Term.{Term}
 use Rattle.kube_cel.proofs.Alike.{judged_alike}
 use Rattle.kube_cel.specs.Answers.{report_of}
 use Rattle.kube_cel.specs.Compiled.{compiled_accessors}
@@ -13,16 +14,16 @@ use Rattle.kube_cel.specs.Raw.{raw_accessors}
 use Rattle.kube_cel.specs.Starts.{defaulted_start, tree_start}
 use Rattle.kube_cel_walk.specs.Errors.{ErrorData}
 use Rattle.kube_cel_walk.specs.RuleErrors.{too_deep}
-use Rattle.kube_schema_rules.specs.Visit.{Root, Visit, candidates, goes}
-use Rattle.kube_schema_rules.specs.Walk.{answers}
-use Rattle.kube_cel_walk.specs.Verdicts.{bound_verdict, failed_message, is_applicable, list_of_option, outcome_error, outcome_in, rule_bindings, verdict}
+use Rattle.kube_schema.specs.Visit.{Root, Visit, candidates, goes}
+use Rattle.kube_schema.specs.Walk.{answers}
+use Rattle.kube_cel_walk.specs.Verdicts.{bound_verdict, is_applicable, judged_error, list_of_option, outcome_in, rule_bindings, verdict}
 use Rattle.kube_cel_walk.specs.Answers.{answer, place_bindings, rule_verdicts, verdicts}
 use Rattle.kube_cel_walk.specs.WalkAccessors.{WalkAccessors}
 use Rattle.kube_functions.proofs.Alike.{plain_alike}
 use Rattle.kube_functions.proofs.UnderBooks.{means_same}
 use Rattle.kube_functions.specs.declared.sets.KubeFunctions.TheVariants.{All}
 use Rattle.kube_schema.specs.View.{view_of}
-use Rattle.kube_schema_rules.specs.Compilation.{Compiled, Malformed}
+use Rattle.kube_schema.specs.Compilation.{Compiled, Malformed}
 use Rattle.serde_json.specs.Data.{Data}
 use Rattle.std.proofs.Common.{◌≡◌, ◌↔◌, ◌==◌, ℕ, List, [], ◌∷◌, Option, None, option_map, Result, Ok, Err, if◌then◌else◌, refl, sym, ap, ◌∙◌}
 use Rattle.std.specs.List.{flat_map}
@@ -34,7 +35,7 @@ module _ (a b : Book) (alike : (text : List ℕ) → IsRefused a text ↔ IsRefu
 
   bound_same : (e : Bindings) (path : List ℕ) (c : Compiled) → bound_verdict a e path c ≡ bound_verdict b e path c
   unfolding bound_verdict
-  bound_same e path c = λ i. outcome_error path c.fields (failed_message c.fields (option_map (λ t. outcome_same e t i) c.message_tree)) (outcome_same e c.tree i)
+  bound_same e path c = λ i. judged_error path c.fields (judgement (option_map (λ t. outcome_same e t i) c.message_tree) (outcome_same e c.tree i))
 
   verdict_same : (e : Bindings) (old : Option Data) (path : List ℕ) (r : Result Compiled Malformed) → verdict a e old path r ≡ verdict b e old path r
   unfolding verdict

@@ -1,8 +1,8 @@
 -- Trusted by laws alone.
 -- A schema with rules appended to those of one of its nodes.
-use Rattle.kube_schema_rules.specs.declared.branches.BranchKind.{BranchKind}
-use Rattle.kube_schema_rules.specs.Step as step
-use Rattle.kube_schema_rules.specs.Step.{branch_rank, keyword}
+use Rattle.kube_schema.specs.BranchKind.{BranchKind}
+use Rattle.kube_schema.specs.Step as step
+use Rattle.kube_schema.specs.Step.{branch_rank, keyword}
 use Rattle.serde_json.specs.Data.{Data, null, boolean, number, string, array, object, Items, no_items, item, Members, no_members, member}
 use Rattle.std.specs.Prelude.{ℕ, zero, suc, ◌==◌, ◌&&◌, List, [], ◌∷◌, Bool, if◌then◌else◌, Option, Some, None, option_and_then, codes}
 use Rattle.std.specs.Str.{bytes_eq}

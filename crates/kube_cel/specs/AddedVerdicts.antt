@@ -1,16 +1,16 @@
 -- Trusted by laws alone.
 -- The answer of a schema to which rules were added at one node.
-use Rattle.cel_patterns.specs.Book.{Book}
+use Rattle.cel.specs.Book.{Book}
 use Rattle.kube_cel.specs.Added.{NodeStep, left_behind}
 use Rattle.kube_cel.specs.Raw.{raw_accessors}
 use Rattle.kube_cel_walk.specs.Errors.{ErrorData}
-use Rattle.kube_schema_rules.specs.Raw.{raw_steps}
-use Rattle.kube_schema_rules.specs.Visit.{Visit, goes}
-use Rattle.kube_schema_rules.specs.Step.{Step}
-use Rattle.kube_schema_rules.specs.Walk.{ArePlaces, if_some, leads}
+use Rattle.kube_schema.specs.RulesRaw.{raw_steps}
+use Rattle.kube_schema.specs.Visit.{Visit, goes}
+use Rattle.kube_schema.specs.Step.{Step}
+use Rattle.kube_schema.specs.Walk.{ArePlaces, if_some, leads}
 use Rattle.kube_cel_walk.specs.Verdicts.{list_of_option, verdict}
 use Rattle.kube_cel_walk.specs.Answers.{place_bindings, verdicts}
-use Rattle.kube_schema_rules.specs.Compilation.{Compiled, Malformed, compiled_rules}
+use Rattle.kube_schema.specs.Compilation.{Compiled, Malformed, compiled_rules}
 use Rattle.serde_json.specs.Data.{Data, Items}
 use Rattle.serde_json.specs.Find.{as_array, get}
 use Rattle.std.specs.List.{flat_map}

@@ -1,10 +1,10 @@
 -- Trusted by the headline.
 -- The answer of a validation.
-use Rattle.cel_patterns.specs.Book.{Book, IsBook}
+use Rattle.cel.specs.Book.{Book, IsBook}
 use Rattle.kube_cel_walk.specs.declared.error.ValidationErrors.{ValidationErrors}
 use Rattle.kube_cel_walk.specs.ErrorLists.{errors_in}
 use Rattle.kube_cel_walk.specs.Errors.{ErrorData, error_view}
-use Rattle.kube_schema_rules.specs.Visit.{Visit}
+use Rattle.kube_schema.specs.Visit.{Visit}
 use Rattle.kube_cel_walk.specs.Answers.{answer, IsAnswer}
 use Rattle.kube_cel_walk.specs.WalkAccessors.{WalkAccessors}
 use Rattle.std.specs.Prelude.{◌≡◌, List, [], ◌∷◌, map, Result, Ok, Err}

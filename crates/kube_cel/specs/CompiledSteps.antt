@@ -1,7 +1,7 @@
 -- Trusted by the clauses of other library calls.
 -- The steps of the walk through the tree of a schema: the same as through the schema itself.
 use Rattle.std.specs.Prelude.{if◌then◌else◌, None}
-use Rattle.kube_schema_rules.specs.StepAccessors.{StepAccessors}
+use Rattle.kube_schema.specs.StepAccessors.{StepAccessors}
 use Rattle.kube_schema.specs.Tree.{Node, own, items_of, additional_of, property_of, branches_of, nth_node, nodes_length}
 
 unfoldable pub compiled_steps : StepAccessors Node

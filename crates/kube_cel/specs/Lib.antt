@@ -1,3 +1,22 @@
+pub use Rattle.kube_cel_analysis.specs.Findings
+pub use Rattle.kube_cel_analysis.specs.Lint
+pub use Rattle.kube_cel_analysis.specs.declared.finding.LintFinding
+pub use Rattle.kube_cel_analysis.specs.declared.finding.LintKind
+pub use Rattle.kube_cel_vap.specs.CallResults
+pub use Rattle.kube_cel_vap.specs.Validations
+pub use Rattle.kube_cel_vap.specs.Variables
+pub use Rattle.kube_cel_vap.specs.declared.expression.VapExpression
+pub use Rattle.kube_cel_vap.specs.declared.expression.VapResult
+pub use Rattle.kube_cel_walk.specs.Answers as WalkAnswers
+pub use Rattle.kube_cel_walk.specs.ErrorLists
+pub use Rattle.kube_cel_walk.specs.Errors
+pub use Rattle.kube_cel_walk.specs.Roots
+pub use Rattle.kube_cel_walk.specs.RuleErrors
+pub use Rattle.kube_cel_walk.specs.Texts
+pub use Rattle.kube_cel_walk.specs.Verdicts
+pub use Rattle.kube_cel_walk.specs.WalkAccessors
+pub use Rattle.kube_cel_walk.specs.declared.error.ErrorKind
+pub use Rattle.kube_cel_walk.specs.declared.error.ValidationErrors
 pub mod CompiledSteps
 pub mod Visits
 pub mod Added
@@ -6,5 +25,5 @@ pub mod Answers
 pub mod Compiled
 pub mod Parts
 pub mod Raw
-pub mod RuleSets
 pub mod Starts
+pub mod FilledStart

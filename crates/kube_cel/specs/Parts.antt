@@ -1,13 +1,13 @@
 -- Trusted by laws alone.
 -- The part that a CEL expression finds in the value of
 -- `self` along the steps that lead on from a place.
-use Rattle.cel_semantics.specs.Members.{index_outcome, selection}
-use Rattle.cel_semantics.specs.Outcome.{Outcome}
+use Rattle.cel.specs.Members.{index_outcome, selection}
+use Rattle.cel.specs.Outcome.{Outcome}
 use Rattle.cel_value.specs.Data.{Data, int, text_key}
-use Rattle.kube_schema_rules.specs.Step.{Step, property, item, additional_property, branch}
-use Rattle.kube_schema_rules.specs.Visit.{Visit, goes}
+use Rattle.kube_schema.specs.Step.{Step, property, item, additional_property, branch}
+use Rattle.kube_schema.specs.Visit.{Visit, goes}
 use Rattle.kube_cel_walk.specs.WalkAccessors.{WalkAccessors}
-use Rattle.kube_schema_values.specs.Conversion.{member_key}
+use Rattle.kube_schema.specs.Conversion.{member_key}
 use Rattle.std.specs.Prelude.{List, [], ◌∷◌, Bool, true, false, pos, Option, Some, Ok, option_and_then}
 use Rattle.std.specs.Result.{result_ok}
 

@@ -1,10 +1,10 @@
 -- Trusted by the headline.
 -- A schema as JSON.
-use Rattle.kube_schema_rules.specs.Raw.{raw_steps}
+use Rattle.kube_schema.specs.RulesRaw.{raw_steps}
 use Rattle.kube_cel_walk.specs.WalkAccessors.{WalkAccessors}
-use Rattle.kube_schema_rules.specs.Compilation.{compiled_rules}
-use Rattle.kube_schema_rules.specs.Rules.{rule_items}
-use Rattle.kube_schema_values.specs.Conversion.{raw}
+use Rattle.kube_schema.specs.Compilation.{compiled_rules}
+use Rattle.kube_schema.specs.Rules.{rule_items}
+use Rattle.kube_schema.specs.Conversion.{raw}
 use Rattle.serde_json.specs.Data.{Data}
 
 -- the rules are read where they stand in the schema

@@ -1,12 +1,13 @@
 -- Trusted by the headline.
 -- The visits at which calls begin.
-use Rattle.kube_schema_rules.specs.Visit.{Visit, Root, root_visit}
+use Rattle.kube_schema.specs.Visit.{Visit, Root, root_visit}
 use Rattle.kube_cel_walk.specs.declared.root.RootContext.{RootContext}
 use Rattle.kube_cel_walk.specs.Roots.{root_view}
-use Rattle.kube_schema_values.specs.Defaults.{defaulted_value}
-use Rattle.kube_schema_values.specs.DefaultsAccessors.{raw}
+use Rattle.kube_schema.specs.Defaults.{defaulted_value}
+use Rattle.kube_schema.specs.DefaultsAccessors.{raw}
 use Rattle.kube_schema.specs.CompiledDefaults.{tree_accessors}
 use Rattle.kube_schema.specs.declared.node.CompiledSchema.{CompiledSchema}
+use Rattle.kube_schema.specs.declared.node_keywords.NodeKeywords.{Ghosts}
 use Rattle.kube_schema.specs.Shown.{whole}
 use Rattle.kube_schema.specs.Tree.{Node}
 use Rattle.serde_json.specs.Data.{Data}
@@ -43,7 +44,7 @@ tree_start tree value old root =
     (option_map (defaulted_value tree_accessors 65 tree) old) root
 
 -- the start at the tree of a compiled schema
-abbrev pub compiled_start : CompiledSchema → Value
+abbrev pub compiled_start : {K : Type 0} {g : Ghosts K} → CompiledSchema K g → Value
     → Option (Bor Value) → Option (Bor RootContext) → Visit Node
 compiled_start schema value old root =
     tree_start (whole schema) (view value) (option_map (λ v. view v.now) old)

@@ -1,6 +1,6 @@
 -- Trusted by laws alone.
 -- The same place in another form of a schema.
-use Rattle.kube_schema_rules.specs.Visit.{Visit, visit}
+use Rattle.kube_schema.specs.Visit.{Visit, visit}
 
 -- a visit, with its node replaced by the node of another form
 abbrev pub with_node_of : {S T : Type 0} → (S → T) → Visit S → Visit T

@@ -1,40 +1,37 @@
 //! The walk's view of a compiled schema.
-ghost use Rattle.cel_patterns.specs.Book.{Extends, Book};
-ghost use Rattle.cel_patterns.specs.Entries.{entries_of};
-ghost use Rattle.cel_semantics.specs.Bindings.{bindings_of};
 ghost use Rattle.kube_cel.specs.CompiledSteps.{compiled_steps};
-ghost use Rattle.kube_cel_walk.specs.AddedErrors.{AreAdded};
-ghost use Rattle.kube_cel_walk.specs.Paths.{path_view};
-ghost use Rattle.kube_cel_walk.specs.Verdicts.{list_of_option, verdict};
-ghost use Rattle.kube_schema_rules.specs.Compilation.{compiled_seen};
 ghost use Rattle.kube_schema.specs.Shown.{node_tree};
-ghost use Rattle.kube_schema.specs.Tree.{Node as Tree};
-ghost use Rattle.serde_json.specs.View.{view};
-ghost use Rattle.std.specs.List.{flat_map};
-ghost use Rattle.std.specs.Prelude.{◌≡◌, OnOk, Option, option_map, Some};
+ghost use Rattle.std.specs.Prelude.{◌≡◌, option_map, ⊤};
 
-use cel::{PatternBook, Stacks};
 use cel_demand::Demand;
 use cel_value::Value as CelValue;
-use kube_cel_walk::verdict::{Context, add_verdict};
-use kube_cel_walk::{Node, NodeDemands, Path, ValidationError};
-use kube_schema::{
-    CompilationError, CompilationResult, SchemaNode, bind_node_part, rebind_node_part,
-};
-use kube_schema_rules::BranchKind;
+use kube_cel_walk::Node;
+use kube_schema::{NodeKeywords, SchemaNode, bind_node_part, rebind_node_part};
+use kube_schema_rules::{BranchKind, CompiledRules};
 use kube_types::Refused;
 use serde_json::Value;
-use std::alloc::Global;
+use std::alloc::{AllocError, Global};
 
 /// A node of a compiled schema.
-#[derive(Clone, Copy)]
-pub(crate) struct CompiledNode<'a> {
-    pub(crate) node: SchemaNode<'a>,
+pub(crate) struct CompiledNode<'a, K: NodeKeywords> {
+    pub(crate) node: SchemaNode<'a, K>,
 }
+
+impl<K: NodeKeywords> Clone for CompiledNode<'_, K> {
+    ghost is_clone = { λ n m. m ≡ n };
+
+    ghost is_infallible = { λ _. ⊤ };
+
+    fn clone(&self) -> Result<Self, AllocError> {
+        Ok(*self)
+    }
+}
+
+impl<K: NodeKeywords> Copy for CompiledNode<'_, K> {}
 
 /// The node that `additionalProperties` declares, if any.
 #[tactic(auto, unfolding(crate::specs::CompiledSteps::compiled_steps))]
-fn additional_property<'a>(node: &SchemaNode<'a>) -> Option<SchemaNode<'a>>
+fn additional_property<'a, K: NodeKeywords>(node: &SchemaNode<'a, K>) -> Option<SchemaNode<'a, K>>
     ensures { option_map node_tree result ≡ compiled_steps.additional_property (node_tree node.now) }
 {
     if node.preserve_unknown_fields() {
@@ -43,29 +40,7 @@ fn additional_property<'a>(node: &SchemaNode<'a>) -> Option<SchemaNode<'a>>
     node.additional_properties()
 }
 
-/// Adds the verdicts of compiled rules, in order.
-fn add_verdicts(
-    rules: &[Result<CompilationResult, CompilationError>],
-    context: &Context<'_>,
-    old: Option<&Value>,
-    path: &Path<'_>,
-    book: &mut PatternBook,
-    stacks: &mut Stacks,
-    errors: &mut Vec<ValidationError>,
-) -> Result<(), Refused>
-    ensures keeps { (b : Book) → Extends b (entries_of book.new) → Extends b (entries_of book.old) }
-    ensures found { OnOk result (AreAdded (entries_of book.new) errors.old.items errors.new.items
-        (λ b. flat_map (λ r. list_of_option
-        (verdict b (bindings_of context.now)
-        (option_map (λ v. view v.now) old.entry) (path_view path.now) (compiled_seen r))) rules.now)) }
-{
-    for rule in rules {
-        add_verdict(rule, context, old, path, book, stacks, errors)?;
-    }
-    Ok(())
-}
-
-impl Node for CompiledNode<'_> {
+impl<K: NodeKeywords> Node for CompiledNode<'_, K> {
     ghost use Rattle.kube_cel.specs.Compiled.{compiled_accessors};
     ghost use Rattle.kube_schema.specs.Shown.{node_tree};
     ghost use Rattle.kube_schema.specs.Tree.{Node as Tree};
@@ -106,8 +81,9 @@ impl Node for CompiledNode<'_> {
     }
 
     #[tactic(auto, unfolding(crate::specs::Compiled::compiled_accessors))]
-    fn demands(&self, _alloc: Global) -> Result<NodeDemands<'_>, Refused> {
-        Ok(NodeDemands::Known(self.node.demands()))
+    fn rules(&self, alloc: Global) -> Result<CompiledRules<'_>, Refused> {
+        let rules = self.node.keywords().rules(alloc)?;
+        Ok(rules)
     }
 
     #[tactic(auto, unfolding(crate::specs::Compiled::compiled_accessors))]
@@ -135,34 +111,7 @@ impl Node for CompiledNode<'_> {
         Ok(())
     }
 
-    #[tactic(auto, unfolding(crate::specs::Compiled::compiled_accessors))]
-    fn is_without_rules(&self) -> bool {
-        self.node.validations().is_empty()
-    }
-
     fn has_no_rules_below(&self, levels: usize) -> bool {
         self.node.has_no_rules_below(levels)
-    }
-
-    #[tactic(auto, unfolding(crate::specs::Compiled::compiled_accessors))]
-    fn add_verdicts(
-        &self,
-        context: &Context<'_>,
-        old: Option<&Value>,
-        path: &Path<'_>,
-        book: &mut PatternBook,
-        stacks: &mut Stacks,
-        errors: &mut Vec<ValidationError>,
-    ) -> Result<(), Refused> {
-        add_verdicts(
-            self.node.validations(),
-            context,
-            old,
-            path,
-            book,
-            stacks,
-            errors,
-        )?;
-        Ok(())
     }
 }

@@ -1,6 +1,6 @@
 //! The answer of a whole walk.
-ghost use Rattle.cel_patterns.specs.Book.{Extends, Book};
-ghost use Rattle.cel_patterns.specs.Entries.{entries_of};
+ghost use Rattle.cel.specs.Book.{Extends, Book};
+ghost use Rattle.cel.specs.Entries.{entries_of};
 ghost use Rattle.kube_cel.specs.Answers.{report_of, answer_view};
 ghost use Rattle.kube_cel.specs.Starts.{start_without_defaults};
 ghost use Rattle.kube_cel_walk.specs.Answers.{answer};

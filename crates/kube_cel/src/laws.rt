@@ -1,7 +1,7 @@
 //! Laws of validation and of places, each stated as the contract of a function with an empty body.
-ghost use Rattle.cel_patterns.specs.Book.{Book, Extends, IsBook, IsPlain, IsRefused};
-ghost use Rattle.cel_patterns.specs.Entries.{entries_of};
-ghost use Rattle.cel_patterns.specs.declared.book.PatternBook.{PatternBook};
+ghost use Rattle.cel.specs.Book.{Book, Extends, IsBook, IsPlain, IsRefused};
+ghost use Rattle.cel.specs.Entries.{entries_of};
+ghost use Rattle.cel.specs.PatternBook.{PatternBook};
 ghost use Rattle.kube_cel.specs.Added.{NodeStep, with_rules};
 ghost use Rattle.kube_cel.specs.AddedVerdicts.{AddsAlone};
 ghost use Rattle.kube_cel.specs.Answers.{report_of};
@@ -11,10 +11,10 @@ ghost use Rattle.kube_cel.specs.Parts.{is_branch, part_along};
 ghost use Rattle.kube_cel.specs.Raw.{raw_accessors};
 ghost use Rattle.kube_cel.specs.Starts.{defaulted_start, tree_start};
 ghost use Rattle.kube_cel.specs.Visits.{with_node_of};
-ghost use Rattle.kube_schema_rules.specs.Raw.{raw_steps};
-ghost use Rattle.kube_schema_rules.specs.Step.{Step};
-ghost use Rattle.kube_schema_rules.specs.Visit.{Visit, candidates, goes, Root, root_visit};
-ghost use Rattle.kube_schema_rules.specs.Walk.{answers, leads, places};
+ghost use Rattle.kube_schema.specs.RulesRaw.{raw_steps};
+ghost use Rattle.kube_schema.specs.Step.{Step};
+ghost use Rattle.kube_schema.specs.Visit.{Visit, candidates, goes, Root, root_visit};
+ghost use Rattle.kube_schema.specs.Walk.{answers, leads, places};
 ghost use Rattle.kube_cel_walk.specs.Answers.{answer, bound_at};
 ghost use Rattle.kube_cel_walk.specs.Errors.{ErrorData};
 ghost use Rattle.kube_cel_walk.specs.WalkAccessors.{WalkAccessors};

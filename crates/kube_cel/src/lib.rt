@@ -30,13 +30,10 @@
 //! empty. The clause is `answer`, whose definition begins in `specs/Answers.antt`.
 #![tactic(auto)]
 
-mod cache;
 mod compiled;
 mod errors;
 pub mod laws;
-mod raw;
 pub mod validation;
-mod weight;
 
 pub use cel;
 pub use kube_cel_analysis::{

@@ -1,9 +1,10 @@
 //! Validation of an object by the rules of its schema.
-ghost use Rattle.cel_patterns.specs.Book.{Extends, Book};
-ghost use Rattle.cel_patterns.specs.Entries.{entries_of};
+ghost use Rattle.cel.specs.Book.{Extends, Book};
+ghost use Rattle.cel.specs.Entries.{entries_of};
 ghost use Rattle.kube_cel.specs.Answers.{found_in, report_of, answer_view, IsReportOf};
 ghost use Rattle.kube_cel.specs.Raw.{raw_accessors};
 ghost use Rattle.kube_cel.specs.Compiled.{compiled_accessors};
+ghost use Rattle.kube_cel.specs.FilledStart.{filled_start};
 ghost use Rattle.kube_cel.specs.Starts.{compiled_start, call_start, source_start};
 ghost use Rattle.kube_cel_walk.specs.Answers.{answer, IsAnswer};
 ghost use Rattle.kube_schema.specs.Shown.{whole};
@@ -11,14 +12,13 @@ ghost use Rattle.kube_schema.specs.View.{view_of};
 ghost use Rattle.serde_json.specs.Data.{Data};
 ghost use Rattle.std.specs.Prelude.{◌≡◌, IfOk, None};
 
-use crate::cache::RuleCache;
 use crate::compiled::CompiledNode;
 use crate::errors::validation_of;
-use crate::raw::JsonNode;
-use crate::weight::is_lighter;
 use cel::PatternBook;
 use kube_cel_walk::{RootContext, ValidationErrors};
-use kube_schema::{CompiledSchema, compile_schema, filled_by_node, filled_value};
+use kube_schema::{
+    CompiledSchema, NodeKeywords, compile_on_demand, compile_reached, filled_by_node,
+};
 use kube_types::Refused;
 use serde_json::Value;
 use std::alloc::Global;
@@ -96,12 +96,10 @@ impl Validator {
         ensures places { IfOk result (λ r. (b : Book) → Extends b (entries_of book.new)
             → IsAnswer raw_accessors b (call_start schema.now object.now old.entry root.entry) (found_in r)) }
     {
-        if is_lighter(schema, object) {
-            let compiled = compile_schema(alloc, schema)?;
-            let answer = self.validate_compiled_in(alloc, &compiled, object, old, root, book)?;
-            return Ok(answer);
-        }
-        let answer = validate_as_json(alloc, schema, object, old, root, book)?;
+        let mut compiled = compile_on_demand(alloc, schema)?;
+        let filled = filled_by_node(alloc, &compiled.root(), object)?;
+        compile_reached(alloc, &mut compiled, &filled)?;
+        let answer = validation_by(alloc, &compiled, &filled, old, root, book)?;
         Ok(answer)
     }
 
@@ -171,15 +169,8 @@ impl Validator {
             → (s : Data) → whole compiled.now ≡ view_of 65 s
             → IsAnswer raw_accessors b (source_start s object.now old.entry root.entry) (found_in r)) }
     {
-        let root_node = compiled.root();
-        let object = filled_by_node(alloc, &root_node, object)?;
-        let node = CompiledNode { node: root_node };
-        let Some(old) = old else {
-            let answer = validation_of(alloc, node, &object, None, root, book)?;
-            return Ok(answer);
-        };
-        let old = filled_by_node(alloc, &root_node, old)?;
-        let answer = validation_of(alloc, node, &object, Some(&old), root, book)?;
+        let object = filled_by_node(alloc, &compiled.root(), object)?;
+        let answer = validation_by(alloc, compiled, &object, old, root, book)?;
         Ok(answer)
     }
 
@@ -221,11 +212,10 @@ impl Validator {
     }
 }
 
-/// Validates like [`Validator::validate_in`], without compiling
-/// the schema. Compiles only the rules of places that there are.
-fn validate_as_json(
+/// Validates an object that already has its defaults, by a table that keeps `K` of its nodes.
+fn validation_by<K: NodeKeywords>(
     alloc: Global,
-    schema: &Value,
+    compiled: &CompiledSchema<K>,
     object: &Value,
     old: Option<&Value>,
     root: Option<&RootContext>,
@@ -233,23 +223,16 @@ fn validate_as_json(
 ) -> Result<Result<(), ValidationErrors>, Refused>
     ensures kept { Extends (entries_of book.new) (entries_of book.old) }
     ensures answer { IfOk result (λ r. (b : Book) → Extends b (entries_of book.new)
-        → answer_view r ≡ report_of
-        (answer raw_accessors b 65 (call_start schema.now object.now old.entry root.entry))) }
-    ensures places { IfOk result (λ r. (b : Book) → Extends b (entries_of book.new)
-        → IsAnswer raw_accessors b (call_start schema.now object.now old.entry root.entry) (found_in r)) }
+        → answer_view r ≡ report_of (answer compiled_accessors b 65
+        (filled_start (whole compiled.now) object.now old.entry root.entry))) }
 {
-    let object = filled_value(alloc, schema, object)?;
-    let cache = RuleCache::new(alloc);
-    let node = JsonNode {
-        schema,
-        cache: &cache,
-    };
+    let node = compiled.root();
     let Some(old) = old else {
-        let answer = validation_of(alloc, node, &object, None, root, book)?;
+        let answer = validation_of(alloc, CompiledNode { node }, object, None, root, book)?;
         return Ok(answer);
     };
-    let old = filled_value(alloc, schema, old)?;
-    let answer = validation_of(alloc, node, &object, Some(&old), root, book)?;
+    let old = filled_by_node(alloc, &node, old)?;
+    let answer = validation_of(alloc, CompiledNode { node }, object, Some(&old), root, book)?;
     Ok(answer)
 }
 

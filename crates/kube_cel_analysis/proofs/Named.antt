@@ -3,16 +3,17 @@ use Rattle.std.proofs.Common.{◌≡◌, ℕ, List, [], ◌∷◌, ◌++◌, Boo
 use Rattle.std.proofs.lemmas.List.Folds.{list_any-append}
 use Rattle.std.proofs.lemmas.Map.Views.{any-filter_same}
 use Rattle.std.proofs.lemmas.Slice.Eq.{bytes_eq-Decides}
-use Rattle.std.specs.List.{filter, list_any}
+use Rattle.std.specs.List.{filter, flat_map, list_any}
 use Rattle.std.specs.Ordering.{match_ordering}
 use Rattle.std.specs.Str.{bytes_eq}
-use Rattle.cel_syntax.specs.CallNames.{is_called, is_called_in_any, is_called_in_pairs}
+use Rattle.cel_syntax.specs.CallNames.{calls, is_called}
 use Rattle.cel_syntax.specs.Names.{AreNames}
-use Rattle.cel_syntax_ast.specs.FreeNames.{is_free, is_free_in_any, is_free_in_pairs}
-use Rattle.cel_syntax_ast.specs.Term.{Term, literal, ident, select, has, index, unary, binary, conditional, list_of, map_with, call, qualified, macro, Terms, no_terms, term_and, Pairs, no_pairs, pair_and}
+use Rattle.cel_syntax.specs.FreeNames.{is_free, is_free_in_any, is_free_in_pairs}
+use Rattle.cel_syntax.specs.Nodes.{nodes_of}
+use Rattle.cel_syntax.specs.Term.{Term, literal, ident, select, has, index, unary, binary, conditional, list_of, map_with, call, qualified, macro, Terms, no_terms, term_and, Pairs, no_pairs, pair_and}
 use Rattle.kube_cel_analysis.specs.Findings.{Naming}
 use Rattle.kube_schema_rules.proofs.Sorted.{key_cmp, keys_sorted, same_key}
-use Rattle.kube_schema_rules.specs.Inside.{in_order, insert_key}
+use Rattle.kube_schema.specs.Inside.{in_order, insert_key}
 
 -- ---- truth values
 
@@ -58,56 +59,35 @@ ordered_any x (k ∷ ks) = inserted_any x k (in_order ks) ∙ ap (λ b. bytes_eq
 
 -- ---- the names of calls
 
-abbrev mutual
-  calls : Term → List (List ℕ)
-  calls (literal v) = []
-  calls (ident y) = []
-  calls (select a y) = (calls a)
-  calls (has a y) = (calls a)
-  calls (index a b) = ((calls a) ++ (calls b))
-  calls (unary o a) = (calls a)
-  calls (binary o a b) = ((calls a) ++ (calls b))
-  calls (conditional a b c) = ((calls a) ++ ((calls b) ++ (calls c)))
-  calls (list_of ts) = (calls_in ts)
-  calls (map_with ps) = (calls_in_pairs ps)
-  calls (call target y ts) = y ∷ ((calls_in target) ++ (calls_in ts))
-  calls (qualified y ts) = y ∷ (calls_in ts)
-  calls (macro k r y f b) = ((calls r) ++ ((calls_in f) ++ (calls b)))
+-- the name of the function that a node calls, if it is a call
+abbrev call_name : Term → List (List ℕ)
+call_name (call target y ts) = y ∷ []
+call_name (qualified y ts) = y ∷ []
+call_name _ = []
 
-  calls_in : Terms → List (List ℕ)
-  calls_in no_terms = []
-  calls_in (term_and t ts) = ((calls t) ++ (calls_in ts))
+called_at : (x : List ℕ) (t : Term) → list_any (bytes_eq x) (call_name t) ≡ calls x t
+called_at x (literal v) = refl
+called_at x (ident y) = refl
+called_at x (select a y) = refl
+called_at x (has a y) = refl
+called_at x (index a b) = refl
+called_at x (unary o a) = refl
+called_at x (binary o a b) = refl
+called_at x (conditional a b c) = refl
+called_at x (list_of ts) = refl
+called_at x (map_with ps) = refl
+called_at x (call target y ts) = or_none (bytes_eq x y)
+called_at x (qualified y ts) = or_none (bytes_eq x y)
+called_at x (macro k r y f b) = refl
 
-  calls_in_pairs : Pairs → List (List ℕ)
-  calls_in_pairs no_pairs = []
-  calls_in_pairs (pair_and k v ps) = ((calls k) ++ ((calls v) ++ (calls_in_pairs ps)))
-
-mutual
-  called_here : (x : List ℕ) (t : Term) → list_any (bytes_eq x) (calls t) ≡ is_called x t
-  called_here x (literal v) = refl
-  called_here x (ident y) = refl
-  called_here x (select a y) = (called_here x a)
-  called_here x (has a y) = (called_here x a)
-  called_here x (index a b) = (both x (calls a) (calls b) (is_called x a) (is_called x b) (called_here x a) (called_here x b))
-  called_here x (unary o a) = (called_here x a)
-  called_here x (binary o a b) = (both x (calls a) (calls b) (is_called x a) (is_called x b) (called_here x a) (called_here x b))
-  called_here x (conditional a b c) = (both x (calls a) ((calls b) ++ (calls c)) (is_called x a) ((is_called x b) || (is_called x c)) (called_here x a) (both x (calls b) (calls c) (is_called x b) (is_called x c) (called_here x b) (called_here x c)))
-  called_here x (list_of ts) = (called_in_terms x ts)
-  called_here x (map_with ps) = (called_in_pairs x ps)
-  called_here x (call target y ts) = ap (λ b. bytes_eq x y || b) (both x (calls_in target) (calls_in ts) (is_called_in_any x target) (is_called_in_any x ts) (called_in_terms x target) (called_in_terms x ts))
-  called_here x (qualified y ts) = ap (λ b. bytes_eq x y || b) (called_in_terms x ts)
-  called_here x (macro k r y f b) = (both x (calls r) ((calls_in f) ++ (calls b)) (is_called x r) ((is_called_in_any x f) || (is_called x b)) (called_here x r) (both x (calls_in f) (calls b) (is_called_in_any x f) (is_called x b) (called_in_terms x f) (called_here x b)))
-
-  called_in_terms : (x : List ℕ) (ts : Terms) → list_any (bytes_eq x) (calls_in ts) ≡ is_called_in_any x ts
-  called_in_terms x no_terms = refl
-  called_in_terms x (term_and t ts) = (both x (calls t) (calls_in ts) (is_called x t) (is_called_in_any x ts) (called_here x t) (called_in_terms x ts))
-
-  called_in_pairs : (x : List ℕ) (ps : Pairs) → list_any (bytes_eq x) (calls_in_pairs ps) ≡ is_called_in_pairs x ps
-  called_in_pairs x no_pairs = refl
-  called_in_pairs x (pair_and k v ps) = (both x (calls k) ((calls v) ++ (calls_in_pairs ps)) (is_called x k) ((is_called x v) || (is_called_in_pairs x ps)) (called_here x k) (both x (calls v) (calls_in_pairs ps) (is_called x v) (is_called_in_pairs x ps) (called_here x v) (called_in_pairs x ps)))
+called_among : (x : List ℕ) (ts : List Term) → list_any (bytes_eq x) (flat_map call_name ts) ≡ list_any (calls x) ts
+called_among x [] = refl
+called_among x (t ∷ ts) = both x (call_name t) (flat_map call_name ts) (calls x t) (list_any (calls x) ts) (called_at x t) (called_among x ts)
 
 pub called_names : (t : Term) → (names : List (List ℕ)) × AreNames names (λ x. is_called x t)
-called_names t = (in_order (calls t), record { ascending = keys_sorted (calls t); exactly = λ x. ordered_any x (calls t) ∙ called_here x t })
+called_names t =
+    let names = flat_map call_name (nodes_of t) in
+    (in_order names, record { ascending = keys_sorted names; exactly = λ x. ordered_any x names ∙ called_among x (nodes_of t) })
 
 -- ---- free names
 

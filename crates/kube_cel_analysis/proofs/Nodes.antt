@@ -7,18 +7,19 @@ use Rattle.kube_schema_rules.proofs.ByKind.{branches_in_order, extras_in_order, 
 use Rattle.kube_schema_rules.proofs.Found.{answers_more, flat_map-map, flat_map_same}
 use Rattle.kube_schema_rules.proofs.Ordered.{IsIn, are_places, in_left, in_map, in_right}
 use Rattle.kube_schema_rules.proofs.Sorted.{in_ordered, in_up, key_cmp, same_key}
-use Rattle.kube_schema_rules.specs.declared.branches.BranchKind.{BranchKind}
-use Rattle.kube_schema_rules.specs.declared.branches.BranchKind.TheVariants.{AllOf, OneOf, AnyOf}
-use Rattle.kube_schema_rules.specs.Inside.{in_order, insert_key, up_to}
-use Rattle.kube_schema_rules.specs.Step.{Step, property, item, additional_property, branch, step_cmp}
-use Rattle.kube_schema_rules.specs.Walk.{answers, if_some, leads, places}
+use Rattle.kube_schema.specs.BranchKind.{BranchKind}
+use Rattle.kube_schema.specs.BranchKind.TheVariants.{AllOf, OneOf, AnyOf}
+use Rattle.kube_schema.specs.Inside.{in_order, insert_key, up_to}
+use Rattle.kube_schema.specs.Step.{Step, property, item, additional_property, branch, step_cmp}
+use Rattle.kube_schema.specs.Walk.{answers, if_some, leads, places}
 use Rattle.kube_schema.specs.declared.node.CompiledSchema.{CompiledSchema}
 use Rattle.kube_schema.specs.declared.nodes.NodeId.{NodeId}
 use Rattle.kube_schema.specs.declared.nodes.PropertyLink.{PropertyLink}
 use Rattle.kube_schema.specs.declared.nodes.TableNode.{TableNode}
+use Rattle.kube_schema.specs.declared.node_keywords.NodeKeywords.{Ghosts}
 use Rattle.kube_schema.specs.Raw.{AllOrdered, assemble, assemble_some, link_names, maybe_at, named_at, nodes_at, tree, tree_in, with_children}
 use Rattle.kube_schema.specs.Shown.{whole}
-use Rattle.kube_schema.specs.Tree.{branches_of, Node, node, Maybe, nothing, just, Named, no_named, named, Nodes, no_nodes, more, all_of, any_of, as_option, count, find, maybe_count, named_count, named_of, names, nodes_count, nodes_length, nth_node, one_of, own}
+use Rattle.kube_schema.specs.Tree.{branches_of, Own, Node, node, Maybe, nothing, just, Named, no_named, named, Nodes, no_nodes, more, all_of, any_of, as_option, count, find, maybe_count, named_count, named_of, names, nodes_count, nodes_length, nth_node, one_of, own}
 use Rattle.std.proofs.Common.{◌≡◌, ◌<◌, ◌≤◌, ◌+◌, ℕ, zero, suc, List, [], ◌∷◌, ◌++◌, map, length, Option, Some, None, option_map, option_and_then, IsSome, Ordering, Less, Equal, Greater, refl, sym, ap, ◌∙◌, subst, inl, inr, append-nil, arith, string_bytes, slice_get}
 use Rattle.std.proofs.lemmas.Cmp.{nat_list_cmp_total, tied_itself}
 use Rattle.std.proofs.lemmas.List.Concat.{flat_map-append}
@@ -313,28 +314,30 @@ module _ (f : ℕ → Node) (each : (i : ℕ) → IsOrdered (f i)) where
   nodes_ordered [] = tt
   nodes_ordered (n ∷ ns) = (each n.0, nodes_ordered ns)
 
-tree_ordered : (n : ℕ) (t : List TableNode) → AllOrdered t → (i : ℕ) → IsOrdered (tree_in n t i)
-unfolding tree_in assemble with_children IsStrictlySortedBy
-tree_ordered zero t all i = (tt, tt, tt, tt, tt, tt, tt)
-tree_ordered (suc n) t all i = by (slice_get t i) refl (tree_ordered n t all)
-  where
-    by : (o : Option TableNode) → slice_get t i ≡ o → ((j : ℕ) → IsOrdered (tree_in n t j)) → IsOrdered (assemble_some (tree_in n t) o)
-    by None e each = (tt, tt, tt, tt, tt, tt, tt)
-    by (Some r) e each =
-        let f = tree_in n t in (
-          subst (IsStrictlySortedBy key_cmp) (sym (names_of_links f r.children.properties.items)) (all i r e),
-          named_ordered f each r.children.properties.items,
-          maybe_ordered f each r.children.items,
-          maybe_ordered f each r.children.additional,
-          nodes_ordered f each r.children.all_of.items,
-          nodes_ordered f each r.children.one_of.items,
-          nodes_ordered f each r.children.any_of.items,
-        )
+module _ {K : Type 0} (own_of : K → Own) where
+  tree_ordered : (n : ℕ) (t : List (TableNode K)) → AllOrdered t → (i : ℕ) → IsOrdered (tree_in own_of n t i)
+  unfolding tree_in assemble with_children IsStrictlySortedBy
+  tree_ordered zero t all i = (tt, tt, tt, tt, tt, tt, tt)
+  tree_ordered (suc n) t all i = by (slice_get t i) refl (tree_ordered n t all)
+    where
+      by : (o : Option (TableNode K)) → slice_get t i ≡ o → ((j : ℕ) → IsOrdered (tree_in own_of n t j)) → IsOrdered (assemble_some own_of (tree_in own_of n t) o)
+      by None e each = (tt, tt, tt, tt, tt, tt, tt)
+      by (Some r) e each =
+          let f = tree_in own_of n t in (
+            subst (IsStrictlySortedBy key_cmp) (sym (names_of_links f r.children.properties.items)) (all i r e),
+            named_ordered f each r.children.properties.items,
+            maybe_ordered f each r.children.items,
+            maybe_ordered f each r.children.additional,
+            nodes_ordered f each r.children.all_of.items,
+            nodes_ordered f each r.children.one_of.items,
+            nodes_ordered f each r.children.any_of.items,
+          )
 
-pub schema_ordered : (schema : CompiledSchema) → IsOrdered (whole schema)
-unfolding whole tree
-schema_ordered schema = tree_ordered (length schema.table.nodes.items) schema.table.nodes.items schema.table.ordered 0
+module _ {K : Type 0} {kept : Ghosts K} where
+  pub schema_ordered : (schema : CompiledSchema K kept) → IsOrdered (whole schema)
+  unfolding whole tree
+  schema_ordered schema = tree_ordered kept.own (length schema.table.nodes.items) schema.table.nodes.items schema.table.ordered 0
 
--- the findings of a compiled schema are those at all of its nodes
-pub schema_found : (naming : Naming) (schema : CompiledSchema) → AreFoundAtNodes naming (whole schema) (findings naming [] (whole schema))
-schema_found naming schema = found_at_all naming (whole schema) (schema_ordered schema)
+  -- the findings of a compiled schema are those at all of its nodes
+  pub schema_found : (naming : Naming) (schema : CompiledSchema K kept) → AreFoundAtNodes naming (whole schema) (findings naming [] (whole schema))
+  schema_found naming schema = found_at_all naming (whole schema) (schema_ordered schema)

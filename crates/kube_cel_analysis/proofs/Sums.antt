@@ -1,7 +1,7 @@
 -- Saturating sums.
 use native.Mathlib.Omega.{arith}
 use Rattle.std.proofs.Common.{◌≡◌, ℕ}
-use Rattle.cel_syntax_ast.specs.Term.{Terms, no_terms, term_and}
+use Rattle.cel_syntax.specs.Term.{Terms, no_terms, term_and}
 use Rattle.kube_cel_analysis.specs.Cost.{Sizes, cost_of_all, sum}
 
 -- saturating addition is associative

@@ -1,8 +1,8 @@
 -- Names that have no form.
-use Rattle.cel_semantics.specs.declared.functions.Form.{Form}
-use Rattle.cel_semantics.specs.declared.functions.Form.TheVariants.{Unknown, Wrong, Known}
+use Rattle.cel.specs.Form.{Form}
+use Rattle.cel.specs.Form.TheVariants.{Unknown, Wrong, Known}
 use Rattle.kube_cel_analysis.specs.Findings.{is_unknown, is_unknown_form}
-use Rattle.kube_functions.proofs.Names.{unknown_by_name}
+use Rattle.kube_functions.specs.Names.{unknown_by_name}
 use Rattle.kube_functions.specs.Kube.{all_library}
 use Rattle.kube_functions.specs.declared.sets.KubeFunctions.TheVariants.{All}
 use Rattle.std.proofs.Common.{◌≡◌, ℕ, List, Bool, true, false, refl, ap}

@@ -5,8 +5,8 @@ use Rattle.kube_cel_analysis.proofs.Rest.{rest, rest_at, rest_none, rest_past}
 use Rattle.kube_cel_analysis.specs.Findings.{Finding, Naming, rules_findings}
 use Rattle.kube_cel_analysis.specs.Lint.{branch_findings, findings, findings_at, maybe_findings, named_findings}
 use Rattle.kube_cel_analysis.specs.Pointers.{additional_pointer, branch_pointer, items_pointer, property_pointer}
-use Rattle.kube_schema_rules.specs.declared.branches.BranchKind.{BranchKind}
-use Rattle.kube_schema_rules.specs.declared.branches.BranchKind.TheVariants.{AllOf, OneOf, AnyOf}
+use Rattle.kube_schema.specs.BranchKind.{BranchKind}
+use Rattle.kube_schema.specs.BranchKind.TheVariants.{AllOf, OneOf, AnyOf}
 use Rattle.kube_schema.specs.Tree.{branches_of, Node, node, Maybe, nothing, just, Named, no_named, named, Nodes, no_nodes, more, additional_of, all_of, any_of, as_option, count, items_of, maybe_count, named_count, named_of, nodes_count, nodes_length, nth_named, nth_node, one_of, own}
 use Rattle.kube_schema.specs.Tree as tree
 

@@ -5,9 +5,9 @@
 use Rattle.std.specs.Prelude.{ℕ, ◌+◌, ◌*◌, ◌-◌, ◌^◌, ◌/◌, min, max, List, [], ◌∷◌, codes, Bool, true, false, if◌then◌else◌}
 use Rattle.std.specs.List.{list_any}
 use Rattle.std.specs.Str.{bytes_eq}
-use Rattle.cel_syntax_ast.specs.declared.expr.MacroKind.{MacroKind}
-use Rattle.cel_syntax_ast.specs.declared.expr.MacroKind.TheVariants.{All, Exists, ExistsOne, Map, Filter}
-use Rattle.cel_syntax_ast.specs.Term.{Term, literal, ident, select, has, index, unary, binary, conditional, list_of, map_with, call, qualified, macro, Terms, no_terms, term_and}
+use Rattle.cel_syntax.specs.MacroKind.{MacroKind}
+use Rattle.cel_syntax.specs.MacroKind.TheVariants.{All, Exists, ExistsOne, Map, Filter}
+use Rattle.cel_syntax.specs.Term.{Term, literal, ident, select, has, index, unary, binary, conditional, list_of, map_with, call, qualified, macro, Terms, no_terms, term_and}
 
 -- the greatest sizes that a schema allows
 pub record Sizes : Type 0 where

@@ -3,14 +3,14 @@
 -- which unknown functions it calls, and the warnings of its analysis.
 use Rattle.std.specs.Prelude.{ℕ, List, [], ◌∷◌, ◌++◌, map, Bool, true, false, Result, Ok, Err, if◌then◌else◌, codes, string_bytes}
 use Rattle.std.specs.List.{flat_map}
-use Rattle.cel_semantics.specs.declared.functions.Form.{Form}
-use Rattle.cel_semantics.specs.declared.functions.Form.TheVariants.{Unknown, Wrong, Known}
+use Rattle.cel.specs.Form.{Form}
+use Rattle.cel.specs.Form.TheVariants.{Unknown, Wrong, Known}
 use Rattle.cel_syntax.specs.CallNames.{is_called}
 use Rattle.cel_syntax.specs.Names.{AreNames}
-use Rattle.cel_syntax_ast.specs.FreeNames.{is_free}
-use Rattle.cel_syntax_ast.specs.Term.{Term}
-use Rattle.kube_cel_analysis.specs.Scopes.{names_warnings}
-use Rattle.kube_cel_analysis.specs.Warnings.{Warning}
+use Rattle.cel_syntax.specs.FreeNames.{is_free}
+use Rattle.cel_syntax.specs.Term.{Term}
+use Rattle.kube_cel_analysis.specs.Scopes.{names_remarks}
+use Rattle.kube_cel_analysis.specs.Warnings.{Warning, warning}
 use Rattle.kube_cel_analysis.specs.declared.scope.ScopeContext.TheVariants.{CrdValidation}
 use Rattle.kube_cel_analysis.specs.declared.warning.WarningKind.{WarningKind}
 use Rattle.kube_cel_analysis.specs.declared.warning.WarningKind.TheVariants.{WrongScope, CostExceeded, MissingBounds}
@@ -19,7 +19,7 @@ use Rattle.kube_cel_analysis.specs.declared.finding.LintFinding.{LintFinding}
 use Rattle.kube_cel_analysis.specs.declared.finding.LintKind.{LintKind}
 use Rattle.kube_cel_analysis.specs.declared.finding.LintKind.TheVariants.{Compile, Function, Scope, Cost, Bounds, Depth}
 use Rattle.kube_functions.specs.Kube.{all_library}
-use Rattle.kube_schema_rules.specs.Compilation.{Compiled, Malformed, unread, unread_message, invalid, past_depth, error_text}
+use Rattle.kube_schema.specs.Compilation.{Compiled, Malformed, unread, unread_message, invalid, past_depth, error_text}
 use Rattle.kube_schema.specs.Tree.{Node}
 
 pub record Finding : Type 0 where
@@ -31,7 +31,7 @@ pub record Finding : Type 0 where
 abbrev pub finding_view : LintFinding → Finding
 finding_view f = record {
   pointer = string_bytes f.pointer;
-  rule = string_bytes f.rule;
+  rule = string_bytes f.rule.value;
   kind = f.kind;
   message = string_bytes f.message;
 }
@@ -113,7 +113,8 @@ pub record Naming : Type 0 where
 
 -- all warnings of a rule, with this node as the root of a schema
 abbrev pub warnings_at : Naming → List ℕ → Node → Term → List Warning
-warnings_at names rule n t = names_warnings CrdValidation rule (names.free t) ++ estimates rule n t
+warnings_at names rule n t =
+    map (warning rule) (names_remarks CrdValidation (names.free t) ++ estimates n t)
 
 abbrev pub compiled_findings : Naming → List ℕ → Node → Compiled → List Finding
 compiled_findings names p n c =

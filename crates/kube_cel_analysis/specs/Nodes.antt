@@ -8,8 +8,8 @@ use Rattle.std.specs.List.{flat_map}
 use Rattle.std.specs.List.Sorted.{IsStrictlySortedBy}
 use Rattle.kube_cel_analysis.specs.Findings.{Finding, Naming, rules_findings}
 use Rattle.kube_cel_analysis.specs.Pointers.{property_pointer, items_pointer, additional_pointer, branch_pointer}
-use Rattle.kube_schema_rules.specs.Step.{Step, property, item, additional_property, branch, place_cmp}
-use Rattle.kube_schema_rules.specs.Walk.{if_some, leads}
+use Rattle.kube_schema.specs.Step.{Step, property, item, additional_property, branch, place_cmp}
+use Rattle.kube_schema.specs.Walk.{if_some, leads}
 use Rattle.kube_schema.specs.Tree.{branches_of, Node, own, property_of, items_of, additional_of, nth_node}
 
 -- where a step leads from a node, if it leads to a node

@@ -1,16 +1,16 @@
 -- Trusted by the clauses of analysis and linter.
 -- The names that a rule may use where it runs (Kubernetes documentation,
 -- "Validation rules" for schemas and "Validating Admission Policy" for policies).
-use Rattle.std.specs.Prelude.{◌≡◌, ℕ, List, [], ◌∷◌, ◌++◌, codes, Bool, Option, Some, None, if◌then◌else◌}
+use Rattle.std.specs.Prelude.{◌≡◌, ℕ, List, [], ◌∷◌, ◌++◌, codes, Bool, Option, Some, None, map, if◌then◌else◌}
 use Rattle.std.specs.List.{list_any}
 use Rattle.std.specs.Str.{bytes_eq}
 use Rattle.cel_syntax.specs.Names.{AreNames}
-use Rattle.cel_syntax_ast.specs.FreeNames.{is_free}
-use Rattle.cel_syntax_ast.specs.Term.{Term}
+use Rattle.cel_syntax.specs.FreeNames.{is_free}
+use Rattle.cel_syntax.specs.Term.{Term}
 use Rattle.kube_cel_analysis.specs.declared.scope.ScopeContext.{ScopeContext}
 use Rattle.kube_cel_analysis.specs.declared.scope.ScopeContext.TheVariants.{CrdValidation, AdmissionPolicy}
 use Rattle.kube_cel_analysis.specs.declared.warning.WarningKind.TheVariants.{WrongScope}
-use Rattle.kube_cel_analysis.specs.Warnings.{Warning}
+use Rattle.kube_cel_analysis.specs.Warnings.{Remark, Warning, warning}
 
 abbrev pub scope_name : ScopeContext → List ℕ
 scope_name CrdValidation = codes "CrdValidation"
@@ -34,27 +34,31 @@ valid_variables AdmissionPolicy =
 unfoldable pub is_available : ScopeContext → List ℕ → Bool
 is_available scope name = list_any (bytes_eq name) (variables scope)
 
-abbrev pub scope_warning : ScopeContext → List ℕ → List ℕ → Warning
-scope_warning scope rule name = record {
-  rule = rule;
+abbrev pub scope_remark : ScopeContext → List ℕ → Remark
+scope_remark scope name = record {
   message = codes "variable '"
       ++ (name ++ (codes "' is not available in "
       ++ (scope_name scope ++ (codes " context; valid variables: " ++ valid_variables scope))));
   kind = WrongScope;
 }
 
--- the warnings of one name
-abbrev pub name_warnings : ScopeContext → List ℕ → List ℕ → List Warning
-name_warnings scope rule name = if is_available scope name then [] else scope_warning scope rule name ∷ []
+-- what is said of one name
+abbrev pub name_remarks : ScopeContext → List ℕ → List Remark
+name_remarks scope name = if is_available scope name then [] else scope_remark scope name ∷ []
 
--- the warnings of these names, in order
-abbrev pub names_warnings : ScopeContext → List ℕ → List (List ℕ) → List Warning
-names_warnings scope rule [] = []
-names_warnings scope rule (n ∷ ns) = name_warnings scope rule n ++ names_warnings scope rule ns
+-- what is said of these names, in order
+abbrev pub names_remarks : ScopeContext → List (List ℕ) → List Remark
+names_remarks scope [] = []
+names_remarks scope (n ∷ ns) = name_remarks scope n ++ names_remarks scope ns
 
--- the list is exactly the warnings of a text: one for each free
--- name of its tree that isn't available, in the order of names
+-- the list is exactly what is said of a tree's names: one remark for each
+-- free name that isn't available, in the order of names
+abbrev pub AreScopeRemarks : ScopeContext → Term → List Remark → Type 0
+AreScopeRemarks scope t found =
+    (names : List (List ℕ)) × AreNames names (λ x. is_free x t) × (found ≡ names_remarks scope names)
+
+-- the list is exactly the warnings of a text: those of the names of its tree
 abbrev pub AreScopeWarnings : ScopeContext → List ℕ → Option Term → List Warning → Type 0
 AreScopeWarnings scope rule None found = found ≡ []
 AreScopeWarnings scope rule (Some t) found =
-    (names : List (List ℕ)) × AreNames names (λ x. is_free x t) × (found ≡ names_warnings scope rule names)
+    (remarks : List Remark) × AreScopeRemarks scope t remarks × (found ≡ map (warning rule) remarks)

@@ -1,32 +1,30 @@
 //! The analysis of a rule at a schema: the warnings of its names, its cost and its bounds.
 ghost use Rattle.std.specs.Prelude.{◌≡◌, ◌++◌, IfErr, IfOk, OnOk, Some, map};
 ghost use Rattle.cel_syntax.specs.Reading.{tree_of};
-ghost use Rattle.cel_syntax_ast.specs.Term.{term};
+ghost use Rattle.cel_syntax.specs.Term.{term};
 ghost use Rattle.kube_cel_analysis.specs.Cost.{cost};
-ghost use Rattle.kube_cel_analysis.specs.Warnings.{warning_view};
+ghost use Rattle.kube_cel_analysis.specs.Warnings.{remark_view, warning, warning_view};
 ghost use Rattle.kube_cel_analysis.specs.Bounds.{sizes_of};
-ghost use Rattle.kube_cel_analysis.specs.Estimates.{AreWarnings, bounds_warning, bounds_warnings, cost_warning, cost_warnings, estimates, is_macro, text_estimates};
+ghost use Rattle.kube_cel_analysis.specs.Estimates.{AreRemarks, AreWarnings, bounds_remark, bounds_remarks, cost_remark, cost_remarks, estimates, is_macro, text_estimates};
 ghost use Rattle.kube_schema.specs.Shown.{node_tree, whole};
 
 use crate::cost::estimated_cost;
-use crate::scope::{ScopeContext, check_expression_scope};
+use crate::scope::{ScopeContext, scope_remarks};
 use crate::sizes::{has_unbounded, sizes_of};
-use crate::warning::{AnalysisWarning, WarningKind};
-use cel_syntax::parse;
-use cel_syntax_ast::Expr;
+use crate::warning::{AnalysisWarning, Remark, WarningKind, warnings_of};
+use cel_syntax::{Expr, parse};
 use kube_schema::{CompiledSchema, SchemaNode};
-use kube_types_refused::Refused;
+use kube_types::Refused;
 use std::alloc::{AllocError, Global};
 
 /// The greatest cost of a rule that gives no warning.
 const BUDGET: u64 = 1_000_000;
 
-/// Returns the warning of a cost above the budget.
-fn cost_warning(alloc: Global, rule: &str, cost: u64) -> Result<AnalysisWarning, AllocError>
-    ensures { IfOk result (λ w. warning_view w ≡ cost_warning rule.now cost) }
+/// Returns the remark on a cost above the budget.
+fn cost_remark(alloc: Global, cost: u64) -> Result<Remark, AllocError>
+    ensures { IfOk result (λ r. remark_view r ≡ cost_remark cost) }
 {
-    Ok(AnalysisWarning {
-        rule: String::from_str(alloc, rule)?,
+    Ok(Remark {
         message: format!(in alloc;
             "estimated cost {cost} exceeds K8s budget 1000000; consider adding maxItems/maxLength to schema bounds"
         )?,
@@ -34,12 +32,11 @@ fn cost_warning(alloc: Global, rule: &str, cost: u64) -> Result<AnalysisWarning,
     })
 }
 
-/// Returns the warning of an unbounded list.
-fn bounds_warning(alloc: Global, rule: &str) -> Result<AnalysisWarning, AllocError>
-    ensures { IfOk result (λ w. warning_view w ≡ bounds_warning rule.now) }
+/// Returns the remark on an unbounded list.
+fn bounds_remark(alloc: Global) -> Result<Remark, AllocError>
+    ensures { IfOk result (λ r. remark_view r ≡ bounds_remark) }
 {
-    Ok(AnalysisWarning {
-        rule: String::from_str(alloc, rule)?,
+    Ok(Remark {
         message: String::from_str(
             alloc,
             "list field has no maxItems bound; cost estimate uses worst-case default",
@@ -52,74 +49,51 @@ fn bounds_warning(alloc: Global, rule: &str) -> Result<AnalysisWarning, AllocErr
 fn is_macro(expression: &Expr) -> bool
     ensures { result ≡ is_macro (term expression.now) }
 {
-    match expression {
-        Expr::Macro { .. } => true,
-        Expr::Literal(_)
-        | Expr::Ident(_)
-        | Expr::Select(_, _)
-        | Expr::Has(_, _)
-        | Expr::Index(_, _)
-        | Expr::Unary(_, _)
-        | Expr::Binary(_, _, _)
-        | Expr::Cond(_, _, _)
-        | Expr::List(_)
-        | Expr::Map(_)
-        | Expr::Call { .. }
-        | Expr::Qualified { .. } => false,
-    }
+    matches!(expression, Expr::Macro { .. })
 }
 
-/// Adds a warning if the cost is above the budget.
-fn add_cost(
-    alloc: Global,
-    rule: &str,
-    cost: u64,
-    warnings: &mut Vec<AnalysisWarning>,
-) -> Result<(), AllocError>
-    ensures { OnOk result (map warning_view warnings.new.items
-        ≡ map warning_view warnings.old.items ++ cost_warnings rule.now cost) }
+/// Adds a remark if the cost is above the budget.
+fn add_cost(alloc: Global, cost: u64, remarks: &mut Vec<Remark>) -> Result<(), AllocError>
+    ensures { OnOk result (map remark_view remarks.new.items
+        ≡ map remark_view remarks.old.items ++ cost_remarks cost) }
 {
     if cost > BUDGET {
-        warnings.push(cost_warning(alloc, rule, cost)?)?;
+        remarks.push(cost_remark(alloc, cost)?)?;
     }
     Ok(())
 }
 
-/// Adds a warning if the expression is a macro over a
+/// Adds a remark if the expression is a macro over a
 /// list and a property of the node is an unbounded list.
 fn add_bounds(
     alloc: Global,
-    rule: &str,
     expression: &Expr,
     node: &SchemaNode<'_>,
-    warnings: &mut Vec<AnalysisWarning>,
+    remarks: &mut Vec<Remark>,
 ) -> Result<(), AllocError>
-    ensures { OnOk result (map warning_view warnings.new.items
-        ≡ map warning_view warnings.old.items
-        ++ bounds_warnings rule.now (node_tree node.now) (term expression.now)) }
+    ensures { OnOk result (map remark_view remarks.new.items ≡ map remark_view remarks.old.items
+        ++ bounds_remarks (node_tree node.now) (term expression.now)) }
 {
     if is_macro(expression) && has_unbounded(node) {
-        warnings.push(bounds_warning(alloc, rule)?)?;
+        remarks.push(bounds_remark(alloc)?)?;
     }
     Ok(())
 }
 
-/// Adds the warnings of cost, then those of bounds.
+/// Adds the remarks on cost, then those on bounds.
 #[tactic(auto, unfolding(crate::specs::Estimates::estimates))]
 fn add_estimates(
     alloc: Global,
-    rule: &str,
     expression: &Expr,
     node: &SchemaNode<'_>,
-    warnings: &mut Vec<AnalysisWarning>,
+    remarks: &mut Vec<Remark>,
 ) -> Result<(), AllocError>
-    ensures { OnOk result (map warning_view warnings.new.items
-        ≡ map warning_view warnings.old.items
-        ++ estimates rule.now (node_tree node.now) (term expression.now)) }
+    ensures { OnOk result (map remark_view remarks.new.items ≡ map remark_view remarks.old.items
+        ++ estimates (node_tree node.now) (term expression.now)) }
 {
     let cost = estimated_cost(expression, sizes_of(node));
-    add_cost(alloc, rule, cost, warnings)?;
-    add_bounds(alloc, rule, expression, node, warnings)?;
+    add_cost(alloc, cost, remarks)?;
+    add_bounds(alloc, expression, node, remarks)?;
     Ok(())
 }
 
@@ -131,11 +105,28 @@ fn estimated(
     node: &SchemaNode<'_>,
 ) -> Result<Vec<AnalysisWarning>, AllocError>
     ensures { IfOk result (λ v. map warning_view v.items
-        ≡ estimates rule.now (node_tree node.now) (term expression.now)) }
+        ≡ map (warning rule.now) (estimates (node_tree node.now) (term expression.now))) }
 {
-    let mut warnings = Vec::new(alloc);
-    add_estimates(alloc, rule, expression, node, &mut warnings)?;
-    Ok(warnings)
+    let mut remarks = Vec::new(alloc);
+    add_estimates(alloc, expression, node, &mut remarks)?;
+    warnings_of(alloc, rule, remarks)
+}
+
+/// Returns all remarks on an expression at a node of a schema:
+/// on its names, then on its cost, then on its bounds.
+pub(crate) fn remarks_of(
+    alloc: Global,
+    expression: &Expr,
+    node: &SchemaNode<'_>,
+    scope: ScopeContext,
+) -> Result<Vec<Remark>, Refused>
+    ensures remarks { IfOk result (λ v. AreRemarks scope (node_tree node.now)
+        (term expression.now) (map remark_view v.items)) }
+    ensures memory { IfErr result (λ e. e ≡ Refused.Memory) }
+{
+    let mut remarks = scope_remarks(alloc, expression, scope)?;
+    add_estimates(alloc, expression, node, &mut remarks)?;
+    Ok(remarks)
 }
 
 /// Estimates the cost of a rule at the root of a schema. Warns if the cost
@@ -182,8 +173,8 @@ pub fn analyze_expression(
         (Some (term expression.now)) (map warning_view v.items)) }
     ensures memory { IfErr result (λ e. e ≡ Refused.Memory) }
 {
-    let mut warnings = check_expression_scope(alloc, rule, expression, scope)?;
-    add_estimates(alloc, rule, expression, node, &mut warnings)?;
+    let remarks = remarks_of(alloc, expression, node, scope)?;
+    let warnings = warnings_of(alloc, rule, remarks)?;
     Ok(warnings)
 }
 

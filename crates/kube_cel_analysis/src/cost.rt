@@ -1,11 +1,11 @@
 //! The estimated cost of an expression.
 ghost use Rattle.std.specs.Prelude.{◌≡◌, map};
-ghost use Rattle.cel_syntax_ast.specs.Term.{term, terms_of};
+ghost use Rattle.cel_syntax.specs.Term.{term, terms_of};
 ghost use Rattle.kube_cel_analysis.specs.Cost.{call_cost, cost, cost_of_all, product, reads_text, step_cost, sum};
 ghost use Rattle.kube_cel_analysis.specs.Sizes.{sizes_view};
 
 use crate::scope::is_one_of;
-use cel_syntax_ast::{Expr, MacroKind};
+use cel_syntax::{Expr, MacroKind};
 use std::cmp::max;
 
 /// The greatest sizes that a schema allows.

@@ -1,5 +1,7 @@
 //! The findings of the linter.
 
+use std::rc::Rc;
+
 /// The kind of a finding: what is wrong with a rule, or with the schema in its place.
 #[derive(Clone, Copy, Debug, PartialEq, Eq)]
 pub enum LintKind {
@@ -22,8 +24,8 @@ pub enum LintKind {
 pub struct LintFinding {
     /// The JSON Pointer of the node in the schema (RFC 6901).
     pub pointer: String,
-    /// The text of the rule; empty if there is none.
-    pub rule: String,
+    /// The text of the rule, which all findings about it share; empty if there is none.
+    pub rule: Rc<String>,
     /// The kind of the finding.
     pub kind: LintKind,
     /// The message of the finding.

@@ -1,8 +1,8 @@
 //! Laws of findings and warnings, each stated as the contract of
 //! a function: where findings come from, and what `==` compares.
-ghost use Rattle.cel_semantics.specs.declared.functions.Form.TheVariants.{Unknown};
-ghost use Rattle.cel_syntax_ast.specs.FreeNames.{is_free};
-ghost use Rattle.cel_syntax_ast.specs.Term.{Term};
+ghost use Rattle.cel.specs.Form.TheVariants.{Unknown};
+ghost use Rattle.cel_syntax.specs.FreeNames.{is_free};
+ghost use Rattle.cel_syntax.specs.Term.{Term};
 ghost use Rattle.cel_syntax.specs.CallNames.{is_called};
 ghost use Rattle.cel_syntax.specs.Names.{AreNames};
 ghost use Rattle.kube_cel_analysis.specs.Findings.{Naming, finding_view, is_unknown};
@@ -11,12 +11,12 @@ ghost use Rattle.kube_cel_analysis.specs.Nodes.{AreFoundAtNodes};
 ghost use Rattle.kube_cel_analysis.specs.Warnings.{warning_view};
 ghost use Rattle.kube_functions.specs.Kube.{all_library};
 ghost use Rattle.kube_schema.specs.Shown.{whole};
-ghost use Rattle.kube_schema.specs.declared.node.CompiledSchema.{CompiledSchema};
 ghost use Rattle.std.specs.Prelude.{◌≡◌, ◌↔◌, ℕ, Bool, true, List, [], IsTrue};
 
 use crate::finding::{LintFinding, LintKind};
 use crate::scope::ScopeContext;
 use crate::warning::{AnalysisWarning, WarningKind};
+use kube_schema::{CompiledSchema, NodeKeywords};
 
 /// Each tree has a list of the names of its calls and a list of its
 /// free names. So the names that findings speak of always exist.
@@ -29,9 +29,9 @@ pub fn each_tree_has_its_names()
 /// The findings of a compiled schema are those of the rules at exactly
 /// its nodes. Each node is a list of steps from the root, and has the
 /// JSON Pointer of those steps. The nodes are in the order of places.
-pub fn findings_are_those_of_all_nodes()
-    ensures { (names : Naming) (schema : CompiledSchema)
-        → AreFoundAtNodes names (whole schema) (findings names [] (whole schema)) }
+pub fn findings_are_those_of_all_nodes<K: NodeKeywords>(schema: &CompiledSchema<K>)
+    ensures { (names : Naming)
+        → AreFoundAtNodes names (whole schema.now) (findings names [] (whole schema.now)) }
 {}
 
 /// A name is reported as unknown exactly if no form of it is known or

@@ -2,7 +2,7 @@
 ghost use Rattle.std.specs.Prelude.{◌≡◌, ◌++◌, IfOk, OnOk, string_bytes};
 ghost use Rattle.kube_cel_analysis.specs.Pointers.{additional_pointer, branch_pointer, escaped_character, items_pointer, property_pointer, token};
 
-use kube_schema_rules::BranchKind;
+use kube_schema::BranchKind;
 use std::alloc::{AllocError, Global};
 
 /// Appends a character of a name, escaped.

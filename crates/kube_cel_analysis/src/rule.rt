@@ -1,22 +1,22 @@
 //! The findings of the rules of one node.
-ghost use Rattle.std.specs.Prelude.{◌≡◌, ◌++◌, [], ◌∷◌, IfErr, IfOk, OnOk, map};
+ghost use Rattle.std.specs.Prelude.{◌≡◌, ◌++◌, [], ◌∷◌, IfErr, IfOk, OnOk, map, string_bytes};
 ghost use Rattle.cel_syntax.specs.Names.{names_of};
-ghost use Rattle.kube_cel_analysis.specs.Warnings.{warning_view};
+ghost use Rattle.kube_cel_analysis.specs.Warnings.{remark_view, warning};
 ghost use Rattle.kube_cel_analysis.specs.Findings.{Naming, compiled_findings, error_finding, finding_view, is_unknown, kind_of_error, kind_of_warning, name_findings, names_findings, rule_findings, rule_of_error, rules_findings, unknown_finding, warning_finding};
-ghost use Rattle.kube_schema_rules.specs.Compilation.{compiled_seen, error_view, result_view};
+ghost use Rattle.kube_schema.specs.Compilation.{compiled_seen, error_view, result_view};
 ghost use Rattle.kube_schema.specs.Shown.{node_tree};
 ghost use Rattle.kube_schema.specs.Tree.{own};
 
-use crate::analysis::analyze_expression;
+use crate::analysis::remarks_of;
 use crate::finding::{LintFinding, LintKind};
 use crate::scope::ScopeContext;
-use crate::warning::{AnalysisWarning, WarningKind};
-use cel_semantics::{Form, Functions};
+use crate::warning::{Remark, WarningKind};
+use cel::{Form, Functions};
 use kube_functions::AllFunctions;
-use kube_schema::SchemaNode;
-use kube_schema_rules::{CompilationError, CompilationResult};
-use kube_types_refused::Refused;
+use kube_schema::{CompilationError, CompilationResult, SchemaNode};
+use kube_types::Refused;
 use std::alloc::{AllocError, Global};
+use std::rc::Rc;
 
 /// The kind of finding for a compilation error.
 fn kind_of_error(error: &CompilationError) -> LintKind
@@ -42,6 +42,13 @@ fn rule_of_error(error: &CompilationError) -> &str
     }
 }
 
+/// Returns a copy of a text that findings can share.
+fn shared(alloc: Global, text: &str) -> Result<Rc<String>, AllocError>
+    ensures { IfOk result (λ s. string_bytes s.value ≡ text.now) }
+{
+    Ok(Rc::new(alloc, String::from_str(alloc, text)?)?)
+}
+
 /// Adds the finding for a rule that doesn't compile.
 fn add_error(
     alloc: Global,
@@ -54,7 +61,7 @@ fn add_error(
 {
     found.push(LintFinding {
         pointer: String::from_str(alloc, pointer)?,
-        rule: String::from_str(alloc, rule_of_error(error))?,
+        rule: shared(alloc, rule_of_error(error))?,
         kind: kind_of_error(error),
         message: error.to_string(alloc)?,
     })?;
@@ -77,14 +84,15 @@ fn is_unknown(name: &str) -> bool
 fn unknown_finding(
     alloc: Global,
     pointer: &str,
-    rule: &str,
+    rule: &Rc<String>,
     name: &str,
 ) -> Result<LintFinding, AllocError>
-    ensures { IfOk result (λ f. finding_view f ≡ unknown_finding pointer.now rule.now name.now) }
+    ensures { IfOk result (λ f. finding_view f
+        ≡ unknown_finding pointer.now (string_bytes rule.now.value) name.now) }
 {
     Ok(LintFinding {
         pointer: String::from_str(alloc, pointer)?,
-        rule: String::from_str(alloc, rule)?,
+        rule: rule.clone()?,
         kind: LintKind::Function,
         message: format!(in alloc; "function '{name}' is unknown")?,
     })
@@ -94,12 +102,12 @@ fn unknown_finding(
 fn add_name(
     alloc: Global,
     pointer: &str,
-    rule: &str,
+    rule: &Rc<String>,
     name: &str,
     found: &mut Vec<LintFinding>,
 ) -> Result<(), AllocError>
-    ensures { OnOk result (map finding_view found.new.items
-        ≡ map finding_view found.old.items ++ name_findings pointer.now rule.now name.now) }
+    ensures { OnOk result (map finding_view found.new.items ≡ map finding_view found.old.items
+        ++ name_findings pointer.now (string_bytes rule.now.value) name.now) }
 {
     if is_unknown(name) {
         found.push(unknown_finding(alloc, pointer, rule, name)?)?;
@@ -111,12 +119,12 @@ fn add_name(
 fn add_names(
     alloc: Global,
     pointer: &str,
-    rule: &str,
+    rule: &Rc<String>,
     names: &[String],
     found: &mut Vec<LintFinding>,
 ) -> Result<(), AllocError>
-    ensures { OnOk result (map finding_view found.new.items
-        ≡ map finding_view found.old.items ++ names_findings pointer.now rule.now (names_of names.now)) }
+    ensures { OnOk result (map finding_view found.new.items ≡ map finding_view found.old.items
+        ++ names_findings pointer.now (string_bytes rule.now.value) (names_of names.now)) }
 {
     for name in names {
         add_name(alloc, pointer, rule, name.as_str(), found)?;
@@ -135,38 +143,41 @@ fn kind_of_warning(kind: WarningKind) -> LintKind
     }
 }
 
-/// Adds a warning as a finding.
-fn add_warning(
+/// Adds a remark on a rule as a finding.
+fn add_remark(
     alloc: Global,
     pointer: &str,
-    warning: &AnalysisWarning,
+    rule: &Rc<String>,
+    remark: Remark,
     found: &mut Vec<LintFinding>,
 ) -> Result<(), AllocError>
-    ensures { OnOk result (map finding_view found.new.items
-        ≡ map finding_view found.old.items ++ warning_finding pointer.now (warning_view warning.now) ∷ []) }
+    ensures { OnOk result (map finding_view found.new.items ≡ map finding_view found.old.items
+        ++ warning_finding pointer.now (warning (string_bytes rule.now.value) (remark_view remark)) ∷ []) }
 {
+    let Remark { message, kind } = remark;
     found.push(LintFinding {
         pointer: String::from_str(alloc, pointer)?,
-        rule: String::from_str(alloc, warning.rule.as_str())?,
-        kind: kind_of_warning(warning.kind),
-        message: String::from_str(alloc, warning.message.as_str())?,
+        rule: rule.clone()?,
+        kind: kind_of_warning(kind),
+        message,
     })?;
     Ok(())
 }
 
-/// Adds warnings as findings, in order.
-fn add_warnings(
+/// Adds remarks on a rule as findings, in order.
+fn add_remarks(
     alloc: Global,
     pointer: &str,
-    warnings: &[AnalysisWarning],
+    rule: &Rc<String>,
+    remarks: Vec<Remark>,
     found: &mut Vec<LintFinding>,
 ) -> Result<(), AllocError>
-    ensures { OnOk result (map finding_view found.new.items
-        ≡ map finding_view found.old.items
-        ++ map (λ w. warning_finding pointer.now (warning_view w)) warnings.now) }
+    ensures { OnOk result (map finding_view found.new.items ≡ map finding_view found.old.items
+        ++ map (λ r. warning_finding pointer.now (warning (string_bytes rule.now.value) (remark_view r)))
+        remarks.items) }
 {
-    for warning in warnings {
-        add_warning(alloc, pointer, warning, found)?;
+    for remark in remarks {
+        add_remark(alloc, pointer, rule, remark, found)?;
     }
     Ok(())
 }
@@ -184,12 +195,12 @@ fn add_compiled(
         ++ compiled_findings names pointer.now (node_tree node.now) (result_view rule.now)) }
     ensures memory { IfErr result (λ e. e ≡ Refused.Memory) }
 {
-    let text = rule.rule.rule.as_str();
+    let text = shared(alloc, rule.rule.rule.as_str())?;
     let references = rule.program.references(alloc)?;
-    add_names(alloc, pointer, text, references.functions(), found)?;
+    add_names(alloc, pointer, &text, references.functions(), found)?;
     let expression = rule.program.expression();
-    let warnings = analyze_expression(alloc, text, expression, node, ScopeContext::CrdValidation)?;
-    add_warnings(alloc, pointer, warnings.as_slice(), found)?;
+    let remarks = remarks_of(alloc, expression, node, ScopeContext::CrdValidation)?;
+    add_remarks(alloc, pointer, &text, remarks, found)?;
     Ok(())
 }
 

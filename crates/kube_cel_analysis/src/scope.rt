@@ -4,13 +4,13 @@ ghost use Rattle.std.specs.Prelude.{◌≡◌, ◌++◌, IfErr, IfOk, OnOk, Some
 ghost use Rattle.std.specs.Str.{bytes_eq};
 ghost use Rattle.cel_syntax.specs.Reading.{tree_of};
 ghost use Rattle.cel_syntax.specs.Names.{names_of};
-ghost use Rattle.cel_syntax_ast.specs.Term.{term};
-ghost use Rattle.kube_cel_analysis.specs.Scopes.{AreScopeWarnings, is_available, name_warnings, names_warnings, scope_name, scope_warning, valid_variables};
-ghost use Rattle.kube_cel_analysis.specs.Warnings.{warning_view};
+ghost use Rattle.cel_syntax.specs.Term.{term};
+ghost use Rattle.kube_cel_analysis.specs.Scopes.{AreScopeRemarks, AreScopeWarnings, is_available, name_remarks, names_remarks, scope_name, scope_remark, valid_variables};
+ghost use Rattle.kube_cel_analysis.specs.Warnings.{remark_view, warning_view};
 
-use crate::warning::{AnalysisWarning, WarningKind};
+use crate::warning::{AnalysisWarning, Remark, WarningKind, warnings_of};
 use cel_syntax::{Expr, References, parse};
-use kube_types_refused::Refused;
+use kube_types::Refused;
 use std::alloc::{AllocError, Global};
 
 /// Where a rule runs.
@@ -87,19 +87,13 @@ pub(crate) fn is_one_of(name: &str, names: &[&str]) -> bool
     false
 }
 
-/// Returns the warning of a name that isn't available.
-fn scope_warning(
-    alloc: Global,
-    rule: &str,
-    name: &str,
-    scope: ScopeContext,
-) -> Result<AnalysisWarning, AllocError>
-    ensures { IfOk result (λ w. warning_view w ≡ scope_warning scope rule.now name.now) }
+/// Returns the remark that a name isn't available.
+fn scope_remark(alloc: Global, name: &str, scope: ScopeContext) -> Result<Remark, AllocError>
+    ensures { IfOk result (λ r. remark_view r ≡ scope_remark scope name.now) }
 {
     let context = scope.name();
     let names = scope.valid_variables();
-    Ok(AnalysisWarning {
-        rule: String::from_str(alloc, rule)?,
+    Ok(Remark {
         message: format!(in alloc;
             "variable '{name}' is not available in {context} context; valid variables: {names}"
         )?,
@@ -107,39 +101,54 @@ fn scope_warning(
     })
 }
 
-/// Adds a warning if the name isn't available.
+/// Adds a remark if the name isn't available.
 fn add_name(
     alloc: Global,
-    rule: &str,
     name: &str,
     scope: ScopeContext,
-    warnings: &mut Vec<AnalysisWarning>,
+    remarks: &mut Vec<Remark>,
 ) -> Result<(), AllocError>
-    ensures { OnOk result (map warning_view warnings.new.items
-        ≡ map warning_view warnings.old.items ++ name_warnings scope rule.now name.now) }
+    ensures { OnOk result (map remark_view remarks.new.items
+        ≡ map remark_view remarks.old.items ++ name_remarks scope name.now) }
 {
     if scope.has(name) {
         return Ok(());
     }
-    warnings.push(scope_warning(alloc, rule, name, scope)?)?;
+    remarks.push(scope_remark(alloc, name, scope)?)?;
     Ok(())
 }
 
-/// Adds the warnings of names, in order.
+/// Adds the remarks on names, in order.
 fn add_names(
     alloc: Global,
-    rule: &str,
     names: &[String],
     scope: ScopeContext,
-    warnings: &mut Vec<AnalysisWarning>,
+    remarks: &mut Vec<Remark>,
 ) -> Result<(), AllocError>
-    ensures { OnOk result (map warning_view warnings.new.items
-        ≡ map warning_view warnings.old.items ++ names_warnings scope rule.now (names_of names.now)) }
+    ensures { OnOk result (map remark_view remarks.new.items
+        ≡ map remark_view remarks.old.items ++ names_remarks scope (names_of names.now)) }
 {
     for name in names {
-        add_name(alloc, rule, name.as_str(), scope, warnings)?;
+        add_name(alloc, name.as_str(), scope, remarks)?;
     }
     Ok(())
+}
+
+/// Returns a remark on each free name of an expression that isn't
+/// available where the rule runs, in the order of names.
+pub(crate) fn scope_remarks(
+    alloc: Global,
+    expression: &Expr,
+    scope: ScopeContext,
+) -> Result<Vec<Remark>, Refused>
+    ensures remarks { IfOk result
+        (λ v. AreScopeRemarks scope (term expression.now) (map remark_view v.items)) }
+    ensures memory { IfErr result (λ e. e ≡ Refused.Memory) }
+{
+    let references = References::of(alloc, expression)?;
+    let mut remarks = Vec::new(alloc);
+    add_names(alloc, references.variables(), scope, &mut remarks)?;
+    Ok(remarks)
 }
 
 /// Warns of each free name of an expression that isn't available where the
@@ -158,9 +167,8 @@ pub fn check_expression_scope(
         (λ v. AreScopeWarnings scope rule.now (Some (term expression.now)) (map warning_view v.items)) }
     ensures memory { IfErr result (λ e. e ≡ Refused.Memory) }
 {
-    let references = References::of(alloc, expression)?;
-    let mut warnings = Vec::new(alloc);
-    add_names(alloc, rule, references.variables(), scope, &mut warnings)?;
+    let remarks = scope_remarks(alloc, expression, scope)?;
+    let warnings = warnings_of(alloc, rule, remarks)?;
     Ok(warnings)
 }
 

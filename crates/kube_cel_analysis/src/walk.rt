@@ -10,9 +10,8 @@ ghost use Rattle.kube_schema.specs.Tree.{branches_of, additional_of, items_of, n
 use crate::finding::LintFinding;
 use crate::pointer::{additional_pointer, branch_pointer, items_pointer, property_pointer};
 use crate::rule::add_rules;
-use kube_schema::{CompiledSchema, SchemaNode};
-use kube_schema_rules::BranchKind;
-use kube_types_refused::Refused;
+use kube_schema::{BranchKind, CompiledSchema, SchemaNode};
+use kube_types::Refused;
 use std::alloc::Global;
 
 /// Returns the findings of all rules of a schema, node by node. A node comes

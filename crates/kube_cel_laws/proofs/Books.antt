@@ -1,5 +1,5 @@
 -- What is found under a book that refuses no more.
-use Rattle.cel_patterns.specs.Book.{Book, IsBook, IsPlain, pattern_of_text, unless_refused, pattern_in, matched_by, found_by}
+use Rattle.cel.specs.Book.{Book, IsBook, IsPlain, pattern_of_text, unless_refused, pattern_in, matched_by, found_by}
 use Rattle.kube_cel_laws.proofs.Results.{some_kept}
 use Rattle.kube_cel_laws.specs.Books.{RefusesNoMore}
 use Rattle.std.proofs.Common.{◌≡◌, ◌⊎◌, ℕ, Bool, true, false, List, Option, Some, None, IfSome, IsSome, is_some, refl, sym, ap, ◌∙◌, subst, inl, inr, true≢false}

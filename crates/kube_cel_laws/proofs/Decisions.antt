@@ -1,13 +1,13 @@
 -- The operators and macros that use outcomes keep values.
-use Rattle.cel_semantics.specs.Decisions.{is_bool, truth, bool_fault, first_fault, decision, branch_outcome}
-use Rattle.cel_semantics.specs.Macros.{IterationResult, item_if, image_if, iteration_result_of, with_result, all_results, made_of, macro_of}
-use Rattle.cel_semantics.specs.Meaning.{strictly, binary_of, entry_of}
-use Rattle.cel_semantics.specs.Members.{put_in}
-use Rattle.cel_semantics.specs.Outcome.{Outcome, and_then}
-use Rattle.cel_syntax_ast.specs.declared.expr.BinaryOperator.{BinaryOperator}
-use Rattle.cel_syntax_ast.specs.declared.expr.BinaryOperator.TheVariants.{Or, And, Less, LessOrEqual, Greater, GreaterOrEqual, Equal, NotEqual, In, Add, Subtract, Multiply, Divide, Remainder}
-use Rattle.cel_syntax_ast.specs.declared.expr.MacroKind.{MacroKind}
-use Rattle.cel_syntax_ast.specs.declared.expr.MacroKind.TheVariants.{All, Exists, ExistsOne, Map, Filter}
+use Rattle.cel.specs.Decisions.{is_bool, truth, bool_fault, first_fault, decision, branch_outcome}
+use Rattle.cel.specs.Macros.{IterationResult, item_if, image_if, iteration_result_of, with_result, all_results, made_of, macro_of}
+use Rattle.cel.specs.Meaning.{strictly, binary_of, entry_of}
+use Rattle.cel.specs.Members.{put_in}
+use Rattle.cel.specs.Outcome.{Outcome, and_then}
+use Rattle.cel_syntax.specs.BinaryOperator.{BinaryOperator}
+use Rattle.cel_syntax.specs.BinaryOperator.TheVariants.{Or, And, Less, LessOrEqual, Greater, GreaterOrEqual, Equal, NotEqual, In, Add, Subtract, Multiply, Divide, Remainder}
+use Rattle.cel_syntax.specs.MacroKind.{MacroKind}
+use Rattle.cel_syntax.specs.MacroKind.TheVariants.{All, Exists, ExistsOne, Map, Filter}
 use Rattle.cel_value.specs.Data.{Data, bool}
 use Rattle.cel_value.specs.Faults.{Fault}
 use Rattle.kube_cel_laws.proofs.Results.{AllKept, Keeps, and_then_kept, keeps_itself, mapped_kept}

@@ -1,19 +1,19 @@
 -- Both sets of functions keep their values under a book that refuses no more.
-use Rattle.cel_patterns.specs.Book.{Book, matched_by, found_by}
-use Rattle.cel_semantics.specs.Bindings.{Bindings}
-use Rattle.cel_semantics.specs.Meaning.{meaning}
-use Rattle.cel_semantics.specs.declared.functions.Form.{Form}
-use Rattle.cel_semantics.specs.declared.functions.Form.TheVariants.{Unknown, Wrong, Known}
-use Rattle.cel_stdlib.specs.Standard as standard
-use Rattle.cel_stdlib.specs.Standard.{standard_form, standard_answer, first_operand, second_operand}
-use Rattle.cel_stdlib.specs.Strings as strings
-use Rattle.cel_stdlib.specs.Strings.{pattern_found, refused_pattern}
-use Rattle.cel_stdlib.specs.Table.{function_named as standard_function_named}
-use Rattle.cel_stdlib.specs.declared.names.Function as standard_function
-use Rattle.cel_stdlib.specs.declared.names.Function.TheVariants.{One, Two, Many}
-use Rattle.cel_stdlib.specs.declared.names.OfTwo.{OfTwo}
-use Rattle.cel_stdlib.specs.declared.names.OfTwo.TheVariants.{Contains, StartsWith, EndsWith, Matches}
-use Rattle.cel_syntax_ast.specs.Term.{Term}
+use Rattle.cel.specs.Book.{Book, matched_by, found_by}
+use Rattle.cel.specs.Bindings.{Bindings}
+use Rattle.cel.specs.Meaning.{meaning}
+use Rattle.cel.specs.Form.{Form}
+use Rattle.cel.specs.Form.TheVariants.{Unknown, Wrong, Known}
+use Rattle.cel.specs.Standard as standard
+use Rattle.cel.specs.Standard.{standard_form, standard_answer, first_operand, second_operand}
+use Rattle.cel.specs.Strings as strings
+use Rattle.cel.specs.Strings.{pattern_found, refused_pattern}
+use Rattle.cel.specs.Table.{function_named as standard_function_named}
+use Rattle.cel.specs.Function as standard_function
+use Rattle.cel.specs.Function.TheVariants.{One, Two, Many}
+use Rattle.cel.specs.OfTwo.{OfTwo}
+use Rattle.cel.specs.OfTwo.TheVariants.{Contains, StartsWith, EndsWith, Matches}
+use Rattle.cel_syntax.specs.Term.{Term}
 use Rattle.cel_value.specs.Data.{Data, bool}
 use Rattle.cel_value.specs.Faults.{no_overload, invalid_pattern}
 use Rattle.kube_cel_laws.proofs.Books.{match_kept, spans_kept}
@@ -28,9 +28,9 @@ use Rattle.kube_functions.specs.Overloads.{address_operand}
 use Rattle.kube_functions.specs.Table.{function_named, functions, globals, methods}
 use Rattle.kube_functions.specs.declared.sets.KubeFunctions.{KubeFunctions}
 use Rattle.kube_functions.specs.declared.sets.KubeFunctions.TheVariants.{Standard, All}
-use Rattle.kube_functions_strings.specs.Operands.{optional_int_in, texts_in}
-use Rattle.kube_functions_strings.specs.Regex.{each_found, find_all_outcome, find_outcome, first_found, first_match, limit_of, match_texts}
-use Rattle.kube_functions_types.specs.Strings.{string_of}
+use Rattle.kube_functions.specs.StringsOperands.{optional_int_in, texts_in}
+use Rattle.kube_functions.specs.StringsRegex.{each_found, find_all_outcome, find_outcome, first_found, first_match, limit_of, match_texts}
+use Rattle.kube_functions.specs.TypesStrings.{string_of}
 use Rattle.std.proofs.Common.{◌≡◌, ℕ, List, length, Bool, true, false, not, Option, Some, None, IfSome, is_some, Ok, codes, bytes_eq, drop, refl}
 use Rattle.std.specs.Option.{option_map_or, option_zip}
 

@@ -1,5 +1,5 @@
 -- An object that is judged without errors under a book is so under a book that refuses no more.
-use Rattle.cel_patterns.specs.Book.{Book, IsBook, IsPlain}
+use Rattle.cel.specs.Book.{Book, IsBook, IsPlain}
 use Rattle.kube_cel.proofs.RawNodes.{raw_accessors_counts_all}
 use Rattle.kube_cel.proofs.Reports.{is_answer}
 use Rattle.kube_cel.specs.Answers.{report_of}
@@ -7,9 +7,10 @@ use Rattle.kube_cel.specs.Raw.{raw_accessors}
 use Rattle.kube_cel.specs.Starts.{defaulted_start}
 use Rattle.kube_cel_laws.proofs.Passes.{answer_passes, report_passes, reported_none}
 use Rattle.kube_cel_laws.specs.Books.{RefusesNoMore}
-use Rattle.kube_cel_walk.specs.Answers.{answer}
+use Rattle.kube_cel.specs.WalkAnswers.{answer}
 use Rattle.kube_manifests.specs.Sets.{IsJudgement, IsJudgementUnder}
-use Rattle.kube_manifests.specs.Versions.{Version, chosen_version, root_of}
+use Rattle.kube_manifests.specs.DocumentsVersions.{Version}
+use Rattle.kube_manifests.specs.Versions.{chosen_version, root_of}
 use Rattle.kube_manifests.specs.declared.judgement.Judgement.TheVariants.{Judged}
 use Rattle.serde_json.specs.Data.{Data}
 use Rattle.std.proofs.Common.{◌≡◌, ◌↔◌, List, [], Option, Some, Ok, sym, ap}

@@ -1,24 +1,27 @@
 -- What has no error under a book has none under a book that refuses no more.
-use Rattle.cel_patterns.specs.Book.{Book, IsPlain}
-use Rattle.cel_semantics.specs.Bindings.{Bindings}
-use Rattle.cel_semantics.specs.Outcome.{Outcome}
-use Rattle.cel_syntax_ast.specs.Term.{Term}
+use Rattle.cel.specs.Checks.{judgement, value_judgement}
+use Rattle.cel.specs.Book.{Book, IsPlain}
+use Rattle.cel.specs.Bindings.{Bindings}
+use Rattle.cel.specs.Outcome.{Outcome}
+use Rattle.cel_syntax.specs.Term.{Term}
 use Rattle.cel_value.specs.Parts.{bool_in}
+use Rattle.cel_value.specs.View.{kind_of}
+use Rattle.cel_value.specs.declared.kind.Kind.{Kind}
 use Rattle.kube_cel.specs.Answers.{IsReportOf, report_of}
 use Rattle.kube_cel_laws.proofs.Books.{plain_refuses_least}
 use Rattle.kube_cel_laws.proofs.Functions.{tree_kept}
 use Rattle.kube_cel_laws.proofs.Results.{Keeps}
 use Rattle.kube_cel_laws.specs.Books.{RefusesNoMore}
-use Rattle.kube_cel_walk.specs.Answers.{answer, place_bindings, rule_verdicts, verdicts}
-use Rattle.kube_cel_walk.specs.Errors.{ErrorData}
-use Rattle.kube_cel_walk.specs.RuleErrors.{too_deep}
-use Rattle.kube_cel_walk.specs.Verdicts.{bound_verdict, failed_message, is_applicable, list_of_option, outcome_error, outcome_in, rule_bindings, value_error, verdict}
-use Rattle.kube_cel_walk.specs.WalkAccessors.{WalkAccessors}
+use Rattle.kube_cel.specs.WalkAnswers.{answer, place_bindings, rule_verdicts, verdicts}
+use Rattle.kube_cel.specs.Errors.{ErrorData}
+use Rattle.kube_cel.specs.RuleErrors.{too_deep}
+use Rattle.kube_cel.specs.Verdicts.{bound_verdict, is_applicable, judged_error, list_of_option, outcome_in, rule_bindings, verdict}
+use Rattle.kube_cel.specs.WalkAccessors.{WalkAccessors}
 use Rattle.kube_functions.specs.declared.sets.KubeFunctions.TheVariants.{All}
-use Rattle.kube_schema_rules.specs.Compilation.{Compiled, Malformed}
-use Rattle.kube_schema_rules.specs.Rules.{Fields}
-use Rattle.kube_schema_rules.specs.Visit.{Visit, candidates, goes}
-use Rattle.kube_schema_rules.specs.Walk.{answers, if_some, leads, places}
+use Rattle.kube_schema.specs.Compilation.{Compiled, Malformed}
+use Rattle.kube_schema.specs.Rules.{Fields}
+use Rattle.kube_schema.specs.Visit.{Visit, candidates, goes}
+use Rattle.kube_schema.specs.Walk.{answers, if_some, leads, places}
 use Rattle.serde_json.specs.Data.{Data as Json}
 use Rattle.std.proofs.Common.{◌≡◌, ◌==◌, ℕ, List, [], ◌∷◌, ◌++◌, Bool, true, false, Option, Some, None, option_map, Result, Ok, Err, flat_map, if◌then◌else◌, refl, sym, ap, subst}
 
@@ -46,13 +49,13 @@ unless_deep false x xs ys h e = h e
 
 -- ---- the verdict of a rule
 
-value_passes : (path : List ℕ) (r : Fields) (m n : List ℕ) (o : Option Bool) → value_error path r m o ≡ None → value_error path r n o ≡ None
-value_passes path r m n (Some true) e = refl
-value_passes path r m n (Some false) e = cc
-value_passes path r m n None e = cc
+value_passes : (path : List ℕ) (r : Fields) (m n : Option Outcome) (k : Kind) (o : Option Bool) → judged_error path r (value_judgement m k o) ≡ None → judged_error path r (value_judgement n k o) ≡ None
+value_passes path r m n k (Some true) e = refl
+value_passes path r m n k (Some false) e = cc
+value_passes path r m n k None e = cc
 
-outcome_passes : (path : List ℕ) (r : Fields) (m n : List ℕ) (x y : Outcome) → Keeps x y → outcome_error path r m x ≡ None → outcome_error path r n y ≡ None
-outcome_passes path r m n (Ok v) y k e = subst (λ z. outcome_error path r n z ≡ None) (sym k) (value_passes path r m n (bool_in v) e)
+outcome_passes : (path : List ℕ) (r : Fields) (m n : Option Outcome) (x y : Outcome) → Keeps x y → judged_error path r (judgement m x) ≡ None → judged_error path r (judgement n y) ≡ None
+outcome_passes path r m n (Ok v) y k e = subst (λ z. judged_error path r (judgement n z) ≡ None) (sym k) (value_passes path r m n (kind_of v) (bool_in v) e)
 outcome_passes path r m n (Err x) y k e = cc
 
 if_applicable : (applies : Bool) (o p : Option ErrorData) → (o ≡ None → p ≡ None) → (if applies then o else None) ≡ None → (if applies then p else None) ≡ None
@@ -66,7 +69,7 @@ module _ (strict lenient : Book) (no_more : RefusesNoMore lenient strict) where
 
   bound_passes : (e : Bindings) (path : List ℕ) (c : Compiled) → bound_verdict strict e path c ≡ None → bound_verdict lenient e path c ≡ None
   unfolding bound_verdict
-  bound_passes e path c h = outcome_passes path c.fields (failed_message c.fields (option_map (outcome_in strict e) c.message_tree)) (failed_message c.fields (option_map (outcome_in lenient e) c.message_tree))
+  bound_passes e path c h = outcome_passes path c.fields (option_map (outcome_in strict e) c.message_tree) (option_map (outcome_in lenient e) c.message_tree)
       (outcome_in strict e c.tree) (outcome_in lenient e c.tree) (outcome_kept e c.tree) h
 
   rule_passes : (e : Bindings) (old : Option Json) (path : List ℕ) (r : Result Compiled Malformed) → verdict strict e old path r ≡ None → verdict lenient e old path r ≡ None

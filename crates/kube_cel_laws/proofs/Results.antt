@@ -1,5 +1,5 @@
 -- What is kept of a result if an error may become anything: a value stays as it is.
-use Rattle.cel_semantics.specs.Outcome.{and_then, all_values}
+use Rattle.cel.specs.Outcome.{and_then, all_values}
 use Rattle.cel_value.specs.Data.{Data}
 use Rattle.cel_value.specs.Faults.{Fault}
 use Rattle.std.proofs.Common.{◌≡◌, List, [], ◌∷◌, map, Option, Some, None, option_map, Result, Ok, Err, IfOk, IfSome, refl, sym, ap, subst}

@@ -1,6 +1,6 @@
 -- What holds of each row of a table holds of the row that is found.
-use Rattle.cel_patterns.specs.Book.{Book}
-use Rattle.cel_semantics.specs.Outcome.{Outcome}
+use Rattle.cel.specs.Book.{Book}
+use Rattle.cel.specs.Outcome.{Outcome}
 use Rattle.cel_value.specs.Data.{Data}
 use Rattle.cel_value.specs.Faults.{Fault}
 use Rattle.kube_cel_laws.proofs.Results.{Keeps, keeps_itself}

@@ -1,17 +1,17 @@
 -- A tree keeps its value if all calls keep theirs.
-use Rattle.cel_patterns.specs.Book.{Book}
-use Rattle.cel_semantics.specs.Bindings.{Bindings, binding}
-use Rattle.cel_semantics.specs.Calls.{by_form, call_outcome, receiver_of}
-use Rattle.cel_semantics.specs.Library.{Library}
-use Rattle.cel_semantics.specs.Macros.{macro_name}
-use Rattle.cel_semantics.specs.Meaning.{map_meaning, meaning, meanings}
-use Rattle.cel_semantics.specs.Members.{has_member, index_outcome, selection}
-use Rattle.cel_semantics.specs.Operators.{unary_outcome}
-use Rattle.cel_semantics.specs.Outcome.{Outcome, all_values, and_then, no_doubles}
-use Rattle.cel_semantics.specs.Ranges.{range_of}
-use Rattle.cel_semantics.specs.declared.functions.Form.{Form}
-use Rattle.cel_semantics.specs.declared.functions.Form.TheVariants.{Unknown, Wrong, Known}
-use Rattle.cel_syntax_ast.specs.Term.{is_there, Term, literal, ident, select, has, index, unary, binary, conditional, list_of, map_with, call, qualified, macro, Terms, no_terms, term_and, count_of, Pairs, no_pairs, pair_and}
+use Rattle.cel.specs.Book.{Book}
+use Rattle.cel.specs.Bindings.{Bindings, binding}
+use Rattle.cel.specs.Calls.{by_form, call_outcome, receiver_of}
+use Rattle.cel.specs.Library.{Library}
+use Rattle.cel.specs.Macros.{macro_name}
+use Rattle.cel.specs.Meaning.{map_meaning, meaning, meanings}
+use Rattle.cel.specs.Members.{has_member, index_outcome, selection}
+use Rattle.cel.specs.Operators.{unary_outcome}
+use Rattle.cel.specs.Outcome.{Outcome, all_values, and_then, no_doubles}
+use Rattle.cel.specs.Ranges.{range_of}
+use Rattle.cel.specs.Form.{Form}
+use Rattle.cel.specs.Form.TheVariants.{Unknown, Wrong, Known}
+use Rattle.cel_syntax.specs.Term.{is_there, Term, literal, ident, select, has, index, unary, binary, conditional, list_of, map_with, call, qualified, macro, Terms, no_terms, term_and, count_of, Pairs, no_pairs, pair_and}
 use Rattle.cel_value.specs.Data.{Data, text_key, list, map_of, no_entries}
 use Rattle.cel_value.specs.Faults.{undeclared}
 use Rattle.cel_value.specs.Same.{has_double}

@@ -1,7 +1,7 @@
 -- Trusted by laws alone.
 -- Books compared by what they refuse.
 use Rattle.std.specs.Prelude.{ℕ, List}
-use Rattle.cel_patterns.specs.Book.{Book, IsRefused}
+use Rattle.cel.specs.Book.{Book, IsRefused}
 
 -- the first book refuses only texts that the second one refuses
 abbrev pub RefusesNoMore : Book → Book → Type 0

@@ -3,21 +3,21 @@
 //! A call without a lent book promises its result under some book. These laws say that a value or a
 //! pass needs no particular book: what is had under one is had under every book that refuses no
 //! more patterns, and so under every plain book.
-ghost use Rattle.cel_patterns.specs.Book.{Book, IsBook, IsPlain};
-ghost use Rattle.cel_semantics.specs.Bindings.{Bindings};
-ghost use Rattle.cel_semantics.specs.Meaning.{meaning};
-ghost use Rattle.cel_syntax_ast.specs.Term.{Term};
+ghost use Rattle.cel.specs.Book.{Book, IsBook, IsPlain};
+ghost use Rattle.cel.specs.Bindings.{Bindings};
+ghost use Rattle.cel.specs.Meaning.{meaning};
+ghost use Rattle.cel_syntax.specs.Term.{Term};
 ghost use Rattle.cel_value.specs.Data.{Data};
 ghost use Rattle.kube_cel.specs.Answers.{IsReportOf};
 ghost use Rattle.kube_cel_laws.specs.Books.{RefusesNoMore};
-ghost use Rattle.kube_cel_walk.specs.Answers.{answer};
-ghost use Rattle.kube_cel_walk.specs.WalkAccessors.{WalkAccessors};
+ghost use Rattle.kube_cel.specs.WalkAnswers.{answer};
+ghost use Rattle.kube_cel.specs.WalkAccessors.{WalkAccessors};
 ghost use Rattle.kube_functions.specs.Kube.{kube_library};
 ghost use Rattle.kube_functions.specs.declared.sets.KubeFunctions.{KubeFunctions};
 ghost use Rattle.kube_manifests.specs.Sets.{IsJudgement, IsJudgementUnder};
-ghost use Rattle.kube_manifests.specs.Versions.{Version};
+ghost use Rattle.kube_manifests.specs.DocumentsVersions.{Version};
 ghost use Rattle.kube_manifests.specs.declared.judgement.Judgement.TheVariants.{Judged};
-ghost use Rattle.kube_schema_rules.specs.Visit.{Visit};
+ghost use Rattle.kube_schema.specs.Visit.{Visit};
 ghost use Rattle.serde_json.specs.Data.{Data as Json};
 ghost use Rattle.std.specs.Prelude.{◌≡◌, ◌↔◌, List, [], Ok, Option};
 

@@ -4,7 +4,7 @@ use Rattle.cel_value.specs.Keys.{put}
 use Rattle.cel_value.specs.View.{view}
 use Rattle.cel_value.specs.declared.value.Value.{Value}
 use Rattle.kube_cel_vap.specs.Requests.{entries_with}
-use Rattle.kube_types_refused.specs.declared.Refused.{Refused}
+use Rattle.kube_types.specs.Refused.{Refused}
 use Rattle.std.proofs.Common.{◌≡◌, ℕ, List, ◌∷◌, IfOk, IsOk, OnOk, Ok, Err, Result, refl, sym, ap, ◌∙◌, true≢false}
 use Rattle.std.proofs.lemmas.Result.{IfOk-weaker}
 use Rattle.std.specs.Result.{IsOkAnd}

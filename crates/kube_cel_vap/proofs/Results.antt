@@ -1,13 +1,14 @@
 -- Results of lists of expressions, and of expressions under equal bindings.
-use Rattle.cel_patterns.specs.Book.{Book}
-use Rattle.cel_semantics.specs.Bindings.{Bindings, binding}
-use Rattle.cel_semantics.specs.Outcome.{Outcome}
+use Rattle.cel.specs.Checks.{JudgementData, Trees, Unread as Failing, judgement, trees_of}
+use Rattle.cel.specs.Book.{Book}
+use Rattle.cel.specs.Bindings.{Bindings, binding}
+use Rattle.cel.specs.Outcome.{Outcome}
 use Rattle.cel_syntax.specs.Reading.{tree_of}
-use Rattle.cel_syntax_ast.specs.Term.{Term}
+use Rattle.cel_syntax.specs.Term.{Term}
 use Rattle.kube_cel_vap.specs.Validations.{ExpressionData}
 use Rattle.cel.proofs.Bound.{meaning_same}
-use Rattle.kube_cel_vap.specs.Expressions.{Compiled, Unread, compile_result, message_tree_in, required_tree, with_tree, with_trees, ◌>>=◌}
-use Rattle.kube_cel_vap.specs.Results.{compiled_result, compiled_results, false_message, message_in, outcome_in, own_message, outcome_message, policy_library, policy_results, result_in, result_with}
+use Rattle.kube_cel_vap.specs.Expressions.{Compiled, Unread, compile_result, compiled_of}
+use Rattle.kube_cel_vap.specs.Results.{compiled_result, compiled_results, judged_message, message_in, outcome_in, own_message, policy_library, policy_results, result_in, result_with}
 use Rattle.kube_cel_vap.specs.Variables.{Variables, policy_bindings}
 use Rattle.std.proofs.Common.{◌≡◌, ℕ, List, [], ◌∷◌, ◌++◌, map, codes, Bool, true, false, not, Option, Some, None, is_none, is_some, option_map, Result, Ok, Err, refl, sym, ap, ◌∙◌}
 use Rattle.std.proofs.lemmas.List.{map-append}
@@ -18,24 +19,14 @@ pub results_of_joined : (b : Book) (v : Variables) (xs ys : List ExpressionData)
 unfolding policy_results
 results_of_joined b v xs ys = map-append (result_in b v) xs ys
 
-text_kept : (b : Book) (e : Bindings) (x : ExpressionData) (t : Term) (s : List ℕ) (o : Option Term)
-    → (compiled_result b e ((required_tree (record { text = s; original = x.expression }) o >>= (λ u. Ok (Some u))) >>= (λ m. Ok (with_trees x t m)))).expression ≡ x.expression
-text_kept b e x t s (Some u) = refl
-text_kept b e x t s None = refl
-
-message_kept : (b : Book) (e : Bindings) (x : ExpressionData) (t : Term) (o : Option (List ℕ)) → (compiled_result b e (message_tree_in x o >>= (λ m. Ok (with_trees x t m)))).expression ≡ x.expression
-message_kept b e x t None = refl
-message_kept b e x t (Some m) = text_kept b e x t m (tree_of m)
-
-expression_kept : (b : Book) (e : Bindings) (x : ExpressionData) (s : List ℕ) (o : Option Term)
-    → (compiled_result b e (required_tree (record { text = s; original = x.expression }) o >>= with_tree x)).expression ≡ x.expression
-expression_kept b e x s (Some t) = message_kept b e x t x.message_expression
-expression_kept b e x s None = refl
+expression_kept : (b : Book) (e : Bindings) (x : ExpressionData) (r : Result Trees Failing) → (compiled_result b e (compiled_of x r)).expression ≡ x.expression
+expression_kept b e x (Ok trees) = refl
+expression_kept b e x (Err u) = refl
 
 pub results_in_order : (b : Book) (v : Variables) (xs : List ExpressionData) → map (λ r. r.expression) (policy_results b v xs) ≡ map (λ x. x.expression) xs
 unfolding policy_results result_in compile_result
 results_in_order b v [] = refl
-results_in_order b v (x ∷ xs) = λ i. expression_kept b (policy_bindings v) x x.expression (tree_of x.expression) i ∷ results_in_order b v xs i
+results_in_order b v (x ∷ xs) = λ i. expression_kept b (policy_bindings v) x (trees_of tree_of x.expression x.message_expression) i ∷ results_in_order b v xs i
 
 pub results_of_compiled : (b : Book) (v : Variables) (xs : List ExpressionData) → compiled_results b v (map compile_result xs) ≡ policy_results b v xs
 unfolding compiled_results policy_results result_in
@@ -63,7 +54,7 @@ reported_same b (Some t) e f h = ap Some (outcome_same b t e f h)
 
 message_same : (b : Book) (c : Compiled) (e f : Bindings) → ((x : List ℕ) → binding x e ≡ binding x f) → message_in b e c ≡ message_in b f c
 unfolding message_in
-message_same b c e f h = λ i. outcome_message (false_message c (reported_same b c.message_tree e f h i)) (outcome_same b c.tree e f h i)
+message_same b c e f h = λ i. judged_message c (judgement (reported_same b c.trees.message_tree e f h i) (outcome_same b c.trees.tree e f h i))
 
 result_same : (b : Book) (c : Result Compiled Unread) (e f : Bindings) → ((x : List ℕ) → binding x e ≡ binding x f) → compiled_result b e c ≡ compiled_result b f c
 result_same b (Err u) e f h = refl
@@ -77,14 +68,10 @@ results_same b v (c ∷ cs) e h = λ i. result_same b c e (policy_bindings v) h 
 
 -- ---- the message of one expression
 
-pub message_reported : (b : Book) (e : Bindings) (c : Compiled) (o : Option Term) (t : Term) (s : List ℕ) (outcome : Outcome) → o ≡ Some t → outcome ≡ outcome_in b e t
-    → s ≡ false_message c (Some outcome) → s ≡ false_message c (option_map (outcome_in b e) o)
-message_reported b e c o t s outcome k q p = p ∙ ap (λ r. false_message c (Some r)) q ∙ sym (ap (λ o. false_message c (option_map (outcome_in b e) o)) k)
-
-pub outcome_reported : (b : Book) (e : Bindings) (c : Compiled) (r : Outcome) (o : Option (List ℕ)) → r ≡ outcome_in b e c.tree
-    → o ≡ outcome_message (false_message c (option_map (outcome_in b e) c.message_tree)) r → o ≡ message_in b e c
+pub message_judged : (b : Book) (e : Bindings) (c : Compiled) (j : JudgementData Outcome) (o : Option (List ℕ)) → o ≡ judged_message c j
+    → j ≡ judgement (option_map (outcome_in b e) c.trees.message_tree) (outcome_in b e c.trees.tree) → o ≡ message_in b e c
 unfolding message_in
-outcome_reported b e c r o q p = p ∙ ap (outcome_message (false_message c (option_map (outcome_in b e) c.message_tree))) q
+message_judged b e c j o p q = p ∙ ap (judged_message c) q
 
 -- ---- messages that are there or not
 

@@ -1,7 +1,7 @@
 -- Trusted by the clauses of policies.
 -- The results of calls, each with a book of its own.
-use Rattle.cel_patterns.specs.Book.{Extends, Book, IsBook}
-use Rattle.cel_semantics.specs.Bindings.{Bindings}
+use Rattle.cel.specs.Book.{Extends, Book, IsBook}
+use Rattle.cel.specs.Bindings.{Bindings}
 use Rattle.kube_cel_vap.specs.Validations.{ExpressionData, result_view}
 use Rattle.kube_cel_vap.specs.declared.expression.VapResult.{VapResult}
 use Rattle.kube_cel_vap.specs.Expressions.{Compiled, Unread}

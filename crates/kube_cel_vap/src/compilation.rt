@@ -1,12 +1,13 @@
 //! Compilation of the expressions of a policy.
-ghost use Rattle.cel.specs.Program.{program_term};
+ghost use Rattle.cel.specs.Checks as check;
+ghost use Rattle.cel.specs.Checks.{check_view};
 ghost use Rattle.kube_cel_vap.specs.Validations.{expression_view};
-ghost use Rattle.kube_cel_vap.specs.Expressions.{compile_result, compiled_seen, compiled_view, error_view, unread_text, with_tree, with_trees};
+ghost use Rattle.kube_cel_vap.specs.Expressions.{compile_result, compiled_seen, compiled_view, error_view, unread_text, with_trees, without_tree};
 ghost use Rattle.std.specs.Prelude.{◌≡◌, IfErr, IfOk, option_map, Some, string_bytes};
 
 use crate::expression::{VapExpression, clone_text};
-use cel::{ParseErrors, Program};
-use kube_types_refused::Refused;
+use cel::{Check, CheckError, ParseErrors, Untyped};
+use kube_types::Refused;
 use std::alloc::{AllocError, Global};
 use std::fmt;
 
@@ -15,8 +16,7 @@ use std::fmt;
 pub struct CompiledVapExpression {
     expression: String,
     pub(crate) message: Option<String>,
-    pub(crate) program: Program,
-    pub(crate) message_program: Option<Program>,
+    pub(crate) check: Check,
 }
 
 // By hand, so that a proof about code that owns one doesn't go through its parts.
@@ -25,8 +25,7 @@ impl Drop for CompiledVapExpression {
         let CompiledVapExpression {
             expression: _,
             message: _,
-            program: _,
-            message_program: _,
+            check: _,
         } = self;
     }
 }
@@ -65,7 +64,6 @@ impl CompiledVapExpression {
 
 /// Compiles an expression, then its messageExpression, if it has
 /// one. Returns the error of the first text that doesn't parse.
-#[tactic(auto, unfolding(crate::specs::Expressions::compile_result))]
 pub(crate) fn compile_expression(
     alloc: Global,
     expression: &VapExpression,
@@ -74,47 +72,22 @@ pub(crate) fn compile_expression(
     ensures memory { IfErr result (λ e. e ≡ Refused.Memory) }
 {
     let text = expression.expression.as_str();
-    match Program::compile(alloc, text)? {
-        Err(source) => Ok(Err(error_of(alloc, text, expression, source)?)),
-        Ok(program) => compile_message(alloc, expression, program),
-    }
-}
-
-/// Compiles the messageExpression, if there is one, of an expression that has this program.
-fn compile_message(
-    alloc: Global,
-    expression: &VapExpression,
-    program: Program,
-) -> Result<Result<CompiledVapExpression, VapError>, Refused>
-    ensures compiled { IfOk result (λ r. compiled_seen r
-        ≡ with_tree (expression_view expression.now) (program_term program)) }
-    ensures memory { IfErr result (λ e. e ≡ Refused.Memory) }
-{
-    let Some(text) = &expression.message_expression else {
-        return Ok(Ok(with_programs(expression, program, None)?));
-    };
-    match Program::compile(alloc, text.as_str())? {
-        Err(source) => Ok(Err(error_of(alloc, text.as_str(), expression, source)?)),
-        Ok(message) => Ok(Ok(with_programs(expression, program, Some(message))?)),
+    let message = expression.message_expression.as_deref();
+    match Check::compile(alloc, &Untyped, text, message)? {
+        Ok(check) => Ok(Ok(with_check(expression, check)?)),
+        Err(error) => Ok(Err(unread_error(alloc, expression, error)?)),
     }
 }
 
 /// Returns an expression with the programs of its texts.
-fn with_programs(
-    expression: &VapExpression,
-    program: Program,
-    message_program: Option<Program>,
-) -> Result<CompiledVapExpression, AllocError>
-    ensures { IfOk result (λ c. compiled_view c
-        ≡ with_trees (expression_view expression.now)
-        (program_term program) (option_map program_term message_program)) }
+fn with_check(expression: &VapExpression, check: Check) -> Result<CompiledVapExpression, AllocError>
+    ensures { IfOk result (λ c. compiled_view c ≡ with_trees (expression_view expression.now) (check_view check)) }
 {
     let (text, message) = texts_of(expression)?;
     Ok(CompiledVapExpression {
         expression: text,
         message,
-        program,
-        message_program,
+        check,
     })
 }
 
@@ -127,19 +100,25 @@ fn texts_of(expression: &VapExpression) -> Result<(String, Option<String>), Allo
     Ok((text, clone_text(&expression.message)?))
 }
 
-/// Returns the error of a text of this expression that doesn't parse.
-fn error_of(
+/// Returns the error of an expression one of whose texts doesn't parse.
+fn unread_error(
     alloc: Global,
-    text: &str,
     expression: &VapExpression,
-    source: ParseErrors,
+    error: CheckError<'_, ParseErrors>,
 ) -> Result<VapError, AllocError>
     ensures { IfOk result (λ e. error_view e
-        ≡ record { text = text.now; original = string_bytes expression.now.expression }) }
+        ≡ without_tree (expression_view expression.now) (check.error_view error.entry)) }
 {
-    Ok(VapError {
-        expression: String::from_str(alloc, text)?,
-        original: expression.expression.clone()?,
-        source,
-    })
+    match error {
+        CheckError::Expression(source) => Ok(VapError {
+            expression: expression.expression.clone()?,
+            original: expression.expression.clone()?,
+            source,
+        }),
+        CheckError::MessageExpression(text, source) => Ok(VapError {
+            expression: String::from_str(alloc, text)?,
+            original: expression.expression.clone()?,
+            source,
+        }),
+    }
 }

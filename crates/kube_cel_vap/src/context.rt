@@ -1,61 +1,110 @@
-//! The bindings and functions of a policy's expressions.
-ghost use Rattle.cel.specs.Program.{program_term};
-ghost use Rattle.cel_patterns.specs.Book.{Extends};
-ghost use Rattle.cel_patterns.specs.Entries.{entries_of};
-ghost use Rattle.cel_patterns.specs.Extensions.{HoldsForExtensions};
-ghost use Rattle.cel_semantics.specs.Bindings.{binding, bindings_of};
-ghost use Rattle.cel_semantics.specs.Outcome.{outcome_view};
+//! The names of a policy's expressions. How values are made of JSON and which functions may be
+//! called are parameters.
+ghost use Rattle.cel.specs.Bindings.{binding, bindings_of};
 ghost use Rattle.cel_value.specs.View.{view};
-ghost use Rattle.kube_cel_vap.specs.Requests.{request_value, request_view, empty_request};
-ghost use Rattle.kube_cel_vap.specs.Results.{outcome_in};
-ghost use Rattle.kube_cel_vap.specs.Variables.{bindings_always, given_view, policy_bindings, value_or_null, with_given};
+ghost use Rattle.kube_cel_vap.specs.Bound.{always_bound, value_or_null, with_given};
+ghost use Rattle.kube_cel_vap.specs.Requests.{empty_request, request_value, request_view};
+ghost use Rattle.kube_cel_vap.specs.Variables.{bindings_always, given_view, policy_bindings};
 ghost use Rattle.serde_json.specs.View.{view as json_view};
-ghost use Rattle.std.specs.Prelude.{◌≡◌, [], ℕ, IfOk, List, OnOk, option_map, unwrap_or};
+ghost use Rattle.std.specs.Prelude.{◌≡◌, [], ℕ, if◌then◌else◌, IfOk, List, OnOk, option_map, Some, unwrap_or};
+ghost use Rattle.std.specs.Result.{IsOkAnd};
+ghost use Rattle.std.specs.Str.{bytes_eq};
 
+use crate::adapter::{Adapter, EscapedKeys};
 use crate::request::AdmissionRequest;
 use crate::value::request_value;
 use crate::variables::Given;
-use cel::{Answer, Context, PatternBook, Program};
+use cel::{Context, Functions};
 use cel_value::Value;
 use kube_functions::AllFunctions;
-use kube_schema_values::bind_plain;
-use kube_types_refused::Refused;
+use kube_types::Refused;
 use serde_json::Value as Json;
 use std::alloc::Global;
 
 /// The context of a policy's expressions, with all functions of Kubernetes.
 pub(crate) type PolicyContext<'a> = Context<'a, AllFunctions>;
 
-/// Returns a context with all functions that the expressions of a policy may call, and no bindings.
-fn empty_context<'a>(alloc: Global) -> PolicyContext<'a>
-    ensures { bindings_of result ≡ [] }
-{
-    Context::default(alloc)
-}
-
-/// Evaluates a program in a context.
-#[tactic(auto, unfolding(crate::specs::Results::outcome_in))]
-pub(crate) fn outcome_of(
+/// Returns the value of an input, or null if it isn't given.
+fn value_or_null<A: Adapter>(
     alloc: Global,
-    program: &Program,
-    context: &PolicyContext<'_>,
-    book: &mut PatternBook,
-) -> Result<Answer, Refused>
-    ensures keeps { Extends (entries_of book.new) (entries_of book.old) }
-    ensures value { IfOk result (λ r. HoldsForExtensions (entries_of book.new) (outcome_view r)
-        (λ b. outcome_in b (bindings_of context.now) (program_term program.now))) }
+    adapter: &A,
+    json: &Option<Json>,
+) -> Result<Value, Refused>
+    ensures value { IfOk result (λ v. view v
+        ≡ value_or_null (A.value adapter.now) (option_map json_view json.now)) }
 {
-    program.execute_with(alloc, context, book)
-}
-
-/// Returns the value that was set, or null.
-fn value_or_null(alloc: Global, value: &Option<Json>) -> Result<Value, Refused>
-    ensures value { IfOk result (λ v. view v ≡ value_or_null (option_map json_view value.now)) }
-{
-    match value {
-        Some(value) => bind_plain(alloc, value),
+    match json {
+        Some(json) => adapter.value_of(alloc, json),
         None => Ok(Value::Null),
     }
+}
+
+/// Binds a name to a value, if it was made.
+///
+/// # Errors
+///
+/// [`Refused`] if memory is refused.
+pub fn bind<F: Functions>(
+    context: &mut Context<'_, F>,
+    name: &str,
+    value: Result<Value, Refused>,
+) -> Result<(), Refused>
+    ensures bound { OnOk result (IsOkAnd value (λ v. (x : List ℕ) → binding x (bindings_of context.new)
+        ≡ (if bytes_eq name.now x then Some (view v) else binding x (bindings_of context.old)))) }
+{
+    context.add_variable(name, value?)
+}
+
+/// Binds a name to an input, if it is given.
+///
+/// # Errors
+///
+/// [`Refused`] if memory is refused.
+pub fn bind_given<A: Adapter, F: Functions>(
+    alloc: Global,
+    adapter: &A,
+    context: &mut Context<'_, F>,
+    name: &str,
+    json: &Option<Json>,
+) -> Result<(), Refused>
+    ensures bound { OnOk result ((x : List ℕ) → binding x (bindings_of context.new)
+        ≡ binding x
+        (with_given (A.value adapter.now) name.now (option_map json_view json.now) (bindings_of context.old))) }
+{
+    let Some(json) = json else {
+        return Ok(());
+    };
+    context.add_variable(name, adapter.value_of(alloc, json)?)
+}
+
+/// Binds the names that are always bound, in a context without bindings. `request` is the value of
+/// the request, if it was made.
+///
+/// # Errors
+///
+/// [`Refused`] if memory is refused.
+pub fn bind_always<A: Adapter, F: Functions>(
+    alloc: Global,
+    adapter: &A,
+    context: &mut Context<'_, F>,
+    object: &Option<Json>,
+    old_object: &Option<Json>,
+    request: Result<Value, Refused>,
+) -> Result<(), Refused>
+    requires { bindings_of context.old ≡ [] }
+    ensures bound { OnOk result (IsOkAnd request (λ r. (x : List ℕ) → binding x (bindings_of context.new)
+        ≡ binding x
+        (always_bound (A.value adapter.now) (option_map json_view object.now) (option_map json_view old_object.now)
+        (view r)))) }
+{
+    bind(context, "request", request)?;
+    bind(
+        context,
+        "oldObject",
+        value_or_null(alloc, adapter, old_object),
+    )?;
+    bind(context, "object", value_or_null(alloc, adapter, object))?;
+    Ok(())
 }
 
 /// Returns the value of the request that was set, or of an empty request.
@@ -69,43 +118,30 @@ fn request_or_empty(alloc: Global, request: &Option<AdmissionRequest>) -> Result
     }
 }
 
-/// Binds a name to the value that was set, if any.
-fn bind_given(
-    alloc: Global,
-    context: &mut PolicyContext<'_>,
-    name: &str,
-    value: &Option<Json>,
-) -> Result<(), Refused>
-    ensures bound { OnOk result ((x : List ℕ) → binding x (bindings_of context.new)
-        ≡ binding x (with_given name.now (option_map json_view value.now) (bindings_of context.old))) }
-{
-    let Some(value) = value else {
-        return Ok(());
-    };
-    context.add_variable(name, bind_plain(alloc, value)?)
-}
-
-/// Binds the names that are always bound, in a context without bindings.
-fn bind_always(alloc: Global, context: &mut PolicyContext<'_>, given: &Given) -> Result<(), Refused>
-    requires { bindings_of context.old ≡ [] }
-    ensures bound { OnOk result ((x : List ℕ) → binding x (bindings_of context.new)
-        ≡ binding x (bindings_always (given_view given.now))) }
-{
-    context.add_variable("object", value_or_null(alloc, &given.object)?)?;
-    context.add_variable("oldObject", value_or_null(alloc, &given.old_object)?)?;
-    context.add_variable("request", request_or_empty(alloc, &given.request)?)?;
-    Ok(())
-}
-
 /// Binds the names of all variables of a policy, in a context without bindings.
 fn bind_all(alloc: Global, context: &mut PolicyContext<'_>, given: &Given) -> Result<(), Refused>
     requires { bindings_of context.old ≡ [] }
     ensures bound { OnOk result ((x : List ℕ) → binding x (bindings_of context.new)
         ≡ binding x (policy_bindings (given_view given.now))) }
 {
-    bind_always(alloc, context, given)?;
-    bind_given(alloc, context, "params", &given.params)?;
-    bind_given(alloc, context, "namespaceObject", &given.namespace_object)?;
+    let keys = EscapedKeys;
+    let request = request_or_empty(alloc, &given.request);
+    bind_always(
+        alloc,
+        &keys,
+        context,
+        &given.object,
+        &given.old_object,
+        request,
+    )?;
+    bind_given(alloc, &keys, context, "params", &given.params)?;
+    bind_given(
+        alloc,
+        &keys,
+        context,
+        "namespaceObject",
+        &given.namespace_object,
+    )?;
     Ok(())
 }
 
@@ -114,7 +150,7 @@ pub(crate) fn context_of<'a>(alloc: Global, given: &Given) -> Result<PolicyConte
     ensures bound { IfOk result (λ c. (x : List ℕ) → binding x (bindings_of c)
         ≡ binding x (policy_bindings (given_view given.now))) }
 {
-    let mut context = empty_context(alloc);
+    let mut context = Context::default(alloc);
     bind_all(alloc, &mut context, given)?;
     Ok(context)
 }

@@ -14,7 +14,7 @@ use crate::expression_results::results_of;
 use crate::request::AdmissionRequest;
 use crate::variables::Given;
 use cel::PatternBook;
-use kube_types_refused::Refused;
+use kube_types::Refused;
 use serde_json::Value;
 use std::alloc::Global;
 

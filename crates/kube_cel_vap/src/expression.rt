@@ -1,7 +1,7 @@
 //! The expressions of a policy, and their results.
 ghost use Rattle.std.specs.Prelude.{◌≡◌, IfOk, option_map, string_bytes};
 
-use kube_types_refused::Refused;
+use kube_types::Refused;
 use serde::{Deserialize, Serialize};
 use std::alloc::AllocError;
 

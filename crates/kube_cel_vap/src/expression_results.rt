@@ -1,23 +1,21 @@
 //! The result of one expression.
-ghost use Rattle.cel_patterns.specs.Book.{Extends};
-ghost use Rattle.cel_patterns.specs.Entries.{entries_of};
-ghost use Rattle.cel_patterns.specs.Extensions.{HoldsForExtensions};
-ghost use Rattle.cel_semantics.specs.Bindings.{bindings_of};
-ghost use Rattle.cel_semantics.specs.Outcome.{outcome_view};
-ghost use Rattle.cel_value.specs.Parts.{bool_in};
-ghost use Rattle.cel_value.specs.View.{view};
+ghost use Rattle.cel.specs.Checks.{check_view, false_message, judgement, judgement_view};
+ghost use Rattle.cel.specs.Book.{Extends};
+ghost use Rattle.cel.specs.Entries.{entries_of};
+ghost use Rattle.cel.specs.Extensions.{HoldsForExtensions};
+ghost use Rattle.cel.specs.Bindings.{bindings_of};
+ghost use Rattle.cel.specs.Outcome.{outcome_view};
 ghost use Rattle.kube_cel_vap.specs.Validations.{result_view};
 ghost use Rattle.kube_cel_vap.specs.Expressions.{compiled_seen, compiled_view, error_view, unread_text};
-ghost use Rattle.kube_cel_vap.specs.Results.{compiled_result, false_message, message_in, outcome_in, outcome_message, own_message, result_with, message_text, value_message};
+ghost use Rattle.kube_cel_vap.specs.Results.{compiled_result, judged_message, message_in, outcome_in, own_message, result_with};
 ghost use Rattle.kube_cel_vap.specs.CallResults.{AreResultsUnder};
 ghost use Rattle.std.specs.Prelude.{◌≡◌, IfOk, map, option_map, Some, string_bytes};
 
 use crate::compilation::{CompiledVapExpression, VapError};
-use crate::context::{PolicyContext, outcome_of};
+use crate::context::PolicyContext;
 use crate::expression::VapResult;
-use cel::{Answer, PatternBook};
-use cel_value::Value;
-use kube_types_refused::Refused;
+use cel::{Answer, Check, Judgement, PatternBook, judge, message_text};
+use kube_types::Refused;
 use std::alloc::{AllocError, Global};
 
 /// Returns the result of an expression with this message. It passed if there is none.
@@ -36,16 +34,6 @@ fn result_with(
     })
 }
 
-/// The string that a messageExpression evaluated to, if it did.
-fn message_text(outcome: &Answer) -> Option<&str>
-    ensures { option_map (λ s. s.now) result ≡ message_text (outcome_view outcome.now) }
-{
-    match outcome {
-        Ok(value) => value.as_str(),
-        Err(_) => None,
-    }
-}
-
 /// Returns the message of an expression or, if it has none, a message made of its text.
 fn own_message(alloc: Global, compiled: &CompiledVapExpression) -> Result<String, AllocError>
     ensures { IfOk result (λ s. string_bytes s ≡ own_message (compiled_view compiled.now)) }
@@ -60,99 +48,59 @@ fn own_message(alloc: Global, compiled: &CompiledVapExpression) -> Result<String
 }
 
 /// Returns the message of an expression that is false: the string that
-/// its messageExpression evaluates to, if it does, else its own message.
+/// its messageExpression evaluated to, if it did, else its own message.
 fn false_message(
     alloc: Global,
     compiled: &CompiledVapExpression,
-    context: &PolicyContext<'_>,
-    book: &mut PatternBook,
-) -> Result<String, Refused>
-    ensures keeps { Extends (entries_of book.new) (entries_of book.old) }
-    ensures reported { IfOk result
-        (λ s. HoldsForExtensions (entries_of book.new) (string_bytes s)
-        (λ b. false_message (compiled_view compiled.now)
-        (option_map (outcome_in b (bindings_of context.now)) (compiled_view compiled.now).message_tree))) }
-{
-    let Some(program) = &compiled.message_program else {
-        return Ok(own_message(alloc, compiled)?);
-    };
-    let outcome = outcome_of(alloc, program, context, book)?;
-    let message = report_message(alloc, compiled, &outcome);
-    drop(outcome);
-    Ok(message?)
-}
-
-/// Returns the message of an expression that is false, by the outcome of its messageExpression.
-fn report_message(
-    alloc: Global,
-    compiled: &CompiledVapExpression,
-    outcome: &Answer,
+    evaluated: &Option<Answer>,
 ) -> Result<String, AllocError>
     ensures { IfOk result (λ s. string_bytes s
-        ≡ false_message (compiled_view compiled.now) (Some (outcome_view outcome.now))) }
+        ≡ false_message (own_message (compiled_view compiled.now)) (option_map outcome_view evaluated.now)) }
 {
-    match message_text(outcome) {
+    match message_text(evaluated) {
         Some(text) => String::from_str(alloc, text),
         None => own_message(alloc, compiled),
     }
 }
 
-/// Returns the message of an expression that evaluated to this value; None if the value is true.
-fn value_message(
+/// Returns the message of an expression by what it is judged to be; None if it is true.
+fn judged_message(
     alloc: Global,
     compiled: &CompiledVapExpression,
-    value: &Value,
-    context: &PolicyContext<'_>,
-    book: &mut PatternBook,
-) -> Result<Option<String>, Refused>
-    ensures keeps { Extends (entries_of book.new) (entries_of book.old) }
-    ensures reported { IfOk result
-        (λ o. HoldsForExtensions (entries_of book.new) (option_map string_bytes o)
-        (λ b. value_message
-        (false_message (compiled_view compiled.now)
-        (option_map (outcome_in b (bindings_of context.now)) (compiled_view compiled.now).message_tree))
-        (view value.now) (bool_in (view value.now)))) }
+    judgement: &Judgement<Answer>,
+) -> Result<Option<String>, AllocError>
+    ensures { IfOk result (λ o. option_map string_bytes o
+        ≡ judged_message (compiled_view compiled.now) (judgement_view outcome_view judgement.now)) }
 {
-    match value.as_bool() {
-        Some(true) => Ok(None),
-        Some(false) => {
-            let message = false_message(alloc, compiled, context, book)?;
-            Ok(Some(message))
-        }
-        None => {
-            let kind = value.type_of();
-            let message = format!(in alloc; "expression returned non-boolean: {kind}")?;
-            Ok(Some(message))
-        }
-    }
+    let message = match judgement {
+        Judgement::True => return Ok(None),
+        Judgement::False(evaluated) => false_message(alloc, compiled, evaluated),
+        Judgement::NotBool(kind) => format!(in alloc; "expression returned non-boolean: {kind}"),
+        Judgement::Error(error) => format!(in alloc; "evaluation error: {error}"),
+    };
+    Ok(Some(message?))
 }
 
-/// Returns the message of an expression by its outcome; None if it is true.
-fn outcome_message(
+/// Evaluates a compiled expression and judges it.
+#[tactic(auto, unfolding(crate::specs::Results::outcome_in))]
+fn judged(
     alloc: Global,
-    compiled: &CompiledVapExpression,
-    outcome: &Answer,
+    check: &Check,
     context: &PolicyContext<'_>,
     book: &mut PatternBook,
-) -> Result<Option<String>, Refused>
+) -> Result<Judgement<Answer>, Refused>
     ensures keeps { Extends (entries_of book.new) (entries_of book.old) }
-    ensures reported { IfOk result
-        (λ o. HoldsForExtensions (entries_of book.new) (option_map string_bytes o)
-        (λ b. outcome_message
-        (false_message (compiled_view compiled.now)
-        (option_map (outcome_in b (bindings_of context.now)) (compiled_view compiled.now).message_tree))
-        (outcome_view outcome.now))) }
+    ensures judged { IfOk result
+        (λ j. HoldsForExtensions (entries_of book.new) (judgement_view outcome_view j)
+        (λ b. judgement (option_map (outcome_in b (bindings_of context.now)) (check_view check.now).message_tree)
+        (outcome_in b (bindings_of context.now) (check_view check.now).tree))) }
 {
-    match outcome {
-        Ok(value) => value_message(alloc, compiled, value, context, book),
-        Err(fault) => {
-            let message = format!(in alloc; "evaluation error: {fault}")?;
-            Ok(Some(message))
-        }
-    }
+    let outcome = check.program.execute_with(alloc, context, book)?;
+    judge(alloc, outcome, &check.message_program, context, book)
 }
 
 /// Evaluates a compiled expression. Returns its message; None if it is true.
+#[tactic(auto, unfolding(crate::specs::Results::message_in))]
 fn message_of(
     alloc: Global,
     compiled: &CompiledVapExpression,
@@ -163,10 +111,10 @@ fn message_of(
     ensures reported { IfOk result (λ o. HoldsForExtensions (entries_of book.new) (option_map string_bytes o)
         (λ b. message_in b (bindings_of context.now) (compiled_view compiled.now))) }
 {
-    let outcome = outcome_of(alloc, &compiled.program, context, book)?;
-    let message = outcome_message(alloc, compiled, &outcome, context, book);
-    drop(outcome);
-    message
+    let judgement = judged(alloc, &compiled.check, context, book)?;
+    let message = judged_message(alloc, compiled, &judgement);
+    drop(judgement);
+    Ok(message?)
 }
 
 /// Returns the result of an expression that doesn't compile.

@@ -1,5 +1,5 @@
 //! Laws of requests, expressions, results and policies, each stated as the contract of a function.
-ghost use Rattle.cel_patterns.specs.Book.{Book};
+ghost use Rattle.cel.specs.Book.{Book};
 ghost use Rattle.kube_cel_vap.specs.Expressions.{compile_result};
 ghost use Rattle.kube_cel_vap.specs.Requests.{kind_view, request_view, resource_view};
 ghost use Rattle.kube_cel_vap.specs.Results.{compiled_results, policy_results};

@@ -1,8 +1,9 @@
 //! Admission requests (Kubernetes API reference, AdmissionRequest of `admission.k8s.io/v1`).
 ghost use Rattle.std.specs.Prelude.{◌≡◌, IfOk, map, string_bytes};
 
-use crate::owned::{both, or_refused};
-use kube_types_refused::Refused;
+use crate::owned::or_refused;
+use cel_syntax_ast::both;
+use kube_types::Refused;
 use serde::{Deserialize, Serialize};
 use std::alloc::{AllocError, Global};
 

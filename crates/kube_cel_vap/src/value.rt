@@ -6,11 +6,12 @@ ghost use Rattle.kube_cel_vap.specs.Requests.{entries_with, kind_value, kind_vie
 ghost use Rattle.std.specs.Prelude.{◌≡◌, [], ◌∷◌, codes, IfErr, IfOk, IsOk, map, OnOk, string_bytes};
 ghost use Rattle.std.specs.Result.{IsOkAnd};
 
-use crate::owned::{both, or_refused};
+use crate::owned::or_refused;
 use crate::request::{AdmissionRequest, GroupVersionKind, GroupVersionResource};
+use cel_syntax_ast::both;
 use cel_value::{Entries, Value};
 use kube_schema_values::{bind_text, put_entry};
-use kube_types_refused::Refused;
+use kube_types::Refused;
 use std::alloc::Global;
 
 /// Inserts a value into a map, if it was made.

@@ -1,6 +1,6 @@
 -- The bindings at a place.
 use Rattle.cel.proofs.Bound.{bound, under}
-use Rattle.cel_semantics.specs.Bindings.{Bindings, binding}
+use Rattle.cel.specs.Bindings.{Bindings, binding}
 use Rattle.cel_value.specs.Data.{Data, text}
 use Rattle.kube_cel_walk.specs.Verdicts.{with_old, with_root}
 use Rattle.kube_schema_rules.specs.Visit.{Root}

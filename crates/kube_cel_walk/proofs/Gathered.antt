@@ -1,5 +1,5 @@
 -- What the walk finds through the steps of each kind; joined, that is the answer.
-use Rattle.cel_patterns.specs.Book.{Book}
+use Rattle.cel.specs.Book.{Book}
 use Rattle.kube_cel_walk.specs.Errors.{ErrorData}
 use Rattle.kube_schema_rules.proofs.Found.{flat_map-map, flat_map_none, answers_end, answers_more}
 use Rattle.kube_schema_rules.specs.declared.branches.BranchKind.{BranchKind}

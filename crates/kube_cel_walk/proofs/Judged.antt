@@ -1,23 +1,25 @@
 -- The errors at one place.
-use Rattle.cel_demand.specs.Alike.{NamesAlike}
-use Rattle.cel_demand.specs.Part.{Part}
-use Rattle.cel_patterns.specs.Book.{Book}
-use Rattle.cel_semantics.specs.Bindings.{Bindings, binding}
+use Rattle.cel.specs.Alike.{NamesAlike}
+use Rattle.cel.specs.Part.{Part}
+use Rattle.cel.specs.Book.{Book}
+use Rattle.cel.specs.Bindings.{Bindings, binding}
 use Rattle.kube_cel_walk.specs.Errors.{ErrorData}
 use Rattle.kube_cel_walk.specs.RuleErrors.{too_deep}
 use Rattle.kube_schema_rules.specs.Visit.{Visit}
 use Rattle.kube_cel_walk.proofs.ReadVerdicts.{names_rooted, verdicts_read}
 use Rattle.kube_cel_walk.specs.Verdicts.{list_of_option, verdict, with_old, with_root}
 use Rattle.kube_cel_walk.specs.Answers.{bound_at, place_bindings, rule_verdicts, verdicts}
-use Rattle.kube_cel_walk.specs.WalkAccessors.{WalkAccessors, is_none_of}
+use Rattle.kube_cel_walk.specs.WalkAccessors.{WalkAccessors}
 use Rattle.kube_schema_rules.specs.Demands.{rules_read}
-use Rattle.std.proofs.Common.{◌≡◌, ◌==◌, ℕ, List, [], ◌∷◌, Bool, true, false, Option, None, option_map, codes, if◌then◌else◌, refl, sym, ap, ◌∙◌, subst, arith}
+use Rattle.std.proofs.Common.{◌≡◌, ◌==◌, ℕ, List, [], ◌∷◌, Bool, true, false, length, map, Option, None, option_map, codes, if◌then◌else◌, refl, sym, ap, ◌∙◌, subst, arith}
 use Rattle.std.proofs.lemmas.Bool.Decides.{nat_tests}
 use Rattle.std.specs.List.{flat_map}
 
-none_in : {A E : Type 0} (f : A → List E) (xs : List A) → is_none_of xs ≡ true → flat_map f xs ≡ []
-none_in f [] h = refl
-none_in f (x ∷ xs) h = cc
+pub none_of : {A B : Type 0} (f : A → B) (xs : List A) → (length xs == 0) ≡ true → map f xs ≡ []
+none_of f [] h = refl
+none_of f (x ∷ xs) h =
+    let some : (length (x ∷ xs) == 0) ≡ false = grind (arith, nat_tests) in
+    cc
 
 module _ {S : Type 0} (form : WalkAccessors S) where
   -- `self`, then `oldSelf`, then the names of the root context
@@ -43,9 +45,13 @@ module _ {S : Type 0} (form : WalkAccessors S) where
       let t : (s.depth == 65) ≡ true = grind (arith, nat_tests, e) in
       ap (at_depth b s) t
 
-  pub none_found : (b : Book) (s : Visit S) → (s.depth == 65) ≡ false → is_none_of (form.rules s.node) ≡ true → verdicts form b s ≡ []
-  unfolding verdicts at_depth rule_verdicts
-  none_found b s t n = ap (at_depth b s) t ∙ none_in (λ r. list_of_option (verdict b (place_bindings form s) s.old s.path r)) (form.rules s.node) n
+  pub no_rules_found : (b : Book) (s : Visit S) → form.rules s.node ≡ [] → rule_verdicts form b (place_bindings form s) s ≡ []
+  unfolding rule_verdicts
+  no_rules_found b s n = ap (flat_map (λ r. list_of_option (verdict b (place_bindings form s) s.old s.path r))) n
+
+  pub none_found : (b : Book) (s : Visit S) → (s.depth == 65) ≡ false → form.rules s.node ≡ [] → verdicts form b s ≡ []
+  unfolding verdicts at_depth
+  none_found b s t n = ap (at_depth b s) t ∙ no_rules_found b s n
 
   pub shallow_found : (b : Book) (s : Visit S) → (s.depth == 65) ≡ false → verdicts form b s ≡ rule_verdicts form b (place_bindings form s) s
   unfolding verdicts at_depth

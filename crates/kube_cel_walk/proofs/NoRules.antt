@@ -1,10 +1,10 @@
 -- Nothing is found below a node below which there is no rule.
-use Rattle.cel_patterns.specs.Book.{Book}
+use Rattle.cel.specs.Book.{Book}
 use Rattle.kube_cel_walk.proofs.Gathered.{answer_more}
 use Rattle.kube_cel_walk.proofs.Judged.{none_found}
 use Rattle.kube_cel_walk.specs.Answers.{answer, answer_if_reached, found_through, verdicts}
 use Rattle.kube_cel_walk.specs.NoRules.{EachChild, HasNoRules, HasNoRulesBelow}
-use Rattle.kube_cel_walk.specs.WalkAccessors.{WalkAccessors, is_none_of}
+use Rattle.kube_cel_walk.specs.WalkAccessors.{WalkAccessors}
 use Rattle.kube_schema_rules.proofs.Found.{flat_map_none}
 use Rattle.kube_schema_rules.specs.Step.{Step, property, item, additional_property, branch}
 use Rattle.kube_schema_rules.specs.Visit.{Root, Visit, further, unless_there, member_path, item_path, goes, candidates}
@@ -53,7 +53,7 @@ module _ {S : Type 0} (form : WalkAccessors S) where
   none_at b (suc k) t e q =
       let shallow : (t.depth == 65) ≡ false = grind (arith, nat_tests, e) in
       answer_more form b k t
-      ∙ (λ i. none_found form b t shallow (ap is_none_of q.0) i ++ none_through b k t (λ u d r. none_at b k u (omega (arith, e, d)) r) q.1 (candidates form.steps t) i)
+      ∙ (λ i. none_found form b t shallow q.0 i ++ none_through b k t (λ u d r. none_at b k u (omega (arith, e, d)) r) q.1 (candidates form.steps t) i)
 
   -- then the answer from there on is the verdicts there
   pub no_rules_below : (b : Book) (fuel m : ℕ) (s : Visit S) → fuel ≡ suc m → s.depth + m ≡ 64 → HasNoRulesBelow form m s.node → answer form b fuel s ≡ verdicts form b s

@@ -1,16 +1,17 @@
 -- A verdict depends only on what the rule reads.
+use Rattle.cel.specs.Checks.{judgement}
 use Rattle.cel_demand.proofs.Named.{both_reads_alike}
 use Rattle.cel_demand.proofs.Parts.{alike-refl}
 use Rattle.cel_demand.proofs.Read.{meaning_reads}
-use Rattle.cel_demand.specs.Alike.{NamesAlike, ReadAlike}
-use Rattle.cel_demand.specs.Part.{Part, part_read}
-use Rattle.cel_demand.specs.Reads.{reads_of}
-use Rattle.cel_patterns.specs.Book.{Book}
-use Rattle.cel_semantics.specs.Bindings.{Bindings, binding}
-use Rattle.cel_syntax_ast.specs.Term.{Term}
+use Rattle.cel.specs.Alike.{NamesAlike, ReadAlike}
+use Rattle.cel.specs.Part.{Part, part_read}
+use Rattle.cel.specs.Reads.{reads_of}
+use Rattle.cel.specs.Book.{Book}
+use Rattle.cel.specs.Bindings.{Bindings, binding}
+use Rattle.cel_syntax.specs.Term.{Term}
 use Rattle.cel_value.specs.Data.{Data, null, text}
 use Rattle.kube_schema_rules.specs.Visit.{Root}
-use Rattle.kube_cel_walk.specs.Verdicts.{is_applicable, is_old_null, list_of_option, outcome_in, failed_message, outcome_error, bound_verdict, rule_bindings, verdict, with_root}
+use Rattle.kube_cel_walk.specs.Verdicts.{is_applicable, is_old_null, judged_error, list_of_option, outcome_in, bound_verdict, rule_bindings, verdict, with_root}
 use Rattle.kube_cel_walk.specs.Kept.{AreSameOthers}
 use Rattle.kube_functions.specs.Kube.{all_library}
 use Rattle.kube_schema_rules.specs.Compilation.{Compiled, Malformed}
@@ -90,12 +91,12 @@ unfolding outcome_in
 outcome_reads b t e f h = meaning_reads all_library b t e f h
 
 bound_reads : (b : Book) (path : List ℕ) (c : Compiled) (m : Option Term) (e f : Bindings) → NamesAlike (λ x. texts_read x c.tree m) e f
-    → outcome_error path c.fields (failed_message c.fields (option_map (outcome_in b e) m)) (outcome_in b e c.tree) ≡ outcome_error path c.fields (failed_message c.fields (option_map (outcome_in b f) m)) (outcome_in b f c.tree)
-bound_reads b path c None e f h = λ i. outcome_error path c.fields (failed_message c.fields None) (outcome_reads b c.tree e f h i)
+    → judged_error path c.fields (judgement (option_map (outcome_in b e) m) (outcome_in b e c.tree)) ≡ judged_error path c.fields (judgement (option_map (outcome_in b f) m) (outcome_in b f c.tree))
+bound_reads b path c None e f h = λ i. judged_error path c.fields (judgement None (outcome_reads b c.tree e f h i))
 bound_reads b path c (Some t) e f h =
     let tree = λ (x : List ℕ). (both_reads_alike (part_read x (reads_of c.tree)) (part_read x (reads_of t)) (binding x e) (binding x f) (h x)).0 in
     let message = λ (x : List ℕ). (both_reads_alike (part_read x (reads_of c.tree)) (part_read x (reads_of t)) (binding x e) (binding x f) (h x)).1 in
-    λ i. outcome_error path c.fields (failed_message c.fields (Some (outcome_reads b t e f message i))) (outcome_reads b c.tree e f tree i)
+    λ i. judged_error path c.fields (judgement (Some (outcome_reads b t e f message i)) (outcome_reads b c.tree e f tree i))
 
 null_under : (n : Bool) (read : List ℕ → Option Part) (e f : Bindings) → NamesAlike read e f → NamesAlike read (if n then (codes "oldSelf", null) ∷ e else e) (if n then (codes "oldSelf", null) ∷ f else f)
 null_under true read e f h = names_under read (codes "oldSelf") null e f h

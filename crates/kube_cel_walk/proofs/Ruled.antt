@@ -1,16 +1,19 @@
 -- The verdict of one rule, case by case.
-use Rattle.cel_patterns.specs.Book.{Book}
-use Rattle.cel_semantics.specs.Bindings.{Bindings, binding}
-use Rattle.cel_semantics.specs.Outcome.{Outcome}
+use Rattle.cel.specs.Checks.{judgement, value_judgement}
+use Rattle.cel.specs.Book.{Book}
+use Rattle.cel.specs.Bindings.{Bindings, binding}
+use Rattle.cel.specs.Outcome.{Outcome}
 use Rattle.kube_functions.specs.Kube.{all_library}
-use Rattle.cel_syntax_ast.specs.Term.{Term}
+use Rattle.cel_syntax.specs.Term.{Term}
 use Rattle.cel_value.specs.Data.{null}
 use Rattle.cel_value.specs.Parts.{bool_in}
+use Rattle.cel_value.specs.View.{kind_of}
+use Rattle.cel_value.specs.declared.kind.Kind.{Kind}
 use Rattle.kube_cel_walk.specs.AddedErrors.{is_true}
 use Rattle.kube_cel_walk.specs.Errors.{ErrorData}
 use Rattle.kube_cel_walk.specs.RuleErrors.{malformed_error}
 use Rattle.cel.proofs.Bound.{meaning_same, under}
-use Rattle.kube_cel_walk.specs.Verdicts.{is_applicable, is_old_null, outcome_in, message_text, own_message, failed_message, value_error, outcome_error, bound_verdict, rule_bindings, compiled_verdict, verdict}
+use Rattle.kube_cel_walk.specs.Verdicts.{is_applicable, is_old_null, judged_error, outcome_in, bound_verdict, rule_bindings, compiled_verdict, verdict}
 use Rattle.kube_schema_rules.specs.Compilation.{Compiled, Malformed}
 use Rattle.kube_schema_rules.specs.Rules.{Fields}
 use Rattle.serde_json.specs.Data.{Data as Json}
@@ -38,37 +41,27 @@ reported_same b (Some t) e f h = ap Some (outcome_same b t e f h)
 
 pub verdict_same : (b : Book) (path : List ℕ) (c : Compiled) (e f : Bindings) → ((x : List ℕ) → binding x e ≡ binding x f) → bound_verdict b e path c ≡ bound_verdict b f path c
 unfolding bound_verdict
-verdict_same b path c e f h = λ i. outcome_error path c.fields (failed_message c.fields (reported_same b c.message_tree e f h i)) (outcome_same b c.tree e f h i)
-
--- ---- the message of a rule that is false
-
-pub message_found : (b : Book) (e : Bindings) (r : Fields) (o : Option Term) (t : Term) (s : List ℕ) (outcome : Outcome) → o ≡ Some t → outcome ≡ outcome_in b e t
-    → Some s ≡ message_text outcome → s ≡ failed_message r (option_map (outcome_in b e) o)
-message_found b e r o t s outcome k q p = ap (λ o. unwrap_or o (own_message r)) (p ∙ ap message_text q) ∙ sym (ap (λ o. failed_message r (option_map (outcome_in b e) o)) k)
-
-pub no_message_found : (b : Book) (e : Bindings) (r : Fields) (o : Option Term) (t : Term) (s : List ℕ) (outcome : Outcome) → o ≡ Some t → outcome ≡ outcome_in b e t
-    → None ≡ message_text outcome → s ≡ own_message r → s ≡ failed_message r (option_map (outcome_in b e) o)
-no_message_found b e r o t s outcome k q p m = m ∙ ap (λ o. unwrap_or o (own_message r)) (p ∙ ap message_text q) ∙ sym (ap (λ o. failed_message r (option_map (outcome_in b e) o)) k)
+verdict_same b path c e f h = λ i. judged_error path c.fields (judgement (reported_same b c.message_tree e f h i) (outcome_same b c.tree e f h i))
 
 -- ---- a rule under given bindings
 
 pub outcome_found : (b : Book) (e : Bindings) (path : List ℕ) (c : Compiled) (o : Outcome) → o ≡ outcome_in b e c.tree
-    → outcome_error path c.fields (failed_message c.fields (option_map (outcome_in b e) c.message_tree)) o ≡ bound_verdict b e path c
+    → judged_error path c.fields (judgement (option_map (outcome_in b e) c.message_tree) o) ≡ bound_verdict b e path c
 unfolding bound_verdict
-outcome_found b e path c o q = ap (outcome_error path c.fields (failed_message c.fields (option_map (outcome_in b e) c.message_tree))) q
+outcome_found b e path c o q = ap (λ o. judged_error path c.fields (judgement (option_map (outcome_in b e) c.message_tree) o)) q
 
-true_value : (path : List ℕ) (r : Fields) (message : List ℕ) (o : Option Bool) → unwrap_or o false ≡ true → value_error path r message o ≡ None
-true_value path r message None h = absurd (true≢false (sym h))
-true_value path r message (Some false) h = absurd (true≢false (sym h))
-true_value path r message (Some true) h = refl
+true_value : (path : List ℕ) (r : Fields) (m : Option Outcome) (k : Kind) (o : Option Bool) → unwrap_or o false ≡ true → judged_error path r (value_judgement m k o) ≡ None
+true_value path r m k None h = absurd (true≢false (sym h))
+true_value path r m k (Some false) h = absurd (true≢false (sym h))
+true_value path r m k (Some true) h = refl
 
-true_outcome : (path : List ℕ) (r : Fields) (message : List ℕ) (o : Outcome) → is_true o ≡ true → outcome_error path r message o ≡ None
-true_outcome path r message (Ok v) h = true_value path r message (bool_in v) h
-true_outcome path r message (Err e) h = absurd (true≢false (sym h))
+true_outcome : (path : List ℕ) (r : Fields) (m : Option Outcome) (o : Outcome) → is_true o ≡ true → judged_error path r (judgement m o) ≡ None
+true_outcome path r m (Ok v) h = true_value path r m (kind_of v) (bool_in v) h
+true_outcome path r m (Err e) h = absurd (true≢false (sym h))
 
 -- no error if it is true
 pub true_found : (b : Book) (e : Bindings) (path : List ℕ) (c : Compiled) (o : Outcome) → o ≡ outcome_in b e c.tree → is_true o ≡ true → bound_verdict b e path c ≡ None
-true_found b e path c o q h = sym (outcome_found b e path c o q) ∙ true_outcome path c.fields (failed_message c.fields (option_map (outcome_in b e) c.message_tree)) o h
+true_found b e path c o q h = sym (outcome_found b e path c o q) ∙ true_outcome path c.fields (option_map (outcome_in b e) c.message_tree) o h
 
 -- ---- whether a rule applies, and how
 

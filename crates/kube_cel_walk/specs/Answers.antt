@@ -1,8 +1,8 @@
 -- Trusted by the headline.
 -- The errors at all places that a schema and a value share (Kubernetes documentation, "Validation
 -- rules": a rule is scoped to the part of the object where its `x-kubernetes-validations` stands).
-use Rattle.cel_patterns.specs.Book.{Book}
-use Rattle.cel_semantics.specs.Bindings.{Bindings}
+use Rattle.cel.specs.Book.{Book}
+use Rattle.cel.specs.Bindings.{Bindings}
 use Rattle.cel_value.specs.Data.{Data}
 use Rattle.kube_cel_walk.specs.Errors.{ErrorData}
 use Rattle.kube_cel_walk.specs.RuleErrors.{too_deep}

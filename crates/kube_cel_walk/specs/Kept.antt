@@ -1,6 +1,6 @@
 -- Scaffolding: only proofs and private clauses cite it.
 -- What is bound in the context that a walk keeps, and what a further binding leaves as it was.
-use Rattle.cel_semantics.specs.Bindings.{Bindings, binding}
+use Rattle.cel.specs.Bindings.{Bindings, binding}
 use Rattle.std.specs.Prelude.{◌≡◌, ℕ, List, false, is_some}
 use Rattle.std.specs.Str.{bytes_eq}
 

@@ -9,6 +9,5 @@ pub mod Answers
 pub mod WalkAccessors
 pub mod Paths
 pub mod Visits
-pub mod Demands
 pub mod NoRules
 pub mod Kept

@@ -1,12 +1,12 @@
 -- Trusted by the headline.
 -- The verdict of a rule whose names are bound (Kubernetes documentation, "Validation rules").
-use Rattle.cel_patterns.specs.Book.{Book}
-use Rattle.cel_semantics.specs.Bindings.{Bindings}
-use Rattle.cel_semantics.specs.Meaning.{meaning}
-use Rattle.cel_semantics.specs.Outcome.{Outcome}
-use Rattle.cel_syntax_ast.specs.Term.{Term}
+use Rattle.cel.specs.Checks.{JudgementData, errs, fails, false_message, holds, judgement, not_bool}
+use Rattle.cel.specs.Book.{Book}
+use Rattle.cel.specs.Bindings.{Bindings}
+use Rattle.cel.specs.Meaning.{meaning}
+use Rattle.cel.specs.Outcome.{Outcome}
+use Rattle.cel_syntax.specs.Term.{Term}
 use Rattle.cel_value.specs.Data.{Data, null, text}
-use Rattle.cel_value.specs.Parts.{bool_in, text_in}
 use Rattle.kube_cel_walk.specs.Errors.{ErrorData}
 use Rattle.kube_cel_walk.specs.RuleErrors.{failed_rule, no_bool, fault_error, undeclared_name, malformed_error}
 use Rattle.kube_schema_rules.specs.Visit.{Root}
@@ -14,37 +14,24 @@ use Rattle.kube_functions.specs.Kube.{all_library}
 use Rattle.kube_schema_rules.specs.Compilation.{Compiled, Malformed}
 use Rattle.kube_schema_rules.specs.Rules as schema
 use Rattle.serde_json.specs.Data.{Data as Json}
-use Rattle.std.specs.Prelude.{ℕ, List, [], ◌∷◌, ◌++◌, Bool, true, false, not, ◌&&◌, ◌||◌, if◌then◌else◌, Option, Some, None, is_some, option_map, option_and_then, unwrap_or, Result, Ok, Err, codes}
+use Rattle.std.specs.Prelude.{ℕ, List, [], ◌∷◌, ◌++◌, Bool, true, false, not, ◌&&◌, ◌||◌, if◌then◌else◌, Option, Some, None, is_some, option_map, unwrap_or, Result, Ok, Err, codes}
 
 -- a list of at most one element
 abbrev pub list_of_option : {A : Type 0} → Option A → List A
 list_of_option None = []
 list_of_option (Some a) = a ∷ []
 
--- the string that a messageExpression evaluated to; none for another value or an error
-abbrev pub message_text : Outcome → Option (List ℕ)
-message_text (Ok v) = text_in v
-message_text (Err e) = None
-
 -- the rule's own message, or one made of its text
 abbrev pub own_message : schema.Fields → List ℕ
 own_message r = unwrap_or r.message (codes "failed rule: " ++ r.rule)
 
--- the message of a rule that is false: the string that its
--- messageExpression evaluated to, if it did, else its own message
-abbrev pub failed_message : schema.Fields → Option Outcome → List ℕ
-failed_message r reported = unwrap_or (option_and_then message_text reported) (own_message r)
-
-abbrev pub value_error : List ℕ → schema.Fields → List ℕ → Option Bool → Option ErrorData
-value_error path r message (Some true) = None
-value_error path r message (Some false) = Some (failed_rule path r message)
-value_error path r message None = Some (no_bool path r)
-
--- the error of a rule by its outcome: none if it is true; one with its message if it is
+-- the error of a rule by what it is judged to be: none if it is true; one with its message if it is
 -- false; one for a value that isn't a bool, for an undeclared name, and for any other fault
-abbrev pub outcome_error : List ℕ → schema.Fields → List ℕ → Outcome → Option ErrorData
-outcome_error path r message (Ok v) = value_error path r message (bool_in v)
-outcome_error path r message (Err e) = Some (fault_error path r e (undeclared_name e))
+abbrev pub judged_error : List ℕ → schema.Fields → JudgementData Outcome → Option ErrorData
+judged_error path r holds = None
+judged_error path r (fails evaluated) = Some (failed_rule path r (false_message (own_message r) evaluated))
+judged_error path r (not_bool k) = Some (no_bool path r)
+judged_error path r (errs e) = Some (fault_error path r e (undeclared_name e))
 
 -- binds `oldSelf` to the old counterpart, if there is one
 abbrev pub with_old : Option Data → Bindings → Bindings
@@ -77,8 +64,8 @@ outcome_in b e t = meaning all_library b t e
 -- the error of a rule under these bindings; none if the rule is true
 unfoldable pub bound_verdict : Book → Bindings → List ℕ → Compiled → Option ErrorData
 bound_verdict b e path c =
-    outcome_error path c.fields
-    (failed_message c.fields (option_map (outcome_in b e) c.message_tree)) (outcome_in b e c.tree)
+    judged_error path c.fields
+    (judgement (option_map (outcome_in b e) c.message_tree) (outcome_in b e c.tree))
 
 -- the verdict of a compiled rule: none if it isn't applicable or is
 -- true. If it applies without an old counterpart, `oldSelf` is null

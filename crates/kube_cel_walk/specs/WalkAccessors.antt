@@ -4,7 +4,7 @@
 use Rattle.kube_schema_rules.specs.StepAccessors.{StepAccessors}
 use Rattle.kube_schema_rules.specs.Compilation.{Compiled, Malformed}
 use Rattle.kube_schema_values.specs.Conversion.{ConversionAccessors}
-use Rattle.std.specs.Prelude.{List, [], ◌∷◌, Bool, true, false, Result}
+use Rattle.std.specs.Prelude.{List, Result}
 
 pub record WalkAccessors (S : Type 0) : Type 0 where
   -- for the steps to further places
@@ -13,8 +13,3 @@ pub record WalkAccessors (S : Type 0) : Type 0 where
   pub conversion : ConversionAccessors S
   -- the rules of a node, in order, each compiled or malformed
   pub rules : S → List (Result Compiled Malformed)
-
--- the list is empty
-abbrev pub is_none_of : {A : Type 0} → List A → Bool
-is_none_of [] = true
-is_none_of (a ∷ rest) = false

@@ -1,21 +1,23 @@
 //! The errors at one place.
-ghost use Rattle.cel_demand.specs.Alike.{NamesAlike, ReadAlike};
-ghost use Rattle.cel_demand.specs.Demand.{part_of};
-ghost use Rattle.cel_demand.specs.Part.{Part};
-ghost use Rattle.cel_patterns.specs.Book.{Extends, Book};
-ghost use Rattle.cel_patterns.specs.Entries.{entries_of};
-ghost use Rattle.cel_semantics.specs.Bindings.{Bindings, binding, bindings_of};
+ghost use Rattle.cel.specs.Alike.{NamesAlike, ReadAlike};
+ghost use Rattle.cel.specs.Demand.{part_of};
+ghost use Rattle.cel.specs.Part.{Part};
+ghost use Rattle.cel.specs.Book.{Extends, Book};
+ghost use Rattle.cel.specs.Entries.{entries_of};
+ghost use Rattle.cel.specs.Bindings.{Bindings, binding, bindings_of};
 ghost use Rattle.kube_cel_walk.specs.AddedErrors.{AreAdded};
 ghost use Rattle.kube_cel_walk.specs.Answers.{bound_at, place_bindings, rule_verdicts, verdicts};
 ghost use Rattle.kube_cel_walk.specs.Errors.{error_view};
 ghost use Rattle.kube_cel_walk.specs.Kept.{AreSameOthers};
 ghost use Rattle.kube_cel_walk.specs.Paths.{path_view};
 ghost use Rattle.kube_cel_walk.specs.RuleErrors.{too_deep};
-ghost use Rattle.kube_cel_walk.specs.Verdicts.{with_old};
+ghost use Rattle.kube_cel_walk.specs.Verdicts.{list_of_option, verdict, with_old};
 ghost use Rattle.kube_cel_walk.specs.Visits.{IsAlone, visit_at};
 ghost use Rattle.kube_schema_values.specs.Conversion.{to_cel, levels};
+ghost use Rattle.kube_schema_rules.specs.Compilation.{compiled_seen};
 ghost use Rattle.kube_schema_rules.specs.Demands.{rules_read};
 ghost use Rattle.serde_json.specs.View.{view};
+ghost use Rattle.std.specs.List.{flat_map};
 ghost use Rattle.std.specs.Prelude.{◌≡◌, ◌∷◌, ◌++◌, [], codes, List, map, OnOk, Option, option_map, Some, ℕ};
 
 use crate::error::ValidationError;
@@ -24,16 +26,18 @@ use crate::node::Node;
 use crate::path::Path;
 use crate::rule_error::deep_error;
 use crate::state::{WalkState, is_alone};
-use crate::verdict::{Context, bind_root};
+use crate::verdict::{Context, add_verdicts, bind_root};
 use cel::{PatternBook, Stacks};
 use cel_demand::Demand;
 use cel_value::Value as CelValue;
+use kube_schema_rules::{CompiledRules, NodeRules};
+use kube_schema_values::MAX_SCHEMA_DEPTH;
 use kube_types::Refused;
 use serde_json::Value;
 use std::alloc::{AllocError, Global};
 
 /// The number of steps from the root at which a schema is too deep: rules apply up to depth 64.
-pub(crate) const TOO_DEEP: usize = 65;
+pub(crate) const TOO_DEEP: usize = MAX_SCHEMA_DEPTH + 1;
 
 /// Binds a name to the demanded part of a value at a node. Binds nothing if there is no demand.
 /// What other names are bound to stays the same, even if memory is refused.
@@ -122,14 +126,15 @@ fn bind_place<N: Node>(
     alloc: Global,
     context: &mut Context<'_>,
     state: &WalkState<'_, N>,
+    rules: &NodeRules,
 ) -> Result<(), Refused>
-    requires { bindings_of context.old ≡ [] }
+    requires unbound { bindings_of context.old ≡ [] }
+    requires rules { map compiled_seen rules.now.rules.items ≡ N.form.rules (N.seen state.now.node) }
     ensures bound { OnOk result ((path : List ℕ)
         → NamesAlike (λ x. rules_read x (N.form.rules (N.seen state.now.node)))
         (bindings_of context.new) (place_bindings N.form (visit_at N.seen state.now path))) }
 {
-    let known = state.node.demands(alloc)?;
-    let demands = known.get();
+    let demands = &rules.demands;
     let (node, value) = (&state.node, state.value);
     bind_name(
         alloc,
@@ -151,16 +156,16 @@ fn bind_alone<N: Node>(
     alloc: Global,
     kept: &mut KeptContext<'_>,
     state: &WalkState<'_, N>,
+    rules: &NodeRules,
 ) -> Result<(), Refused>
-    requires { IsAlone state.now }
+    requires alone { IsAlone state.now }
+    requires rules { map compiled_seen rules.now.rules.items ≡ N.form.rules (N.seen state.now.node) }
     ensures bound { OnOk result ((path : List ℕ)
         → NamesAlike (λ x. rules_read x (N.form.rules (N.seen state.now.node)))
         (bindings_of kept.new.context) (place_bindings N.form (visit_at N.seen state.now path))) }
 {
-    let known = state.node.demands(alloc)?;
-    let demand = &known.get().value;
     let (node, value) = (&state.node, state.value);
-    let context = &mut kept.context;
+    let (context, demand) = (&mut kept.context, &rules.demands.value);
     rebind_name(alloc, context, "self", node, value, state.depth, demand)?;
     Ok(())
 }
@@ -176,15 +181,40 @@ fn add_deep(path: &Path<'_>, errors: &mut Vec<ValidationError>) -> Result<(), Al
     Ok(())
 }
 
-/// Adds the errors of the rules at a place in a context of its own.
-#[inline(never)]
-fn add_anew<N: Node>(
+/// Adds the verdicts of the rules of a place, in order. Their names are bound in `context`, and
+/// they run on `stacks`.
+fn add_rules<N: Node>(
     state: &WalkState<'_, N>,
+    rules: &NodeRules,
+    context: &Context<'_>,
     path: &Path<'_>,
     book: &mut PatternBook,
     stacks: &mut Stacks,
     errors: &mut Vec<ValidationError>,
 ) -> Result<(), Refused>
+    requires { map compiled_seen rules.now.rules.items ≡ N.form.rules (N.seen state.now.node) }
+    ensures keeps { (b : Book) → Extends b (entries_of book.new) → Extends b (entries_of book.old) }
+    ensures found { OnOk result (AreAdded (entries_of book.new) errors.old.items errors.new.items
+        (λ b. flat_map (λ r. list_of_option
+        (verdict b (bindings_of context.now) (option_map (λ v. view v.now) state.now.old) (path_view path.now) r))
+        (N.form.rules (N.seen state.now.node)))) }
+{
+    let rules = rules.rules.as_slice();
+    add_verdicts(rules, context, state.old, path, book, stacks, errors)?;
+    Ok(())
+}
+
+/// Adds the errors of the rules at a place in a context of its own.
+#[inline(never)]
+fn add_anew<N: Node>(
+    state: &WalkState<'_, N>,
+    rules: &NodeRules,
+    path: &Path<'_>,
+    book: &mut PatternBook,
+    stacks: &mut Stacks,
+    errors: &mut Vec<ValidationError>,
+) -> Result<(), Refused>
+    requires { map compiled_seen rules.now.rules.items ≡ N.form.rules (N.seen state.now.node) }
     ensures keeps { (b : Book) → Extends b (entries_of book.new) → Extends b (entries_of book.old) }
     ensures found { OnOk result (AreAdded (entries_of book.new) errors.old.items errors.new.items
         (λ b. rule_verdicts N.form b (place_bindings N.form (visit_at N.seen state.now (path_view path.now)))
@@ -192,37 +222,80 @@ fn add_anew<N: Node>(
 {
     let alloc = *errors.allocator();
     let mut context = Context::default(alloc);
-    bind_place(alloc, &mut context, state)?;
-    state
-        .node
-        .add_verdicts(&context, state.old, path, book, stacks, errors)?;
+    bind_place(alloc, &mut context, state, rules)?;
+    add_rules(state, rules, &context, path, book, stacks, errors)?;
     Ok(())
 }
 
 /// Adds the errors of the rules at a place in the kept context.
 fn add_kept<N: Node>(
     state: &WalkState<'_, N>,
+    rules: &NodeRules,
     path: &Path<'_>,
     kept: &mut KeptContext<'_>,
     book: &mut PatternBook,
     errors: &mut Vec<ValidationError>,
 ) -> Result<(), Refused>
-    requires { IsAlone state.now }
+    requires alone { IsAlone state.now }
+    requires rules { map compiled_seen rules.now.rules.items ≡ N.form.rules (N.seen state.now.node) }
     ensures keeps { (b : Book) → Extends b (entries_of book.new) → Extends b (entries_of book.old) }
     ensures found { OnOk result (AreAdded (entries_of book.new) errors.old.items errors.new.items
         (λ b. rule_verdicts N.form b (place_bindings N.form (visit_at N.seen state.now (path_view path.now)))
         (visit_at N.seen state.now (path_view path.now)))) }
 {
-    bind_alone(*errors.allocator(), kept, state)?;
+    bind_alone(*errors.allocator(), kept, state, rules)?;
     let (context, stacks) = (&kept.context, &mut kept.stacks);
-    state
-        .node
-        .add_verdicts(context, state.old, path, book, stacks, errors)?;
+    add_rules(state, rules, context, path, book, stacks, errors)?;
     Ok(())
 }
 
-/// Adds the errors at one place. Names are bound once
+/// Adds the errors of the rules at a place. Names are bound once
 /// for all of its rules, and not at all if it has none.
+fn add_by_rules<N: Node>(
+    state: &WalkState<'_, N>,
+    rules: &NodeRules,
+    path: &Path<'_>,
+    kept: &mut KeptContext<'_>,
+    book: &mut PatternBook,
+    errors: &mut Vec<ValidationError>,
+) -> Result<(), Refused>
+    requires { map compiled_seen rules.now.rules.items ≡ N.form.rules (N.seen state.now.node) }
+    ensures keeps { (b : Book) → Extends b (entries_of book.new) → Extends b (entries_of book.old) }
+    ensures found { OnOk result (AreAdded (entries_of book.new) errors.old.items errors.new.items
+        (λ b. rule_verdicts N.form b (place_bindings N.form (visit_at N.seen state.now (path_view path.now)))
+        (visit_at N.seen state.now (path_view path.now)))) }
+{
+    if rules.rules.as_slice().is_empty() {
+        return Ok(());
+    }
+    if is_alone(state) {
+        add_kept(state, rules, path, kept, book, errors)?;
+        return Ok(());
+    }
+    add_anew(state, rules, path, book, &mut kept.stacks, errors)?;
+    Ok(())
+}
+
+/// Adds the errors of the rules at a place, by rules that were compiled for this place alone.
+#[inline(never)]
+fn add_by_made<N: Node>(
+    state: &WalkState<'_, N>,
+    rules: NodeRules,
+    path: &Path<'_>,
+    kept: &mut KeptContext<'_>,
+    book: &mut PatternBook,
+    errors: &mut Vec<ValidationError>,
+) -> Result<(), Refused>
+    requires { map compiled_seen rules.rules.items ≡ N.form.rules (N.seen state.now.node) }
+    ensures keeps { (b : Book) → Extends b (entries_of book.new) → Extends b (entries_of book.old) }
+    ensures found { OnOk result (AreAdded (entries_of book.new) errors.old.items errors.new.items
+        (λ b. rule_verdicts N.form b (place_bindings N.form (visit_at N.seen state.now (path_view path.now)))
+        (visit_at N.seen state.now (path_view path.now)))) }
+{
+    add_by_rules(state, &rules, path, kept, book, errors)
+}
+
+/// Adds the errors at one place.
 pub(crate) fn validate_at<N: Node>(
     state: &WalkState<'_, N>,
     path: &Path<'_>,
@@ -238,13 +311,14 @@ pub(crate) fn validate_at<N: Node>(
         add_deep(path, errors)?;
         return Ok(());
     }
-    if state.node.is_without_rules() {
-        return Ok(());
+    match state.node.rules(*errors.allocator())? {
+        CompiledRules::Lent(rules) => {
+            add_by_rules(state, rules, path, kept, book, errors)?;
+            Ok(())
+        }
+        CompiledRules::Made(rules) => {
+            add_by_made(state, rules, path, kept, book, errors)?;
+            Ok(())
+        }
     }
-    if is_alone(state) {
-        add_kept(state, path, kept, book, errors)?;
-        return Ok(());
-    }
-    add_anew(state, path, book, &mut kept.stacks, errors)?;
-    Ok(())
 }

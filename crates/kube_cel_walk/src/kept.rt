@@ -1,5 +1,5 @@
 //! What a walk keeps from place to place.
-ghost use Rattle.cel_semantics.specs.Bindings.{bindings_of};
+ghost use Rattle.cel.specs.Bindings.{bindings_of};
 ghost use Rattle.kube_cel_walk.specs.Kept.{BindsOnly};
 ghost use Rattle.std.specs.Prelude.{◌≡◌, [], codes};
 

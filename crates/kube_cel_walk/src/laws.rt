@@ -1,7 +1,7 @@
 //! Laws of errors and of verdicts, each stated as the contract of a function.
-ghost use Rattle.cel_demand.specs.Alike.{NamesAlike};
-ghost use Rattle.cel_patterns.specs.Book.{Book};
-ghost use Rattle.cel_semantics.specs.Bindings.{Bindings};
+ghost use Rattle.cel.specs.Alike.{NamesAlike};
+ghost use Rattle.cel.specs.Book.{Book};
+ghost use Rattle.cel.specs.Bindings.{Bindings};
 ghost use Rattle.kube_cel_walk.specs.Errors.{error_view, SameFields};
 ghost use Rattle.kube_cel_walk.specs.ErrorLists.{SameErrors, errors_in};
 ghost use Rattle.kube_cel_walk.specs.Verdicts.{verdict};

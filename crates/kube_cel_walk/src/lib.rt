@@ -3,7 +3,6 @@
 #![tactic(auto)]
 
 pub mod copy;
-pub mod demands;
 pub mod error;
 pub mod judge;
 pub mod kept;
@@ -16,7 +15,6 @@ pub mod state;
 pub mod verdict;
 pub mod walk;
 
-pub use demands::NodeDemands;
 pub use error::{ErrorKind, ValidationError, ValidationErrors};
 pub use kept::KeptContext;
 pub use node::Node;

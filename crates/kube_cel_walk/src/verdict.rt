@@ -1,28 +1,28 @@
 //! The verdicts of rules whose names are bound.
-ghost use Rattle.cel_patterns.specs.Book.{Extends, Book};
-ghost use Rattle.cel_patterns.specs.Entries.{entries_of};
-ghost use Rattle.cel_patterns.specs.Extensions.{HoldsForExtensions};
-ghost use Rattle.cel_semantics.specs.Bindings.{binding, bindings_of};
-ghost use Rattle.cel_semantics.specs.Outcome.{outcome_view};
+ghost use Rattle.cel.specs.Checks.{false_message, judgement, judgement_view};
+ghost use Rattle.cel.specs.Book.{Extends, Book};
+ghost use Rattle.cel.specs.Entries.{entries_of};
+ghost use Rattle.cel.specs.Bindings.{binding, bindings_of};
+ghost use Rattle.cel.specs.Outcome.{outcome_view};
 ghost use Rattle.cel_value.specs.Data.{null};
-ghost use Rattle.cel_value.specs.Parts.{bool_in};
 ghost use Rattle.cel_value.specs.View.{view as cel_view};
 ghost use Rattle.kube_cel_walk.specs.Errors.{error_view};
 ghost use Rattle.kube_cel_walk.specs.Paths.{path_view};
 ghost use Rattle.kube_cel_walk.specs.Roots.{root_view};
-ghost use Rattle.kube_cel_walk.specs.RuleErrors.{malformed_error};
-ghost use Rattle.kube_cel_walk.specs.AddedErrors.{AreAdded, IsVerdict, is_true};
-ghost use Rattle.kube_cel_walk.specs.Verdicts.{bound_verdict, compiled_verdict, failed_message, is_applicable, is_old_null, is_old_optional, list_of_option, outcome_in, own_message, message_text, outcome_error, value_error, verdict, with_root};
+ghost use Rattle.kube_cel_walk.specs.RuleErrors.{failed_rule, malformed_error};
+ghost use Rattle.kube_cel_walk.specs.AddedErrors.{AreAdded, is_true};
+ghost use Rattle.kube_cel_walk.specs.Verdicts.{bound_verdict, compiled_verdict, is_applicable, is_old_null, is_old_optional, judged_error, list_of_option, outcome_in, own_message, verdict, with_root};
 ghost use Rattle.kube_schema_rules.specs.Compilation.{compiled_seen, error_view as malformed_view, result_view};
 ghost use Rattle.kube_schema_rules.specs.Rules.{rule_view};
 ghost use Rattle.serde_json.specs.View.{view};
+ghost use Rattle.std.specs.List.{flat_map};
 ghost use Rattle.std.specs.Prelude.{◌≡◌, ◌++◌, ◌∷◌, [], codes, IfErr, IfOk, List, map, OnOk, option_map, string_bytes, ℕ};
 
 use crate::error::ValidationError;
 use crate::path::Path;
 use crate::root::RootContext;
 use crate::rule_error::{failed_rule_error, fault_error, malformed_error, no_bool_error};
-use cel::{Answer, PatternBook, Stacks};
+use cel::{Answer, Judgement, PatternBook, Stacks, judge, message_text};
 use cel_value::Value as CelValue;
 use kube_functions::AllFunctions;
 use kube_schema_rules::{CompilationError, CompilationResult, Rule};
@@ -87,16 +87,6 @@ fn is_old_optional(rule: &Rule) -> bool
     rule.optional_old_self == Some(true)
 }
 
-/// The string that a messageExpression evaluated to, if it did.
-fn message_text(outcome: &Answer) -> Option<&str>
-    ensures { option_map (λ s. s.now) result ≡ message_text (outcome_view outcome.now) }
-{
-    match outcome {
-        Ok(value) => value.as_str(),
-        Err(_) => None,
-    }
-}
-
 /// Returns a rule's `message` or, if it has none, a message made of its text.
 fn own_message(alloc: Global, rule: &Rule) -> Result<String, AllocError>
     ensures { IfOk result (λ s. string_bytes s ≡ own_message (rule_view rule.now)) }
@@ -109,79 +99,52 @@ fn own_message(alloc: Global, rule: &Rule) -> Result<String, AllocError>
 }
 
 /// Returns the message of a rule that is false: the string that its
-/// messageExpression evaluates to, if it does, else its own message.
-fn failed_message(
+/// messageExpression evaluated to, if it did, else its own message.
+fn false_message(
     alloc: Global,
-    rule: &CompilationResult,
-    context: &Context<'_>,
-    book: &mut PatternBook,
-) -> Result<String, Refused>
-    ensures keeps { (b : Book) → Extends b (entries_of book.new) → Extends b (entries_of book.old) }
-    ensures reported { IfOk result
-        (λ s. HoldsForExtensions (entries_of book.new) (string_bytes s)
-        (λ b. failed_message (rule_view rule.now.rule)
-        (option_map (outcome_in b (bindings_of context.now)) (result_view rule.now).message_tree))) }
+    rule: &Rule,
+    evaluated: &Option<Answer>,
+) -> Result<String, AllocError>
+    ensures { IfOk result (λ s. string_bytes s
+        ≡ false_message (own_message (rule_view rule.now)) (option_map outcome_view evaluated.now)) }
 {
-    let Some(program) = &rule.message_program else {
-        return Ok(own_message(alloc, &rule.rule)?);
-    };
-    let outcome = program.execute_with(alloc, context, book)?;
-    let Some(text) = message_text(&outcome) else {
-        return Ok(own_message(alloc, &rule.rule)?);
-    };
-    Ok(String::from_str(alloc, text)?)
-}
-
-/// Returns the error of a rule that evaluated to this value; None if the value is true.
-fn verdict_of_value(
-    alloc: Global,
-    rule: &CompilationResult,
-    value: &CelValue,
-    context: &Context<'_>,
-    path: &Path<'_>,
-    book: &mut PatternBook,
-) -> Result<Option<ValidationError>, Refused>
-    ensures keeps { (b : Book) → Extends b (entries_of book.new) → Extends b (entries_of book.old) }
-    ensures found { IfOk result
-        (λ o. IsVerdict (entries_of book.new) o (λ b. value_error (path_view path.now) (rule_view rule.now.rule)
-        (failed_message (rule_view rule.now.rule)
-        (option_map (outcome_in b (bindings_of context.now)) (result_view rule.now).message_tree))
-        (bool_in (cel_view value.now)))) }
-{
-    match value.as_bool() {
-        Some(true) => Ok(None),
-        Some(false) => {
-            let message = failed_message(alloc, rule, context, book)?;
-            let error = failed_rule_error(alloc, &rule.rule, message, path)?;
-            Ok(Some(error))
-        }
-        None => Ok(Some(no_bool_error(alloc, &rule.rule, path)?)),
+    match message_text(evaluated) {
+        Some(text) => String::from_str(alloc, text),
+        None => own_message(alloc, rule),
     }
 }
 
-/// Returns the error of a rule by its outcome in this context; None if the rule is true.
-fn verdict_of_outcome(
+/// Returns the error of a rule that is false, given what its messageExpression evaluated to.
+fn false_error(
     alloc: Global,
-    rule: &CompilationResult,
-    outcome: Answer,
-    context: &Context<'_>,
+    rule: &Rule,
+    evaluated: &Option<Answer>,
     path: &Path<'_>,
-    book: &mut PatternBook,
-) -> Result<Option<ValidationError>, Refused>
-    ensures keeps { (b : Book) → Extends b (entries_of book.new) → Extends b (entries_of book.old) }
-    ensures found { IfOk result
-        (λ o. IsVerdict (entries_of book.new) o (λ b. outcome_error (path_view path.now) (rule_view rule.now.rule)
-        (failed_message (rule_view rule.now.rule)
-        (option_map (outcome_in b (bindings_of context.now)) (result_view rule.now).message_tree))
-        (outcome_view outcome))) }
+) -> Result<ValidationError, AllocError>
+    ensures { IfOk result (λ e. error_view e ≡ failed_rule (path_view path.now) (rule_view rule.now)
+        (false_message (own_message (rule_view rule.now)) (option_map outcome_view evaluated.now))) }
 {
-    match outcome {
-        Err(fault) => Ok(Some(fault_error(alloc, &rule.rule, fault, path)?)),
-        Ok(value) => {
-            let error = verdict_of_value(alloc, rule, &value, context, path, book)?;
-            Ok(error)
-        }
-    }
+    let message = false_message(alloc, rule, evaluated)?;
+    failed_rule_error(alloc, rule, message, path)
+}
+
+/// Returns the error of a rule by what it is judged to be; None if it is true.
+fn judged_error(
+    alloc: Global,
+    rule: &Rule,
+    judgement: Judgement<Answer>,
+    path: &Path<'_>,
+) -> Result<Option<ValidationError>, AllocError>
+    ensures { IfOk result (λ o. option_map error_view o ≡ judged_error (path_view path.now)
+        (rule_view rule.now) (judgement_view outcome_view judgement)) }
+{
+    let error = match judgement {
+        Judgement::True => return Ok(None),
+        Judgement::False(evaluated) => false_error(alloc, rule, &evaluated, path),
+        Judgement::NotBool(_) => no_bool_error(alloc, rule, path),
+        Judgement::Error(fault) => fault_error(alloc, rule, fault, path),
+    };
+    Ok(Some(error?))
 }
 
 /// Appends an error, if there is one.
@@ -201,6 +164,7 @@ fn push_listed(
 
 /// Appends the error of a rule by its outcome in this context, if it has one.
 #[inline(never)]
+#[tactic(auto, unfolding(crate::specs::Verdicts::outcome_in))]
 fn add_by_outcome(
     rule: &CompilationResult,
     outcome: Answer,
@@ -211,12 +175,13 @@ fn add_by_outcome(
 ) -> Result<(), Refused>
     ensures keeps { (b : Book) → Extends b (entries_of book.new) → Extends b (entries_of book.old) }
     ensures found { OnOk result (AreAdded (entries_of book.new) errors.old.items errors.new.items
-        (λ b. list_of_option (outcome_error (path_view path.now) (rule_view rule.now.rule)
-        (failed_message (rule_view rule.now.rule)
-        (option_map (outcome_in b (bindings_of context.now)) (result_view rule.now).message_tree))
-        (outcome_view outcome)))) }
+        (λ b. list_of_option (judged_error (path_view path.now) (rule_view rule.now.rule)
+        (judgement (option_map (outcome_in b (bindings_of context.now)) (result_view rule.now).message_tree)
+        (outcome_view outcome))))) }
 {
-    let error = verdict_of_outcome(*errors.allocator(), rule, outcome, context, path, book)?;
+    let alloc = *errors.allocator();
+    let judgement = judge(alloc, outcome, &rule.message_program, context, book)?;
+    let error = judged_error(alloc, &rule.rule, judgement, path)?;
     push_listed(error, errors)?;
     Ok(())
 }
@@ -349,4 +314,30 @@ pub fn add_verdict(
             Ok(())
         }
     }
+}
+
+/// Appends the verdicts of rules in this context, in order, like [`add_verdict`].
+///
+/// # Errors
+///
+/// [`Refused`] if memory is refused, or a URL that a rule reads is too large.
+pub fn add_verdicts(
+    rules: &[Result<CompilationResult, CompilationError>],
+    context: &Context<'_>,
+    old: Option<&Value>,
+    path: &Path<'_>,
+    book: &mut PatternBook,
+    stacks: &mut Stacks,
+    errors: &mut Vec<ValidationError>,
+) -> Result<(), Refused>
+    ensures keeps { (b : Book) → Extends b (entries_of book.new) → Extends b (entries_of book.old) }
+    ensures found { OnOk result (AreAdded (entries_of book.new) errors.old.items errors.new.items
+        (λ b. flat_map (λ r. list_of_option
+        (verdict b (bindings_of context.now)
+        (option_map (λ v. view v.now) old.entry) (path_view path.now) (compiled_seen r))) rules.now)) }
+{
+    for rule in rules {
+        add_verdict(rule, context, old, path, book, stacks, errors)?;
+    }
+    Ok(())
 }

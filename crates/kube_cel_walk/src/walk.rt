@@ -1,6 +1,6 @@
 //! The walk over the places that a schema and a value share.
-ghost use Rattle.cel_patterns.specs.Book.{Extends, Book};
-ghost use Rattle.cel_patterns.specs.Entries.{entries_of};
+ghost use Rattle.cel.specs.Book.{Extends, Book};
+ghost use Rattle.cel.specs.Entries.{entries_of};
 ghost use Rattle.kube_cel_walk.specs.AddedErrors.{AreAdded};
 ghost use Rattle.kube_cel_walk.specs.Answers.{answer, found_by, answer_if_reached};
 ghost use Rattle.kube_cel_walk.specs.Paths.{path_view};

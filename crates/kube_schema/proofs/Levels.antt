@@ -5,15 +5,14 @@ use Rattle.std.proofs.lemmas.Bool.{cases_eq}
 use Rattle.std.proofs.lemmas.Option.{same_Some}
 use Rattle.std.specs.Cmp.Lexicographic.{slice_cmp}
 use Rattle.std.specs.Ordering.{match_ordering}
-use Rattle.kube_schema_rules.specs.Compilation.{compiled_seen}
 use Rattle.kube_schema_rules.specs.declared.branches.BranchKind.{BranchKind}
 use Rattle.kube_schema_rules.specs.declared.branches.BranchKind.TheVariants.{AllOf, OneOf, AnyOf}
 use Rattle.kube_schema.specs.declared.nodes.NodeId.{NodeId}
 use Rattle.kube_schema.specs.declared.nodes.PropertyLink.{PropertyLink}
 use Rattle.kube_schema.specs.declared.nodes.TableNode.{TableNode}
 use Rattle.kube_schema.specs.NoRules.{EachChild, HasNoRules, HasNoRulesBelow, AreKnown}
-use Rattle.kube_schema.specs.Raw.{keywords_view, named_at, maybe_at, nodes_at, with_children, assemble, tree, Closed}
-use Rattle.kube_schema.specs.Tree.{Node, own, as_option, find, nth_node, branches_of}
+use Rattle.kube_schema.specs.Raw.{named_at, maybe_at, nodes_at, with_children, assemble, tree, Closed}
+use Rattle.kube_schema.specs.Tree.{Own, Node, own, as_option, find, nth_node, branches_of}
 use Rattle.kube_schema.proofs.Trees.{opens}
 
 -- ---- more levels
@@ -51,21 +50,22 @@ module _ (P : Node → Type 0) (f : ℕ → Node) where
   found_number (n ∷ ns) all zero p e = let same : f n.0 ≡ p = cc in subst P same (all 0 n refl)
   found_number (n ∷ ns) all (suc i) p e = found_number ns (λ j. all (suc j)) i p e
 
-  pub each_assembled : (r : TableNode)
-      → ((i : ℕ) (l : PropertyLink) → slice_get r.children.properties.items i ≡ Some l → P (f l.node.0))
-      → ((n : NodeId) → r.children.items ≡ Some n → P (f n.0))
-      → ((n : NodeId) → r.children.additional ≡ Some n → P (f n.0))
-      → ((i : ℕ) (n : NodeId) → slice_get r.children.all_of.items i ≡ Some n → P (f n.0))
-      → ((i : ℕ) (n : NodeId) → slice_get r.children.one_of.items i ≡ Some n → P (f n.0))
-      → ((i : ℕ) (n : NodeId) → slice_get r.children.any_of.items i ≡ Some n → P (f n.0))
-      → EachChild P (assemble f r)
-  unfolding assemble with_children
-  each_assembled r ps it ad xs ys zs = (found_link r.children.properties.items ps, found_maybe r.children.items it, found_maybe r.children.additional ad, by)
-    where
-      by : (kind : BranchKind) (i : ℕ) (m : Node) → nth_node i (branches_of kind (assemble f r)) ≡ Some m → P m
-      by AllOf = found_number r.children.all_of.items xs
-      by OneOf = found_number r.children.one_of.items ys
-      by AnyOf = found_number r.children.any_of.items zs
+  module _ {K : Type 0} (own_of : K → Own) where
+    pub each_assembled : (r : TableNode K)
+        → ((i : ℕ) (l : PropertyLink) → slice_get r.children.properties.items i ≡ Some l → P (f l.node.0))
+        → ((n : NodeId) → r.children.items ≡ Some n → P (f n.0))
+        → ((n : NodeId) → r.children.additional ≡ Some n → P (f n.0))
+        → ((i : ℕ) (n : NodeId) → slice_get r.children.all_of.items i ≡ Some n → P (f n.0))
+        → ((i : ℕ) (n : NodeId) → slice_get r.children.one_of.items i ≡ Some n → P (f n.0))
+        → ((i : ℕ) (n : NodeId) → slice_get r.children.any_of.items i ≡ Some n → P (f n.0))
+        → EachChild P (assemble own_of f r)
+    unfolding assemble with_children
+    each_assembled r ps it ad xs ys zs = (found_link r.children.properties.items ps, found_maybe r.children.items it, found_maybe r.children.additional ad, by)
+      where
+        by : (kind : BranchKind) (i : ℕ) (m : Node) → nth_node i (branches_of kind (assemble own_of f r)) ≡ Some m → P m
+        by AllOf = found_number r.children.all_of.items xs
+        by OneOf = found_number r.children.one_of.items ys
+        by AnyOf = found_number r.children.any_of.items zs
 
 -- ---- a node, from what is known of it
 
@@ -73,11 +73,12 @@ pub none_of : {X : Type 0} (xs : List X) → length xs ≡ 0 → xs ≡ []
 none_of [] e = refl
 none_of (x ∷ xs) e = absurd (omega arith)
 
--- a node without rules of its own, and with none below it
-pub no_rules_at : (t : List TableNode) (i v w : ℕ) (r : TableNode) → Closed t → slice_get t i ≡ Some r → r.keywords.validations.rules.items ≡ [] → HasNoRulesBelow v (tree t i) → w ≡ suc v → HasNoRules w (tree t i)
-unfolding HasNoRules assemble with_children keywords_view
-no_rules_at t i v w r closed e none below more =
-    subst (λ w. HasNoRules w (tree t i)) (sym more) (ap (λ n. (own n).validations) (opens t i r closed e) ∙ ap (map compiled_seen) none, below)
+module _ {K : Type 0} (own_of : K → Own) where
+  -- a node without rules of its own, and with none below it
+  pub no_rules_at : (t : List (TableNode K)) (i v w : ℕ) (r : TableNode K) → Closed t → slice_get t i ≡ Some r → (own_of r.keywords).validations ≡ [] → HasNoRulesBelow v (tree own_of t i) → w ≡ suc v → HasNoRules w (tree own_of t i)
+  unfolding HasNoRules assemble with_children
+  no_rules_at t i v w r closed e none below more =
+      subst (λ w. HasNoRules w (tree own_of t i)) (sym more) (ap (λ n. (own n).validations) (opens own_of t i r closed e) ∙ none, below)
 
 -- ---- the greatest number of levels, element by element
 
@@ -112,20 +113,22 @@ set_or_old (z ∷ xs) (suc p) x y (suc i) e = step (set_or_old xs p x y i e)
     step (inl h) = inl h
     step (inr h) = inr (ap suc h.0, h.1)
 
-pub known_set : (t : List TableNode) (known : List (Option ℕ)) (p : ℕ) (o : Option ℕ) (r : TableNode) → Closed t → slice_get t p ≡ Some r → AreKnown t known → IfSome o (λ v. HasNoRulesBelow v (assemble (tree t) r)) → AreKnown t (set known p o)
-known_set t known p o r closed e all one = λ i v h. by i v (set_or_old known p o (Some v) i h)
-  where
-    by : (i v : ℕ) → (slice_get known i ≡ Some (Some v)) ⊎ ((i ≡ p) × (o ≡ Some v)) → HasNoRulesBelow v (tree t i)
-    by i v (inl h) = all i v h
-    by i v (inr h) =
-        let here : HasNoRulesBelow v (assemble (tree t) r) = subst (λ o. IfSome o (λ v. HasNoRulesBelow v (assemble (tree t) r))) h.1 one in
-        subst (λ j. HasNoRulesBelow v (tree t j)) (sym h.0) (subst (HasNoRulesBelow v) (sym (opens t p r closed e)) here)
+module _ {K : Type 0} (own_of : K → Own) where
+  pub known_set : (t : List (TableNode K)) (known : List (Option ℕ)) (p : ℕ) (o : Option ℕ) (r : TableNode K) → Closed t → slice_get t p ≡ Some r → AreKnown own_of t known → IfSome o (λ v. HasNoRulesBelow v (assemble own_of (tree own_of t) r)) → AreKnown own_of t (set known p o)
+  known_set t known p o r closed e all one = λ i v h. by i v (set_or_old known p o (Some v) i h)
+    where
+      by : (i v : ℕ) → (slice_get known i ≡ Some (Some v)) ⊎ ((i ≡ p) × (o ≡ Some v)) → HasNoRulesBelow v (tree own_of t i)
+      by i v (inl h) = all i v h
+      by i v (inr h) =
+          let here : HasNoRulesBelow v (assemble own_of (tree own_of t) r) = subst (λ o. IfSome o (λ v. HasNoRulesBelow v (assemble own_of (tree own_of t) r))) h.1 one in
+          subst (λ j. HasNoRulesBelow v (tree own_of t j)) (sym h.0) (subst (HasNoRulesBelow v) (sym (opens own_of t p r closed e)) here)
 
 none_known : (n i v : ℕ) → slice_get (replicate {A = Option ℕ} n None) i ≡ Some (Some v) → ⊥
 none_known zero i v e = cc
 none_known (suc n) zero v e = cc
 none_known (suc n) (suc i) v e = none_known n i v e
 
--- at the start nothing is known
-pub known_start : (t : List TableNode) (n : ℕ) → AreKnown t (replicate {A = Option ℕ} n None)
-known_start t n = λ i v e. absurd (none_known n i v e)
+module _ {K : Type 0} (own_of : K → Own) where
+  -- at the start nothing is known
+  pub known_start : (t : List (TableNode K)) (n : ℕ) → AreKnown own_of t (replicate {A = Option ℕ} n None)
+  known_start t n = λ i v e. absurd (none_known n i v e)

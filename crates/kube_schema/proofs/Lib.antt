@@ -6,3 +6,5 @@ pub mod Search
 pub mod Without
 pub mod Levels
 pub mod SameBinding
+pub mod Kept
+pub mod Sources

@@ -1,5 +1,5 @@
 -- Binding reads only what the tree keeps of a schema.
-use Rattle.std.proofs.Common.{◌≡◌, ℕ, zero, suc, List, if◌then◌else◌, Option, Some, None, option_map, refl, ap, ◌∙◌, codes}
+use Rattle.std.proofs.Common.{◌≡◌, ◌≤◌, ℕ, zero, suc, List, if◌then◌else◌, Option, Some, None, option_map, refl, ap, ◌∙◌, codes, arith}
 use Rattle.std.specs.Option.{option_map_or}
 use Rattle.serde_json.specs.Data as json
 use Rattle.serde_json.specs.Find.{get}
@@ -77,8 +77,12 @@ alike n s = record {
   format = refl;
 }
 
--- the tree and the schema convert a value alike
-pub bound_same : (n : ℕ) (s d : json.Data) → to_cel raw n s d ≡ to_cel tree_accessors n (view_of n s) d
+-- the tree and the schema convert a value alike, by as many levels as the tree has, or fewer
+pub bound_within : (n m : ℕ) (s d : json.Data) → n ≤ m → to_cel raw n s d ≡ to_cel tree_accessors n (view_of m s) d
 unfolding to_cel
-bound_same zero s d = refl
-bound_same (suc n) s d = bound_by_same raw tree_accessors (view_of n) (to_cel raw n) (to_cel tree_accessors n) (bound_same n) s (view_of (suc n) s) (alike n s) d
+bound_within zero m s d h = refl
+bound_within (suc n) zero s d h = absurd (omega arith)
+bound_within (suc n) (suc m) s d h = bound_by_same raw tree_accessors (view_of m) (to_cel raw n) (to_cel tree_accessors n) (λ p e. bound_within n m p e (omega arith)) s (view_of (suc m) s) (alike m s) d
+
+pub bound_same : (n : ℕ) (s d : json.Data) → to_cel raw n s d ≡ to_cel tree_accessors n (view_of n s) d
+bound_same n s d = bound_within n n s d (omega arith)

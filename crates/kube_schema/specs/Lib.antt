@@ -1,7 +1,26 @@
+pub use Rattle.kube_schema_rules.specs.Compilation
+pub use Rattle.kube_schema_rules.specs.Inside
+pub use Rattle.kube_schema_rules.specs.Raw as RulesRaw
+pub use Rattle.kube_schema_rules.specs.Rules
+pub use Rattle.kube_schema_rules.specs.Step
+pub use Rattle.kube_schema_rules.specs.StepAccessors
+pub use Rattle.kube_schema_rules.specs.Visit
+pub use Rattle.kube_schema_rules.specs.Walk
+pub use Rattle.kube_schema_rules.specs.declared.branches.BranchKind
+pub use Rattle.kube_schema_rules.specs.declared.compilation.CompilationError
+pub use Rattle.kube_schema_rules.specs.declared.result.CompilationResult
+pub use Rattle.kube_schema_values.specs.Conversion
+pub use Rattle.kube_schema_values.specs.Defaults
+pub use Rattle.kube_schema_values.specs.DefaultsAccessors
+pub use Rattle.kube_schema_values.specs.Fields
+pub use Rattle.kube_schema_values.specs.Formats
+pub use Rattle.kube_schema_values.specs.Node
+pub use Rattle.kube_schema_values.specs.declared.format.SchemaFormat
 pub mod Tree
 pub mod View
 pub mod Raw
 pub mod NoRules
 pub mod Shown
+pub mod Source
 pub mod CompiledDefaults
 pub mod CompiledConversion

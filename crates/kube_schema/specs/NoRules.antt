@@ -5,7 +5,7 @@ use mathlib.Core.Path.{refl, sym, subst, path_j, ◌∙◌}
 use Rattle.kube_schema_rules.specs.declared.branches.BranchKind.{BranchKind}
 use Rattle.kube_schema.specs.declared.nodes.TableNode.{TableNode}
 use Rattle.kube_schema.specs.Raw.{tree}
-use Rattle.kube_schema.specs.Tree.{Node, own, property_of, items_of, additional_of, branches_of, nth_node}
+use Rattle.kube_schema.specs.Tree.{Own, Node, own, property_of, items_of, additional_of, branches_of, nth_node}
 
 -- P holds of each node that one step leads to
 abbrev pub EachChild : (Node → Type 0) → Node → Type 0
@@ -24,8 +24,8 @@ abbrev pub HasNoRulesBelow : ℕ → Node → Type 0
 HasNoRulesBelow n = EachChild (HasNoRules n)
 
 -- of each node of the table a number of levels is known, or nothing
-abbrev pub AreKnown : List TableNode → List (Option ℕ) → Type 0
-AreKnown t known = (i : ℕ) (v : ℕ) → slice_get known i ≡ Some (Some v) → HasNoRulesBelow v (tree t i)
+abbrev pub AreKnown : {K : Type 0} → (K → Own) → List (TableNode K) → List (Option ℕ) → Type 0
+AreKnown own_of t known = (i : ℕ) (v : ℕ) → slice_get known i ≡ Some (Some v) → HasNoRulesBelow v (tree own_of t i)
 
 -- ---- each of these has at most one proof
 
@@ -54,5 +54,5 @@ unfolding HasNoRules
 no_rules_prop zero n = hlevel
 no_rules_prop (suc k) n = hlevel (empty_prop, no_rules_prop k)
 
-pub known_prop : (t : List TableNode) (known : List (Option ℕ)) → IsProp (AreKnown t known)
-known_prop t known = hlevel no_rules_prop
+pub known_prop : {K : Type 0} (own_of : K → Own) (t : List (TableNode K)) (known : List (Option ℕ)) → IsProp (AreKnown own_of t known)
+known_prop own_of t known = hlevel no_rules_prop

@@ -48,9 +48,6 @@ with_children f c o =
     node o (named_at f c.properties.items) (maybe_at f c.items) (maybe_at f c.additional)
     (nodes_at f c.all_of.items) (nodes_at f c.one_of.items) (nodes_at f c.any_of.items)
 
-unfoldable pub assemble : (ℕ → Node) → TableNode → Node
-assemble f r = with_children f r.children (keywords_view r.keywords)
-
 abbrev pub childless : Own → Node
 childless o = node o no_named nothing nothing no_nodes no_nodes no_nodes
 
@@ -67,27 +64,7 @@ blank = childless (record {
   default = None;
 })
 
-abbrev pub assemble_some : (ℕ → Node) → Option TableNode → Node
-assemble_some f None = blank
-assemble_some f (Some r) = assemble f r
-
--- the tree, followed at most n levels deep
-unfoldable pub tree_in : ℕ → List TableNode → ℕ → Node
-tree_in zero t i = blank
-tree_in (suc n) t i = assemble_some (tree_in n t) (slice_get t i)
-
--- numbers only lead onwards, so no path is longer than the table
-unfoldable pub tree : List TableNode → ℕ → Node
-tree t i = tree_in (length t) t i
-
 -- ---- the defaults of a table
-
-abbrev pub has_default : TableNode → Bool
-has_default r = is_some r.keywords.default
-
--- a node of the table has a default
-abbrev pub any_default : List TableNode → Bool
-any_default t = list_any has_default t
 
 -- ---- the numbers of a node
 
@@ -110,10 +87,6 @@ IsWithin low high c =
     × NumbersWithin low high c.all_of.items × NumbersWithin low high c.one_of.items
     × NumbersWithin low high c.any_of.items
 
--- each node's numbers are indices of later nodes of the table
-abbrev pub Closed : List TableNode → Type 0
-Closed t = (i : ℕ) (r : TableNode) → slice_get t i ≡ Some r → IsWithin (suc i) (length t) r.children
-
 links_prop : (low high : ℕ) (ls : List PropertyLink) → IsProp (LinksWithin low high ls)
 links_prop low high [] = Unit-prop
 links_prop low high (l ∷ ls) = hlevel (le_prop, links_prop low high ls)
@@ -126,9 +99,6 @@ numbers_prop : (low high : ℕ) (ns : List NodeId) → IsProp (NumbersWithin low
 numbers_prop low high [] = Unit-prop
 numbers_prop low high (n ∷ ns) = hlevel (le_prop, numbers_prop low high ns)
 
-pub closed_prop : (t : List TableNode) → IsProp (Closed t)
-closed_prop t = hlevel (links_prop, maybe_prop, numbers_prop)
-
 -- ---- the order of a node's names
 
 abbrev pub link_names : List PropertyLink → List (List ℕ)
@@ -138,58 +108,101 @@ link_names (l ∷ ls) = string_bytes l.name ∷ link_names ls
 abbrev pub LinksOrdered : List PropertyLink → Type 0
 LinksOrdered ls = IsStrictlySortedBy (slice_cmp nat_cmp) (link_names ls)
 
-abbrev pub AllOrdered : List TableNode → Type 0
-AllOrdered t = (i : ℕ) (r : TableNode) → slice_get t i ≡ Some r → LinksOrdered r.children.properties.items
-
 -- ---- how a table grows
 
--- the second table has all nodes of the first from index low on
-pub record Later (low : ℕ) (t u : List TableNode) : Type 0 where
-  pub longer : length t ≤ length u
-  pub same : (j : ℕ) → low ≤ j → j < length t → slice_get u j ≡ slice_get t j
+-- ---- a table, whatever it keeps of the keywords of a node
 
--- one node is appended, without children
-pub record Appends (old new : List TableNode) (n : NodeId) (keywords : Keywords) : Type 0 where
-  pub last : n.0 ≡ length old
-  pub within : length new ≡ suc (length old)
-  pub grows : Later 0 old new
-  pub shows : tree new n.0 ≡ childless (keywords_view keywords)
+module _ {K : Type 0} where
+  -- each node's numbers are indices of later nodes of the table
+  abbrev pub Closed : List (TableNode K) → Type 0
+  Closed t = (i : ℕ) (r : TableNode K) → slice_get t i ≡ Some r → IsWithin (suc i) (length t) r.children
 
--- nodes are appended; the first of them stands for the tree
-pub record Adds (old new : List TableNode) (n : NodeId) (shown : Node) : Type 0 where
-  pub first : n.0 ≡ length old
-  pub within : n.0 < length new
-  pub grows : Later 0 old new
-  pub shows : tree new n.0 ≡ shown
-  pub counted : length new ≡ length old + count shown
+  pub closed_prop : (t : List (TableNode K)) → IsProp (Closed t)
+  closed_prop t = hlevel (links_prop, maybe_prop, numbers_prop)
 
-pub record AddsNamed (old new : List TableNode) (ls : List PropertyLink) (shown : Named) : Type 0 where
-  pub within : LinksWithin (length old) (length new) ls
-  pub grows : Later 0 old new
-  pub shows : named_at (tree new) ls ≡ shown
-  pub counted : length new ≡ length old + named_count shown
+  abbrev pub AllOrdered : List (TableNode K) → Type 0
+  AllOrdered t = (i : ℕ) (r : TableNode K) → slice_get t i ≡ Some r → LinksOrdered r.children.properties.items
 
-pub record AddsProperties (old new : List TableNode) (ls : List PropertyLink) (shown : Named) : Type 0 where
-  pub adds : AddsNamed old new ls shown
-  pub ordered : LinksOrdered ls
+  -- the second table has all nodes of the first from index low on
+  pub record Later (low : ℕ) (t u : List (TableNode K)) : Type 0 where
+    pub longer : length t ≤ length u
+    pub same : (j : ℕ) → low ≤ j → j < length t → slice_get u j ≡ slice_get t j
 
-pub record AddsMaybe (old new : List TableNode) (o : Option NodeId) (shown : Maybe) : Type 0 where
-  pub within : MaybeWithin (length old) (length new) o
-  pub grows : Later 0 old new
-  pub shows : maybe_at (tree new) o ≡ shown
-  pub counted : length new ≡ length old + maybe_count shown
+-- own_of says which keywords are those that a table keeps as a K
+module _ {K : Type 0} (own_of : K → Own) where
+  unfoldable pub assemble : (ℕ → Node) → TableNode K → Node
+  assemble f r = with_children f r.children (own_of r.keywords)
 
-pub record AddsNodes (old new : List TableNode) (ns : List NodeId) (shown : Nodes) : Type 0 where
-  pub within : NumbersWithin (length old) (length new) ns
-  pub grows : Later 0 old new
-  pub shows : nodes_at (tree new) ns ≡ shown
-  pub counted : length new ≡ length old + nodes_count shown
+  abbrev pub assemble_some : (ℕ → Node) → Option (TableNode K) → Node
+  assemble_some f None = blank
+  assemble_some f (Some r) = assemble f r
 
--- nodes are appended, among them these children; a node
--- with given keywords and these children is the tree
-pub record AddsChildren (old new : List TableNode) (c : Children) (shown : Own → Node) : Type 0 where
-  pub within : IsWithin (length old) (length new) c
-  pub ordered : LinksOrdered c.properties.items
-  pub grows : Later 0 old new
-  pub shows : (o : Own) → with_children (tree new) c o ≡ shown o
-  pub counted : (o : Own) → suc (length new) ≡ length old + count (shown o)
+  -- the tree, followed at most n levels deep
+  unfoldable pub tree_in : ℕ → List (TableNode K) → ℕ → Node
+  tree_in zero t i = blank
+  tree_in (suc n) t i = assemble_some (tree_in n t) (slice_get t i)
+
+  -- numbers only lead onwards, so no path is longer than the table
+  unfoldable pub tree : List (TableNode K) → ℕ → Node
+  tree t i = tree_in (length t) t i
+
+  abbrev pub has_default : TableNode K → Bool
+  has_default r = is_some (own_of r.keywords).default
+
+  -- a node of the table has a default
+  abbrev pub any_default : List (TableNode K) → Bool
+  any_default t = list_any has_default t
+
+  -- one node is appended, without children
+  pub record Appends (old new : List (TableNode K)) (n : NodeId) (keywords : K) : Type 0 where
+    pub last : n.0 ≡ length old
+    pub within : length new ≡ suc (length old)
+    pub grows : Later 0 old new
+    pub shows : tree new n.0 ≡ childless (own_of keywords)
+
+  -- nodes are appended; the first of them stands for the tree
+  pub record Adds (old new : List (TableNode K)) (n : NodeId) (shown : Node) : Type 0 where
+    pub first : n.0 ≡ length old
+    pub within : n.0 < length new
+    pub grows : Later 0 old new
+    pub shows : tree new n.0 ≡ shown
+    pub counted : length new ≡ length old + count shown
+
+  pub record AddsNamed (old new : List (TableNode K)) (ls : List PropertyLink) (shown : Named) : Type 0 where
+    pub within : LinksWithin (length old) (length new) ls
+    pub grows : Later 0 old new
+    pub shows : named_at (tree new) ls ≡ shown
+    pub counted : length new ≡ length old + named_count shown
+
+  pub record AddsProperties (old new : List (TableNode K)) (ls : List PropertyLink) (shown : Named) : Type 0 where
+    pub adds : AddsNamed old new ls shown
+    pub ordered : LinksOrdered ls
+
+  pub record AddsMaybe (old new : List (TableNode K)) (o : Option NodeId) (shown : Maybe) : Type 0 where
+    pub within : MaybeWithin (length old) (length new) o
+    pub grows : Later 0 old new
+    pub shows : maybe_at (tree new) o ≡ shown
+    pub counted : length new ≡ length old + maybe_count shown
+
+  pub record AddsNodes (old new : List (TableNode K)) (ns : List NodeId) (shown : Nodes) : Type 0 where
+    pub within : NumbersWithin (length old) (length new) ns
+    pub grows : Later 0 old new
+    pub shows : nodes_at (tree new) ns ≡ shown
+    pub counted : length new ≡ length old + nodes_count shown
+
+  -- nodes are appended, among them these children; a node
+  -- with given keywords and these children is the tree
+  pub record AddsChildren (old new : List (TableNode K)) (c : Children) (shown : Own → Node) : Type 0 where
+    pub within : IsWithin (length old) (length new) c
+    pub ordered : LinksOrdered c.properties.items
+    pub grows : Later 0 old new
+    pub shows : (o : Own) → with_children (tree new) c o ≡ shown o
+    pub counted : (o : Own) → suc (length new) ≡ length old + count (shown o)
+
+  -- a node without the form in which its keywords are kept
+  abbrev pub shape : TableNode K → Children × Own
+  shape r = (r.children, own_of r.keywords)
+
+-- the nodes are the same, however their keywords are kept
+abbrev pub AreSame : {K L : Type 0} → (K → Own) → (L → Own) → List (TableNode K) → List (TableNode L) → Type 0
+AreSame own_of own_in old new = map (shape own_in) new ≡ map (shape own_of) old

@@ -1,25 +1,56 @@
-//! The defaults of a node of a compiled schema.
+//! Filling with the defaults of a schema (Kubernetes documentation, "Extend
+//! the Kubernetes API with CustomResourceDefinitions", "Defaulting").
 ghost use Rattle.std.specs.Prelude.{◌≡◌, IfErr, IfOk, OnOk, option_map};
 ghost use Rattle.serde_json.specs.View.{view, items_view, members_view};
 ghost use Rattle.kube_schema_values.specs.Defaults.{defaulted_value, map_items, member_schema, member_by, object_by, default_by, with_defaults, put_new, FillsMembers};
+ghost use Rattle.kube_schema_values.specs.DefaultsAccessors.{raw};
 ghost use Rattle.kube_schema.specs.CompiledDefaults.{tree_accessors};
 ghost use Rattle.kube_schema.specs.Shown.{node_tree};
 ghost use Rattle.kube_schema.specs.Tree.{named_of, names, default_of};
 
+use crate::LEVELS;
+use crate::compile::compile_on_demand;
 use crate::node::SchemaNode;
-use kube_types_refused::Refused;
+use crate::node_keywords::NodeKeywords;
+use kube_types::Refused;
 use serde_json::{Map, Value};
 use std::alloc::{AllocError, Global};
 
-/// The number of levels of a schema whose defaults apply: depths 0 to 64.
-pub(crate) const LEVELS: usize = 65;
+/// Returns the value filled with the defaults of the schema. An object gets each missing
+/// key of `properties` that has a `default`, and all members and list items that it
+/// already had are filled by their own schemas. A default that is added is itself filled.
+///
+/// A member that `properties` doesn't declare takes its schema from
+/// `additionalProperties`, if that is an object and unknown fields aren't preserved.
+/// Nothing changes beyond depth 64. `allOf`, `oneOf` and `anyOf` are ignored.
+///
+/// The schema is compiled at each call: where it is used more often, call [`fill_node`].
+///
+/// # Errors
+///
+/// [`Refused`] if memory is refused.
+pub fn apply_defaults(alloc: Global, schema: &Value, value: &Value) -> Result<Value, Refused>
+    ensures filled { IfOk result (λ v. view v ≡ defaulted_value raw 65 (view schema.now) (view value.now)) }
+    ensures members { IfOk result (λ v.
+        FillsMembers raw 64 (view schema.now) (view value.now) (view v)) }
+    ensures memory { IfErr result (λ e. e ≡ Refused.Memory) }
+{
+    let compiled = compile_on_demand(alloc, schema)?;
+    let root = compiled.root();
+    let filled = fill_node(alloc, &root, value)?;
+    Ok(filled)
+}
 
 /// Returns the value filled with the defaults of a node, as the root of a schema.
 ///
 /// # Errors
 ///
 /// [`Refused`] if memory is refused.
-pub fn fill_node(alloc: Global, node: &SchemaNode<'_>, value: &Value) -> Result<Value, Refused>
+pub fn fill_node<K: NodeKeywords>(
+    alloc: Global,
+    node: &SchemaNode<'_, K>,
+    value: &Value,
+) -> Result<Value, Refused>
     ensures filled { IfOk result (λ v. view v
         ≡ defaulted_value tree_accessors 65 (node_tree node.now) (view value.now)) }
     ensures members { IfOk result (λ v. FillsMembers tree_accessors 64 (node_tree node.now) (view value.now)
@@ -33,9 +64,9 @@ pub fn fill_node(alloc: Global, node: &SchemaNode<'_>, value: &Value) -> Result<
 // Returns the value filled with the defaults of this number of levels.
 #[cycle(fill)]
 #[tactic(auto, using(kube_schema_values::proofs::Filling::levels), unfolding(crate::specs::CompiledDefaults::tree_accessors))]
-pub(crate) fn fill(
+pub(crate) fn fill<K: NodeKeywords>(
     alloc: Global,
-    node: &SchemaNode<'_>,
+    node: &SchemaNode<'_, K>,
     value: &Value,
     levels: usize,
 ) -> Result<Value, AllocError>
@@ -58,9 +89,9 @@ pub(crate) fn fill(
 }
 
 #[cycle(fill)]
-fn fill_items(
+fn fill_items<K: NodeKeywords>(
     alloc: Global,
-    node: &SchemaNode<'_>,
+    node: &SchemaNode<'_, K>,
     items: &Vec<Value>,
     levels: usize,
 ) -> Result<Vec<Value>, AllocError>
@@ -76,9 +107,9 @@ fn fill_items(
 }
 
 #[cycle(fill)]
-fn fill_members(
+fn fill_members<K: NodeKeywords>(
     alloc: Global,
-    node: &SchemaNode<'_>,
+    node: &SchemaNode<'_, K>,
     members: &Map<String, Value>,
     levels: usize,
 ) -> Result<Map<String, Value>, AllocError>
@@ -98,9 +129,9 @@ fn fill_members(
 
 #[cycle(fill)]
 #[tactic(auto, using(kube_schema_values::proofs::Fills::member_none, kube_schema_values::proofs::Fills::member_some))]
-fn fill_member(
+fn fill_member<K: NodeKeywords>(
     alloc: Global,
-    node: &SchemaNode<'_>,
+    node: &SchemaNode<'_, K>,
     key: &str,
     member: &Value,
     levels: usize,
@@ -118,9 +149,9 @@ fn fill_member(
 
 // Adds the missing keys that have a default.
 #[cycle(fill)]
-fn add_defaults(
+fn add_defaults<K: NodeKeywords>(
     alloc: Global,
-    node: &SchemaNode<'_>,
+    node: &SchemaNode<'_, K>,
     target: &mut Map<String, Value>,
     levels: usize,
 ) -> Result<(), AllocError>
@@ -139,10 +170,10 @@ fn add_defaults(
 
 #[cycle(fill)]
 #[tactic(auto, using(kube_schema_values::proofs::Filling::defaults))]
-fn add_default(
+fn add_default<K: NodeKeywords>(
     alloc: Global,
     key: &str,
-    property: &SchemaNode<'_>,
+    property: &SchemaNode<'_, K>,
     target: &mut Map<String, Value>,
     levels: usize,
 ) -> Result<(), AllocError>
@@ -163,7 +194,10 @@ fn add_default(
 }
 
 // Returns the node of a member, if it has one.
-pub(crate) fn node_of_member<'a>(node: &SchemaNode<'a>, key: &str) -> Option<SchemaNode<'a>>
+pub(crate) fn node_of_member<'a, K: NodeKeywords>(
+    node: &SchemaNode<'a, K>,
+    key: &str,
+) -> Option<SchemaNode<'a, K>>
     ensures { option_map node_tree result ≡ member_schema tree_accessors (node_tree node.now) key.now }
 {
     if let Some(property) = node.property_named(key) {

@@ -2,28 +2,73 @@
 ghost use Rattle.std.specs.Prelude.{◌≡◌, IfErr, IfOk, option_map};
 ghost use Rattle.serde_json.specs.View.{view, items_view, members_view};
 ghost use Rattle.kube_schema_values.specs.DefaultsAccessors.{declared_properties, additional, preserves, default_in};
-ghost use Rattle.kube_schema.specs.View.{limit, branches, own_view, marker_view};
+ghost use Rattle.kube_schema_values.specs.Node.{is_set, format_of, is_map, is_embedded};
+ghost use Rattle.kube_schema.specs.View.{limit, branches};
 ghost use Rattle.kube_schema.specs.Raw.{keywords_view};
+ghost use Rattle.kube_schema.specs.Source.{marker_with, own_with};
 
+use crate::LEVELS;
+use crate::node_keywords::NodeKeywords;
 use crate::nodes::Keywords;
-use kube_schema_rules::{CompilationError, NodeRules, rules_of};
+use kube_schema_rules::{CompiledRules, NodeRules};
 use kube_schema_values::SchemaFormat;
-use kube_schema_values::node::{format_of, is_embedded, is_map};
-use kube_types_refused::Refused;
+use kube_types::Refused;
 use serde_json::{Map, Value};
 use std::alloc::{AllocError, Global};
 
-/// The depth of a marker.
-const TOO_DEEP: usize = 65;
+impl NodeKeywords for Keywords {
+    ghost use Rattle.kube_schema.specs.Raw.{keywords_view};
 
-// Returns the keywords of a schema's node.
-pub(crate) fn keywords_of(alloc: Global, schema: &Value) -> Result<Keywords, Refused>
-    ensures keywords { IfOk result (λ k. keywords_view k ≡ own_view (view schema.now)) }
+    ghost own = { keywords_view };
+
+    #[tactic(auto, unfolding(crate::specs::Raw::keywords_view))]
+    fn rules(&self, _alloc: Global) -> Result<CompiledRules<'_>, Refused> {
+        Ok(CompiledRules::Lent(&self.validations))
+    }
+
+    #[tactic(auto, unfolding(crate::specs::Raw::keywords_view))]
+    fn may_have_rules(&self) -> bool {
+        !self.validations.rules.is_empty()
+    }
+
+    #[tactic(auto, unfolding(crate::specs::Raw::keywords_view))]
+    fn string_format(&self) -> SchemaFormat {
+        self.format
+    }
+
+    #[tactic(auto, unfolding(crate::specs::Raw::keywords_view))]
+    fn is_map(&self) -> bool {
+        self.is_map
+    }
+
+    #[tactic(auto, unfolding(crate::specs::Raw::keywords_view))]
+    fn preserves(&self) -> bool {
+        self.preserve_unknown_fields
+    }
+
+    #[tactic(auto, unfolding(crate::specs::Raw::keywords_view))]
+    fn is_embedded(&self) -> bool {
+        self.embedded_resource
+    }
+
+    #[tactic(auto, unfolding(crate::specs::Raw::keywords_view))]
+    fn default(&self) -> Option<&Value> {
+        self.default.as_ref()
+    }
+}
+
+// Returns the keywords of a schema, with a copy of this default.
+pub(crate) fn keywords_with(
+    alloc: Global,
+    schema: &Value,
+    default: Option<&Value>,
+) -> Result<Keywords, Refused>
+    ensures keywords { IfOk result (λ k. keywords_view k
+        ≡ own_with (view schema.now) (option_map (λ v. view v.now) default.entry)) }
     ensures memory { IfErr result (λ e. e ≡ Refused.Memory) }
 {
-    let rules = rules_of(alloc, schema)?;
-    let validations = NodeRules::of(alloc, rules)?;
-    let default = copy_default(schema)?;
+    let validations = NodeRules::of_schema(alloc, schema)?;
+    let default = copy_of(default)?;
     Ok(Keywords {
         validations,
         format: format_of(schema),
@@ -37,16 +82,15 @@ pub(crate) fn keywords_of(alloc: Global, schema: &Value) -> Result<Keywords, Ref
     })
 }
 
-// Returns the keywords of a marker, which stands for a schema beyond the maximum depth.
+// Returns the keywords of the marker of a schema with this default.
 #[tactic(auto, unfolding(crate::specs::View::marker_view, crate::specs::Raw::keywords_view))]
-pub(crate) fn marker_of(alloc: Global, schema: &Value) -> Result<Keywords, Refused>
-    ensures keywords { IfOk result (λ k. keywords_view k ≡ marker_view (view schema.now)) }
+pub(crate) fn marker_with(alloc: Global, default: Option<&Value>) -> Result<Keywords, Refused>
+    ensures keywords { IfOk result (λ k. keywords_view k
+        ≡ marker_with (option_map (λ v. view v.now) default.entry)) }
     ensures memory { IfErr result (λ e. e ≡ Refused.Memory) }
 {
-    let mut rules = Vec::with_capacity(alloc, 1)?;
-    rules.push(Err(CompilationError::SchemaTooDeep { depth: TOO_DEEP }))?;
-    let validations = NodeRules::of(alloc, rules)?;
-    let default = copy_default(schema)?;
+    let validations = NodeRules::too_deep(alloc, LEVELS)?;
+    let default = copy_of(default)?;
     Ok(Keywords {
         validations,
         format: SchemaFormat::None,
@@ -60,33 +104,69 @@ pub(crate) fn marker_of(alloc: Global, schema: &Value) -> Result<Keywords, Refus
     })
 }
 
-pub(crate) fn no_keywords(alloc: Global) -> Keywords {
-    Keywords {
-        validations: NodeRules::none(alloc),
-        format: SchemaFormat::None,
-        is_map: false,
-        preserve_unknown_fields: false,
-        embedded_resource: false,
-        max_length: None,
-        max_items: None,
-        max_properties: None,
-        default: None,
+/// Reports whether a keyword is present and `true`.
+pub(crate) fn is_set(schema: &Value, keyword: &str) -> bool
+    ensures { result ≡ is_set keyword.now (view schema.now) }
+{
+    schema.get(keyword).and_then(Value::as_bool) == Some(true)
+}
+
+/// Returns how strings at a node are converted: `IntOrString` under
+/// `x-kubernetes-int-or-string: true`, else what `format` names.
+#[tactic(auto, unfolding(kube_schema_values::specs::Node::format_of))]
+pub(crate) fn format_of(schema: &Value) -> SchemaFormat
+    ensures { result ≡ format_of (view schema.now) }
+{
+    if is_set(schema, "x-kubernetes-int-or-string") {
+        return SchemaFormat::IntOrString;
+    }
+    match schema.get("format").and_then(Value::as_str) {
+        Some(name) => SchemaFormat::named(name),
+        None => SchemaFormat::None,
     }
 }
 
-#[tactic(auto, unfolding(kube_schema_values::specs::DefaultsAccessors::default_in))]
-fn copy_default(schema: &Value) -> Result<Option<Value>, AllocError>
-    ensures { IfOk result (λ o. option_map view o ≡ default_in (view schema.now)) }
+/// Reports whether a node is a map node, whose objects keep their
+/// keys unescaped: `additionalProperties` is present and not `false`.
+#[tactic(auto, unfolding(kube_schema_values::specs::Node::is_map))]
+pub(crate) fn is_map(schema: &Value) -> bool
+    ensures { result ≡ is_map (view schema.now) }
 {
-    let Some(default) = schema.get("default") else {
+    match schema.get("additionalProperties") {
+        Some(additional) => additional.as_bool() != Some(false),
+        None => false,
+    }
+}
+
+/// Reports whether the objects at a node are embedded
+/// resources: `x-kubernetes-embedded-resource` is `true`.
+#[tactic(auto, unfolding(kube_schema_values::specs::Node::is_embedded))]
+pub(crate) fn is_embedded(schema: &Value) -> bool
+    ensures { result ≡ is_embedded (view schema.now) }
+{
+    is_set(schema, "x-kubernetes-embedded-resource")
+}
+
+/// `default`, if it is there.
+#[tactic(auto, unfolding(kube_schema_values::specs::DefaultsAccessors::default_in))]
+pub(crate) fn default_in(schema: &Value) -> Option<&Value>
+    ensures { option_map (λ v. view v.now) result ≡ default_in (view schema.now) }
+{
+    schema.get("default")
+}
+
+fn copy_of(value: Option<&Value>) -> Result<Option<Value>, AllocError>
+    ensures { IfOk result (λ o. option_map view o ≡ option_map (λ v. view v.now) value.entry) }
+{
+    let Some(value) = value else {
         return Ok(None);
     };
-    let copy = default.clone()?;
+    let copy = value.clone()?;
     Ok(Some(copy))
 }
 
 #[tactic(auto, unfolding(kube_schema_values::specs::DefaultsAccessors::preserves))]
-fn preserves(schema: &Value) -> bool
+pub(crate) fn preserves(schema: &Value) -> bool
     ensures { result ≡ preserves (view schema.now) }
 {
     schema

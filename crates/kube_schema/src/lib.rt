@@ -15,9 +15,8 @@
 //! }
 //! ```
 //!
-//! Without compiling a schema, use [`apply_defaults`], [`bind`],
-//! [`rules_of`] and [`escape_field_name`]. Calls that allocate take
-//! the allocator first, and return [`Refused`] if memory is refused.
+//! [`apply_defaults`] and [`bind`] take a schema as JSON, and compile it at each call.
+//! Calls that allocate take the allocator first, and return [`Refused`] if memory is refused.
 //!
 //! Proved: rules, names, bound and filled values are what their definitions say, and the
 //! nodes of a compiled schema are the tree of its schema. Laws: filling twice is filling
@@ -31,22 +30,34 @@ mod keywords;
 pub mod laws;
 mod no_rules;
 mod node;
+mod node_keywords;
 mod nodes;
+mod reached;
+mod reading;
 mod sharing;
+mod source;
 mod table;
 pub mod table_laws;
 
-pub use binding::{bind_node, bind_node_part, bind_part, rebind_node_part, rebind_part};
-pub use compile::compile_schema;
-pub use defaults::fill_node;
+pub use binding::{bind, bind_node, bind_node_part, rebind_node_part};
+pub use compile::{compile_on_demand, compile_schema, read_schema};
+pub use defaults::{apply_defaults, fill_node};
 pub use kube_schema_rules::{
     BranchKind, CompilationError, CompilationResult, Demands, Rule, RuleFault, compile_rule,
     laws as rule_laws, rule_values, rules_of,
 };
 pub use kube_schema_values::{
-    SchemaFormat, apply_defaults, bind, bind_plain, bind_text, bound_laws, escape_field_name,
-    filled_laws, filled_value, name_laws, unescape_field_name,
+    MAX_SCHEMA_DEPTH, SchemaFormat, bind_plain, bind_text, bound_laws, escape_field_name,
+    filled_laws, name_laws, unescape_field_name,
 };
-pub use kube_types_refused::Refused;
+pub use kube_types::Refused;
 pub use node::{CompiledSchema, SchemaNode};
+pub use node_keywords::NodeKeywords;
+pub use nodes::Keywords;
+pub use reached::compile_reached;
+pub use reading::ReadKeywords;
 pub use sharing::filled_by_node;
+pub use source::SourceKeywords;
+
+/// The number of levels of a schema that are read: depths 0 to 64.
+pub(crate) const LEVELS: usize = MAX_SCHEMA_DEPTH + 1;

@@ -5,14 +5,18 @@ ghost use Rattle.kube_schema.specs.declared.nodes.PropertyLink.{PropertyLink};
 ghost use Rattle.kube_schema.specs.NoRules.{AreKnown, HasNoRules, HasNoRulesBelow};
 ghost use Rattle.kube_schema.specs.Raw.{assemble, tree};
 
+use crate::node_keywords::NodeKeywords;
 use crate::nodes::{NodeId, PropertyLink, TableNode};
 use crate::table::Table;
 use std::alloc::{AllocError, Global};
 
 // Returns, for each node of a table, how many levels are below it at most, if it is
 // known that none of them has a rule. The contract only covers what is known.
-pub(crate) fn levels_below(alloc: Global, table: &Table) -> Result<Vec<Option<u8>>, AllocError>
-    ensures { IfOk result (λ v. AreKnown table.now.nodes.items v.items) }
+pub(crate) fn levels_below<K: NodeKeywords>(
+    alloc: Global,
+    table: &Table<K>,
+) -> Result<Vec<Option<u8>>, AllocError>
+    ensures { IfOk result (λ v. AreKnown K.own table.now.nodes.items v.items) }
 {
     let count = table.nodes.len();
     let mut below: Vec<Option<u8>> = vec![in alloc; None; count]?;
@@ -25,9 +29,13 @@ pub(crate) fn levels_below(alloc: Global, table: &Table) -> Result<Vec<Option<u8
 }
 
 // The number of levels of all trees within a node, if it is known that none of them has a rule.
-fn children_levels(table: &Table, below: &[Option<u8>], node: &TableNode) -> Option<u8>
-    requires { AreKnown table.now.nodes.items below.now }
-    ensures { IfSome result (λ m. HasNoRulesBelow m (assemble (tree table.now.nodes.items) node.now)) }
+fn children_levels<K: NodeKeywords>(
+    table: &Table<K>,
+    below: &[Option<u8>],
+    node: &TableNode<K>,
+) -> Option<u8>
+    requires { AreKnown K.own table.now.nodes.items below.now }
+    ensures { IfSome result (λ m. HasNoRulesBelow m (assemble K.own (tree K.own table.now.nodes.items) node.now)) }
 {
     let children = &node.children;
     let properties = links_levels(table, below, &children.properties)?;
@@ -41,10 +49,14 @@ fn children_levels(table: &Table, below: &[Option<u8>], node: &TableNode) -> Opt
 }
 
 // The number of levels of all trees of properties, if it is known that none of them has a rule.
-fn links_levels(table: &Table, below: &[Option<u8>], links: &[PropertyLink]) -> Option<u8>
-    requires { AreKnown table.now.nodes.items below.now }
+fn links_levels<K: NodeKeywords>(
+    table: &Table<K>,
+    below: &[Option<u8>],
+    links: &[PropertyLink],
+) -> Option<u8>
+    requires { AreKnown K.own table.now.nodes.items below.now }
     ensures { IfSome result (λ m. (i : ℕ) (l : PropertyLink) → slice_get links.now i ≡ Some l
-        → HasNoRules m (tree table.now.nodes.items l.node.0)) }
+        → HasNoRules m (tree K.own table.now.nodes.items l.node.0)) }
 {
     let mut most: u8 = 0;
     for link in links {
@@ -55,10 +67,14 @@ fn links_levels(table: &Table, below: &[Option<u8>], links: &[PropertyLink]) -> 
 }
 
 // The number of levels of all trees of nodes, if it is known that none of them has a rule.
-fn numbers_levels(table: &Table, below: &[Option<u8>], numbers: &[NodeId]) -> Option<u8>
-    requires { AreKnown table.now.nodes.items below.now }
+fn numbers_levels<K: NodeKeywords>(
+    table: &Table<K>,
+    below: &[Option<u8>],
+    numbers: &[NodeId],
+) -> Option<u8>
+    requires { AreKnown K.own table.now.nodes.items below.now }
     ensures { IfSome result (λ m. (i : ℕ) (n : NodeId) → slice_get numbers.now i ≡ Some n
-        → HasNoRules m (tree table.now.nodes.items n.0)) }
+        → HasNoRules m (tree K.own table.now.nodes.items n.0)) }
 {
     let mut most: u8 = 0;
     for number in numbers {
@@ -70,10 +86,14 @@ fn numbers_levels(table: &Table, below: &[Option<u8>], numbers: &[NodeId]) -> Op
 
 // The number of levels of the tree of a node, if it is known that none of
 // them has a rule. If there is no node, 0.
-fn maybe_levels(table: &Table, below: &[Option<u8>], number: Option<NodeId>) -> Option<u8>
-    requires { AreKnown table.now.nodes.items below.now }
+fn maybe_levels<K: NodeKeywords>(
+    table: &Table<K>,
+    below: &[Option<u8>],
+    number: Option<NodeId>,
+) -> Option<u8>
+    requires { AreKnown K.own table.now.nodes.items below.now }
     ensures { IfSome result (λ m. (n : NodeId) → number ≡ Some n
-        → HasNoRules m (tree table.now.nodes.items n.0)) }
+        → HasNoRules m (tree K.own table.now.nodes.items n.0)) }
 {
     match number {
         Some(number) => node_levels(table, below, number),
@@ -82,12 +102,16 @@ fn maybe_levels(table: &Table, below: &[Option<u8>], number: Option<NodeId>) -> 
 }
 
 // The number of levels of the tree of a node, if it is known that none of them has a rule.
-fn node_levels(table: &Table, below: &[Option<u8>], number: NodeId) -> Option<u8>
-    requires { AreKnown table.now.nodes.items below.now }
-    ensures { IfSome result (λ m. HasNoRules m (tree table.now.nodes.items number.0)) }
+fn node_levels<K: NodeKeywords>(
+    table: &Table<K>,
+    below: &[Option<u8>],
+    number: NodeId,
+) -> Option<u8>
+    requires { AreKnown K.own table.now.nodes.items below.now }
+    ensures { IfSome result (λ m. HasNoRules m (tree K.own table.now.nodes.items number.0)) }
 {
     let node = table.nodes.get(number.0)?;
-    if !node.keywords.validations.rules.is_empty() {
+    if node.keywords.may_have_rules() {
         return None;
     }
     let levels = (*below.get(number.0)?)?;

@@ -1,4 +1,5 @@
 //! Nodes as stored in the table of a compiled schema.
+use crate::node_keywords::NodeKeywords;
 use kube_schema_rules::NodeRules;
 use kube_schema_values::SchemaFormat;
 use serde_json::Value;
@@ -40,7 +41,7 @@ pub struct Children {
 }
 
 #[derive(Debug, Drop)]
-pub struct TableNode {
-    pub keywords: Keywords,
+pub struct TableNode<K: NodeKeywords> {
+    pub keywords: K,
     pub children: Children,
 }

@@ -9,9 +9,11 @@ ghost use Rattle.kube_schema.specs.CompiledDefaults.{tree_accessors};
 ghost use Rattle.kube_schema.specs.Shown.{node_tree};
 ghost use Rattle.kube_schema.specs.Tree.{Node, named_of, names, default_of};
 
-use crate::defaults::{LEVELS, fill, node_of_member};
+use crate::LEVELS;
+use crate::defaults::{fill, node_of_member};
 use crate::node::SchemaNode;
-use kube_types_refused::Refused;
+use crate::node_keywords::NodeKeywords;
+use kube_types::Refused;
 use serde_json::{Map, Value};
 use std::alloc::Global;
 use std::borrow::Cow;
@@ -22,9 +24,9 @@ use std::borrow::Cow;
 /// # Errors
 ///
 /// [`Refused`] if memory is refused.
-pub fn filled_by_node<'v>(
+pub fn filled_by_node<'v, K: NodeKeywords>(
     alloc: Global,
-    node: &SchemaNode<'_>,
+    node: &SchemaNode<'_, K>,
     value: &'v Value,
 ) -> Result<Cow<'v, Value>, Refused>
     ensures filled { IfOk result (λ v. view (cow_value v)
@@ -39,7 +41,7 @@ pub fn filled_by_node<'v>(
 }
 
 // Reports whether a value has all defaults. The contract only covers true.
-fn is_filled(node: &SchemaNode<'_>, value: &Value) -> bool
+fn is_filled<K: NodeKeywords>(node: &SchemaNode<'_, K>, value: &Value) -> bool
     ensures { IsTrue result → defaulted_value tree_accessors 65 (node_tree node.now) (view value.now)
         ≡ view value.now }
 {
@@ -52,7 +54,7 @@ fn is_filled(node: &SchemaNode<'_>, value: &Value) -> bool
 // Reports whether a value has the defaults of this number of levels. The contract only covers true.
 #[cycle(has)]
 #[tactic(auto, using(kube_schema_values::proofs::Whole::whole_levels), unfolding(crate::specs::CompiledDefaults::tree_accessors))]
-fn has_defaults(node: &SchemaNode<'_>, value: &Value, levels: usize) -> bool
+fn has_defaults<K: NodeKeywords>(node: &SchemaNode<'_, K>, value: &Value, levels: usize) -> bool
     ensures { IsTrue result → defaulted_value tree_accessors levels (node_tree node.now) (view value.now)
         ≡ view value.now }
 {
@@ -72,7 +74,11 @@ fn has_defaults(node: &SchemaNode<'_>, value: &Value, levels: usize) -> bool
 }
 
 #[cycle(has)]
-fn items_have_defaults(node: &SchemaNode<'_>, items: &Vec<Value>, levels: usize) -> bool
+fn items_have_defaults<K: NodeKeywords>(
+    node: &SchemaNode<'_, K>,
+    items: &Vec<Value>,
+    levels: usize,
+) -> bool
     ensures { IsTrue result
         → map_items (defaulted_value tree_accessors levels (node_tree node.now)) (items_view items.now.items)
         ≡ items_view items.now.items }
@@ -87,7 +93,11 @@ fn items_have_defaults(node: &SchemaNode<'_>, items: &Vec<Value>, levels: usize)
 
 #[cycle(has)]
 #[tactic(auto, using(kube_schema_values::proofs::Whole::stays))]
-fn members_have_defaults(node: &SchemaNode<'_>, members: &Map<String, Value>, levels: usize) -> bool
+fn members_have_defaults<K: NodeKeywords>(
+    node: &SchemaNode<'_, K>,
+    members: &Map<String, Value>,
+    levels: usize,
+) -> bool
     ensures { IsTrue result
         → map_members (member_by tree_accessors (defaulted_value tree_accessors levels) (node_tree node.now))
         (members_view members.now.entries) ≡ members_view members.now.entries }
@@ -102,7 +112,12 @@ fn members_have_defaults(node: &SchemaNode<'_>, members: &Map<String, Value>, le
 
 #[cycle(has)]
 #[tactic(auto, using(kube_schema_values::proofs::Fills::member_none, kube_schema_values::proofs::Fills::member_some))]
-fn member_has_defaults(node: &SchemaNode<'_>, key: &str, member: &Value, levels: usize) -> bool
+fn member_has_defaults<K: NodeKeywords>(
+    node: &SchemaNode<'_, K>,
+    key: &str,
+    member: &Value,
+    levels: usize,
+) -> bool
     ensures { IsTrue result
         → member_by tree_accessors (defaulted_value tree_accessors levels)
         (node_tree node.now) key.now (view member.now) ≡ view member.now }
@@ -114,7 +129,7 @@ fn member_has_defaults(node: &SchemaNode<'_>, key: &str, member: &Value, levels:
 }
 
 // Reports whether all keys that have a default are present. The contract only covers true.
-fn lacks_no_key(node: &SchemaNode<'_>, members: &Map<String, Value>) -> bool
+fn lacks_no_key<K: NodeKeywords>(node: &SchemaNode<'_, K>, members: &Map<String, Value>) -> bool
     ensures { IsTrue result → (f : Node → Data → Data)
         → with_defaults (default_by tree_accessors f (node_tree node.now))
         (names (named_of (node_tree node.now))) (members_view members.now.entries)
@@ -133,7 +148,11 @@ fn lacks_no_key(node: &SchemaNode<'_>, members: &Map<String, Value>) -> bool
 
 // Reports whether a key is present or has no default. The contract only covers true.
 #[tactic(auto, using(kube_schema_values::proofs::Filling::default_there))]
-fn lacks_no_default(key: &str, property: &SchemaNode<'_>, members: &Map<String, Value>) -> bool
+fn lacks_no_default<K: NodeKeywords>(
+    key: &str,
+    property: &SchemaNode<'_, K>,
+    members: &Map<String, Value>,
+) -> bool
     ensures { IsTrue result → (f : Data → Data)
         → members_view members.now.entries
         ≡ put_new key.now (option_map f (default_of (node_tree property.now)))

@@ -4,17 +4,18 @@ ghost use Rattle.std.proofs.Math.ListN.{set};
 ghost use Rattle.std.proofs.Props.{props};
 ghost use Rattle.kube_schema.specs.Raw.{any_default, Closed, closed_prop, AllOrdered, IsWithin, LinksOrdered, Appends};
 
-use crate::nodes::{Children, Keywords, NodeId, TableNode};
+use crate::node_keywords::NodeKeywords;
+use crate::nodes::{Children, NodeId, TableNode};
 use std::alloc::{AllocError, Global};
 
 #[derive(Debug, Drop)]
-pub struct Table {
-    pub(crate) nodes: Vec<TableNode>,
+pub struct Table<K: NodeKeywords> {
+    pub(crate) nodes: Vec<TableNode<K>>,
     ghost closed: { Closed nodes.items } by { closed_prop nodes.items },
     ghost ordered: { AllOrdered nodes.items } by { Prim.hlevel props },
 }
 
-pub(crate) fn new_table(alloc: Global) -> Table
+pub(crate) fn new_table<K: NodeKeywords>(alloc: Global) -> Table<K>
     ensures { result.nodes.items ≡ [] }
 {
     Table {
@@ -23,12 +24,12 @@ pub(crate) fn new_table(alloc: Global) -> Table
 }
 
 // Appends a node without children.
-pub(crate) fn push_leaf(
-    table: &mut Table,
+pub(crate) fn push_leaf<K: NodeKeywords>(
+    table: &mut Table<K>,
     alloc: Global,
-    keywords: Keywords,
+    keywords: K,
 ) -> Result<NodeId, AllocError>
-    ensures { IfOk result (λ n. Appends table.old.nodes.items table.new.nodes.items n keywords) }
+    ensures { IfOk result (λ n. Appends K.own table.old.nodes.items table.new.nodes.items n keywords) }
 {
     let number = NodeId(table.nodes.len());
     let children = Children {
@@ -45,7 +46,11 @@ pub(crate) fn push_leaf(
 }
 
 // Replaces the node at a number.
-pub(crate) fn replace_node(table: &mut Table, number: NodeId, node: TableNode)
+pub(crate) fn replace_node<K: NodeKeywords>(
+    table: &mut Table<K>,
+    number: NodeId,
+    node: TableNode<K>,
+)
     requires stands { number.0 < length table.old.nodes.items }
     requires within { IsWithin (suc number.0) (length table.old.nodes.items) node.children }
     requires ordered { LinksOrdered node.children.properties.items }
@@ -55,11 +60,11 @@ pub(crate) fn replace_node(table: &mut Table, number: NodeId, node: TableNode)
 }
 
 // Reports whether any node has a default.
-pub(crate) fn has_defaults(table: &Table) -> bool
-    ensures { result ≡ any_default table.now.nodes.items }
+pub(crate) fn has_defaults<K: NodeKeywords>(table: &Table<K>) -> bool
+    ensures { result ≡ any_default K.own table.now.nodes.items }
 {
     for node in table.nodes.as_slice() {
-        if node.keywords.default.is_some() {
+        if node.keywords.default().is_some() {
             return true;
         }
     }

@@ -22,13 +22,10 @@ ghost use Rattle.kube_schema_parts.specs.Parts.{AreNamesIn, AreOwnNames, ArePart
 use cel_demand::Demand;
 use cel_value::{Entries, Key, MapKeys, MapRows, Refused, SharedEntries, Text, Value};
 use kube_schema_values::{
-    MemberKeys, Node, bind_at, bind_number, bind_plain_with, is_its_own_escape,
+    MAX_SCHEMA_DEPTH, MemberKeys, Node, bind_at, bind_number, bind_plain_with, is_its_own_escape,
 };
 use serde_json::{Map as Members, Value as Json};
 use std::alloc::Global;
-
-/// The greatest depth at which parts are converted; deeper values are converted whole.
-const MAX_DEPTH: usize = 64;
 
 /// The least number of items whose parts are made together.
 const FEW_ROWS: usize = 4;
@@ -587,7 +584,7 @@ fn list_of<'a>(value: &'a Json, depth: usize, item: &Demand) -> Option<&'a Vec<J
     ensures within { IfSome result (λ _. depth ≤ 64) }
     ensures items { IfSome result (λ items. json_view value.now ≡ array (items_view items.now.items)) }
 {
-    if depth > MAX_DEPTH {
+    if depth > MAX_SCHEMA_DEPTH {
         return None;
     }
     if matches!(item, Demand::Whole) {
@@ -604,7 +601,7 @@ pub(crate) fn object_of(value: &Json, depth: usize) -> Option<&Members<String, J
     ensures within { IfSome result (λ _. depth ≤ 64) }
     ensures members { IfSome result (λ m. json_view value.now ≡ object (members_view m.now.entries)) }
 {
-    if depth > MAX_DEPTH {
+    if depth > MAX_SCHEMA_DEPTH {
         return None;
     }
     match value {

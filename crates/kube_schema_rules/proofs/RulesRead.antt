@@ -1,8 +1,8 @@
 -- What rules read, one rule after another.
 use Rattle.std.proofs.Common.{◌≡◌, ◌<◌, ℕ, suc, List, map, drop, length, get_or, Option, Some, option_map, Result, Ok, Err, sym, ap, ◌∙◌, drop-cons}
-use Rattle.cel_demand.specs.Part.{Part, both_read, part_read}
-use Rattle.cel_demand.specs.Reads.{reads_of}
-use Rattle.cel_syntax_ast.specs.Term.{Term}
+use Rattle.cel.specs.Part.{Part, both_read, part_read}
+use Rattle.cel.specs.Reads.{reads_of}
+use Rattle.cel_syntax.specs.Term.{Term}
 use Rattle.kube_schema_rules.specs.Compilation.{Compiled, Malformed}
 use Rattle.kube_schema_rules.specs.Demands.{rule_read, rules_read}
 use Rattle.kube_schema_rules.specs.Reads.{texts_read}

@@ -2,12 +2,15 @@
 -- Which rules compile (Kubernetes API reference, ValidationRule of
 -- CustomResourceDefinition): a rule is malformed if its fields have a fault, if its text
 -- doesn't derive a tree by the CEL grammar, or if it has a messageExpression that doesn't.
-use Rattle.std.specs.Prelude.{ℕ, List, [], ◌∷◌, ◌++◌, Bool, Option, Some, None, option_map, Result, Ok, Err, codes, decimal, string_bytes}
+use Rattle.std.specs.Prelude.{ℕ, List, [], ◌∷◌, ◌++◌, Bool, Option, option_map, Result, Ok, Err, codes, decimal, string_bytes}
 use Rattle.serde_json.specs.Data.{Data, Items, no_items, item}
 use Rattle.cel_syntax.specs.Reading.{tree_of}
-use Rattle.cel_syntax_ast.specs.Term.{Term}
-use Rattle.cel_syntax_ast.specs.FreeNames.{is_free}
+use Rattle.cel_syntax.specs.Term.{Term}
+use Rattle.cel_syntax.specs.FreeNames.{is_free}
+use Rattle.cel.specs.Checks as check
+use Rattle.cel.specs.Checks.{Trees, Unread, check_view, trees_of}
 use Rattle.cel.specs.Program.{program_term}
+use Rattle.cel.specs.declared.check.Check.{Check}
 use Rattle.kube_schema_rules.specs.Rules.{Fields, Fault, fault_text, fault_view, rule_of, rule_view, ◌>>=◌}
 use Rattle.kube_schema_rules.specs.declared.result.CompilationResult.{CompilationResult}
 use Rattle.kube_schema_rules.specs.declared.compilation.CompilationError.{CompilationError}
@@ -32,37 +35,28 @@ pub data Malformed : Type 0 where
   -- no rule that is parsed from JSON has this fault
   past_depth : ℕ → Malformed
 
--- the tree, or the fault if there is none
-abbrev pub required_tree : Malformed → Option Term → Result Term Malformed
-required_tree m (Some t) = Ok t
-required_tree m None = Err m
+-- why a rule with such a text is malformed
+abbrev pub unread_in : Fields → Unread → Malformed
+unread_in fields check.unread = unread fields.rule
+unread_in fields (check.unread_message m) = unread_message fields.rule m
 
--- the tree of a messageExpression, if there is one
-abbrev pub message_tree_of : List ℕ → Option (List ℕ) → Result (Option Term) Malformed
-message_tree_of rule None = Ok None
-message_tree_of rule (Some m) = do
-  tree ← required_tree (unread_message rule m) (tree_of m)
-  Ok (Some tree)
+abbrev pub trees_in : Fields → Result Trees Unread → Result Trees Malformed
+trees_in fields (Ok trees) = Ok trees
+trees_in fields (Err u) = Err (unread_in fields u)
 
-abbrev pub with_trees : Fields → Term → Option Term → Compiled
-with_trees fields tree message_tree = record {
+abbrev pub with_trees : Fields → Trees → Compiled
+with_trees fields trees = record {
   fields = fields;
-  tree = tree;
-  is_transition = is_free (codes "oldSelf") tree;
-  message_tree = message_tree;
+  tree = trees.tree;
+  is_transition = is_free (codes "oldSelf") trees.tree;
+  message_tree = trees.message_tree;
 }
-
--- a rule whose text has this tree
-abbrev pub with_tree : Fields → Term → Result Compiled Malformed
-with_tree fields tree = do
-  message_tree ← message_tree_of fields.rule fields.message_expression
-  Ok (with_trees fields tree message_tree)
 
 -- the text first, then the messageExpression
 unfoldable pub compile_result : Fields → Result Compiled Malformed
 compile_result fields = do
-  tree ← required_tree (unread fields.rule) (tree_of fields.rule)
-  with_tree fields tree
+  trees ← trees_in fields (trees_of tree_of fields.rule fields.message_expression)
+  Ok (with_trees fields trees)
 
 abbrev pub compiled_of : Result Fields Fault → Result Compiled Malformed
 compiled_of (Ok fields) = compile_result fields
@@ -105,3 +99,7 @@ result_view r = record {
 abbrev pub compiled_seen : Result CompilationResult CompilationError → Result Compiled Malformed
 compiled_seen (Ok r) = Ok (result_view r)
 compiled_seen (Err e) = Err (error_view e)
+
+abbrev pub check_seen : Result Check CompilationError → Result Trees Malformed
+check_seen (Ok c) = Ok (check_view c)
+check_seen (Err e) = Err (error_view e)

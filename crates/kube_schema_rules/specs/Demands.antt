@@ -1,8 +1,8 @@
 -- Trusted by the clauses of other library calls.
 -- What rules read of the value of a name.
 use Rattle.std.specs.Prelude.{◌≡◌, ℕ, List, [], ◌∷◌, Option, None, option_map, Result, Ok, Err, codes}
-use Rattle.cel_demand.specs.Demand.{part_of}
-use Rattle.cel_demand.specs.Part.{Part, both_read}
+use Rattle.cel.specs.Demand.{part_of}
+use Rattle.cel.specs.Part.{Part, both_read}
 use Rattle.kube_schema_rules.specs.Compilation.{Compiled, Malformed}
 use Rattle.kube_schema_rules.specs.Reads.{texts_read}
 use Rattle.kube_schema_rules.specs.declared.demands.Demands.{Demands}

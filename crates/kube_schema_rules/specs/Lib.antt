@@ -8,3 +8,4 @@ pub mod Rules
 pub mod Compilation
 pub mod Reads
 pub mod Demands
+pub mod CompiledRules

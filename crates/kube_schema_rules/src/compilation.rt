@@ -2,15 +2,19 @@
 ghost use Rattle.std.specs.Prelude.{◌≡◌, IfErr, IfOk, map, option_map};
 ghost use Rattle.serde_json.specs.View.{view};
 ghost use Rattle.kube_schema_rules.specs.Rules.{rule_view, rule_items};
+ghost use Rattle.cel.specs.Checks as check;
+ghost use Rattle.cel.specs.Checks.{check_view, trees_of};
 ghost use Rattle.cel.specs.Program.{program_term};
-ghost use Rattle.cel_syntax_ast.specs.Term.{term};
-ghost use Rattle.kube_schema_rules.specs.Compilation.{compile_result, compiled_seen, compiled_rule, compiled_rules, result_view, with_tree, with_trees};
+ghost use Rattle.cel_syntax.specs.Reading.{tree_of};
+ghost use Rattle.cel_syntax.specs.Term.{term};
+ghost use Rattle.kube_schema_rules.specs.Compilation.{check_seen, compile_result, compiled_seen, compiled_rule, compiled_rules, error_view, result_view, trees_in, unread_in, with_trees};
 
 use crate::demands::text_demands;
 use crate::result::CompilationResult;
 use crate::rule::{Rule, RuleFault, rule_values};
-use cel::{Expr, ParseErrors, Program};
-use kube_types_refused::Refused;
+use cel::{Check, CheckError, Expr, ParseErrors, Program, Untyped};
+use cel_syntax_ast::both;
+use kube_types::Refused;
 use serde_json::Value;
 use std::alloc::{AllocError, Global};
 use std::fmt;
@@ -122,52 +126,61 @@ fn compile_text(
     ensures rule { IfOk result (λ r. compiled_seen r ≡ compile_result (rule_view rule)) }
     ensures memory { IfErr result (λ e. e ≡ Refused.Memory) }
 {
-    match Program::compile(alloc, rule.rule.as_str())? {
-        Err(source) => Ok(Err(CompilationError::Parse {
-            rule: rule.rule,
-            source,
-        })),
-        Ok(program) => compile_message(alloc, rule, program),
+    let (check, rule) = both(check_of(alloc, &rule), Ok(rule))?;
+    match check {
+        Err(error) => Ok(Err(error)),
+        Ok(check) => Ok(Ok(with_check(alloc, rule, check)?)),
     }
 }
 
-// Compiles the messageExpression of a rule. `program` is the program of its own text.
-fn compile_message(
-    alloc: Global,
-    rule: Rule,
-    program: Program,
-) -> Result<Result<CompilationResult, CompilationError>, Refused>
-    ensures rule { IfOk result (λ r. compiled_seen r ≡ with_tree (rule_view rule) (program_term program)) }
+// The programs of a rule's texts.
+fn check_of(alloc: Global, rule: &Rule) -> Result<Result<Check, CompilationError>, Refused>
+    ensures check { IfOk result (λ r. check_seen r ≡ trees_in (rule_view rule.now)
+        (trees_of tree_of (rule_view rule.now).rule (rule_view rule.now).message_expression)) }
     ensures memory { IfErr result (λ e. e ≡ Refused.Memory) }
 {
-    let Some(text) = &rule.message_expression else {
-        return Ok(Ok(with_programs(alloc, rule, program, None)?));
-    };
-    match Program::compile(alloc, text.as_str())? {
-        Err(source) => Ok(Err(CompilationError::MessageExpressionParse {
-            message_expression: text.clone()?,
-            rule: rule.rule,
+    let text = rule.rule.as_str();
+    let message = rule.message_expression.as_deref();
+    match Check::compile(alloc, &Untyped, text, message)? {
+        Ok(check) => Ok(Ok(check)),
+        Err(error) => Ok(Err(unread_error(alloc, rule, error)?)),
+    }
+}
+
+// Returns the error of a rule one of whose texts doesn't parse.
+fn unread_error(
+    alloc: Global,
+    rule: &Rule,
+    error: CheckError<'_, ParseErrors>,
+) -> Result<CompilationError, AllocError>
+    ensures { IfOk result (λ e. error_view e ≡ unread_in (rule_view rule.now) (check.error_view error.entry)) }
+{
+    match error {
+        CheckError::Expression(source) => Ok(CompilationError::Parse {
+            rule: rule.rule.clone()?,
             source,
-        })),
-        Ok(message_program) => {
-            let compiled = with_programs(alloc, rule, program, Some(message_program))?;
-            Ok(Ok(compiled))
+        }),
+        CheckError::MessageExpression(message, source) => {
+            Ok(CompilationError::MessageExpressionParse {
+                rule: rule.rule.clone()?,
+                message_expression: String::from_str(alloc, message)?,
+                source,
+            })
         }
     }
 }
 
 // Returns a rule with the programs of its texts.
-fn with_programs(
-    alloc: Global,
-    rule: Rule,
-    program: Program,
-    message_program: Option<Program>,
-) -> Result<CompilationResult, AllocError>
-    ensures rule { IfOk result (λ r. result_view r
-        ≡ with_trees (rule_view rule) (program_term program) (option_map program_term message_program)) }
+fn with_check(alloc: Global, rule: Rule, check: Check) -> Result<CompilationResult, AllocError>
+    ensures rule { IfOk result (λ r. result_view r ≡ with_trees (rule_view rule) (check_view check)) }
 {
-    let is_transition_rule = program.expression().has_free_name("oldSelf");
-    let demands = text_demands(alloc, program.expression(), expression_of(&message_program))?;
+    let is_transition_rule = check.program.expression().has_free_name("oldSelf");
+    let message = expression_of(&check.message_program);
+    let demands = text_demands(alloc, check.program.expression(), message)?;
+    let Check {
+        program,
+        message_program,
+    } = check;
     Ok(CompilationResult {
         program,
         rule,

@@ -1,9 +1,9 @@
 //! How much of the values at a place the rules read.
 ghost use Rattle.std.specs.Prelude.{◌≡◌, codes, IfErr, IfOk, map, None, option_map};
-ghost use Rattle.cel_syntax_ast.specs.Term.{term};
-ghost use Rattle.cel_demand.specs.Demand.{part_of};
-ghost use Rattle.cel_demand.specs.Part.{both_read, part_read};
-ghost use Rattle.cel_demand.specs.Reads.{reads_of};
+ghost use Rattle.cel_syntax.specs.Term.{term};
+ghost use Rattle.cel.specs.Demand.{part_of};
+ghost use Rattle.cel.specs.Part.{both_read, part_read};
+ghost use Rattle.cel.specs.Reads.{reads_of};
 ghost use Rattle.kube_schema_rules.specs.Compilation.{compiled_seen};
 ghost use Rattle.kube_schema_rules.specs.Demands.{AreDemands, rule_read, rules_read};
 ghost use Rattle.kube_schema_rules.specs.Reads.{texts_read};
@@ -12,7 +12,7 @@ use crate::compilation::CompilationError;
 use crate::result::CompilationResult;
 use cel::Expr;
 use cel_demand::{Demand, both_demands, demand_on, demands_of};
-use kube_types_refused::Refused;
+use kube_types::Refused;
 use std::alloc::{AllocError, Global};
 
 /// How much rules read of `self` and of `oldSelf`; None for a name that they don't read.

@@ -1,14 +1,17 @@
 //! The rules of a node, together with what they read.
-ghost use Rattle.std.specs.Prelude.{◌≡◌, [], codes, IfErr, IfOk, map, option_map};
+ghost use Rattle.std.specs.Prelude.{◌≡◌, ◌∷◌, [], codes, Err, IfErr, IfOk, map, option_map};
 ghost use Rattle.cel_demand.proofs.Sets.{same_read-prop};
-ghost use Rattle.cel_demand.specs.Demand.{part_of};
-ghost use Rattle.kube_schema_rules.specs.Compilation.{compiled_seen};
+ghost use Rattle.cel.specs.Demand.{part_of};
+ghost use Rattle.kube_schema_rules.specs.Compilation.{compiled_rules, compiled_seen, past_depth};
 ghost use Rattle.kube_schema_rules.specs.Demands.{rules_read};
+ghost use Rattle.kube_schema_rules.specs.Rules.{rule_items};
+ghost use Rattle.serde_json.specs.View.{view};
 
-use crate::compilation::CompilationError;
+use crate::compilation::{CompilationError, rules_of};
 use crate::demands::{Demands, no_demands, rules_demands};
 use crate::result::CompilationResult;
-use kube_types_refused::Refused;
+use kube_types::Refused;
+use serde_json::Value;
 use std::alloc::Global;
 
 /// The rules of a node, in order, and how much of the values at a place they read.
@@ -60,4 +63,43 @@ impl NodeRules {
         let demands = rules_demands(alloc, rules.as_slice())?;
         Ok(NodeRules { rules, demands })
     }
+
+    /// Compiles the rules of a schema's node.
+    ///
+    /// # Errors
+    ///
+    /// [`Refused`] if memory is refused.
+    pub fn of_schema(alloc: Global, schema: &Value) -> Result<NodeRules, Refused>
+        ensures rules { IfOk result (λ r. map compiled_seen r.rules.items
+            ≡ compiled_rules (rule_items (view schema.now))) }
+        ensures memory { IfErr result (λ e. e ≡ Refused.Memory) }
+    {
+        let rules = rules_of(alloc, schema)?;
+        let made = NodeRules::of(alloc, rules)?;
+        Ok(made)
+    }
+
+    /// Returns the one error of a node at this depth, past the maximum, in place of its rules.
+    ///
+    /// # Errors
+    ///
+    /// [`Refused`] if memory is refused.
+    pub fn too_deep(alloc: Global, depth: usize) -> Result<NodeRules, Refused>
+        ensures rules { IfOk result (λ r. map compiled_seen r.rules.items ≡ Err (past_depth depth) ∷ []) }
+        ensures memory { IfErr result (λ e. e ≡ Refused.Memory) }
+    {
+        let mut rules = Vec::with_capacity(alloc, 1)?;
+        rules.push(Err(CompilationError::SchemaTooDeep { depth }))?;
+        let made = NodeRules::of(alloc, rules)?;
+        Ok(made)
+    }
+}
+
+/// The compiled rules of a node: lent by what stores them, or made for one use.
+#[derive(Drop)]
+pub enum CompiledRules<'a> {
+    /// Lent.
+    Lent(&'a NodeRules),
+    /// Made.
+    Made(NodeRules),
 }

@@ -2,7 +2,7 @@
 ghost use Rattle.std.specs.Prelude.{◌≡◌, codes, option_map};
 ghost use Rattle.cel.specs.Program.{program_term};
 ghost use Rattle.cel_demand.proofs.Sets.{same_read-prop};
-ghost use Rattle.cel_demand.specs.Demand.{part_of};
+ghost use Rattle.cel.specs.Demand.{part_of};
 ghost use Rattle.kube_schema_rules.specs.Reads.{texts_read};
 
 use crate::demands::Demands;

@@ -4,7 +4,7 @@ ghost use Rattle.std.specs.Prelude.{◌≡◌, IfErr, IfOk, option_map, string_b
 ghost use Rattle.serde_json.specs.View.{view, items_view};
 ghost use Rattle.kube_schema_rules.specs.Rules.{fault_view, text_at, bool_at, rule_of, rule_items, parts_view, rule_view, reading_view};
 
-use kube_types_refused::Refused;
+use kube_types::Refused;
 use serde_json::Value;
 use std::alloc::{AllocError, Global};
 use std::fmt;

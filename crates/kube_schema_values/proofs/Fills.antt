@@ -1,18 +1,16 @@
 -- `filled`, part by part.
-use Rattle.std.proofs.Common.{◌≡◌, ℕ, zero, suc, List, [], ◌∷◌, ◌++◌, map, is_some, string_bytes, string_cmp, nat_cmp, subst, Bool, true, false, if◌then◌else◌, Option, Some, None, option_map, option_and_then, unwrap_or, refl, sym, ap, ◌∙◌, codes}
+use Rattle.std.proofs.Common.{◌≡◌, ℕ, zero, suc, List, [], ◌∷◌, map, is_some, string_bytes, nat_cmp, Bool, true, false, Option, Some, None, option_map, option_and_then, unwrap_or, refl, sym, ap, ◌∙◌, codes}
 use Rattle.std.specs.Option.{option_or}
 use Rattle.std.specs.BTreeMap.{is_at}
 use Rattle.std.specs.Cmp.Lexicographic.{slice_cmp}
-use Rattle.std.specs.List.Sorted.{IsStrictlySortedBy}
-use Rattle.std.specs.Map.{keys_of, lookup}
+use Rattle.std.specs.Map.{lookup}
 use Rattle.serde_json.proofs.Views.{Entry, view-lookup}
 use Rattle.serde_json.specs.Data.{Data, null, boolean, number, string, array, object, Items, item, Members, put}
 use Rattle.serde_json.specs.Find.{get, get_member, as_object, as_array}
 use Rattle.serde_json.specs.View.{view, items_view, items_of, members_view}
 use Rattle.serde_json.specs.declared.value.Value.{Value}
-use Rattle.kube_schema_values.specs.DefaultsAccessors.{DefaultsAccessors, raw, property, declared_properties, members_or_none, additional, preserves}
+use Rattle.kube_schema_values.specs.DefaultsAccessors.{DefaultsAccessors, property, declared_properties, members_or_none}
 use Rattle.kube_schema_values.specs.Defaults.{put_new, map_items, with_defaults, member_schema, default_by, member_by, object_by, defaulted_by, defaulted_value}
-use Rattle.kube_schema_values.proofs.InOrder.{member_in_order}
 
 module _ {S : Type 0} (accessors : DefaultsAccessors S) where
   pub filled_past : (k : ℕ) (s : S) (d : Data) → k ≡ 0 → defaulted_value accessors k s d ≡ d
@@ -134,18 +132,3 @@ property_is k schema = by_option (get (codes "properties") schema)
     by_option (Some (string s)) = refl
     by_option (Some (array ds)) = refl
     by_option (Some (object ms)) = refl
-
--- in a loop over the declared members
-pub property_here : (schema : Data) (done iter left : List Entry) (e : Entry) → members_or_none (declared_properties schema) ≡ members_view (done ++ iter) → IsStrictlySortedBy string_cmp (keys_of (done ++ iter)) → iter ≡ e ∷ left
-    → property (string_bytes e.0) schema ≡ Some (view e.1)
-property_here schema done iter left e all ordered step =
-    property_is (string_bytes e.0) schema ∙ ap (get_member (string_bytes e.0)) all ∙ ap (λ es. get_member (string_bytes e.0) (members_view (done ++ es))) step
-    ∙ member_in_order done e left (subst (λ es. IsStrictlySortedBy string_cmp (keys_of (done ++ es))) step ordered)
-
-pub preserving : (s : Data) → true ≡ preserves s → None ≡ raw.additional s
-unfolding raw
-preserving s b = ap (λ b. if b then None else additional s) b
-
-pub not_preserving : (s : Data) → false ≡ preserves s → additional s ≡ raw.additional s
-unfolding raw
-not_preserving s b = ap (λ b. if b then None else additional s) b

@@ -1,13 +1,12 @@
 -- The entries of a map in the order of its keys, and the members that they stand for.
-use Rattle.std.proofs.Common.{◌≡◌, ℕ, List, [], ◌∷◌, ◌++◌, Some, Less, Greater, string_bytes, string_cmp, nat_cmp, refl, ap, ◌∙◌}
-use Rattle.std.proofs.lemmas.Cmp.{nat_list_cmp_total, tied_itself}
+use Rattle.std.proofs.Common.{◌≡◌, ℕ, List, [], ◌∷◌, ◌++◌, Less, Greater, string_bytes, string_cmp, nat_cmp, refl, ap, ◌∙◌}
+use Rattle.std.proofs.lemmas.Cmp.{nat_list_cmp_total}
 use Rattle.std.specs.Cmp.Lexicographic.{slice_cmp}
 use Rattle.std.specs.List.{AllByRecursion}
 use Rattle.std.specs.List.Sorted.{IsStrictlySortedBy}
 use Rattle.std.specs.Map.{keys_of}
 use Rattle.std.specs.Ordering.{ordering_reverse}
 use Rattle.serde_json.specs.Data.{Data, member, put}
-use Rattle.serde_json.specs.Find.{get_member}
 use Rattle.serde_json.specs.View.{view, members_view}
 use Rattle.serde_json.proofs.Views.{Entry}
 use Rattle.kube_schema_values.specs.Defaults.{map_members}
@@ -26,10 +25,3 @@ unfolding IsStrictlySortedBy
 put_mapped f [] e more h = refl
 put_mapped f (first ∷ done) e more h =
     rw (above first done e more h.0) (ap (member (string_bytes first.0) (f (string_bytes first.0) (view first.1))) (put_mapped f done e more h.1))
-
--- the member at a key is the value of its entry
-pub member_in_order : (done : List Entry) (e : Entry) (more : List Entry) → IsStrictlySortedBy string_cmp (keys_of (done ++ e ∷ more))
-    → get_member (string_bytes e.0) (members_view (done ++ e ∷ more)) ≡ Some (view e.1)
-unfolding IsStrictlySortedBy
-member_in_order [] e more h = rw (tied_itself nat_list_cmp_total (string_bytes e.0))
-member_in_order (first ∷ done) e more h = rw (above first done e more h.0) (member_in_order done e more h.1)

@@ -5,7 +5,6 @@ pub mod Twice
 pub mod Keeping
 pub mod Whole
 pub mod Filling
-pub mod Declared
 pub mod Behind
 pub mod Without
 pub mod Bounds

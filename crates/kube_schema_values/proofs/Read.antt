@@ -9,8 +9,8 @@ use Rattle.base64.specs.declared.decode.DecodeError.{DecodeError}
 use Rattle.cel_value.specs.Data.{text, bytes, timestamp, duration}
 use Rattle.cel_value.specs.View.{view}
 use Rattle.cel_value.specs.declared.value.Value.TheVariants as value
-use Rattle.cel_value_times.specs.Instants.{instant}
-use Rattle.cel_value_times.specs.TextFunctions.{duration_of, timestamp_of}
+use Rattle.cel_value.specs.Instants.{instant}
+use Rattle.cel_value.specs.TextFunctions.{duration_of, timestamp_of}
 use Rattle.kube_schema_values.specs.Formats.{bytes_or_text, duration_or_text, timestamp_or_text}
 
 -- ---- values of these kinds

@@ -8,7 +8,7 @@ use Rattle.std.specs.Str.{bytes_eq}
 use Rattle.base64.specs.Engines.{standard}
 use Rattle.base64.specs.GeneralPurpose.{decoded_of}
 use Rattle.cel_value.specs.Data.{Data, text, bytes, timestamp, duration}
-use Rattle.cel_value_times.specs.TextFunctions.{duration_of, timestamp_of}
+use Rattle.cel_value.specs.TextFunctions.{duration_of, timestamp_of}
 use Rattle.kube_schema_values.specs.declared.format.SchemaFormat.{SchemaFormat}
 use Rattle.kube_schema_values.specs.declared.format.SchemaFormat.TheVariants as format
 

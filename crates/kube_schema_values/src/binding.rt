@@ -3,38 +3,23 @@
 ghost use Rattle.std.specs.Prelude.{◌≡◌, ◌≤◌, ◌-◌, IfErr, IfOk};
 ghost use Rattle.serde_json.specs.View.{view as json_view, items_view as json_items_view, members_view};
 ghost use Rattle.cel_value.specs.View.{view, items_view, entries_view};
-ghost use Rattle.kube_schema_values.specs.Conversion.{to_cel, to_cel_by, entries_by, items_by, key_in, levels, member_by, member_key, object_by, raw};
+ghost use Rattle.kube_schema_values.specs.Conversion.{to_cel, to_cel_by, entries_by, items_by, key_in, levels, member_by, member_key, object_by};
 
+use crate::MAX_SCHEMA_DEPTH;
 use crate::format::bind_formatted;
 use crate::names::MemberKeys;
-use crate::node::{JsonNode, Node};
+use crate::node::Node;
 use crate::resource::put_resource_fields;
 use crate::values::{bind_number, bind_plain_with, put_shared};
 use cel_value::{Entries, Refused, Text, Value};
 use serde_json::{Map as Members, Value as Json};
 use std::alloc::Global;
 
-/// The greatest depth at which a schema is read.
-const MAX_DEPTH: usize = 64;
-
 /// Converts a JSON value to CEL by a node of a schema, `depth` steps below the root.
 ///
 /// Strings are converted by the node's format, members and items by
 /// their own nodes, and keys are escaped unless the node is a map node.
 /// From depth 65 on, values are converted plainly, without a schema.
-///
-/// # Errors
-///
-/// [`Refused`] if memory is refused.
-pub fn bind(alloc: Global, schema: &Json, value: &Json, depth: usize) -> Result<Value, Refused>
-    ensures value { IfOk result (λ v. view v
-        ≡ to_cel raw (levels depth) (json_view schema.now) (json_view value.now)) }
-    ensures memory { IfErr result (λ e. e ≡ Refused.Memory) }
-{
-    bind_at(alloc, JsonNode { schema }, value, depth)
-}
-
-/// Converts a value like `bind`, by a node of either form of a schema.
 ///
 /// # Errors
 ///
@@ -67,7 +52,7 @@ fn bind_with<N: Node>(
         ≡ to_cel N.accessors (levels depth) (N.seen node) (json_view value.now)) }
     ensures memory { IfErr result (λ e. e ≡ Refused.Memory) }
 {
-    if depth > MAX_DEPTH {
+    if depth > MAX_SCHEMA_DEPTH {
         let plain = bind_plain_with(alloc, value, keys)?;
         return Ok(plain);
     }

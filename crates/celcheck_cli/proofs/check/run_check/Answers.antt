@@ -2,8 +2,8 @@ use Rattle.celcheck_cli.proofs.check.run_check.Goals as goal
 use Rattle.celcheck_cli.proofs.Reports.{errors_reported}
 use Rattle.celcheck_cli.specs.Runs.{IsAnswered}
 use Rattle.celcheck_cli.specs.Words.{named_view}
-use Rattle.kube_cel_walk.specs.ErrorLists.{errors_in}
-use Rattle.kube_cel_walk.specs.Texts.{errors_text}
+use Rattle.kube_cel.specs.ErrorLists.{errors_in}
+use Rattle.kube_cel.specs.Texts.{errors_text}
 use Rattle.std.proofs.Common.{◌++◌, ◌∷◌, []}
 use Rattle.std.specs.Io.KnownBytes.{Appends}
 

@@ -1,6 +1,6 @@
 use Rattle.cel.specs.Program.{program_seen, program_term}
-use Rattle.cel_semantics.specs.Bindings.{bindings_of}
-use Rattle.cel_semantics.specs.Outcome.{outcome_view}
+use Rattle.cel.specs.Bindings.{bindings_of}
+use Rattle.cel.specs.Outcome.{outcome_view}
 use Rattle.celcheck_cli.proofs.Reports.{came_to, if_found, unread_found}
 use Rattle.celcheck_cli.proofs.eval.found_of.Goals as goal
 use Rattle.celcheck_cli.specs.declared.eval.Found.TheVariants as found

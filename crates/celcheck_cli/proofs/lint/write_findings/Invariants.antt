@@ -1,6 +1,6 @@
 use Rattle.celcheck_cli.proofs.lint.write_findings.Given as goal
 use Rattle.celcheck_cli.specs.Linted.{finding_line}
-use Rattle.kube_cel_analysis.specs.Findings.{finding_view}
+use Rattle.kube_cel.specs.Findings.{finding_view}
 use Rattle.std.proofs.Common.{map, take, flat_map}
 use Rattle.std.specs.Io.KnownBytes.{Appends}
 

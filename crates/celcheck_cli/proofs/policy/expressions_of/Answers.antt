@@ -1,7 +1,7 @@
 use Rattle.celcheck_cli.proofs.Policies.{read_all, read_ends, read_on}
 use Rattle.celcheck_cli.proofs.policy.expressions_of.Goals as goal
 use Rattle.celcheck_cli.specs.Policies.{parts_view}
-use Rattle.kube_cel_vap.specs.Validations.{expression_view}
+use Rattle.kube_cel.specs.Validations.{expression_view}
 use Rattle.std.proofs.Common.{◌<◌, ◌≤◌, length, map, sym, ◌∙◌, arith}
 
 pub returns-in-None : goal.returns-in-None

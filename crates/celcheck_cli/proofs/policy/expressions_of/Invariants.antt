@@ -1,7 +1,7 @@
 use Rattle.celcheck_cli.proofs.Policies.{joined}
 use Rattle.celcheck_cli.proofs.policy.expressions_of.Given as goal
 use Rattle.celcheck_cli.specs.Policies.{expressions_in}
-use Rattle.kube_cel_vap.specs.Validations.{expression_view}
+use Rattle.kube_cel.specs.Validations.{expression_view}
 use Rattle.serde_json.specs.View.{items_view}
 use Rattle.std.proofs.Common.{◌≡◌, map, drop}
 

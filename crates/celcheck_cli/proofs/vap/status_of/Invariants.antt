@@ -1,6 +1,6 @@
 use Rattle.celcheck_cli.proofs.vap.status_of.Given as goal
 use Rattle.celcheck_cli.specs.Reports.{results_status}
-use Rattle.kube_cel_vap.specs.Validations.{result_view}
+use Rattle.kube_cel.specs.Validations.{result_view}
 use Rattle.std.proofs.Common.{◌≡◌, map, drop}
 
 abbrev pub invariant-loop-result : goal.invariant-loop-result

@@ -1,6 +1,6 @@
 use Rattle.celcheck_cli.proofs.vap.write_results.Given as goal
 use Rattle.celcheck_cli.specs.Reports.{result_line}
-use Rattle.kube_cel_vap.specs.Validations.{result_view}
+use Rattle.kube_cel.specs.Validations.{result_view}
 use Rattle.std.proofs.Common.{map, take, flat_map}
 use Rattle.std.specs.Io.KnownBytes.{Appends}
 

@@ -2,8 +2,8 @@ use native.Mathlib.Omega.{arith}
 use Rattle.std.proofs.Common.{◌≡◌, ◌∙◌, ◌+◌, ap, sym, map, drop, List, [], ◌∷◌, ℕ}
 use Rattle.std.proofs.lemmas.List.{at_drop_more}
 use Rattle.std.proofs.Math.ListN.{drop_of_length-le}
-use Rattle.cel_syntax_ast.specs.declared.expr.Expr.{Expr}
-use Rattle.cel_syntax_ast.specs.Term.{term, terms_of}
+use Rattle.cel_syntax.specs.Expr.{Expr}
+use Rattle.cel_syntax.specs.Term.{term, terms_of}
 use Rattle.kube_cel_analysis.specs.Cost.{cost, cost_of_all, sum}
 use Rattle.kube_cel_analysis.specs.Sizes.{sizes_view}
 use Rattle.kube_cel_analysis.proofs.Sums.{nothing_at_all, nothing_more, nothing_yet, sum_on}

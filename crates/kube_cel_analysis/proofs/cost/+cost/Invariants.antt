@@ -1,5 +1,5 @@
 use Rattle.std.proofs.Common.{◌≡◌, map, drop}
-use Rattle.cel_syntax_ast.specs.Term.{term, terms_of}
+use Rattle.cel_syntax.specs.Term.{term, terms_of}
 use Rattle.kube_cel_analysis.specs.Cost.{cost_of_all, sum}
 use Rattle.kube_cel_analysis.specs.Sizes.{sizes_view}
 use Rattle.kube_cel_analysis.proofs.cost.+cost.Given as goal

@@ -2,4 +2,4 @@ use Rattle.kube_cel_analysis.proofs.Nodes.{schema_found}
 use Rattle.kube_cel_analysis.proofs.laws.findings_are_those_of_all_nodes.Goals as goal
 
 pub returns : goal.returns
-returns c = schema_found
+returns g c = λ names. schema_found names c.args.schema.now

@@ -3,9 +3,9 @@ use Rattle.std.proofs.lemmas.List.{at_drop_more}
 use Rattle.std.proofs.Math.ListN.{drop_of_length-le}
 use Rattle.kube_cel_analysis.proofs.rule.add_rules.Goals as goal
 use Rattle.kube_cel_analysis.specs.Findings.{Finding, finding_view, rule_findings, rules_findings}
-use Rattle.kube_schema_rules.specs.Compilation.{compiled_seen}
-use Rattle.kube_schema_rules.specs.declared.compilation.CompilationError.{CompilationError}
-use Rattle.kube_schema_rules.specs.declared.result.CompilationResult.{CompilationResult}
+use Rattle.kube_schema.specs.Compilation.{compiled_seen}
+use Rattle.kube_schema.specs.CompilationError.{CompilationError}
+use Rattle.kube_schema.specs.CompilationResult.{CompilationResult}
 use Rattle.kube_schema.specs.Shown.{node_tree}
 
 pub loop-rule-preserved : goal.loop-rule-preserved

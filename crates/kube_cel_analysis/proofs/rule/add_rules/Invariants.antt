@@ -1,7 +1,7 @@
 use Rattle.std.proofs.Common.{◌≡◌, ◌++◌, map, drop}
 use Rattle.kube_cel_analysis.proofs.rule.add_rules.Given as goal
 use Rattle.kube_cel_analysis.specs.Findings.{Naming, finding_view, rules_findings}
-use Rattle.kube_schema_rules.specs.Compilation.{compiled_seen}
+use Rattle.kube_schema.specs.Compilation.{compiled_seen}
 use Rattle.kube_schema.specs.Shown.{node_tree}
 
 abbrev pub invariant-loop-rule : goal.invariant-loop-rule

@@ -1,5 +1,5 @@
 use Rattle.cel_patterns.proofs.Books.{Extends-trans}
-use Rattle.cel_semantics.specs.Bindings.{bindings_of}
+use Rattle.cel.specs.Bindings.{bindings_of}
 use Rattle.kube_cel_vap.specs.Validations.{result_view}
 use Rattle.kube_cel_vap.proofs.expression_results.results_of.Goals as goal
 use Rattle.kube_cel_vap.proofs.Listed.{one_more_seen}

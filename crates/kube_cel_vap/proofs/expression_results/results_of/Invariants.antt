@@ -1,6 +1,6 @@
-use Rattle.cel_patterns.specs.Book.{Extends}
-use Rattle.cel_patterns.specs.Entries.{entries_of}
-use Rattle.cel_semantics.specs.Bindings.{bindings_of}
+use Rattle.cel.specs.Book.{Extends}
+use Rattle.cel.specs.Entries.{entries_of}
+use Rattle.cel.specs.Bindings.{bindings_of}
 use Rattle.kube_cel_vap.proofs.expression_results.results_of.Given as goal
 use Rattle.kube_cel_vap.specs.Expressions.{compiled_seen}
 use Rattle.kube_cel_vap.specs.CallResults.{AreResultsUnder}

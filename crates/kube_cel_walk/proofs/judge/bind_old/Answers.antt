@@ -1,5 +1,5 @@
-use Rattle.cel_demand.specs.Alike.{NamesAlike, ReadAlike}
-use Rattle.cel_semantics.specs.Bindings.{binding, bindings_of}
+use Rattle.cel.specs.Alike.{NamesAlike, ReadAlike}
+use Rattle.cel.specs.Bindings.{binding, bindings_of}
 use Rattle.kube_cel_walk.proofs.ReadVerdicts.{names_named}
 use Rattle.kube_cel_walk.specs.Answers.{bound_at}
 use Rattle.kube_cel_walk.specs.Verdicts.{with_old}

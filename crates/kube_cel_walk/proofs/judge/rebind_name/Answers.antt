@@ -1,6 +1,6 @@
-use Rattle.cel_demand.specs.Alike.{ReadAlike}
-use Rattle.cel_demand.specs.Demand.{part_of}
-use Rattle.cel_semantics.specs.Bindings.{binding, bindings_of}
+use Rattle.cel.specs.Alike.{ReadAlike}
+use Rattle.cel.specs.Demand.{part_of}
+use Rattle.cel.specs.Bindings.{binding, bindings_of}
 use Rattle.cel_value.specs.View.{view as cel_view}
 use Rattle.kube_cel_walk.proofs.ReadVerdicts.{named_new, named_others}
 use Rattle.kube_cel_walk.proofs.judge.rebind_name.Goals as goal

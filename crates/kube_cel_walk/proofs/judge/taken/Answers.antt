@@ -1,4 +1,4 @@
-use Rattle.cel_semantics.specs.Bindings.{binding, bindings_of}
+use Rattle.cel.specs.Bindings.{binding, bindings_of}
 use Rattle.cel_value.specs.Data.{null}
 use Rattle.kube_cel_walk.proofs.ReadVerdicts.{named_others}
 use Rattle.kube_cel_walk.proofs.judge.taken.Goals as goal

@@ -1,9 +1,10 @@
 use Rattle.kube_cel_walk.specs.Errors.{error_view}
 use Rattle.kube_cel_walk.proofs.judge.validate_at.Goals as goal
-use Rattle.kube_cel_walk.proofs.Judged.{deep_found, none_found, shallow_found}
+use Rattle.kube_cel_walk.proofs.Judged.{deep_found, shallow_found}
 use Rattle.kube_cel_walk.specs.Paths.{path_view}
 use Rattle.kube_cel_walk.specs.Visits.{visit_at}
-use Rattle.std.proofs.Common.{◌≡◌, ◌==◌, ◌++◌, map, false, sym, ap, ◌∙◌, arith, append-nil}
+use Rattle.kube_schema_rules.specs.CompiledRules.{rules_in}
+use Rattle.std.proofs.Common.{◌≡◌, ◌==◌, ◌++◌, map, false, sym, ap, ◌∙◌, arith}
 use Rattle.std.proofs.lemmas.Bool.Decides.{nat_tests}
 
 pub returns-then-state-eq-TOO_DEEP-clause-found : goal.returns-then-state-eq-TOO_DEEP-clause-found
@@ -11,20 +12,14 @@ returns-then-state-eq-TOO_DEEP-clause-found g c = λ b h.
     let e : c.args.state.now.depth ≡ 65 = omega arith in
     c.in_ok-add_deep.ensures ∙ sym (ap (λ r. map error_view c.args.errors.now.items ++ r) (deep_found g.N.Node.form b (visit_at g.N.Node.seen c.args.state.now (path_view c.args.path.now)) e))
 
-pub returns-then-is_without_rules-clause-found : goal.returns-then-is_without_rules-clause-found
-returns-then-is_without_rules-clause-found g c = λ b h.
+pub returns-in_ok-add_by_rules-in-Lent-clause-found : goal.returns-in_ok-add_by_rules-in-Lent-clause-found
+returns-in_ok-add_by_rules-in-Lent-clause-found g c = λ b h.
     let t : (c.args.state.now.depth == 65) ≡ false = grind (arith, nat_tests, c.if-state-eq-TOO_DEEP.false) in
-    let old = map error_view c.args.errors.now.items in
-    sym (ap (λ r. old ++ r) (none_found g.N.Node.form b (visit_at g.N.Node.seen c.args.state.now (path_view c.args.path.now)) t (sym c.is_without_rules.ensures ∙ c.if-is_without_rules.true)) ∙ append-nil old)
-
-pub returns-then-is_alone-clause-found : goal.returns-then-is_alone-clause-found
-returns-then-is_alone-clause-found g c = λ b h.
-    let t : (c.args.state.now.depth == 65) ≡ false = grind (arith, nat_tests, c.if-state-eq-TOO_DEEP.false) in
-    c.in_ok-add_kept.ensures.found b h
+    c.in_ok-add_by_rules-in-Lent.ensures.found b h
     ∙ sym (ap (λ r. map error_view c.args.errors.now.items ++ r) (shallow_found g.N.Node.form b (visit_at g.N.Node.seen c.args.state.now (path_view c.args.path.now)) t))
 
-pub returns-clause-found : goal.returns-clause-found
-returns-clause-found g c = λ b h.
+pub returns-in_ok-add_by_made-in-Made-clause-found : goal.returns-in_ok-add_by_made-in-Made-clause-found
+returns-in_ok-add_by_made-in-Made-clause-found g c = λ b h.
     let t : (c.args.state.now.depth == 65) ≡ false = grind (arith, nat_tests, c.if-state-eq-TOO_DEEP.false) in
-    c.in_ok-add_anew.ensures.found b h
+    c.in_ok-add_by_made-in-Made.ensures.found b h
     ∙ sym (ap (λ r. map error_view c.args.errors.now.items ++ r) (shallow_found g.N.Node.form b (visit_at g.N.Node.seen c.args.state.now (path_view c.args.path.now)) t))

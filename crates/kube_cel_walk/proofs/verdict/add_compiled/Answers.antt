@@ -1,4 +1,4 @@
-use Rattle.cel_semantics.specs.Bindings.{bindings_of}
+use Rattle.cel.specs.Bindings.{bindings_of}
 use Rattle.cel_value.specs.Data.{null}
 use Rattle.kube_cel_walk.proofs.Ruled.{null_found, skipped_found, verdict_found}
 use Rattle.kube_cel_walk.proofs.verdict.add_compiled.Goals as goal

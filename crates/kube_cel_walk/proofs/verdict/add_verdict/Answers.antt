@@ -1,4 +1,4 @@
-use Rattle.cel_semantics.specs.Bindings.{bindings_of}
+use Rattle.cel.specs.Bindings.{bindings_of}
 use Rattle.kube_cel_walk.proofs.Ruled.{compiled_found, malformed_found}
 use Rattle.kube_cel_walk.proofs.verdict.add_verdict.Goals as goal
 use Rattle.kube_cel_walk.specs.Errors.{error_view}

@@ -1,5 +1,5 @@
-use Rattle.cel_semantics.specs.Bindings.{bindings_of}
-use Rattle.cel_semantics.specs.Outcome.{outcome_view}
+use Rattle.cel.specs.Bindings.{bindings_of}
+use Rattle.cel.specs.Outcome.{outcome_view}
 use Rattle.kube_cel_walk.proofs.Ruled.{outcome_found, true_found}
 use Rattle.kube_cel_walk.proofs.verdict.add_where_bound.Goals as goal
 use Rattle.kube_cel_walk.specs.Errors.{error_view}

@@ -1,5 +1,5 @@
 use Rattle.cel.proofs.Bound.{bound}
-use Rattle.cel_semantics.specs.Bindings.{binding, bindings_of}
+use Rattle.cel.specs.Bindings.{binding, bindings_of}
 use Rattle.cel_value.specs.Data.{null}
 use Rattle.cel_value.specs.View.{view as cel_view}
 use Rattle.kube_cel_walk.proofs.Ruled.{verdict_same}

@@ -1,4 +1,4 @@
-use Rattle.cel_semantics.specs.Bindings.{bindings_of}
+use Rattle.cel.specs.Bindings.{bindings_of}
 use Rattle.cel_value.specs.Data.{text}
 use Rattle.cel_value.specs.View.{view}
 use Rattle.kube_cel_walk.proofs.Bound.{rooted}

@@ -1,5 +1,5 @@
-use Rattle.cel_patterns.specs.Book.{Extends, Book}
-use Rattle.cel_patterns.specs.Entries.{entries_of}
+use Rattle.cel.specs.Book.{Extends, Book}
+use Rattle.cel.specs.Entries.{entries_of}
 use Rattle.kube_cel_walk.specs.Errors.{error_view}
 use Rattle.kube_schema_rules.specs.Inside.{up_to}
 use Rattle.kube_schema_rules.specs.Step.{property, item, additional_property, branch}

@@ -1,9 +1,9 @@
 use Rattle.std.proofs.Common.{◌≡◌, ◌-◌, [], ◌∷◌, ◌++◌, suc, refl, sym, ap, subst, ◌∙◌, arith, append_assoc, append-nil}
 use Rattle.serde_json.specs.View.{view, members_view}
 use Rattle.serde_json.proofs.Views.{Entry}
+use Rattle.kube_schema.specs.Source.{source_own}
 use Rattle.kube_schema.specs.declared.nodes.PropertyLink.{PropertyLink}
 use Rattle.kube_schema.specs.declared.nodes.Children.{Children}
-use Rattle.kube_schema.specs.declared.nodes.TableNode.{TableNode}
 use Rattle.kube_schema.specs.View.{view_of, named_view, maybe_view, children_view}
 use Rattle.kube_schema.specs.Raw.{Adds, AddsNamed}
 use Rattle.kube_schema.proofs.Build.{adds_link, adds_number, node_within, stands, built, joined, view_opens, marked, links_in_order, no_properties, no_branches}
@@ -34,11 +34,11 @@ add_members-returns-clause-adds t c =
     let done = l.invariant.done in
     let f = view_of c.args.levels in
     let all : c.args.members.now.entries ≡ done = l.invariant.all ∙ ap (λ es. done ++ es) c.in-None.ensures.steps.0 ∙ append-nil done in
-    let adds = subst (λ es. AddsNamed c.args.table.now.nodes.items l.table.nodes.items l.links.items (named_view f (members_view es))) (sym all) l.invariant.adds in
-    record { adds = adds; ordered = links_in_order l.table.nodes.items l.links.items f c.args.members.now.entries adds.shows c.iter-key-items.ensures.ordered }
+    let adds = subst (λ es. AddsNamed source_own c.args.table.now.nodes.items l.table.nodes.items l.links.items (named_view f (members_view es))) (sym all) l.invariant.adds in
+    record { adds = adds; ordered = links_in_order source_own l.table.nodes.items l.links.items f c.args.members.now.entries adds.shows c.iter-key-items.ensures.ordered }
 
 pub add_properties-returns-in-None-clause-adds : goal.add_properties-returns-in-None-clause-adds
-add_properties-returns-in-None-clause-adds t c = no_properties c.args.table.now.nodes.items (view_of c.args.levels) (view c.args.schema.now) c.new.result.items c.new.ensures.items c.in-None.ensures
+add_properties-returns-in-None-clause-adds t c = no_properties source_own c.args.table.now.nodes.items (view_of c.args.levels) (view c.args.schema.now) c.new.result.items c.new.ensures.items c.in-None.ensures
 
 pub add_branches-returns-in-None-clause-adds : goal.add_branches-returns-in-None-clause-adds
 add_branches-returns-in-None-clause-adds t c = no_branches c.args.table.now.nodes.items (view_of c.args.levels) c.args.keyword.now (view c.args.schema.now) c.new.result.items c.new.ensures.items c.in-None.ensures
@@ -56,7 +56,7 @@ add_children-returns-clause-adds t c =
 
 pub add_node-returns-then-levels-eq0-clause-adds : goal.add_node-returns-then-levels-eq0-clause-adds
 add_node-returns-then-levels-eq0-clause-adds t c =
-    marked _ _ _ _ c.args.levels (view c.args.schema.now) c.in_ok-number.ensures c.in_ok-marker.ensures.keywords c.if-levels-eq0.true
+    marked _ _ _ _ c.args.levels (view c.args.schema.now) c.in_ok-number.ensures c.marker-marker.ensures c.if-levels-eq0.true
 
 pub add_node-replace_node-requires-clause-within : goal.add_node-replace_node-requires-clause-within
 add_node-replace_node-requires-clause-within t c =
@@ -76,9 +76,8 @@ add_node-returns-clause-adds t c =
     let s = view c.args.schema.now in
     let less = c.args.levels - 1 in
     let more : c.args.levels ≡ suc less = let h = c.if-levels-eq0.false in omega arith in
-    let r : TableNode = record { keywords = c.in_ok-keywords.keywords; children = c.in_ok-children.children } in
     let t0 = c.args.table.now.nodes.items in
     let t8 = c.replace_node.new.table.nodes.items in
-    let b = built t0 c.push_leaf-2.new.table.nodes.items c.add_children.new.table.nodes.items t8 c.in_ok-number-2.number _ r (children_view (view_of less) s)
+    let b = built t0 c.push_leaf-2.new.table.nodes.items c.add_children.new.table.nodes.items t8 c.in_ok-number-2.number _ (record { keywords = c.of-keywords.result; children = c.in_ok-children.children }) (children_view (view_of less) s)
     c.in_ok-number-2.ensures c.in_ok-children.ensures.adds c.add_children.new.table.closed c.replace_node.new.table.closed c.replace_node.ensures in
-    subst (Adds t0 t8 c.in_ok-number-2.number) (ap (children_view (view_of less) s) c.in_ok-keywords.ensures.keywords ∙ view_opens c.args.levels less s more) b
+    subst (Adds source_own t0 t8 c.in_ok-number-2.number) (ap (children_view (view_of less) s) c.of-keywords.ensures ∙ view_opens c.args.levels less s more) b

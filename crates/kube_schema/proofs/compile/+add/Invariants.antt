@@ -1,6 +1,7 @@
 use Rattle.std.proofs.Common.{◌≡◌, ◌+◌, ◌*◌, List, ◌++◌, take}
 use Rattle.serde_json.specs.View.{items_view, members_view}
 use Rattle.serde_json.proofs.Views.{Entry}
+use Rattle.kube_schema.specs.Source.{source_own}
 use Rattle.kube_schema.specs.View.{view_of, named_view, nodes_view}
 use Rattle.kube_schema.specs.Raw.{AddsNamed, AddsNodes}
 use Rattle.kube_schema.proofs.compile.+add.Given as goal
@@ -30,8 +31,8 @@ abbrev pub invariant-add_members-loop-key : goal.invariant-add_members-loop-key
 invariant-add_members-loop-key l = record {
   done : List Entry;
   all : l.members.entries ≡ done ++ l.key-iterator;
-  adds : AddsNamed l.fn.table.nodes.items l.table.nodes.items l.links.items (named_view (view_of l.levels) (members_view done));
+  adds : AddsNamed source_own l.fn.table.nodes.items l.table.nodes.items l.links.items (named_view (view_of l.levels) (members_view done));
 }
 
 abbrev pub invariant-add_items-loop-item : goal.invariant-add_items-loop-item
-invariant-add_items-loop-item l = AddsNodes l.fn.table.nodes.items l.table.nodes.items l.numbers.items (nodes_view (view_of l.levels) (items_view (take l.item-index l.item-items)))
+invariant-add_items-loop-item l = AddsNodes source_own l.fn.table.nodes.items l.table.nodes.items l.numbers.items (nodes_view (view_of l.levels) (items_view (take l.item-index l.item-items)))

@@ -8,4 +8,4 @@ use Rattle.kube_schema.proofs.Names.{compiled_names_keys}
 use Rattle.kube_schema.proofs.defaults.fill_node.Goals as goal
 
 pub returns-clause-members : goal.returns-clause-members
-returns-clause-members c = subst (FillsMembers tree_accessors 64 (node_tree c.args.node.now) (view c.args.value.now)) (sym c.in_ok-filled.ensures) (fills_members tree_accessors compiled_names_keys 64 (node_tree c.args.node.now) (view c.args.value.now))
+returns-clause-members g c = subst (FillsMembers tree_accessors 64 (node_tree c.args.node.now) (view c.args.value.now)) (sym c.in_ok-filled.ensures) (fills_members tree_accessors compiled_names_keys 64 (node_tree c.args.node.now) (view c.args.value.now))

@@ -5,4 +5,4 @@ use Rattle.kube_schema.specs.Raw.{tree}
 use Rattle.kube_schema.proofs.no_rules.links_levels.Given as goal
 
 abbrev pub invariant-loop-link : goal.invariant-loop-link
-invariant-loop-link l = (i : ℕ) (x : PropertyLink) → i < l.link-index → slice_get l.links i ≡ Some x → HasNoRules l.most (tree l.table.nodes.items x.node.0)
+invariant-loop-link g l = (i : ℕ) (x : PropertyLink) → i < l.link-index → slice_get l.links i ≡ Some x → HasNoRules l.most (tree g.K.NodeKeywords.own l.table.nodes.items x.node.0)

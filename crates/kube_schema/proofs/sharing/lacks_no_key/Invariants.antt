@@ -8,6 +8,6 @@ use Rattle.kube_schema.specs.Tree.{Node, named_of, names}
 use Rattle.kube_schema.proofs.sharing.lacks_no_key.Given as goal
 
 abbrev pub invariant-loop-index : goal.invariant-loop-index
-invariant-loop-index l = (f : Node → Data → Data)
+invariant-loop-index g l = (f : Node → Data → Data)
     → with_defaults (default_by tree_accessors f (node_tree l.node)) (drop l.index (names (named_of (node_tree l.node)))) (members_view l.members.entries)
     ≡ with_defaults (default_by tree_accessors f (node_tree l.node)) (names (named_of (node_tree l.node))) (members_view l.members.entries)

@@ -1,5 +1,5 @@
 use Rattle.std.proofs.Common.{◌≡◌, ◌≤◌, codes, length, drop, map, option_map}
-use Rattle.cel_demand.specs.Demand.{part_of}
+use Rattle.cel.specs.Demand.{part_of}
 use Rattle.kube_schema_rules.specs.Compilation.{compiled_seen}
 use Rattle.kube_schema_rules.specs.Demands.{rules_read}
 use Rattle.kube_schema_rules.proofs.demands.rules_demands.Given as goal

@@ -1,5 +1,5 @@
 use Rattle.std.proofs.Common.{codes, option_map, sym, ap}
-use Rattle.cel_demand.specs.Demand.{part_of}
+use Rattle.cel.specs.Demand.{part_of}
 use Rattle.kube_schema_rules.specs.Compilation.{compiled_seen, error_view, result_view}
 use Rattle.kube_schema_rules.proofs.RulesRead.{compiled_read, malformed_read}
 use Rattle.kube_schema_rules.proofs.demands.with_rule.Goals as goal

@@ -9,8 +9,8 @@ use Rattle.kube_schema_values.proofs.Behind.{behind_none, behind_next, behind_al
 use Rattle.kube_schema_values.proofs.Bounds.{bound_past, bound_within, items_by_is}
 use Rattle.kube_schema_values.proofs.binding.+bind.Goals as goal
 
-pub bind_with-returns-then-depth-gt-MAX_DEPTH-clause-value : goal.bind_with-returns-then-depth-gt-MAX_DEPTH-clause-value
-bind_with-returns-then-depth-gt-MAX_DEPTH-clause-value g t c =
+pub bind_with-returns-then-depth-gt-MAX_SCHEMA_DEPTH-clause-value : goal.bind_with-returns-then-depth-gt-MAX_SCHEMA_DEPTH-clause-value
+bind_with-returns-then-depth-gt-MAX_SCHEMA_DEPTH-clause-value g t c =
     let none : 65 - c.args.depth ≡ 0 = omega arith in
     c.in_ok-plain.ensures.value ∙ sym (bound_past g.N.Node.accessors (65 - c.args.depth) (g.N.Node.seen c.args.node) (json_view c.args.value.now) none)
 

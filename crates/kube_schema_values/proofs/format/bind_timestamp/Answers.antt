@@ -1,5 +1,5 @@
 use Rattle.std.proofs.Common.{◌∙◌}
-use Rattle.cel_value_times.specs.Instants.{instant}
+use Rattle.cel_value.specs.Instants.{instant}
 use Rattle.kube_schema_values.proofs.Read.{timed_read, timed_unread, view_timestamp}
 use Rattle.kube_schema_values.proofs.format.bind_timestamp.Goals as goal
 

@@ -3,4 +3,4 @@ use Rattle.kube_cel.proofs.NoRules.{no_rules_below}
 use Rattle.kube_schema.specs.Shown.{node_tree}
 
 pub returns : goal.returns
-returns c = λ h. no_rules_below c.args.levels (node_tree c.args.self.now.node) (c.has_no_rules_below.ensures h)
+returns g c = λ h. no_rules_below c.args.levels (node_tree c.args.self.now.node) (c.has_no_rules_below.ensures h)

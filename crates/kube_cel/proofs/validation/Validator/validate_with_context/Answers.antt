@@ -1,4 +1,4 @@
-use Rattle.cel_patterns.specs.Entries.{entries_of}
+use Rattle.cel.specs.Entries.{entries_of}
 use Rattle.kube_cel.proofs.Reports.{agrees_itself, if_ok_both, shown_is_book}
 use Rattle.kube_cel.proofs.validation.Validator.validate_with_context.Goals as goal
 

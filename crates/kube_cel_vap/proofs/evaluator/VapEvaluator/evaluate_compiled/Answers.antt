@@ -1,7 +1,7 @@
 use Rattle.cel_patterns.proofs.Books.{Extends-refl}
 use Rattle.cel_patterns.proofs.Entries.{entries-IsBook}
-use Rattle.cel_patterns.specs.Entries.{entries_of}
-use Rattle.cel_semantics.specs.Bindings.{bindings_of}
+use Rattle.cel.specs.Entries.{entries_of}
+use Rattle.cel.specs.Bindings.{bindings_of}
 use Rattle.kube_cel_vap.proofs.evaluator.VapEvaluator.evaluate_compiled.Goals as goal
 use Rattle.kube_cel_vap.proofs.Results.{results_same}
 use Rattle.kube_cel_vap.specs.Expressions.{compiled_seen}

@@ -4,4 +4,4 @@ use Rattle.kube_schema.proofs.node.CompiledSchema.root.Goals as goal
 
 pub returns : goal.returns
 unfolding node_tree whole
-returns c = refl
+returns g c = refl

@@ -5,11 +5,11 @@ use Rattle.kube_schema.proofs.Trees.{additional_at}
 use Rattle.kube_schema.proofs.node.SchemaNode.additional_properties.Goals as goal
 
 pub returns-in_default : goal.returns-in_default
-returns-in_default c =
-    let f = tree c.args.self.now.schema.now.table.nodes.items in
-    sym (ap additional_of c.raw.ensures.is ∙ additional_at f c.raw.result.now ∙ ap (option_map (λ n. f n.0)) c.in_default.is)
+returns-in_default g c =
+    let f = tree g.K.NodeKeywords.own c.args.self.now.schema.now.table.nodes.items in
+    sym (ap additional_of c.raw.ensures.is ∙ additional_at g.K.NodeKeywords.own f c.raw.result.now ∙ ap (option_map (λ n. f n.0)) c.in_default.is)
 
 pub returns : goal.returns
-returns c =
-    let f = tree c.args.self.now.schema.now.table.nodes.items in
-    ap Some c.at.ensures ∙ sym (ap additional_of c.raw.ensures.is ∙ additional_at f c.raw.result.now ∙ ap (option_map (λ n. f n.0)) c.in-Some.is)
+returns g c =
+    let f = tree g.K.NodeKeywords.own c.args.self.now.schema.now.table.nodes.items in
+    ap Some c.at.ensures ∙ sym (ap additional_of c.raw.ensures.is ∙ additional_at g.K.NodeKeywords.own f c.raw.result.now ∙ ap (option_map (λ n. f n.0)) c.in-Some.is)

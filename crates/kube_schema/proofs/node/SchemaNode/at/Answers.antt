@@ -4,4 +4,4 @@ use Rattle.kube_schema.proofs.node.SchemaNode.at.Goals as goal
 
 pub returns : goal.returns
 unfolding node_tree
-returns c = refl
+returns g c = refl

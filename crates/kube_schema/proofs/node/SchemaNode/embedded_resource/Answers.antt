@@ -1,8 +1,6 @@
-use Rattle.std.proofs.Common.{sym, ap}
-use Rattle.kube_schema.specs.Tree.{own}
-use Rattle.kube_schema.specs.Raw.{assemble, with_children, keywords_view}
+use Rattle.std.proofs.Common.{ap, ◌∙◌}
+use Rattle.kube_schema.specs.Tree.{Own}
 use Rattle.kube_schema.proofs.node.SchemaNode.embedded_resource.Goals as goal
 
 pub returns : goal.returns
-unfolding assemble with_children keywords_view
-returns c = sym (ap (λ n. (own n).embedded) c.raw.ensures.is)
+returns g c = c.is_embedded.ensures ∙ ap (λ (o : Own). o.embedded) c.keywords.ensures

@@ -6,7 +6,7 @@ use Rattle.kube_schema.proofs.node.SchemaNode.has_no_rules_below.Goals as goal
 
 pub returns : goal.returns
 unfolding node_tree
-returns c = λ yes.
+returns g c = λ yes.
     let n = c.args.self.now in
     let known = n.schema.now.below.items in
     let i = n.number.0 in

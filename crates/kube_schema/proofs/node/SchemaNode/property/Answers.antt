@@ -10,15 +10,15 @@ pair : {a b : List ℕ} {m n : Node} → a ≡ b → m ≡ n → ◌≡◌ {A = 
 pair {a} {b} {m} {n} p q = ap {B = Option (List ℕ × Node)} (λ x. Some (x, m)) p ∙ ap {B = Option (List ℕ × Node)} (λ x. Some (b, x)) q
 
 pub returns-then-i-len-clause-pair : goal.returns-then-i-len-clause-pair
-returns-then-i-len-clause-pair c =
-    let f = tree c.args.self.now.schema.now.table.nodes.items in
+returns-then-i-len-clause-pair g c =
+    let f = tree g.K.NodeKeywords.own c.args.self.now.schema.now.table.nodes.items in
     let r = c.raw-raw.result.now in
     let long = c.len.ensures ∙ r.children.properties.ok.0 in
     let past : length r.children.properties.items ≤ c.args.i = omega arith in
-    sym (ap (λ n. nth_named c.args.i (named_of n)) c.raw-raw.ensures.is ∙ property_at f r c.args.i ∙ ap (option_map (λ l. (string_bytes l.name, f l.node.0))) (slice_get_past r.children.properties.items c.args.i past))
+    sym (ap (λ n. nth_named c.args.i (named_of n)) c.raw-raw.ensures.is ∙ property_at g.K.NodeKeywords.own f r c.args.i ∙ ap (option_map (λ l. (string_bytes l.name, f l.node.0))) (slice_get_past r.children.properties.items c.args.i past))
 
 pub at-requires : goal.at-requires
-at-requires c =
+at-requires g c =
     let r = c.raw-raw.result.now in
     let long = c.len.ensures ∙ r.children.properties.ok.0 in
     let t = c.args.self.now.schema.now.table.nodes.items in
@@ -26,19 +26,19 @@ at-requires c =
     link_below (suc c.args.self.now.number.0) (length t) r.children.properties.items c.args.i c.index-link.result.now c.raw-raw.ensures.within.0 (nth_there r.children.properties.items c.args.i c.index-link.result.now before c.index-link.ensures)
 
 pub returns-clause-pair : goal.returns-clause-pair
-returns-clause-pair c =
-    let f = tree c.args.self.now.schema.now.table.nodes.items in
+returns-clause-pair g c =
+    let f = tree g.K.NodeKeywords.own c.args.self.now.schema.now.table.nodes.items in
     let r = c.raw-raw.result.now in
     let long = c.len.ensures ∙ r.children.properties.ok.0 in
     let before : c.args.i < length r.children.properties.items = omega arith in
-    pair c.as_str.ensures.value c.at.ensures ∙ sym (ap (λ n. nth_named c.args.i (named_of n)) c.raw-raw.ensures.is ∙ property_at f r c.args.i ∙ ap (option_map (λ l. (string_bytes l.name, f l.node.0))) (nth_there r.children.properties.items c.args.i c.index-link.result.now before c.index-link.ensures))
+    pair c.as_str.ensures.value c.at.ensures ∙ sym (ap (λ n. nth_named c.args.i (named_of n)) c.raw-raw.ensures.is ∙ property_at g.K.NodeKeywords.own f r c.args.i ∙ ap (option_map (λ l. (string_bytes l.name, f l.node.0))) (nth_there r.children.properties.items c.args.i c.index-link.result.now before c.index-link.ensures))
 
 pub returns-clause-named : goal.returns-clause-named
-returns-clause-named c =
-    let f = tree c.args.self.now.schema.now.table.nodes.items in
+returns-clause-named g c =
+    let f = tree g.K.NodeKeywords.own c.args.self.now.schema.now.table.nodes.items in
     let r = c.raw-raw.result.now in
     let long = c.len.ensures ∙ r.children.properties.ok.0 in
     let before : c.args.i < length r.children.properties.items = omega arith in
     ap (λ k. property_of k (node_tree c.args.self.now)) c.as_str.ensures.value ∙ ap (property_of (string_bytes c.index-link.result.now.name)) c.raw-raw.ensures.is
-    ∙ ap (find (string_bytes c.index-link.result.now.name)) (named_opens f r)
+    ∙ ap (find (string_bytes c.index-link.result.now.name)) (named_opens g.K.NodeKeywords.own f r)
     ∙ found_at f r.children.properties.items c.args.i c.index-link.result.now c.raw-raw.ensures.ordered (nth_there r.children.properties.items c.args.i c.index-link.result.now before c.index-link.ensures) ∙ ap Some (sym c.at.ensures)

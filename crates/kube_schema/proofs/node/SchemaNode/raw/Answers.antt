@@ -6,11 +6,11 @@ use Rattle.kube_schema.proofs.node.SchemaNode.raw.Goals as goal
 
 pub returns : goal.returns
 unfolding node_tree
-returns c =
+returns g c =
     let n = c.args.self.now in
     let t = n.schema.now.table.nodes.items in
     let there : slice_get t n.number.0 ≡ Some c.index.result.now = slice_get-get_or t n.number.0 c.index.result.now n.stands ∙ ap Some (sym c.index.ensures) in record {
-      is = opens t n.number.0 c.index.result.now n.schema.now.table.closed there;
+      is = opens g.K.NodeKeywords.own t n.number.0 c.index.result.now n.schema.now.table.closed there;
       ordered = n.schema.now.table.ordered n.number.0 c.index.result.now there;
       within = n.schema.now.table.closed n.number.0 c.index.result.now there;
     }
