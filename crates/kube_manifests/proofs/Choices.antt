@@ -4,8 +4,9 @@ use Rattle.std.specs.List.{find, list_any}
 use Rattle.std.specs.Prelude.{codes}
 use Rattle.kube_manifests.proofs.Formed.{any_map, formed, mapped}
 use Rattle.kube_manifests.specs.declared.judgement.NotJudged.TheVariants as reason
-use Rattle.kube_manifests.specs.Versions.{Version, chosen_version, chosen_by, if_served, is_of_kind, is_of_version, or_reason, text_at}
-use Rattle.kube_schema_rules.specs.Rules.{◌>>=◌}
+use Rattle.kube_manifests.specs.Versions.{chosen_version, chosen_by, if_served, is_of_kind}
+use Rattle.kube_manifests_documents.specs.Versions.{Version, is_of_version, or_reason, text_at}
+use Rattle.kube_schema.specs.Rules.{◌>>=◌}
 use Rattle.serde_json.specs.Data.{Data}
 use Rattle.serde_json.specs.Find.{as_object}
 

@@ -3,7 +3,7 @@ use Rattle.std.proofs.Common.{◌≡◌, ◌<◌, ◌≤◌, ◌+◌, ◌-◌, �
 use Rattle.std.proofs.lemmas.List.{length-map}
 use Rattle.kube_cel_analysis.proofs.Rest.{rest, rest_at, rest_none, rest_past}
 use Rattle.kube_cel_analysis.proofs.Walks.{nodes_next, nodes_none, nodes_past, rest_nodes}
-use Rattle.kube_schema_rules.specs.declared.branches.BranchKind.TheVariants.{AllOf, OneOf, AnyOf}
+use Rattle.kube_schema.specs.BranchKind.TheVariants.{AllOf, OneOf, AnyOf}
 use Rattle.kube_manifests.specs.Rules.{saturated_count, rules_in, rules_in_maybe, rules_in_named, rules_in_nodes, rules_in_option}
 use Rattle.kube_schema.specs.Tree.{branches_of, Node, node, Maybe, nothing, just, Named, Nodes, no_nodes, more, additional_of, as_option, items_of, named_of, names, nodes_length, nth_named, nth_node, own}
 

@@ -5,14 +5,15 @@ use Rattle.std.specs.List.{Contains, find, list_any}
 use Rattle.std.specs.Str.{bytes_eq}
 use Rattle.std.specs.Prelude.{codes}
 use Rattle.kube_cel.specs.Answers.{report_of}
-use Rattle.kube_cel_walk.specs.Errors.{ErrorData}
+use Rattle.kube_cel.specs.Errors.{ErrorData}
 use Rattle.kube_manifests.specs.declared.judgement.Judgement.TheVariants.{Judged}
 use Rattle.kube_manifests.specs.declared.judgement.NotJudged.{NotJudged}
 use Rattle.kube_manifests.specs.declared.judgement.NotJudged.TheVariants as reason
 use Rattle.kube_manifests.specs.Laws.{FindsNothing, IsOwn}
 use Rattle.kube_manifests.specs.Sets.{IsJudgement}
-use Rattle.kube_manifests.specs.Versions.{Version, api_version, chosen_version, chosen_by, if_served, is_of_kind, is_of_version, or_reason, text_at}
-use Rattle.kube_schema_rules.specs.Rules.{◌>>=◌}
+use Rattle.kube_manifests.specs.Versions.{chosen_version, chosen_by, if_served, is_of_kind}
+use Rattle.kube_manifests_documents.specs.Versions.{Version, api_version, is_of_version, or_reason, text_at}
+use Rattle.kube_schema.specs.Rules.{◌>>=◌}
 use Rattle.serde_json.specs.Data.{Data, Members}
 use Rattle.serde_json.specs.Find.{as_object}
 

@@ -1,26 +1,26 @@
 -- The answer of the code's version is that of the documents' version.
 use Rattle.std.proofs.Common.{◌≡◌, ℕ, List, [], map, Option, Some, Result, Ok, Err, refl, sym, ap, ◌∙◌, subst, string_bytes}
-use Rattle.cel_patterns.specs.Book.{Book}
+use Rattle.cel.specs.Book.{Book}
 use Rattle.kube_cel.specs.Answers.{IsReportOf, answer_view, found_in, report_of}
 use Rattle.kube_cel.specs.Raw.{raw_accessors}
 use Rattle.kube_cel.specs.Starts.{defaulted_start}
-use Rattle.kube_cel_walk.specs.Answers.{answer as answer_at, IsAnswer}
-use Rattle.kube_cel_walk.specs.declared.error.ValidationErrors.{ValidationErrors}
-use Rattle.kube_cel_walk.specs.Roots.{root_view}
+use Rattle.kube_cel.specs.WalkAnswers.{answer as answer_at, IsAnswer}
+use Rattle.kube_cel.specs.ValidationErrors.{ValidationErrors}
+use Rattle.kube_cel.specs.Roots.{root_view}
 use Rattle.kube_manifests.proofs.Choices.{chosen_alike}
-use Rattle.kube_manifests.proofs.Formed.{formed, mapped, versions_alike, versions_are}
+use Rattle.kube_manifests.proofs.Formed.{mapped}
 use Rattle.kube_manifests.specs.declared.judgement.NotJudged.{NotJudged}
 use Rattle.kube_manifests.specs.declared.judgement.Judgement.TheVariants as judgement
 use Rattle.kube_manifests.specs.declared.version.CrdVersion.{CrdVersion}
-use Rattle.kube_manifests.specs.Documents.{Fault, add_document, each}
 use Rattle.kube_manifests.specs.Lists.{version_view}
-use Rattle.kube_manifests.specs.Sets.{IsJudgement, IsJudgementUnder, all_compiled, with_tree, versions_of}
-use Rattle.kube_manifests.specs.Versions.{Version, chosen_version, root_of}
+use Rattle.kube_manifests.specs.Sets.{IsJudgement, IsJudgementUnder, with_tree}
+use Rattle.kube_manifests.specs.Versions.{chosen_version, root_of}
+use Rattle.kube_manifests_documents.specs.Versions.{Version}
 use Rattle.kube_schema.specs.Shown.{whole}
 use Rattle.kube_schema.specs.Tree.{Node}
 use Rattle.kube_schema.specs.View.{view_of}
-use Rattle.kube_schema_rules.specs.Visit.{Visit}
-use Rattle.serde_json.specs.Data.{Data, Items}
+use Rattle.kube_schema.specs.Visit.{Visit}
+use Rattle.serde_json.specs.Data.{Data}
 
 -- a choice among versions with trees corresponds to one among versions with schemas
 ok_before : {A B E : Type 0} (f : A → B) (r : Result A E) (w : B) → mapped f r ≡ Ok w → (v : A) × (r ≡ Ok v) × (f v ≡ w)
@@ -67,12 +67,3 @@ module _ (set : List (Version Node)) (versions : List (Version Data)) (same : se
   judged_under b v answer e the_report =
       let found = judged_so (λ start. (answer_view answer ≡ report_of (answer_at raw_accessors b 65 start)) × IsAnswer raw_accessors b start (found_in answer)) v e the_report in
       (found.0, found.1, found.2.0, found.2.1)
-
--- ---- documents
-
-mapped_compiled : (r : Result (List (Version Data)) Fault) → mapped (map (formed (view_of 65))) r ≡ all_compiled r
-mapped_compiled (Ok vs) = refl
-mapped_compiled (Err f) = refl
-
-pub all_read : (ds : Items) → each (add_document (view_of 65)) 0 ds [] ≡ all_compiled (versions_of ds)
-all_read ds = sym (versions_are (view_of 65) ds) ∙ versions_alike (view_of 65) ds ∙ mapped_compiled (versions_of ds)

@@ -1,10 +1,6 @@
-pub mod Entries
-pub mod Each
-pub mod Formed
 pub mod Choices
 pub mod Counted
+pub mod Formed
 pub mod Found
 pub mod Judged
-pub mod Apart
-pub mod Listed
-pub mod Firsts
+pub mod Orders

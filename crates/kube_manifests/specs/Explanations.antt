@@ -1,20 +1,18 @@
 -- Trusted by the clauses of other library calls.
 -- What is said of an object that no schema judges: what was looked for, what there is, and which
--- kind or apiVersion was probably meant. What is said of a fault of a definition: what was found.
-use Rattle.std.specs.Prelude.{ℕ, List, [], ◌∷◌, ◌++◌, ◌&&◌, ◌||◌, Bool, true, false, map, Option, Some, None, option_and_then, option_map, codes, nat_eq, if◌then◌else◌}
+-- kind or apiVersion was probably meant.
+use Rattle.std.specs.Prelude.{ℕ, List, [], ◌∷◌, ◌++◌, ◌&&◌, ◌||◌, Bool, true, false, map, Option, Some, None, option_map, codes, nat_eq, if◌then◌else◌}
 use Rattle.std.specs.List.{filter, find, starts_with}
 use Rattle.std.specs.Option.{option_or}
 use Rattle.std.specs.Str.{bytes_eq}
-use Rattle.serde_json.specs.Data.{Data, null, boolean, number, string, array, object, Items}
+use Rattle.serde_json.specs.Data.{Data, null}
 use Rattle.serde_json.specs.Find.{get}
-use Rattle.kube_manifests.specs.declared.fault.CrdFault.{CrdFault}
-use Rattle.kube_manifests.specs.declared.fault.CrdFault.TheVariants as fault
 use Rattle.kube_manifests.specs.declared.judgement.NotJudged.{NotJudged}
 use Rattle.kube_manifests.specs.declared.judgement.NotJudged.TheVariants as reason
-use Rattle.kube_manifests.specs.Documents.{is_defined, unless_none}
-use Rattle.kube_manifests.specs.Texts.{fault_text, reason_text}
-use Rattle.kube_manifests.specs.Versions.{Version, api_version, group_prefix, is_of_kind, text_at}
-use Rattle.kube_manifests_spelling.specs.Spelling.{is_near, joined}
+use Rattle.kube_manifests.specs.Texts.{reason_text}
+use Rattle.kube_manifests.specs.Versions.{is_of_kind}
+use Rattle.kube_manifests_documents.specs.Versions.{TypeMeta, Version, api_version, group_prefix, is_defined, type_meta_of}
+use Rattle.kube_manifests_texts.specs.Spelling.{is_near, joined}
 
 -- ---- names that were meant
 
@@ -88,17 +86,8 @@ abbrev pub served_explanation : {S : Type 0} → List (Version S) → List ℕ �
 served_explanation vs text kind None = reason_text reason.NotServed
 served_explanation vs text kind (Some v) = not_served_text text kind (listed (names_of false v.group v.kind vs))
 
--- the apiVersion and the kind that were looked for
-pub record Sought : Type 0 where
-  pub api_version : List ℕ
-  pub kind : List ℕ
-
-abbrev pub sought_in : Data → Option Sought
-sought_in d =
-    option_and_then (λ text. option_map (λ kind. record { api_version = text; kind = kind }) (text_at (codes "kind") d))
-    (text_at (codes "apiVersion") d)
-
-abbrev pub sought_explanation : {S : Type 0} → List (Version S) → Option Sought → NotJudged → List ℕ
+-- given the apiVersion and the kind that were looked for
+abbrev pub sought_explanation : {S : Type 0} → List (Version S) → Option TypeMeta → NotJudged → List ℕ
 sought_explanation vs None r = reason_text r
 sought_explanation vs (Some s) reason.NotAnObject = reason_text reason.NotAnObject
 sought_explanation vs (Some s) reason.NoApiVersion = reason_text reason.NoApiVersion
@@ -114,58 +103,6 @@ unfoldable pub explanation : {S : Type 0} → List (Version S) → Data → NotJ
 explanation vs d reason.NotAnObject = reason_text reason.NotAnObject
 explanation vs d reason.NoApiVersion = no_text (codes "apiVersion") (get (codes "apiVersion") d)
 explanation vs d reason.NoKind = no_text (codes "kind") (get (codes "kind") d)
-explanation vs d reason.NoSuchKind = sought_explanation vs (sought_in d) reason.NoSuchKind
-explanation vs d reason.NoSuchVersion = sought_explanation vs (sought_in d) reason.NoSuchVersion
-explanation vs d reason.NotServed = sought_explanation vs (sought_in d) reason.NotServed
-
--- ---- definitions
-
-abbrev pub string_words : List ℕ → List ℕ
-string_words [] = codes "an empty string"
-string_words (c ∷ cs) = codes "a string"
-
-abbrev pub array_words : Option Items → List ℕ
-array_words None = codes "an empty array"
-array_words (Some ds) = codes "an array"
-
--- what a value is
-abbrev pub kind_words : Data → List ℕ
-kind_words null = codes "null"
-kind_words (boolean b) = codes "a bool"
-kind_words (number n) = codes "a number"
-kind_words (string s) = string_words s
-kind_words (array ds) = array_words (unless_none ds)
-kind_words (object ms) = codes "an object"
-
-abbrev pub found_text : CrdFault → Option Data → List ℕ
-found_text f None = fault_text f ++ codes ", but is missing"
-found_text f (Some d) = fault_text f ++ (codes ", not " ++ kind_words d)
-
--- of a document that is no definition of `v1`
-abbrev pub document_text : Option Sought → List ℕ
-document_text None = fault_text fault.NotACrd
-document_text (Some s) =
-    if bytes_eq s.kind (codes "CustomResourceDefinition")
-    then s.api_version ++ codes " isn't supported, only apiextensions.k8s.io/v1"
-    else fault_text fault.NotACrd ++ (codes ", not " ++ (s.kind ++ (codes " of " ++ s.api_version)))
-
--- with the kind, or with the name of the version, that an earlier one has too
-abbrev pub repeated_text : CrdFault → List ℕ → Option Data → List ℕ
-repeated_text f words (Some (string s)) = words ++ s
-repeated_text f words o = fault_text f
-
--- what is wrong with a definition, if this stands at the fault's pointer
-unfoldable pub fault_explanation : CrdFault → Option Data → List ℕ
-fault_explanation fault.NotACrd o = document_text (option_and_then sought_in o)
-fault_explanation fault.NoName o = found_text fault.NoName o
-fault_explanation fault.NoGroup o = found_text fault.NoGroup o
-fault_explanation fault.NoKind o = found_text fault.NoKind o
-fault_explanation fault.NoVersions o = found_text fault.NoVersions o
-fault_explanation fault.RepeatedKind o =
-    repeated_text fault.RepeatedKind (codes "another definition has this group and the kind ") o
-fault_explanation fault.NoVersionName o = found_text fault.NoVersionName o
-fault_explanation fault.NoServed o = found_text fault.NoServed o
-fault_explanation fault.NoSchema o = fault_text fault.NoSchema
-fault_explanation fault.SchemaNotAnObject o = found_text fault.SchemaNotAnObject o
-fault_explanation fault.RepeatedVersion o =
-    repeated_text fault.RepeatedVersion (codes "another version of this kind has the name ") o
+explanation vs d reason.NoSuchKind = sought_explanation vs (type_meta_of d) reason.NoSuchKind
+explanation vs d reason.NoSuchVersion = sought_explanation vs (type_meta_of d) reason.NoSuchVersion
+explanation vs d reason.NotServed = sought_explanation vs (type_meta_of d) reason.NotServed

@@ -2,11 +2,12 @@
 -- What the laws state of every object that is judged.
 use Rattle.std.specs.List.{Contains}
 use Rattle.std.specs.Prelude.{◌≡◌, List, [], true, Option, Some, codes}
-use Rattle.cel_patterns.specs.Book.{Book, IsBook}
+use Rattle.cel.specs.Book.{Book, IsBook}
 use Rattle.kube_cel.specs.Raw.{raw_accessors}
 use Rattle.kube_cel.specs.Starts.{defaulted_start}
-use Rattle.kube_cel_walk.specs.Answers.{answer}
-use Rattle.kube_manifests.specs.Versions.{Version, api_version, root_of, text_at}
+use Rattle.kube_cel.specs.WalkAnswers.{answer}
+use Rattle.kube_manifests.specs.Versions.{root_of}
+use Rattle.kube_manifests_documents.specs.Versions.{Version, api_version, text_at}
 use Rattle.serde_json.specs.Data.{Data}
 
 -- under some book, the schema of the version finds no error in the object

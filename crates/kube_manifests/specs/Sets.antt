@@ -1,53 +1,38 @@
 -- Trusted by the clauses of other library calls.
 -- The versions that a set holds, and its answer for an object: Kubernetes documentation, "Versions
 -- in CustomResourceDefinitions", "Validation rules".
-use Rattle.std.specs.Prelude.{◌≡◌, ℕ, List, map, Option, Some, None, Result, Ok, Err, string_bytes}
-use Rattle.serde_json.specs.Data.{Data, Items}
-use Rattle.cel_patterns.specs.Book.{Book}
+use Rattle.std.specs.Prelude.{◌≡◌, ℕ, List, map, Option, Some, None, Result, Ok, Err}
+use Rattle.serde_json.specs.Data.{Data}
+use Rattle.cel.specs.Book.{Book}
 use Rattle.kube_cel.specs.Answers.{IsReportOf, answer_view, found_in, report_of}
 use Rattle.kube_cel.specs.Raw.{raw_accessors}
 use Rattle.kube_cel.specs.Starts.{defaulted_start}
-use Rattle.kube_cel_walk.specs.Answers.{answer as answer_at, IsAnswer}
+use Rattle.kube_cel.specs.WalkAnswers.{answer as answer_at, IsAnswer}
 use Rattle.kube_schema.specs.Tree.{Node}
 use Rattle.kube_schema.specs.View.{view_of}
-use Rattle.kube_manifests.specs.declared.fault.CrdError.{CrdError}
 use Rattle.kube_manifests.specs.declared.judgement.Judgement.{Judgement}
 use Rattle.kube_manifests.specs.declared.judgement.Judgement.TheVariants.{Judged, NotJudged}
 use Rattle.kube_manifests.specs.declared.judgement.NotJudged as reason
 use Rattle.kube_manifests.specs.declared.set.CrdSet.{CrdSet}
-use Rattle.kube_manifests.specs.Documents.{Fault, versions_in}
 use Rattle.kube_manifests.specs.Lists.{list_view}
 use Rattle.kube_manifests.specs.Rules.{saturated_count, rules_in}
-use Rattle.kube_manifests.specs.Versions.{Version, chosen_version, root_of}
+use Rattle.kube_manifests.specs.Versions.{chosen_version, root_of}
+use Rattle.kube_manifests_documents.specs.Defined.{error_view}
+use Rattle.kube_manifests_documents.specs.Definitions.{Fault}
+use Rattle.kube_manifests_documents.specs.Versions.{Version}
+use Rattle.kube_manifests_documents.specs.declared.crd_fault.CrdError.{CrdError}
 
 -- ---- views of the code's values
 
 abbrev pub set_view : CrdSet → List (Version Node)
 set_view s = list_view s.versions
 
-abbrev pub error_view : CrdError → Fault
-error_view e = record {
-  document = e.document;
-  item = e.item;
-  pointer = string_bytes e.pointer;
-  fault = e.fault;
-}
-
 -- the view of a set, or of the error
 abbrev pub outcome_view : Result CrdSet CrdError → Result (List (Version Node)) Fault
 outcome_view (Ok s) = Ok (set_view s)
 outcome_view (Err e) = Err (error_view e)
 
--- the versions after a document was added, or the fault
-abbrev pub added_view : List (Version Node) → Result (Unit {0}) CrdError → Result (List (Version Node)) Fault
-added_view vs (Ok u) = Ok vs
-added_view vs (Err e) = Err (error_view e)
-
 -- ---- sets of documents
-
--- the versions of documents, with their schemas as JSON
-abbrev pub versions_of : Items → Result (List (Version Data)) Fault
-versions_of = versions_in (λ schema. schema)
 
 -- the version with its schema as a tree
 abbrev pub with_tree : Version Data → Version Node

@@ -6,10 +6,10 @@ ghost use Rattle.serde_json.specs.View.{view};
 ghost use Rattle.std.specs.List.{list_any};
 ghost use Rattle.std.specs.Prelude.{◌≡◌, map};
 
-use crate::definition::text_at;
 use crate::judgement::NotJudged;
 use crate::list::Versions;
 use crate::version::CrdVersion;
+use kube_manifests_documents::text_at;
 use serde_json::Value;
 
 /// Returns the version whose schema judges an object, or the reason why none does.

@@ -1,36 +1,39 @@
 //! Says why an object isn't judged.
-ghost use Rattle.kube_manifests.specs.Explanations.{explanation, is_missing, is_of_near_kind, is_of_near_version, kind_explanation, listed, meant, names_of, no_kind_text, no_text, no_version_text, not_served_text, or_none, served_explanation, sought_explanation, sought_in, version_explanation};
+ghost use Rattle.kube_manifests.specs.Explanations.{explanation, is_missing, is_of_near_kind, is_of_near_version, kind_explanation, listed, meant, names_of, no_kind_text, no_text, no_version_text, not_served_text, or_none, served_explanation, sought_explanation, version_explanation};
 ghost use Rattle.kube_manifests.specs.Lists.{version_view};
-ghost use Rattle.kube_manifests.specs.Parts.{sought_view};
 ghost use Rattle.kube_manifests.specs.Versions.{is_of_kind};
+ghost use Rattle.kube_manifests_documents.specs.Defined.{type_meta_view};
 ghost use Rattle.serde_json.specs.Find.{get};
 ghost use Rattle.serde_json.specs.View.{view};
 ghost use Rattle.std.specs.List.{find};
 ghost use Rattle.std.specs.Prelude.{◌≡◌, IfOk, map, option_map, string_bytes};
+ghost use Rattle.std.specs.Str.{chars};
 
-use crate::definition::text_at;
 use crate::judgement::NotJudged;
 use crate::version::CrdVersion;
-use kube_manifests_spelling::joined;
+use kube_manifests_documents::{TypeMeta, type_meta_of};
+use kube_manifests_texts::{joined, letters_of};
 use serde_json::Value;
 use std::alloc::{AllocError, Global};
 
-/// The version of the group of this apiVersion whose kind is near this one, if any.
+/// The version of the group of this apiVersion whose kind is near this one, which has these
+/// characters, if any.
 fn of_near_kind<'s>(
-    alloc: Global,
     versions: &'s [CrdVersion],
     api_version: &str,
     kind: &str,
-) -> Result<Option<&'s CrdVersion>, AllocError>
-    ensures { IfOk result (λ o. option_map (λ v. version_view v.now) o
-        ≡ find (is_of_near_kind api_version.now kind.now) (map version_view versions.now)) }
+    letters: &[char],
+) -> Option<&'s CrdVersion>
+    requires { letters.now ≡ chars kind.now }
+    ensures { option_map (λ v. version_view v.now) result
+        ≡ find (is_of_near_kind api_version.now kind.now) (map version_view versions.now) }
 {
     for version in versions {
-        if version.is_of_near_kind(alloc, api_version, kind)? {
-            return Ok(Some(version));
+        if version.is_of_near_kind(api_version, kind, letters) {
+            return Some(version);
         }
     }
-    Ok(None)
+    None
 }
 
 /// The version of this kind whose apiVersion is near this one, if any.
@@ -61,7 +64,8 @@ fn meant<'s>(
     ensures { IfOk result (λ o. option_map (λ s. s.now) o
         ≡ meant (map version_view versions.now) api_version.now kind.now) }
 {
-    if let Some(version) = of_near_kind(alloc, versions, api_version, kind)? {
+    let letters = letters_of(alloc, kind)?;
+    if let Some(version) = of_near_kind(versions, api_version, kind, letters.as_slice()) {
         return Ok(Some(version.root.kind.as_str()));
     }
     match of_near_version(alloc, versions, api_version, kind)? {
@@ -247,31 +251,15 @@ fn no_text(alloc: Global, object: &Value, key: &str) -> Result<String, AllocErro
     }
 }
 
-/// What was looked for.
-#[derive(Clone, Copy)]
-pub struct Sought<'v> {
-    pub(crate) api_version: &'v str,
-    pub(crate) kind: &'v str,
-}
-
-/// The apiVersion and the kind of an object, if it has both.
-pub(crate) fn sought_in(object: &Value) -> Option<Sought<'_>>
-    ensures { option_map sought_view result ≡ sought_in (view object.now) }
-{
-    let api_version = text_at(object, "apiVersion")?;
-    let kind = text_at(object, "kind")?;
-    Some(Sought { api_version, kind })
-}
-
 /// Says why an object isn't judged for which this was looked for.
 fn sought_text(
     alloc: Global,
     versions: &[CrdVersion],
-    sought: Option<Sought<'_>>,
+    sought: Option<TypeMeta<'_>>,
     reason: NotJudged,
 ) -> Result<String, AllocError>
     ensures { IfOk result (λ s. string_bytes s ≡ sought_explanation (map version_view versions.now)
-        (option_map sought_view sought.entry) reason) }
+        (option_map type_meta_view sought.entry) reason) }
 {
     let Some(sought) = sought else {
         return reason.to_string(alloc);
@@ -303,7 +291,7 @@ pub(crate) fn explained(
         NotJudged::NoApiVersion => no_text(alloc, object, "apiVersion"),
         NotJudged::NoKind => no_text(alloc, object, "kind"),
         NotJudged::NoSuchKind | NotJudged::NoSuchVersion | NotJudged::NotServed => {
-            sought_text(alloc, versions, sought_in(object), reason)
+            sought_text(alloc, versions, type_meta_of(object), reason)
         }
     }
 }

@@ -1,10 +1,11 @@
 //! Laws of sets of definitions. Each is the contract of a function with an empty body.
 ghost use Rattle.kube_manifests.specs.declared.judgement.Judgement.TheVariants.{Judged};
 ghost use Rattle.kube_manifests.specs.Laws.{FindsNothing, IsOwn};
-ghost use Rattle.kube_manifests.specs.DocumentVersions.{document_versions, from_each_item};
-ghost use Rattle.kube_manifests.specs.Sets.{versions_of, IsJudgement};
-ghost use Rattle.kube_manifests.specs.Versions.{Version, chosen_version};
-ghost use Rattle.serde_json.specs.Data.{Data, Items};
+ghost use Rattle.kube_manifests.specs.Sets.{IsJudgement};
+ghost use Rattle.kube_manifests.specs.Versions.{chosen_version};
+ghost use Rattle.kube_manifests_documents.specs.Definitions.{versions_of};
+ghost use Rattle.kube_manifests_documents.specs.Versions.{Version};
+ghost use Rattle.serde_json.specs.Data.{Data};
 ghost use Rattle.serde_json.specs.View.{items_of};
 ghost use Rattle.std.specs.Prelude.{◌≡◌, ◌++◌, List, Ok, Option};
 
@@ -21,13 +22,6 @@ pub fn no_errors_only_where_a_schema_finds_none()
 pub fn the_version_found_is_the_objects_own()
     ensures { (versions : List (Version Data)) (object : Data) (v : Version Data)
         → chosen_version versions object ≡ Ok v → IsOwn versions object v }
-{}
-
-/// If documents have no fault, their versions are exactly those written in them, one document after
-/// another.
-pub fn a_set_has_the_versions_of_its_documents()
-    ensures { (documents : Items) (versions : List (Version Data))
-        → versions_of documents ≡ Ok versions → versions ≡ from_each_item document_versions documents }
 {}
 
 /// The order of two groups of documents doesn't change which version judges an object.

@@ -25,16 +25,11 @@
 //! returned. An object is judged exactly if the set has a served version with its apiVersion and
 //! kind, and then the answer is that of the version's schema, as `kube_cel` defines it; otherwise
 //! exactly the reason is reported. `specs/Versions.antt` defines which version that is,
-//! `specs/Documents.antt` which versions documents have.
+//! `kube_manifests_documents` which versions documents have.
 #![tactic(auto)]
 
 mod choice;
-mod definition;
-mod documents;
-mod earlier;
 mod explanation;
-mod fault;
-mod fault_text;
 mod judgement;
 pub mod laws;
 mod list;
@@ -42,11 +37,9 @@ mod rules;
 mod set;
 mod version;
 
-pub use definition::is_crd;
-pub use earlier::earlier_definition;
-pub use fault::{CrdError, CrdFault};
 pub use judgement::{Judgement, NotJudged};
 pub use kube_cel::cel::PatternBook;
 pub use kube_cel::{Refused, ValidationError, ValidationErrors};
+pub use kube_manifests_documents::{CrdError, CrdFault, earlier_definition, is_crd};
 pub use rules::rule_count;
 pub use set::CrdSet;

@@ -1,24 +1,24 @@
-//! A list of versions, in which each is found by its apiVersion or group and its kind.
-ghost use Rattle.kube_manifests.specs.Documents.{is_defined};
+//! A list of compiled versions, in which each is found by its apiVersion and its kind.
 ghost use Rattle.kube_manifests.specs.Lists.{IsIndexed, list_view, version_view};
-ghost use Rattle.kube_manifests.specs.Versions.{api_version, is_of_version};
-ghost use Rattle.kube_manifests_index.specs.Positions.{position_at};
-ghost use Rattle.std.specs.List.{find, list_any, slice_get};
-ghost use Rattle.std.specs.Option.{option_or};
-ghost use Rattle.std.specs.Prelude.{◌≡◌, ◌++◌, ◌∷◌, [], ℕ, List, None, OnOk, Some, if◌then◌else◌, map, option_map};
+ghost use Rattle.kube_manifests.specs.Sets.{with_tree};
+ghost use Rattle.kube_manifests_documents.specs.Defined as spec;
+ghost use Rattle.kube_manifests_documents.specs.Defined.{defined_view};
+ghost use Rattle.kube_manifests_documents.specs.Versions.{is_of_version};
+ghost use Rattle.std.specs.List.{find, slice_get};
+ghost use Rattle.std.specs.Prelude.{◌≡◌, IfErr, IfOk, map, option_map};
 
 use crate::version::CrdVersion;
-use kube_manifests_index::Index;
-use std::alloc::{AllocError, Global};
+use kube_cel::Refused;
+use kube_manifests_documents::{DefinedVersion, DefinedVersions};
+use kube_manifests_texts::Index;
+use std::alloc::Global;
 
 /// Versions of definitions, in the order of their documents.
 #[derive(Drop)]
 pub struct Versions {
     pub(crate) list: Vec<CrdVersion>,
-    /// The first version of each apiVersion and kind.
+    /// The position of the first version of each apiVersion and kind.
     by_version: Index,
-    /// The first version of each group and kind.
-    by_group: Index,
 }
 
 /// The version at a position, if any.
@@ -29,52 +29,33 @@ fn version_at(versions: &[CrdVersion], position: usize) -> Option<&CrdVersion>
     versions.get(position)
 }
 
-/// Makes a position the one for a version's apiVersion and kind, unless there is one.
-fn enter_version(
-    index: &mut Index,
+/// Compiles the schema of each version.
+fn compiled_versions(
     alloc: Global,
-    version: &CrdVersion,
-    position: usize,
-) -> Result<(), AllocError>
-    ensures { OnOk result ((text kind : List ℕ) → position_at index.new text kind
-        ≡ option_or (position_at index.old text kind)
-        (if is_of_version text kind (version_view version.now) then Some position else None)) }
+    defined: &[DefinedVersion<'_>],
+) -> Result<Vec<CrdVersion>, Refused>
+    ensures versions { IfOk result (λ v. map version_view v.items
+        ≡ map with_tree (map defined_view defined.now)) }
+    ensures memory { IfErr result (λ e. e ≡ Refused.Memory) }
 {
-    let root = &version.root;
-    index.insert_first(
-        alloc,
-        root.api_version.as_str(),
-        root.kind.as_str(),
-        position,
-    )
-}
-
-/// Makes a position the one for a version's group and kind, unless there is one.
-fn enter_group(
-    index: &mut Index,
-    alloc: Global,
-    version: &CrdVersion,
-    position: usize,
-) -> Result<(), AllocError>
-    ensures { OnOk result ((group kind : List ℕ) → position_at index.new group kind
-        ≡ option_or (position_at index.old group kind)
-        (if is_defined group kind (version_view version.now) then Some position else None)) }
-{
-    let root = &version.root;
-    index.insert_first(alloc, root.api_group.as_str(), root.kind.as_str(), position)
+    let mut versions = Vec::with_capacity(alloc, defined.len())?;
+    for version in defined {
+        versions.push(CrdVersion::compiled(alloc, version)?)?;
+    }
+    Ok(versions)
 }
 
 impl Versions {
-    /// Returns a list without versions.
-    pub(crate) fn new(alloc: Global) -> Versions
-        ensures empty { list_view result ≡ [] }
-        ensures indexed { IsIndexed result }
+    /// Compiles the schema of each version that documents define.
+    pub(crate) fn compiled(alloc: Global, defined: DefinedVersions<'_>) -> Result<Versions, Refused>
+        requires { spec.IsIndexed defined }
+        ensures versions { IfOk result (λ v. list_view v ≡ map with_tree (spec.list_view defined.entry)) }
+        ensures indexed { IfOk result (λ v. IsIndexed v) }
+        ensures memory { IfErr result (λ e. e ≡ Refused.Memory) }
     {
-        Versions {
-            list: Vec::new(alloc),
-            by_version: Index::new(alloc),
-            by_group: Index::new(alloc),
-        }
+        let list = compiled_versions(alloc, defined.list.as_slice())?;
+        let DefinedVersions { by_version, .. } = defined;
+        Ok(Versions { list, by_version })
     }
 
     /// The first version with this apiVersion and kind, if any.
@@ -87,44 +68,5 @@ impl Versions {
             Some(position) => version_at(self.list.as_slice(), position),
             None => None,
         }
-    }
-
-    /// Reports whether any version has this apiVersion and kind.
-    fn has_version(&self, api_version: &str, kind: &str) -> bool
-        requires { IsIndexed self.now }
-        ensures { result ≡ list_any (is_of_version api_version.now kind.now) (list_view self.now) }
-    {
-        self.by_version.get(api_version, kind).is_some()
-    }
-
-    /// Reports whether any version has the apiVersion and kind of `version`.
-    pub(crate) fn has_same(&self, version: &CrdVersion) -> bool
-        requires { IsIndexed self.now }
-        ensures { result ≡ list_any (is_of_version (api_version (version_view version.now))
-            (version_view version.now).kind) (list_view self.now) }
-    {
-        let root = &version.root;
-        self.has_version(root.api_version.as_str(), root.kind.as_str())
-    }
-
-    /// Reports whether any version has this group and kind.
-    pub(crate) fn has_group(&self, group: &str, kind: &str) -> bool
-        requires { IsIndexed self.now }
-        ensures { result ≡ list_any (is_defined group.now kind.now) (list_view self.now) }
-    {
-        self.by_group.get(group, kind).is_some()
-    }
-
-    /// Adds a version.
-    pub(crate) fn push(&mut self, alloc: Global, version: CrdVersion) -> Result<(), AllocError>
-        requires { IsIndexed self.old }
-        ensures added { OnOk result (list_view self.new ≡ list_view self.old ++ version_view version ∷ []) }
-        ensures indexed { OnOk result (IsIndexed self.new) }
-    {
-        let position = self.list.len();
-        enter_version(&mut self.by_version, alloc, &version, position)?;
-        enter_group(&mut self.by_group, alloc, &version, position)?;
-        self.list.push(version)?;
-        Ok(())
     }
 }

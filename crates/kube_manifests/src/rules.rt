@@ -5,7 +5,7 @@ ghost use Rattle.kube_schema.specs.Tree.{branches_of, additional_of, items_of, n
 ghost use Rattle.std.specs.Prelude.{◌≡◌, ◌+◌, ◌<◌, option_map};
 
 use kube_cel::{CompiledSchema, SchemaNode};
-use kube_schema_rules::BranchKind;
+use kube_schema::BranchKind;
 
 /// Returns the number of rules of all nodes of a schema together, or `u64::MAX` if there are more.
 /// A node past the depth limit has an error in place of its rules, which counts as one.

@@ -3,13 +3,12 @@ ghost use Rattle.kube_manifests.specs.Lists.{IsIndexed};
 ghost use Rattle.std.proofs.Props.{props};
 
 use crate::choice::chosen;
-use crate::documents::add_document;
 use crate::explanation::explained;
-use crate::fault::CrdError;
 use crate::judgement::{Judgement, NotJudged};
 use crate::list::Versions;
 use kube_cel::cel::PatternBook;
 use kube_cel::{Refused, Validator};
+use kube_manifests_documents::{CrdError, DefinedVersions};
 use serde_json::Value;
 use std::alloc::Global;
 
@@ -21,11 +20,15 @@ pub struct CrdSet {
 }
 
 impl CrdSet {
-    ghost use Rattle.cel_patterns.specs.Book.{Book, Extends};
-    ghost use Rattle.cel_patterns.specs.Entries.{entries_of};
+    ghost use Rattle.cel.specs.Book.{Book, Extends};
+    ghost use Rattle.cel.specs.Entries.{entries_of};
     ghost use Rattle.kube_manifests.specs.Explanations.{explanation};
-    ghost use Rattle.kube_manifests.specs.Sets.{IsJudgement, IsJudgementUnder, all_compiled, outcome_view, reason_of, rules_of, set_view, versions_of, why_not, with_tree};
-    ghost use Rattle.kube_manifests.specs.Versions.{Version, chosen_version};
+    ghost use Rattle.kube_manifests.specs.Sets.{IsJudgement, IsJudgementUnder, all_compiled, outcome_view, reason_of, rules_of, set_view, why_not, with_tree};
+    ghost use Rattle.kube_manifests.specs.Versions.{chosen_version};
+    ghost use Rattle.kube_manifests_documents.specs.Defined as spec;
+    ghost use Rattle.kube_manifests_documents.specs.Defined.{defined_in};
+    ghost use Rattle.kube_manifests_documents.specs.Definitions.{versions_of};
+    ghost use Rattle.kube_manifests_documents.specs.Versions.{Version};
     ghost use Rattle.serde_json.specs.Data.{Data};
     ghost use Rattle.serde_json.specs.View.{items_of, view};
     ghost use Rattle.std.specs.Prelude.{◌≡◌, IfErr, IfOk, List, map, option_map, string_bytes};
@@ -46,13 +49,26 @@ impl CrdSet {
             ≡ all_compiled (versions_of (items_of (map (λ v. view v.now) documents.now)))) }
         ensures memory { IfErr result (λ e. e ≡ Refused.Memory) }
     {
-        let mut versions = Versions::new(alloc);
-        for (index, document) in documents.iter().enumerate() {
-            if let Err(error) = add_document(alloc, index, *document, &mut versions)? {
-                return Ok(Err(error));
+        let defined = DefinedVersions::read(alloc, documents)?;
+        CrdSet::of_defined(alloc, defined)
+    }
+
+    /// Compiles the versions that documents define, or returns their fault.
+    fn of_defined(
+        alloc: Global,
+        defined: Result<DefinedVersions<'_>, CrdError>,
+    ) -> Result<Result<CrdSet, CrdError>, Refused>
+        requires { IfOk defined (λ v. spec.IsIndexed v) }
+        ensures versions { IfOk result (λ r. outcome_view r ≡ all_compiled (defined_in defined.entry)) }
+        ensures memory { IfErr result (λ e. e ≡ Refused.Memory) }
+    {
+        match defined {
+            Ok(defined) => {
+                let versions = Versions::compiled(alloc, defined)?;
+                Ok(Ok(CrdSet { versions }))
             }
+            Err(error) => Ok(Err(error)),
         }
-        Ok(Ok(CrdSet { versions }))
     }
 
     /// Judges an object, with its old state if given, by the schema for its apiVersion and kind.

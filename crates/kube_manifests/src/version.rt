@@ -1,13 +1,16 @@
 //! The versions of definitions, with their compiled schemas.
 ghost use Rattle.kube_manifests.specs.Rules.{saturated_count, rules_in};
-ghost use Rattle.kube_manifests.specs.Versions.{group_prefix};
+ghost use Rattle.kube_manifests_documents.specs.Versions.{group_prefix};
 ghost use Rattle.kube_schema.specs.Shown.{whole};
 ghost use Rattle.std.proofs.Props.{props};
 ghost use Rattle.std.specs.List.{starts_with};
-ghost use Rattle.std.specs.Prelude.{◌≡◌, ◌++◌, nat_eq, string_bytes};
+ghost use Rattle.std.specs.Prelude.{◌≡◌, ◌++◌, IfErr, IfOk, nat_eq, string_bytes};
+ghost use Rattle.std.specs.Str.{chars};
 
-use kube_cel::{CompiledSchema, RootContext};
-use kube_manifests_spelling::is_near;
+use crate::rules::rule_count;
+use kube_cel::{CompiledSchema, Refused, RootContext, compile_schema};
+use kube_manifests_documents::DefinedVersion;
+use kube_manifests_texts::{is_near, is_near_spelled, letters_of};
 use std::alloc::{AllocError, Global};
 
 /// A version of a definition, with its compiled schema.
@@ -18,6 +21,8 @@ pub struct CrdVersion {
     /// The group and a slash: the prefix of the apiVersion of every version of the group.
     pub(crate) prefix: String,
     pub(crate) name: String,
+    /// The characters of the kind.
+    kind_letters: Vec<char>,
     pub(crate) served: bool,
     pub(crate) schema: CompiledSchema,
     /// The number of rules of the schema, at most `u64::MAX`.
@@ -26,15 +31,47 @@ pub struct CrdVersion {
         ≡ group_prefix (string_bytes root.api_group) } by { Prim.hlevel props },
     ghost named: { string_bytes root.api_version
         ≡ group_prefix (string_bytes root.api_group) ++ string_bytes name } by { Prim.hlevel props },
+    ghost spelled: { kind_letters.items ≡ chars (string_bytes root.kind) },
     ghost right: { rules ≡ saturated_count (rules_in (whole schema)) },
 }
 
 impl CrdVersion {
-    ghost use Rattle.kube_manifests.specs.Documents.{is_defined};
     ghost use Rattle.kube_manifests.specs.Explanations.{is_of_near_kind, is_of_near_version};
     ghost use Rattle.kube_manifests.specs.Lists.{version_view};
+    ghost use Rattle.kube_manifests.specs.Sets.{with_tree};
     ghost use Rattle.kube_manifests.specs.Versions.{is_of_kind};
-    ghost use Rattle.std.specs.Prelude.{IfOk};
+    ghost use Rattle.kube_manifests_documents.specs.Defined.{defined_view};
+    ghost use Rattle.kube_manifests_documents.specs.Versions.{is_defined};
+
+    /// Returns a version with its schema compiled.
+    pub(crate) fn compiled(
+        alloc: Global,
+        version: &DefinedVersion<'_>,
+    ) -> Result<CrdVersion, Refused>
+        ensures version { IfOk result (λ v. version_view v ≡ with_tree (defined_view version.now)) }
+        ensures memory { IfErr result (λ e. e ≡ Refused.Memory) }
+    {
+        let (group, kind, name) = (version.group, version.kind, version.name);
+        let root = RootContext {
+            api_version: format!(in alloc; "{group}/{name}")?,
+            api_group: String::from_str(alloc, group)?,
+            kind: String::from_str(alloc, kind)?,
+        };
+        let prefix = format!(in alloc; "{group}/")?;
+        let kind_letters = letters_of(alloc, kind)?;
+        let name = String::from_str(alloc, name)?;
+        let schema = compile_schema(alloc, version.schema)?;
+        let rules = rule_count(&schema);
+        Ok(CrdVersion {
+            root,
+            prefix,
+            name,
+            kind_letters,
+            served: version.served,
+            schema,
+            rules,
+        })
+    }
 
     /// Reports whether the version has this group and kind.
     pub(crate) fn is_defined(&self, group: &str, kind: &str) -> bool
@@ -51,19 +88,18 @@ impl CrdVersion {
     }
 
     /// Reports whether this apiVersion is one of the version's group, and the version's kind is near
-    /// this one.
-    pub(crate) fn is_of_near_kind(
-        &self,
-        alloc: Global,
-        api_version: &str,
-        kind: &str,
-    ) -> Result<bool, AllocError>
-        ensures { IfOk result (λ b. b ≡ is_of_near_kind api_version.now kind.now (version_view self.now)) }
+    /// this one, which has these characters.
+    pub(crate) fn is_of_near_kind(&self, api_version: &str, kind: &str, letters: &[char]) -> bool
+        requires { letters.now ≡ chars kind.now }
+        ensures { result ≡ is_of_near_kind api_version.now kind.now (version_view self.now) }
     {
-        if !self.is_of_group(api_version) {
-            return Ok(false);
-        }
-        is_near(alloc, kind, self.root.kind.as_str())
+        self.is_of_group(api_version)
+            && is_near_spelled(
+                kind,
+                letters,
+                self.root.kind.as_str(),
+                self.kind_letters.as_slice(),
+            )
     }
 
     /// Reports whether the version is of this kind, and its apiVersion is near this one.

@@ -9,7 +9,7 @@ use Rattle.cel_semantics.specs.declared.functions.Form.TheVariants.{Known, Wrong
 use Rattle.cel_syntax_ast.specs.Term.{Term, literal, ident, select, has, index, unary, binary, conditional, list_of, map_with, call, qualified, macro, Terms, no_terms, term_and, count_of, is_there, Pairs, no_pairs, pair_and}
 use Rattle.cel_value.specs.Data.{Data, double}
 use Rattle.kube_functions.specs.Kube.{all_library}
-use Rattle.kube_manifests_admission.specs.Faults.{◌>>=◌}
+use Rattle.kube_manifests_documents.specs.Faults.{◌>>=◌}
 use Rattle.kube_manifests_names.specs.declared.bound.Bound.{Bound, fold-Bound}
 use Rattle.kube_manifests_names.specs.declared.bound.Bound.TheOpen.{Bound-F}
 use Rattle.kube_manifests_names.specs.declared.names.Names.{Names}

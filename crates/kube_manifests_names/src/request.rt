@@ -8,7 +8,7 @@ ghost use Rattle.std.specs.Prelude.{◌≡◌, IfOk, map, OnOk, option_and_then,
 use crate::values::unstructured;
 use cel_value::{Entries, Value};
 use kube_schema_values::put_entry;
-use kube_types_refused::Refused;
+use kube_types::Refused;
 use serde_json::Value as Json;
 use std::alloc::Global;
 
@@ -27,7 +27,7 @@ pub(crate) enum Part {
     User,
 }
 
-fn is_null(value: &Json) -> bool
+pub(crate) fn is_null(value: &Json) -> bool
     ensures { result ≡ is_null (json_view value.now) }
 {
     match value {

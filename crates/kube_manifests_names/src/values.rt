@@ -9,7 +9,7 @@ ghost use Rattle.std.specs.Prelude.{◌≡◌, IfErr, IfOk};
 
 use cel_value::{Entries, Value};
 use kube_schema_values::{bind_number, bind_text, put_entry};
-use kube_types_refused::Refused;
+use kube_types::Refused;
 use serde_json::{Map as Members, Value as Json};
 use std::alloc::Global;
 

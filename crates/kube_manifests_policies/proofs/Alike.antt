@@ -1,17 +1,19 @@
 -- Scopes that bind the same names.
-use Rattle.cel_patterns.specs.Book.{Book}
-use Rattle.cel_semantics.specs.Bindings.{Bindings, binding}
-use Rattle.cel_semantics.specs.Members.{put_in}
-use Rattle.cel_semantics.specs.Outcome.{Outcome, and_then}
+use Rattle.cel.specs.Book.{Book}
+use Rattle.cel.specs.Bindings.{Bindings, binding}
+use Rattle.cel.specs.Members.{put_in}
+use Rattle.cel.specs.Outcome.{Outcome, and_then}
 use Rattle.cel_value.specs.Data.{Data, map_of, no_entries, text}
 use Rattle.cel.proofs.Bound.{bound, meaning_same}
-use Rattle.kube_manifests_admission.specs.Inputs.{Variables}
-use Rattle.kube_manifests_policies.specs.Bound.{bindings_always, policy_bindings, with_given}
+use Rattle.kube_cel_vap.proofs.Bound.{given_under}
+use Rattle.kube_cel_vap.specs.Bound.{with_given}
+use Rattle.kube_manifests_documents.specs.Inputs.{Variables}
+use Rattle.kube_manifests_policies.specs.Bound.{bindings_always, policy_bindings}
 use Rattle.kube_manifests_names.specs.Inputs.{first_missing, without_namespace}
-use Rattle.kube_manifests_admission.specs.Policies.{ItemData, item_view}
+use Rattle.kube_manifests_documents.specs.Policies.{ItemData, item_view}
 use Rattle.kube_manifests_policies.specs.Scopes.{Alike, ScopeData, evaluation, fault_report, first_stop, outcome_in, outcome_or_reason, outcome_unless, policy_library, stopped_by, variable_step, variables_after, with_no_values, with_stored, with_values, with_variable, without_value}
 use Rattle.kube_manifests_policies.specs.Verdicts.{ItemReportData, with_report}
-use Rattle.kube_manifests_admission.specs.declared.item.Item.{Item}
+use Rattle.kube_manifests_documents.specs.declared.item.Item.{Item}
 use Rattle.kube_manifests_names.specs.Unstructured.{unstructured}
 use Rattle.serde_json.specs.Data.{Data as Json}
 use Rattle.std.proofs.Common.{◌≡◌, ℕ, ◌+◌, ◌<◌, ◌≤◌, add-one, List, [], ◌∷◌, ◌++◌, length, get_or, drop, drop-cons, map, Option, Some, None, Result, Ok, Err, codes, if◌then◌else◌, refl, sym, ap, ◌∙◌, subst}
@@ -20,21 +22,17 @@ use Rattle.std.specs.Str.{bytes_eq}
 
 -- ---- names
 
-under_given : (name : List ℕ) (o : Option Json) (e f : Bindings) → ((y : List ℕ) → binding y e ≡ binding y f) → (y : List ℕ) → binding y (with_given name o e) ≡ binding y (with_given name o f)
-under_given name None e f h y = h y
-under_given name (Some d) e f h y = ap (λ o. if bytes_eq y name then Some (unstructured d) else o) (h y)
-
 -- the names bound for match conditions
 pub condition_names : (v : Variables) (e0 e1 : Bindings) → ((x : List ℕ) → binding x e0 ≡ binding x (bindings_always v))
-    → ((x : List ℕ) → binding x e1 ≡ binding x (with_given (codes "params") v.params e0)) → (x : List ℕ) → binding x e1 ≡ binding x (policy_bindings (without_namespace v))
+    → ((x : List ℕ) → binding x e1 ≡ binding x (with_given unstructured (codes "params") v.params e0)) → (x : List ℕ) → binding x e1 ≡ binding x (policy_bindings (without_namespace v))
 unfolding policy_bindings bindings_always
-condition_names v e0 e1 h0 h1 x = h1 x ∙ under_given (codes "params") v.params e0 (bindings_always v) h0 x
+condition_names v e0 e1 h0 h1 x = h1 x ∙ given_under unstructured (codes "params") v.params e0 (bindings_always v) h0 x
 
 -- the names bound for the other expressions
 pub policy_names : (v : Variables) (e1 e2 : Bindings) → ((x : List ℕ) → binding x e1 ≡ binding x (policy_bindings (without_namespace v)))
-    → ((x : List ℕ) → binding x e2 ≡ binding x (with_given (codes "namespaceObject") v.namespace_object e1)) → (x : List ℕ) → binding x e2 ≡ binding x (policy_bindings v)
+    → ((x : List ℕ) → binding x e2 ≡ binding x (with_given unstructured (codes "namespaceObject") v.namespace_object e1)) → (x : List ℕ) → binding x e2 ≡ binding x (policy_bindings v)
 unfolding policy_bindings bindings_always
-policy_names v e1 e2 h1 h2 x = h2 x ∙ under_given (codes "namespaceObject") v.namespace_object e1 (with_given (codes "params") v.params (bindings_always v)) h1 x
+policy_names v e1 e2 h1 h2 x = h2 x ∙ given_under unstructured (codes "namespaceObject") v.namespace_object e1 (with_given unstructured (codes "params") v.params (bindings_always v)) h1 x
 
 pub under_no_values : (xs : List ItemData) (e f : Bindings) → ((y : List ℕ) → binding y e ≡ binding y f) → (y : List ℕ) → binding y (with_no_values xs e) ≡ binding y (with_no_values xs f)
 under_no_values [] e f h y = h y

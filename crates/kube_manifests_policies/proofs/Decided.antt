@@ -1,12 +1,12 @@
 -- What decides the verdict of a policy.
-use Rattle.cel_patterns.specs.Book.{Book}
-use Rattle.kube_manifests_admission.specs.Faults.{◌>>=◌}
-use Rattle.kube_manifests_admission.specs.Inputs.{Variables}
+use Rattle.cel.specs.Book.{Book}
+use Rattle.kube_manifests_documents.specs.Faults.{◌>>=◌}
+use Rattle.kube_manifests_documents.specs.Inputs.{Variables}
 use Rattle.kube_manifests_policies.proofs.Alike.{reach_same}
-use Rattle.kube_manifests_admission.specs.Faults.{FaultData}
+use Rattle.kube_manifests_documents.specs.Faults.{FaultData}
 use Rattle.kube_manifests_names.specs.Inputs.{without_namespace}
 use Rattle.kube_manifests_policies.specs.Reports.{evaluated_verdict, policy_verdict, verdict_of, results_as, verdict_after, verdict_in, verdict_of_conditions}
-use Rattle.kube_manifests_admission.specs.Policies.{PolicyData, policy_of}
+use Rattle.kube_manifests_documents.specs.Policies.{PolicyData, policy_of}
 use Rattle.kube_manifests_policies.specs.Scopes.{Alike, Reach, ScopeData, first_scope, outcome_or_reason, scope_for, variables_after}
 use Rattle.kube_manifests_policies.specs.Verdicts.{Labelled, VerdictData, after_conditions, decision_of}
 use Rattle.kube_manifests_policies.specs.declared.reports.Subject.TheVariants.{Annotation, Condition, Validation}

@@ -1,7 +1,7 @@
 -- The names of variables, and refused variables, one after another.
-use Rattle.kube_manifests_admission.proofs.Names.{any_more}
-use Rattle.kube_manifests_admission.specs.Policies.{ItemData, item_view}
-use Rattle.kube_manifests_admission.specs.declared.item.Item.{Item}
+use Rattle.kube_manifests_texts.proofs.TextSets.{any_more}
+use Rattle.kube_manifests_documents.specs.Policies.{ItemData, item_view}
+use Rattle.kube_manifests_documents.specs.declared.item.Item.{Item}
 use Rattle.kube_manifests_names.specs.Names.{NamesData}
 use Rattle.kube_manifests_policies.specs.Refusals.{is_label, names_with, refused_item, refused_variables}
 use Rattle.kube_manifests_policies.specs.Verdicts.{Labelled}

@@ -1,8 +1,6 @@
 pub mod Alike
-pub mod Bound
 pub mod Decided
-pub mod Listed
-pub mod Messages
+pub mod Judged
 pub mod Near
 pub mod Passed
 pub mod Labels

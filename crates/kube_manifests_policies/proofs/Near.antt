@@ -1,16 +1,16 @@
 -- The meaning of an expression doesn't depend on a member of `variables` that it doesn't read.
-use Rattle.cel_patterns.specs.Book.{Book}
-use Rattle.cel_semantics.specs.Bindings.{Bindings, binding}
-use Rattle.cel_semantics.specs.Calls.{receiver_of, by_form, call_outcome}
-use Rattle.cel_syntax_ast.specs.Term.{is_there, Term, literal, ident, select, has, index, unary, binary, conditional, list_of, map_with, call, qualified, macro, Terms, no_terms, term_and, count_of, Pairs, no_pairs, pair_and}
-use Rattle.cel_semantics.specs.Decisions.{truth, branch_outcome}
-use Rattle.cel_semantics.specs.Library.{Library}
-use Rattle.cel_semantics.specs.Macros.{macro_name, macro_of, iteration_result_of}
-use Rattle.cel_semantics.specs.Meaning.{meaning, meanings, map_meaning, binary_of, strictly, entry_of}
-use Rattle.cel_semantics.specs.Members.{selection, has_member, index_outcome}
-use Rattle.cel_semantics.specs.Operators.{unary_outcome}
-use Rattle.cel_semantics.specs.Outcome.{Outcome, and_then, all_values}
-use Rattle.cel_semantics.specs.Ranges.{range_of}
+use Rattle.cel.specs.Book.{Book}
+use Rattle.cel.specs.Bindings.{Bindings, binding}
+use Rattle.cel.specs.Calls.{receiver_of, by_form, call_outcome}
+use Rattle.cel_syntax.specs.Term.{is_there, Term, literal, ident, select, has, index, unary, binary, conditional, list_of, map_with, call, qualified, macro, Terms, no_terms, term_and, count_of, Pairs, no_pairs, pair_and}
+use Rattle.cel.specs.Decisions.{truth, branch_outcome}
+use Rattle.cel.specs.Library.{Library}
+use Rattle.cel.specs.Macros.{macro_name, macro_of, iteration_result_of}
+use Rattle.cel.specs.Meaning.{meaning, meanings, map_meaning, binary_of, strictly, entry_of}
+use Rattle.cel.specs.Members.{selection, has_member, index_outcome}
+use Rattle.cel.specs.Operators.{unary_outcome}
+use Rattle.cel.specs.Outcome.{Outcome, and_then, all_values}
+use Rattle.cel.specs.Ranges.{range_of}
 use Rattle.cel_value.specs.Data.{Data, Entries, bool, list, map_of, no_entries, text_key}
 use Rattle.cel_value.specs.Faults.{no_key, undeclared}
 use Rattle.cel_value.specs.Find.{find}

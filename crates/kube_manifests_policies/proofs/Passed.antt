@@ -1,11 +1,11 @@
 -- A policy that admits was judged.
-use Rattle.cel_patterns.specs.Book.{Book}
-use Rattle.kube_manifests_admission.specs.Inputs.{Variables}
+use Rattle.cel.specs.Book.{Book}
+use Rattle.kube_manifests_documents.specs.Inputs.{Variables}
 use Rattle.kube_manifests_names.specs.Inputs.{without_namespace}
 use Rattle.kube_manifests_policies.specs.Reports.{evaluated_verdict, policy_verdict, results_as, verdict_after, verdict_in}
 use Rattle.kube_manifests_policies.specs.Laws.{AreJudged, IsJudged}
 use Rattle.kube_manifests_policies.specs.Refusals.{is_refused, refusals_of}
-use Rattle.kube_manifests_admission.specs.Policies.{PolicyData}
+use Rattle.kube_manifests_documents.specs.Policies.{PolicyData}
 use Rattle.kube_manifests_policies.specs.Scopes.{Reach, first_scope, outcome_or_reason, scope_for, variables_after}
 use Rattle.kube_manifests_policies.specs.Verdicts.{Labelled, VerdictData, after_conditions, any_is}
 use Rattle.kube_manifests_policies.specs.declared.reports.Subject.TheVariants.{Annotation, Condition, Validation}

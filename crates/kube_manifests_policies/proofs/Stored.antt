@@ -1,7 +1,7 @@
 -- The map of variables with one more variable.
 use Rattle.cel.proofs.Bound.{bound}
-use Rattle.cel_semantics.specs.Bindings.{Bindings, binding}
-use Rattle.cel_semantics.specs.Members.{new_entry, put_in}
+use Rattle.cel.specs.Bindings.{Bindings, binding}
+use Rattle.cel.specs.Members.{new_entry, put_in}
 use Rattle.cel_value.specs.Data.{Data, Entries, KeyData, bool, bytes, cidr, double, duration, format, int, ip, list, map_of, null, optional, quantity, semver, text, text_key, timestamp, uint, url}
 use Rattle.cel_value.specs.Faults.{Fault}
 use Rattle.cel_value.specs.Find.{find}

@@ -1,19 +1,19 @@
 -- Variables that don't read each other, in either order.
-use Rattle.cel_patterns.specs.Book.{Book}
-use Rattle.cel_semantics.specs.Bindings.{binding}
-use Rattle.cel_semantics.specs.Members.{new_entry, put_in}
-use Rattle.cel_semantics.specs.Outcome.{Outcome}
+use Rattle.cel.specs.Book.{Book}
+use Rattle.cel.specs.Bindings.{binding}
+use Rattle.cel.specs.Members.{new_entry, put_in}
+use Rattle.cel.specs.Outcome.{Outcome}
 use Rattle.cel_syntax.specs.Reading.{tree_of}
-use Rattle.cel_syntax_ast.specs.Term.{Term}
+use Rattle.cel_syntax.specs.Term.{Term}
 use Rattle.cel_value.specs.Data.{Data, Entries, map_of, text, text_key}
 use Rattle.cel_value.specs.Faults.{duplicate_key, no_key}
 use Rattle.cel_value.specs.Find.{find}
 use Rattle.cel_value.specs.Keys.{key_order, put}
-use Rattle.kube_manifests_admission.specs.Faults.{◌>>=◌}
+use Rattle.kube_manifests_documents.specs.Faults.{◌>>=◌}
 use Rattle.kube_manifests_policies.proofs.Near.{Members, Near, near}
 use Rattle.kube_manifests_names.specs.Inputs.{first_missing}
 use Rattle.kube_manifests_policies.specs.Laws.{HasVariables, IsApartFrom, SameVariables}
-use Rattle.kube_manifests_admission.specs.Policies.{ItemData}
+use Rattle.kube_manifests_documents.specs.Policies.{ItemData}
 use Rattle.kube_manifests_policies.specs.Scopes.{Reach, ScopeData, evaluation, fault_report, first_stop, outcome_in, outcome_or_reason, outcome_unless, policy_library, stopped_by, stops, tree_or, unread_text, variable_step, why_not, with_stored, with_values, with_variable, without_value}
 use Rattle.kube_manifests_names.specs.Uses.{asks}
 use Rattle.kube_manifests_policies.specs.Verdicts.{Labelled, ItemReportData, not_compiled, with_report}

@@ -1,12 +1,12 @@
 -- Trusted by laws alone.
 -- Policies that have validations only, and verdicts of policies whose expressions were all
 -- evaluated.
-use Rattle.cel_semantics.specs.Bindings.{binding}
-use Rattle.cel_semantics.specs.Members.{selection}
+use Rattle.cel.specs.Bindings.{binding}
+use Rattle.cel.specs.Members.{selection}
 use Rattle.cel_syntax.specs.Reading.{tree_of}
-use Rattle.cel_syntax_ast.specs.Term.{Term}
+use Rattle.cel_syntax.specs.Term.{Term}
 use Rattle.cel_value.specs.Data.{Entries, map_of, text_key}
-use Rattle.kube_manifests_admission.specs.Policies.{ItemData, PolicyData}
+use Rattle.kube_manifests_documents.specs.Policies.{ItemData, PolicyData}
 use Rattle.kube_manifests_policies.specs.Scopes.{ScopeData, why_not}
 use Rattle.kube_manifests_names.specs.Uses.{asks}
 use Rattle.kube_manifests_policies.specs.Verdicts.{Labelled, ItemReportData, VerdictData, any_is, erred, fails, holds, not_compiled, not_given, nothing, says}

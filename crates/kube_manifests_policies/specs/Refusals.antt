@@ -1,12 +1,12 @@
 -- Trusted by the clauses of policies.
 -- What an API server refuses of a policy's expressions when the policy is made, as far as their texts and names go
 -- (Kubernetes documentation, "Validating Admission Policy", type checking and variable composition).
-use Rattle.kube_manifests_admission.specs.Policies.{ItemData, PolicyData}
+use Rattle.kube_manifests_documents.specs.Policies.{ItemData, PolicyData}
 use Rattle.kube_manifests_names.specs.Names.{NamesData, RefusalData, refusal_of, refusal_text}
 use Rattle.kube_manifests_policies.specs.Scopes.{tree_report}
 use Rattle.kube_manifests_policies.specs.Verdicts.{Labelled, ItemReportData, VerdictData, not_compiled, with_report}
 use Rattle.kube_manifests_policies.specs.declared.verdict.PolicyDecision.TheVariants.{NotJudged}
-use Rattle.cel_syntax_ast.specs.Term.{Term}
+use Rattle.cel_syntax.specs.Term.{Term}
 use Rattle.std.specs.List.{flat_map, list_any}
 use Rattle.std.specs.Prelude.{ℕ, List, [], ◌∷◌, ◌++◌, Bool, true, false, ◌&&◌, not, Option, Some, None, option_map, Result, Ok, Err}
 use Rattle.std.specs.Str.{bytes_eq}

@@ -2,32 +2,30 @@
 -- The results of a policy's match conditions, validations and audit annotations, and the policy's
 -- verdict (Kubernetes API reference, ValidatingAdmissionPolicySpec; Kubernetes documentation,
 -- "Validating Admission Policy").
-use Rattle.cel.specs.Program.{program_term}
-use Rattle.cel.specs.declared.program.Program.{Program}
-use Rattle.cel_patterns.specs.Book.{Book, IsBook}
-use Rattle.cel_semantics.specs.Outcome.{Outcome}
-use Rattle.cel_syntax_ast.specs.Term.{Term}
+use Rattle.cel.specs.Checks as check
+use Rattle.cel.specs.Checks.{JudgementData, Trees, Unread, judgement, trees_of, unread_in}
+use Rattle.cel.specs.Book.{Book, IsBook}
+use Rattle.cel.specs.Outcome.{Outcome}
+use Rattle.cel_syntax.specs.Reading.{tree_of}
 use Rattle.cel_value.specs.Data.{Data}
 use Rattle.cel_value.specs.Kinds.{kind_name}
-use Rattle.cel_value.specs.Parts.{bool_in, text_in}
+use Rattle.cel_value.specs.Parts.{text_in}
 use Rattle.cel_value.specs.View.{kind_of}
 use Rattle.cel_value.specs.declared.kind.Kind.{Kind}
 use Rattle.cel_value.specs.declared.kind.Kind.TheVariants.{Null}
-use Rattle.kube_manifests_admission.specs.Faults.{◌>>=◌}
-use Rattle.kube_manifests_admission.specs.Inputs.{Variables}
-use Rattle.kube_manifests_admission.specs.Faults.{FaultData, fault_view}
+use Rattle.kube_manifests_documents.specs.Faults.{◌>>=◌}
+use Rattle.kube_manifests_documents.specs.Inputs.{Variables}
+use Rattle.kube_manifests_documents.specs.Faults.{FaultData, fault_view}
 use Rattle.kube_manifests_names.specs.Inputs.{without_namespace}
-use Rattle.kube_manifests_admission.specs.Policies.{ItemData, PolicyData, policy_of}
+use Rattle.kube_manifests_documents.specs.Policies.{ItemData, PolicyData, policy_of}
 use Rattle.kube_manifests_policies.specs.Refusals.{is_refused, refusals_of}
-use Rattle.kube_manifests_policies.specs.Scopes.{Reach, evaluation, fault_report, first_scope, outcome_or_reason, scope_for, tree_report, variables_after}
-use Rattle.kube_manifests_policies.specs.Verdicts.{Labelled, ItemReportData, VerdictData, after_conditions, decision_of, fails, holds, is_problem, not_compiled, nothing, says, report_text, report_view, verdict_view, with_report}
-use Rattle.kube_manifests_admission.specs.declared.fault.PolicyFault.{PolicyFault}
+use Rattle.kube_manifests_policies.specs.Scopes.{Reach, Reached, evaluation, fault_report, first_scope, outcome_or_reason, scope_for, unread_report, variables_after}
+use Rattle.kube_manifests_policies.specs.Verdicts.{Labelled, ItemReportData, VerdictData, after_conditions, decision_of, fails, holds, not_compiled, nothing, says, report_text, report_view, verdict_view, with_report}
+use Rattle.kube_manifests_documents.specs.declared.fault.PolicyFault.{PolicyFault}
 use Rattle.kube_manifests_policies.specs.declared.reports.Subject.{Subject}
 use Rattle.kube_manifests_policies.specs.declared.reports.Subject.TheVariants.{Annotation, Condition, Validation}
-use Rattle.kube_manifests_policies.specs.declared.verdict.Problem.TheVariants as problem
 use Rattle.kube_manifests_policies.specs.declared.verdict.PolicyDecision.{PolicyDecision}
 use Rattle.kube_manifests_policies.specs.declared.verdict.PolicyVerdict.{PolicyVerdict}
-use Rattle.kube_manifests_policies.specs.declared.verdict.ItemReport.{ItemReport}
 use Rattle.serde_json.specs.Data.{Data as Json}
 use Rattle.std.specs.List.{list_any}
 use Rattle.std.specs.Prelude.{◌≡◌, ◌==◌, nat_lt, ℕ, List, [], ◌∷◌, ◌++◌, length, map, Bool, true, false, not, ◌&&◌, if◌then◌else◌, Option, Some, None, option_map, Result, Ok, Err, codes}
@@ -40,28 +38,25 @@ final_report (Err reported) = reported
 
 -- ---- match conditions and validations
 
--- the report of a value that has to be a bool: an API server refuses a policy with an expression of another kind
-abbrev pub truth_report : Data → Option Bool → ItemReportData
-truth_report v (Some true) = holds
-truth_report v (Some false) = fails []
-truth_report v None = not_compiled (codes "expression returned non-boolean: " ++ kind_name (kind_of v))
+-- an API server refuses a policy with such an expression whose value is of another kind
+abbrev pub not_bool_report : Kind → ItemReportData
+not_bool_report k = not_compiled (codes "expression returned non-boolean: " ++ kind_name k)
 
--- true, false (with an empty message for now), or neither
-abbrev pub outcome_report : Outcome → ItemReportData
-outcome_report (Ok v) = truth_report v (bool_in v)
-outcome_report (Err f) = fault_report f
+-- the report of an entry by what it is judged to be; if it is false, this is made of what its
+-- messageExpression came to
+abbrev pub judged_report : (Option Reached → ItemReportData) → JudgementData Reached → ItemReportData
+judged_report false_report check.holds = holds
+judged_report false_report (check.fails m) = false_report m
+judged_report false_report (check.not_bool k) = not_bool_report k
+judged_report false_report (check.errs f) = fault_report f
 
--- replaces the message of a report that something is false
-abbrev pub with_message : List ℕ → ItemReportData → ItemReportData
-with_message m reported = if is_problem problem.False reported then fails m else reported
-
-abbrev pub condition_message : List ℕ → List ℕ
-condition_message name = codes "match condition '" ++ (name ++ codes "' is false")
+abbrev pub false_condition : List ℕ → Option Reached → ItemReportData
+false_condition name m = fails (codes "match condition '" ++ (name ++ codes "' is false"))
 
 unfoldable pub condition_report : Reach → ItemData → ItemReportData
 condition_report r x = final_report (do
   outcome ← evaluation r x.expression
-  Ok (with_message (condition_message x.label) (outcome_report outcome)))
+  Ok (judged_report (false_condition x.label) (judgement None outcome)))
 
 abbrev pub quoted : List ℕ → List ℕ
 quoted expression = codes "failed expression: " ++ trim expression
@@ -104,34 +99,27 @@ message_outcome x (Err f) = fails (own_message x)
 
 -- The same for a messageExpression that may not be evaluated, in which case the reason is appended to the
 -- validation's own message.
-abbrev pub message_report : ItemData → Result Outcome ItemReportData → ItemReportData
+abbrev pub message_report : ItemData → Reached → ItemReportData
 message_report x (Ok o) = message_outcome x o
 message_report x (Err reported) =
     fails (own_message x ++ (codes " (messageExpression: " ++ (report_text reported ++ codes ")")))
 
 -- the report of a validation that is false
-abbrev pub false_report : ItemData → Option (Result Outcome ItemReportData) → ItemReportData
+abbrev pub false_report : ItemData → Option Reached → ItemReportData
 false_report x None = fails (own_message x)
 false_report x (Some r) = message_report x r
 
--- replaces the report that something is false
-abbrev pub or_false : ItemReportData → ItemReportData → ItemReportData
-or_false other reported = if is_problem problem.False reported then other else reported
+unfoldable pub validation_with : Reach → ItemData → Trees → ItemReportData
+validation_with r x trees = final_report (do
+  outcome ← r trees.tree
+  Ok (judged_report (false_report x) (judgement (option_map r trees.message_tree) outcome)))
 
-abbrev pub message_tree_report : Option (List ℕ) → Result (Option Term) ItemReportData
-message_tree_report None = Ok None
-message_tree_report (Some s) = tree_report s >>= (λ t. Ok (Some t))
-
-unfoldable pub validation_with : Reach → ItemData → Term → Option Term → ItemReportData
-validation_with r x tree message_tree = final_report (do
-  outcome ← r tree
-  Ok (or_false (false_report x (option_map r message_tree)) (outcome_report outcome)))
+abbrev pub with_texts : Reach → ItemData → Result Trees Unread → ItemReportData
+with_texts r x (Ok trees) = validation_with r x trees
+with_texts r x (Err u) = unread_report (unread_in x.expression u)
 
 unfoldable pub validation_report : Reach → ItemData → ItemReportData
-validation_report r x = final_report (do
-  tree ← tree_report x.expression
-  message_tree ← message_tree_report x.message_expression
-  Ok (validation_with r x tree message_tree))
+validation_report r x = with_texts r x (trees_of tree_of x.expression x.message_expression)
 
 -- ---- audit annotations
 
@@ -222,10 +210,6 @@ unfoldable pub verdict_of : Book → Variables → Json → Result VerdictData F
 verdict_of b v d = policy_of d >>= (λ p. Ok (policy_verdict b v p))
 
 -- ---- views of the code's values
-
-abbrev pub message_tree_seen : Result (Option Program) ItemReport → Result (Option Term) ItemReportData
-message_tree_seen (Ok o) = Ok (option_map program_term o)
-message_tree_seen (Err reported) = Err (report_view reported)
 
 abbrev pub verdict_seen : Result PolicyVerdict PolicyFault → Result VerdictData FaultData
 verdict_seen (Ok v) = Ok (verdict_view v)

@@ -6,27 +6,28 @@
 -- declared is refused before any evaluation).
 use Rattle.cel.specs.Program.{program_term}
 use Rattle.cel.specs.declared.program.Program.{Program}
-use Rattle.cel_patterns.specs.Book.{Book}
-use Rattle.cel_semantics.specs.Bindings.{Bindings, binding, bindings_of}
-use Rattle.cel_semantics.specs.Library.{Library}
-use Rattle.cel_semantics.specs.Meaning.{meaning}
-use Rattle.cel_semantics.specs.Members.{has_member, put_in}
-use Rattle.cel_semantics.specs.Outcome.{Outcome, and_then, outcome_view}
+use Rattle.cel.specs.Book.{Book}
+use Rattle.cel.specs.Bindings.{Bindings, binding, bindings_of}
+use Rattle.cel.specs.Library.{Library}
+use Rattle.cel.specs.Meaning.{meaning}
+use Rattle.cel.specs.Members.{has_member, put_in}
+use Rattle.cel.specs.Outcome.{Outcome, and_then, outcome_view}
 use Rattle.cel_syntax.specs.Reading.{tree_of}
-use Rattle.cel_syntax_ast.specs.Term.{Term}
+use Rattle.cel_syntax.specs.Term.{Term}
 use Rattle.cel_value.specs.Data.{Data, map_of, no_entries, text, text_key}
-use Rattle.cel_value.specs.Faults.{Fault, invalid_pattern, undeclared}
+use Rattle.cel_value.specs.Faults.{Fault, undeclared}
 use Rattle.cel_value.specs.Parts.{bool_in}
 use Rattle.cel_value.specs.Texts.{fault_text}
 use Rattle.cel_value.specs.View.{view}
 use Rattle.cel_value.specs.declared.error.ExecutionError.{ExecutionError}
 use Rattle.cel_value.specs.declared.value.Value.{Value}
 use Rattle.kube_functions.specs.Kube.{all_library}
-use Rattle.kube_manifests_admission.specs.Faults.{◌>>=◌}
-use Rattle.kube_manifests_admission.specs.Inputs.{Variables}
+use Rattle.kube_manifests_documents.specs.Faults.{◌>>=◌}
+use Rattle.kube_manifests_documents.specs.Inputs.{Variables}
 use Rattle.kube_manifests_policies.specs.Bound.{policy_bindings}
+use Rattle.kube_manifests_limits.specs.Limits.{is_limit}
 use Rattle.kube_manifests_names.specs.Inputs.{absent_in, first_missing}
-use Rattle.kube_manifests_admission.specs.Policies.{ItemData}
+use Rattle.kube_manifests_documents.specs.Policies.{ItemData}
 use Rattle.kube_manifests_names.specs.Names.{doubles_text}
 use Rattle.kube_manifests_names.specs.Uses.{asks}
 use Rattle.kube_manifests_policies.specs.Verdicts.{Labelled, ItemReportData, erred, not_compiled, not_given, result_view, report_view, with_report}
@@ -116,24 +117,23 @@ tree_or reported None = Err reported
 abbrev pub unread_text : List ℕ → List ℕ
 unread_text s = codes "failed to compile VAP expression \"" ++ (s ++ codes "\": invalid CEL expression")
 
--- The tree of a text. A text that derives none doesn't compile.
+-- a text that derives no tree doesn't compile
+abbrev pub unread_report : List ℕ → ItemReportData
+unread_report s = not_compiled (unread_text s)
+
+-- the tree of a text
 abbrev pub tree_report : List ℕ → Result Term ItemReportData
-tree_report s = tree_or (not_compiled (unread_text s)) (tree_of s)
+tree_report s = tree_or (unread_report s) (tree_of s)
 
--- how the outcome of an expression is found
+-- the outcome of an expression, or the reason why it isn't evaluated; and how it is found
+abbrev pub Reached : Type 0
+Reached = Result Outcome ItemReportData
+
 abbrev pub Reach : Type 0
-Reach = Term → Result Outcome ItemReportData
+Reach = Term → Reached
 
-abbrev pub evaluation : Reach → List ℕ → Result Outcome ItemReportData
+abbrev pub evaluation : Reach → List ℕ → Reached
 evaluation r s = tree_report s >>= r
-
--- Whether an expression with this fault can't be evaluated here: it meets a double or a name that isn't declared, or a
--- pattern that Rust's crate `regex` doesn't read. An API server may know the pattern; if not, it refuses a policy in
--- which the pattern is a literal.
-abbrev pub is_limit : Fault → Bool
-is_limit (undeclared name) = true
-is_limit (invalid_pattern function) = true
-is_limit _ = false
 
 abbrev pub is_double : Fault → Bool
 is_double (undeclared name) = bytes_eq name (codes "double")
@@ -142,7 +142,7 @@ is_double _ = false
 abbrev pub fault_message : Fault → List ℕ
 fault_message f = if is_double f then doubles_text else codes "evaluation error: " ++ fault_text f
 
--- Any other fault is an error of the evaluation.
+-- An expression whose evaluation ends at a limit can't be evaluated here. Any other fault is an error of the evaluation.
 abbrev pub fault_report : Fault → ItemReportData
 fault_report f = if is_limit f then not_compiled (fault_message f) else erred (fault_message f)
 

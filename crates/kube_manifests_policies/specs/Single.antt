@@ -2,8 +2,8 @@
 -- Policies and single expressions, as `VapEvaluator` of `kube_cel_vap` evaluates them, over the same objects.
 use Rattle.kube_cel_vap.specs.Validations.{ExpressionData, ResultData}
 use Rattle.kube_cel_vap.specs.Variables as single
-use Rattle.kube_manifests_admission.specs.Inputs.{Variables}
-use Rattle.kube_manifests_admission.specs.Policies.{ItemData}
+use Rattle.kube_manifests_documents.specs.Inputs.{Variables}
+use Rattle.kube_manifests_documents.specs.Policies.{ItemData}
 use Rattle.kube_manifests_names.specs.Unstructured.{KeepsKeys}
 use Rattle.kube_manifests_policies.specs.Bound.{request_or_null}
 use Rattle.serde_json.specs.Data.{Data as Json}

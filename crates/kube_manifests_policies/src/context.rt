@@ -1,41 +1,36 @@
 //! The names bound before a policy's variables are evaluated.
-ghost use Rattle.cel_semantics.specs.Bindings.{binding, bindings_of};
+ghost use Rattle.cel.specs.Bindings.{binding, bindings_of};
 ghost use Rattle.cel_value.specs.Data.{map_of, no_entries};
 ghost use Rattle.cel_value.specs.View.{view};
-ghost use Rattle.kube_manifests_policies.specs.Bound.{bindings_always, policy_bindings, request_or_null, value_or_null, with_given};
-ghost use Rattle.kube_manifests_admission.specs.Inputs.{inputs_view};
+ghost use Rattle.kube_manifests_policies.specs.Bound.{bindings_always, policy_bindings, request_or_null};
+ghost use Rattle.kube_manifests_documents.specs.Inputs.{inputs_view};
 ghost use Rattle.kube_manifests_names.specs.Inputs.{without_namespace};
-ghost use Rattle.kube_manifests_admission.specs.Policies.{item_view};
+ghost use Rattle.kube_manifests_names.specs.Unstructured.{unstructured};
+ghost use Rattle.kube_manifests_documents.specs.Policies.{item_view};
 ghost use Rattle.kube_manifests_policies.specs.Scopes.{Alike, first_scope, scope_for, scope_view, with_no_values};
 ghost use Rattle.serde_json.specs.View.{view as json_view};
-ghost use Rattle.std.specs.Prelude.{◌≡◌, [], ℕ, if◌then◌else◌, IfOk, List, map, OnOk, option_map, Some};
-ghost use Rattle.std.specs.Result.{IsOkAnd};
-ghost use Rattle.std.specs.Str.{bytes_eq};
+ghost use Rattle.std.specs.Prelude.{◌≡◌, ℕ, IfOk, List, map, OnOk, option_map};
 
-use crate::owned::both;
 use crate::scope::{PolicyContext, Scope};
 use cel::{Context, Entries, Value};
-use kube_manifests_admission::{Item, PolicyInputs};
+use cel_syntax_ast::both;
+use kube_cel_vap::{Adapter, bind_always, bind_given};
+use kube_manifests_documents::{Item, PolicyInputs};
 use kube_manifests_names::{absent_inputs, request_value, unstructured};
-use kube_types_refused::Refused;
+use kube_types::Refused;
 use serde_json::Value as Json;
 use std::alloc::Global;
 use std::mem::replace;
 
-/// Returns a context that binds no name and has all functions that a policy's expressions may call.
-fn empty_context<'a>(alloc: Global) -> PolicyContext<'a>
-    ensures { bindings_of result ≡ [] }
-{
-    Context::default(alloc)
-}
+/// Makes maps with their own keys of objects.
+#[derive(Drop)]
+struct OwnKeys;
 
-/// Returns the value with its own keys, or null if it isn't given.
-fn value_or_null(alloc: Global, value: &Option<Json>) -> Result<Value, Refused>
-    ensures value { IfOk result (λ v. view v ≡ value_or_null (option_map json_view value.now)) }
-{
-    match value {
-        Some(value) => unstructured(alloc, value),
-        None => Ok(Value::Null),
+impl Adapter for OwnKeys {
+    ghost value = { λ _. unstructured };
+
+    fn value_of(&self, alloc: Global, json: &Json) -> Result<Value, Refused> {
+        unstructured(alloc, json)
     }
 }
 
@@ -49,61 +44,15 @@ fn request_or_null(alloc: Global, request: &Option<Json>) -> Result<Value, Refus
     }
 }
 
-/// Binds a name to a value, if it was made.
-pub(crate) fn bind(
-    context: &mut PolicyContext<'_>,
-    name: &str,
-    value: Result<Value, Refused>,
-) -> Result<(), Refused>
-    ensures bound { OnOk result (IsOkAnd value (λ v. (x : List ℕ) → binding x (bindings_of context.new)
-        ≡ (if bytes_eq name.now x then Some (view v) else binding x (bindings_of context.old)))) }
-{
-    context.add_variable(name, value?)
-}
-
-/// Binds a name to a value, if the value is given.
-fn bind_given(
-    alloc: Global,
-    context: &mut PolicyContext<'_>,
-    name: &str,
-    value: &Option<Json>,
-) -> Result<(), Refused>
-    ensures bound { OnOk result ((x : List ℕ) → binding x (bindings_of context.new)
-        ≡ binding x (with_given name.now (option_map json_view value.now) (bindings_of context.old))) }
-{
-    let Some(value) = value else {
-        return Ok(());
-    };
-    context.add_variable(name, unstructured(alloc, value)?)
-}
-
-/// Binds the names that are always bound, in a context without bindings.
-fn bind_always(
-    alloc: Global,
-    context: &mut PolicyContext<'_>,
-    inputs: &PolicyInputs,
-) -> Result<(), Refused>
-    requires { bindings_of context.old ≡ [] }
-    ensures bound { OnOk result ((x : List ℕ) → binding x (bindings_of context.new)
-        ≡ binding x (bindings_always (inputs_view inputs.now))) }
-{
-    bind(context, "object", value_or_null(alloc, &inputs.object))?;
-    bind(
-        context,
-        "oldObject",
-        value_or_null(alloc, &inputs.old_object),
-    )?;
-    bind(context, "request", request_or_null(alloc, &inputs.request))?;
-    Ok(())
-}
-
 /// Returns a context with the names that are always bound: `object`, `oldObject` and `request`.
 fn context_always<'a>(alloc: Global, inputs: &PolicyInputs) -> Result<PolicyContext<'a>, Refused>
     ensures bound { IfOk result (λ c. (x : List ℕ) → binding x (bindings_of c)
         ≡ binding x (bindings_always (inputs_view inputs.now))) }
 {
-    let mut context = empty_context(alloc);
-    let bound = bind_always(alloc, &mut context, inputs);
+    let mut context = Context::default(alloc);
+    let request = request_or_null(alloc, &inputs.request);
+    let (object, old_object) = (&inputs.object, &inputs.old_object);
+    let bound = bind_always(alloc, &OwnKeys, &mut context, object, old_object, request);
     let (_, context) = both(bound, Ok(context))?;
     Ok(context)
 }
@@ -124,7 +73,7 @@ pub(crate) fn condition_scope<'a>(
         (first_scope (without_namespace (inputs_view inputs.now)))) }
 {
     let mut context = context_always(alloc, inputs)?;
-    bind_given(alloc, &mut context, "params", &inputs.params)?;
+    bind_given(alloc, &OwnKeys, &mut context, "params", &inputs.params)?;
     let absent = absent_inputs(alloc, inputs, &None)?;
     let values = no_values(alloc)?;
     Ok(Scope {
@@ -165,7 +114,13 @@ fn bind_policy(
     ensures bound { OnOk result ((x : List ℕ) → binding x (bindings_of context.new)
         ≡ binding x (with_no_values (map item_view variables.now) (policy_bindings (inputs_view inputs.now)))) }
 {
-    bind_given(alloc, context, "namespaceObject", &inputs.namespace_object)?;
+    bind_given(
+        alloc,
+        &OwnKeys,
+        context,
+        "namespaceObject",
+        &inputs.namespace_object,
+    )?;
     bind_no_values(alloc, context, variables)?;
     Ok(())
 }

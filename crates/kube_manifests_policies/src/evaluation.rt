@@ -1,25 +1,25 @@
 //! Evaluates policies.
-ghost use Rattle.cel_patterns.specs.Book.{Book, Extends};
-ghost use Rattle.cel_patterns.specs.Entries.{entries_of};
-ghost use Rattle.cel_patterns.specs.Extensions.{HoldsForExtensions};
-ghost use Rattle.kube_manifests_admission.specs.Inputs.{inputs_view};
+ghost use Rattle.cel.specs.Book.{Book, Extends};
+ghost use Rattle.cel.specs.Entries.{entries_of};
+ghost use Rattle.cel.specs.Extensions.{HoldsForExtensions};
+ghost use Rattle.kube_manifests_documents.specs.Inputs.{inputs_view};
 ghost use Rattle.kube_manifests_policies.specs.Reports.{IsVerdictOf, evaluated_verdict, policy_verdict, verdict_in, verdict_of, verdict_of_conditions, verdict_seen};
-ghost use Rattle.kube_manifests_admission.specs.Policies.{policy_view};
+ghost use Rattle.kube_manifests_documents.specs.Policies.{policy_view};
 ghost use Rattle.kube_manifests_policies.specs.Scopes.{outcome_or_reason, scope_view};
 ghost use Rattle.kube_manifests_policies.specs.Verdicts.{result_view, verdict_view};
 ghost use Rattle.serde_json.specs.View.{view};
 ghost use Rattle.std.specs.Prelude.{◌≡◌, IfOk, map};
 
 use crate::context::{condition_scope, policy_scope};
-use crate::owned::both;
 use crate::refusals::{is_refused, refusals_of};
 use crate::reports::{Subject, results_as};
 use crate::scope::Scope;
 use crate::variables::with_variables;
 use crate::verdict::{PolicyDecision, PolicyResult, PolicyVerdict, after_conditions, decision_of};
 use cel::PatternBook;
-use kube_manifests_admission::{Policy, PolicyFault, PolicyInputs, policy_of, reported};
-use kube_types_refused::Refused;
+use cel_syntax_ast::both;
+use kube_manifests_documents::{Policy, PolicyFault, PolicyInputs, policy_of, reported};
+use kube_types::Refused;
 use serde_json::Value;
 use std::alloc::Global;
 

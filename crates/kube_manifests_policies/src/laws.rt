@@ -1,13 +1,13 @@
 //! Laws of verdicts. Each is the contract of a function with an empty body.
-ghost use Rattle.cel_patterns.specs.Book.{Book};
+ghost use Rattle.cel.specs.Book.{Book};
 ghost use Rattle.kube_cel_vap.specs.Results.{policy_results};
-ghost use Rattle.kube_manifests_admission.specs.Inputs.{Variables};
+ghost use Rattle.kube_manifests_documents.specs.Inputs.{Variables};
 ghost use Rattle.kube_cel_vap.specs.Variables as single;
 ghost use Rattle.kube_manifests_policies.specs.Single.{AreAlike, expression_of, passed_of};
 ghost use Rattle.kube_manifests_policies.specs.Reports.{policy_verdict};
 ghost use Rattle.kube_manifests_policies.specs.Laws.{HasVariables, IsApartFrom, IsJudged, IsJudgedIn, SameVariables, of_validations, passed_result};
 ghost use Rattle.kube_manifests_policies.specs.Refusals.{is_refused, refusals_of};
-ghost use Rattle.kube_manifests_admission.specs.Policies.{ItemData, PolicyData};
+ghost use Rattle.kube_manifests_documents.specs.Policies.{ItemData, PolicyData};
 ghost use Rattle.kube_manifests_policies.specs.Scopes.{ScopeData, first_scope, variable_step};
 ghost use Rattle.std.specs.List.{AllByRecursion};
 ghost use Rattle.std.specs.Prelude.{◌≡◌, ◌↔◌, Bool, false, IsTrue, List, map};

@@ -34,7 +34,6 @@
 mod context;
 mod evaluation;
 pub mod laws;
-mod owned;
 mod refusals;
 mod reports;
 mod scope;
@@ -42,7 +41,7 @@ mod variables;
 mod verdict;
 
 pub use evaluation::{evaluate_policy, evaluate_policy_in};
-pub use kube_manifests_admission::{FaultKind, PolicyFault, PolicyInputs};
+pub use kube_manifests_documents::{FaultKind, PolicyFault, PolicyInputs};
 pub use kube_manifests_names::Input;
-pub use kube_types_refused::Refused;
+pub use kube_types::Refused;
 pub use verdict::{ItemReport, PolicyDecision, PolicyResult, PolicyVerdict};

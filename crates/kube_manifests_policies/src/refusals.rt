@@ -1,6 +1,6 @@
 //! What an API server refuses of a policy's expressions when the policy is made.
 ghost use Rattle.cel.specs.Program.{program_term};
-ghost use Rattle.kube_manifests_admission.specs.Policies.{item_view, policy_view};
+ghost use Rattle.kube_manifests_documents.specs.Policies.{item_view, policy_view};
 ghost use Rattle.kube_manifests_names.specs.Names.{names_view, refusal_view};
 ghost use Rattle.kube_manifests_policies.specs.Refusals.{all_names, has_none, is_label, is_refused, item_refusal, labelled_where, message_names, or_else, refusal_report, refusal_where, refusals_of, refused_item, refused_items, refused_variables, text_refusal, tree_refusal};
 ghost use Rattle.kube_manifests_policies.specs.Scopes.{tree_seen};
@@ -11,9 +11,10 @@ ghost use Rattle.std.specs.Prelude.{◌≡◌, ◌++◌, [], ℕ, IfOk, List, ma
 use crate::scope::read;
 use crate::verdict::{ItemReport, PolicyDecision, PolicyResult, PolicyVerdict, with_report};
 use cel::Program;
-use kube_manifests_admission::{Item, Policy, insert_name};
+use kube_manifests_documents::{Item, Policy};
 use kube_manifests_names::{Names, Refusal, refusal_of};
-use kube_types_refused::Refused;
+use kube_manifests_texts::insert_text;
+use kube_types::Refused;
 use std::alloc::{AllocError, Global};
 use std::collections::BTreeSet;
 
@@ -135,7 +136,7 @@ fn labels_of(alloc: Global, items: &[Item<'_>]) -> Result<BTreeSet<String>, Allo
 {
     let mut names = BTreeSet::new(alloc);
     for item in items {
-        insert_name(alloc, item.label, &mut names)?;
+        insert_text(alloc, item.label, &mut names)?;
     }
     Ok(names)
 }
@@ -158,7 +159,7 @@ fn refused_variables(
             variables: Some(&before),
         };
         add_refused(alloc, &names, item, &mut refused)?;
-        insert_name(alloc, item.label, &mut before)?;
+        insert_text(alloc, item.label, &mut before)?;
     }
     Ok(refused)
 }

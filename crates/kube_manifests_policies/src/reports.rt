@@ -1,23 +1,27 @@
 //! Evaluates the entries of a policy's lists and reports their results.
+ghost use Rattle.cel.specs.Checks.{check_view, error_view, judgement, judgement_view, unread_in};
 ghost use Rattle.cel.specs.Program.{program_term};
-ghost use Rattle.cel_patterns.specs.Book.{Extends};
-ghost use Rattle.cel_patterns.specs.Entries.{entries_of};
-ghost use Rattle.cel_patterns.specs.Extensions.{HoldsForExtensions};
-ghost use Rattle.cel_semantics.specs.Outcome.{outcome_view};
-ghost use Rattle.cel_value.specs.Parts.{bool_in, text_in};
+ghost use Rattle.cel.specs.Book.{Extends};
+ghost use Rattle.cel.specs.Entries.{entries_of};
+ghost use Rattle.cel.specs.Extensions.{HoldsForExtensions};
+ghost use Rattle.cel.specs.Outcome.{outcome_view};
+ghost use Rattle.cel_value.specs.Parts.{text_in};
 ghost use Rattle.cel_value.specs.View.{view};
-ghost use Rattle.kube_manifests_policies.specs.Reports.{annotation_outcome, annotation_report, annotation_value, condition_message, condition_report, false_report, is_line_feed, is_message, is_null, message_from, message_or, message_outcome, message_report, message_tree_seen, message_value, or_false, message_tree_report, outcome_report, own_message, quoted, result_as, results_as, text_or_nothing, report_as, truth_report, validation_report, validation_with, with_message};
-ghost use Rattle.kube_manifests_admission.specs.Policies.{item_view};
-ghost use Rattle.kube_manifests_policies.specs.Scopes.{outcome_or_reason, outcome_seen, scope_view};
+ghost use Rattle.kube_manifests_policies.specs.Reports.{annotation_outcome, annotation_report, annotation_value, condition_report, false_condition, false_report, is_line_feed, is_message, is_null, judged_report, message_from, message_or, message_outcome, message_report, message_value, not_bool_report, own_message, quoted, report_as, result_as, results_as, text_or_nothing, validation_report, validation_with};
+ghost use Rattle.kube_manifests_documents.specs.Policies.{item_view};
+ghost use Rattle.kube_manifests_policies.specs.Scopes.{outcome_or_reason, outcome_seen, scope_view, unread_report};
 ghost use Rattle.kube_manifests_policies.specs.Verdicts.{report_text, report_view, result_view};
 ghost use Rattle.std.specs.List.{list_any};
-ghost use Rattle.std.specs.Prelude.{◌≡◌, ◌++◌, codes, IfOk, map, option_map, Some, string_bytes};
+ghost use Rattle.std.specs.Prelude.{◌≡◌, ◌++◌, codes, IfOk, map, None, option_map, string_bytes};
 
-use crate::scope::{Scope, evaluate, fault_report, reach, read};
-use crate::verdict::{ItemReport, PolicyResult, Problem, with_report};
-use cel::{Answer, Kind, PatternBook, Program, Value};
-use kube_manifests_admission::Item;
-use kube_types_refused::Refused;
+use crate::scope::{Scope, evaluate, fault_report, reach, unread_report};
+use crate::verdict::{ItemReport, PolicyResult, with_report};
+use cel::{
+    Answer, Check, CheckError, Judgement, Kind, ParseErrors, PatternBook, Program, Untyped, Value,
+    judge,
+};
+use kube_manifests_documents::Item;
+use kube_types::Refused;
 use std::alloc::{AllocError, Global};
 
 /// The most bytes that the text of a messageExpression may have: 5 KiB.
@@ -34,34 +38,12 @@ pub(crate) enum Subject {
     Annotation,
 }
 
-/// Returns the report of a value that should be true. If it is false, the message is still empty.
-fn truth_report(alloc: Global, value: &Value) -> Result<ItemReport, AllocError>
-    ensures { IfOk result (λ t. report_view t ≡ truth_report (view value.now) (bool_in (view value.now))) }
+/// Returns the report of an entry that should be a bool, but is of this kind.
+fn not_bool_report(alloc: Global, kind: Kind) -> Result<ItemReport, AllocError>
+    ensures { IfOk result (λ t. report_view t ≡ not_bool_report kind) }
 {
-    match value.as_bool() {
-        Some(true) => Ok(ItemReport::True),
-        Some(false) => Ok(ItemReport::False(String::new(alloc))),
-        None => {
-            let kind = value.type_of();
-            let message = format!(in alloc; "expression returned non-boolean: {kind}")?;
-            Ok(ItemReport::NotCompiled(message))
-        }
-    }
-}
-
-/// Returns the report of an outcome that should be true. If it is false, the message is still
-/// empty.
-fn outcome_report(alloc: Global, answer: Answer) -> Result<ItemReport, AllocError>
-    ensures { IfOk result (λ t. report_view t ≡ outcome_report (outcome_view answer)) }
-{
-    match answer {
-        Ok(value) => {
-            let reported = truth_report(alloc, &value);
-            drop(value);
-            reported
-        }
-        Err(fault) => fault_report(alloc, &fault),
-    }
+    let message = format!(in alloc; "expression returned non-boolean: {kind}")?;
+    Ok(ItemReport::NotCompiled(message))
 }
 
 fn is_null(kind: Kind) -> bool
@@ -130,17 +112,47 @@ fn annotation_report(
     }
 }
 
-/// Returns the report of a match condition with this outcome.
-fn condition_outcome(alloc: Global, name: &str, answer: Answer) -> Result<ItemReport, AllocError>
-    ensures { IfOk result (λ t. report_view t
-        ≡ with_message (condition_message name.now) (outcome_report (outcome_view answer))) }
+/// Returns the report of a match condition that is false.
+fn false_condition(alloc: Global, name: &str) -> Result<ItemReport, AllocError>
+    ensures { IfOk result (λ t. report_view t ≡ false_condition name.now None) }
 {
-    let reported = outcome_report(alloc, answer)?;
-    if !Problem::False.is_of(&reported) {
-        return Ok(reported);
-    }
     let message = format!(in alloc; "match condition '{name}' is false")?;
     Ok(ItemReport::False(message))
+}
+
+/// Returns the report of a match condition by what it is judged to be.
+fn judged_condition(
+    alloc: Global,
+    name: &str,
+    judgement: &Judgement<Result<Answer, ItemReport>>,
+) -> Result<ItemReport, AllocError>
+    ensures { IfOk result (λ t. report_view t
+        ≡ judged_report (false_condition name.now) (judgement_view outcome_seen judgement.now)) }
+{
+    match judgement {
+        Judgement::True => Ok(ItemReport::True),
+        Judgement::False(_) => false_condition(alloc, name),
+        Judgement::NotBool(kind) => not_bool_report(alloc, *kind),
+        Judgement::Error(fault) => fault_report(alloc, fault),
+    }
+}
+
+/// Returns the report of a match condition with this outcome.
+fn condition_with(
+    alloc: Global,
+    name: &str,
+    answer: Answer,
+    scope: &Scope<'_>,
+    book: &mut PatternBook,
+) -> Result<ItemReport, Refused>
+    ensures keeps { Extends (entries_of book.new) (entries_of book.old) }
+    ensures reported { IfOk result (λ t. HoldsForExtensions (entries_of book.new) (report_view t)
+        (λ b. judged_report (false_condition name.now) (judgement None (outcome_view answer)))) }
+{
+    let judgement = judge(alloc, answer, &None, scope, book)?;
+    let reported = judged_condition(alloc, name, &judgement);
+    drop(judgement);
+    Ok(reported?)
 }
 
 /// Evaluates a match condition.
@@ -158,8 +170,8 @@ fn condition_report(
     match evaluate(alloc, item.expression, scope, book)? {
         Err(reported) => Ok(reported),
         Ok(answer) => {
-            let reported = condition_outcome(alloc, item.label, answer)?;
-            Ok(reported)
+            let settled = condition_with(alloc, item.label, answer, scope, book)?;
+            Ok(settled)
         }
     }
 }
@@ -278,89 +290,95 @@ fn message_report(
     }
 }
 
-/// Returns the report of a false validation. Evaluates its messageExpression, if it has one.
+/// Returns the report of a false validation, given the result of its messageExpression, if it has
+/// one.
 fn false_report(
     alloc: Global,
     item: &Item<'_>,
-    message: &Option<Program>,
+    message: &Option<Result<Answer, ItemReport>>,
+) -> Result<ItemReport, AllocError>
+    ensures { IfOk result (λ t. report_view t
+        ≡ false_report (item_view item.now) (option_map outcome_seen message.now)) }
+{
+    match message {
+        Some(reached) => message_report(alloc, item, reached),
+        None => Ok(ItemReport::False(own_message(alloc, item)?)),
+    }
+}
+
+/// Returns the report of a validation by what it is judged to be.
+fn judged_validation(
+    alloc: Global,
+    item: &Item<'_>,
+    judgement: &Judgement<Result<Answer, ItemReport>>,
+) -> Result<ItemReport, AllocError>
+    ensures { IfOk result (λ t. report_view t
+        ≡ judged_report (false_report (item_view item.now)) (judgement_view outcome_seen judgement.now)) }
+{
+    match judgement {
+        Judgement::True => Ok(ItemReport::True),
+        Judgement::False(message) => false_report(alloc, item, message),
+        Judgement::NotBool(kind) => not_bool_report(alloc, *kind),
+        Judgement::Error(fault) => fault_report(alloc, fault),
+    }
+}
+
+/// Returns the report of a validation whose expression has this outcome.
+fn outcome_report(
+    alloc: Global,
+    item: &Item<'_>,
+    answer: Answer,
+    message_program: &Option<Program>,
     scope: &Scope<'_>,
     book: &mut PatternBook,
 ) -> Result<ItemReport, Refused>
     ensures keeps { Extends (entries_of book.new) (entries_of book.old) }
     ensures reported { IfOk result (λ t. HoldsForExtensions (entries_of book.new) (report_view t)
-        (λ b. false_report (item_view item.now)
-        (option_map (outcome_or_reason b (scope_view scope.now)) (option_map program_term message.now)))) }
+        (λ b. judged_report (false_report (item_view item.now)) (judgement
+        (option_map (outcome_or_reason b (scope_view scope.now)) (option_map program_term message_program.now))
+        (outcome_view answer)))) }
 {
-    let Some(program) = message else {
-        return Ok(ItemReport::False(own_message(alloc, item)?));
-    };
-    let reached = reach(alloc, program, scope, book)?;
-    let reported = message_report(alloc, item, &reached);
-    drop(reached);
+    let judgement = judge(alloc, answer, message_program, scope, book)?;
+    let reported = judged_validation(alloc, item, &judgement);
+    drop(judgement);
     Ok(reported?)
 }
 
-/// Replaces the report of a validation if it says that it is false.
-fn or_false(
-    alloc: Global,
-    item: &Item<'_>,
-    reported: ItemReport,
-    message: &Option<Program>,
-    scope: &Scope<'_>,
-    book: &mut PatternBook,
-) -> Result<ItemReport, Refused>
-    ensures keeps { Extends (entries_of book.new) (entries_of book.old) }
-    ensures reported { IfOk result (λ t. HoldsForExtensions (entries_of book.new) (report_view t)
-        (λ b. or_false (false_report (item_view item.now)
-        (option_map (outcome_or_reason b (scope_view scope.now)) (option_map program_term message.now)))
-        (report_view reported))) }
-{
-    if !Problem::False.is_of(&reported) {
-        return Ok(reported);
-    }
-    drop(reported);
-    false_report(alloc, item, message, scope, book)
-}
-
-/// Evaluates a validation, given the programs of its expression and messageExpression.
+/// Evaluates a validation, given its programs.
 #[tactic(auto, unfolding(crate::specs::Reports::validation_with))]
 fn validation_with(
     alloc: Global,
     item: &Item<'_>,
-    program: &Program,
-    message: &Option<Program>,
+    check: &Check,
     scope: &Scope<'_>,
     book: &mut PatternBook,
 ) -> Result<ItemReport, Refused>
     ensures keeps { Extends (entries_of book.new) (entries_of book.old) }
     ensures reported { IfOk result (λ t. HoldsForExtensions (entries_of book.new) (report_view t)
         (λ b. validation_with (outcome_or_reason b (scope_view scope.now))
-        (item_view item.now) (program_term program.now) (option_map program_term message.now))) }
+        (item_view item.now) (check_view check.now))) }
 {
-    match reach(alloc, program, scope, book)? {
+    match reach(alloc, &check.program, scope, book)? {
         Err(reported) => Ok(reported),
         Ok(answer) => {
-            let reported = outcome_report(alloc, answer)?;
-            let settled = or_false(alloc, item, reported, message, scope, book)?;
+            let message = &check.message_program;
+            let settled = outcome_report(alloc, item, answer, message, scope, book)?;
             Ok(settled)
         }
     }
 }
 
-/// Compiles a messageExpression, if there is one.
-fn read_message(
+/// Returns the report of a validation one of whose texts doesn't parse.
+fn unread_validation(
     alloc: Global,
-    text: Option<&str>,
-) -> Result<Result<Option<Program>, ItemReport>, Refused>
-    ensures read { IfOk result (λ r. message_tree_seen r
-        ≡ message_tree_report (option_map (λ s. s.now) text.entry)) }
+    text: &str,
+    error: &CheckError<'_, ParseErrors>,
+) -> Result<ItemReport, AllocError>
+    ensures { IfOk result (λ t. report_view t ≡ unread_report (unread_in text.now (error_view error.now))) }
 {
-    let Some(text) = text else {
-        return Ok(Ok(None));
-    };
-    match read(alloc, text)? {
-        Ok(program) => Ok(Ok(Some(program))),
-        Err(reported) => Ok(Err(reported)),
+    match error {
+        CheckError::Expression(errors) => unread_report(alloc, text, errors),
+        CheckError::MessageExpression(text, errors) => unread_report(alloc, *text, errors),
     }
 }
 
@@ -376,16 +394,14 @@ fn validation_report(
     ensures reported { IfOk result (λ t. HoldsForExtensions (entries_of book.new) (report_view t)
         (λ b. validation_report (outcome_or_reason b (scope_view scope.now)) (item_view item.now))) }
 {
-    let program = match read(alloc, item.expression)? {
-        Ok(program) => program,
-        Err(reported) => return Ok(reported),
-    };
-    let message = match read_message(alloc, item.message_expression)? {
-        Ok(message) => message,
-        Err(reported) => return Ok(reported),
-    };
-    let reported = validation_with(alloc, item, &program, &message, scope, book)?;
-    Ok(reported)
+    match Check::compile(alloc, &Untyped, item.expression, item.message_expression)? {
+        Err(error) => Ok(unread_validation(alloc, item.expression, &error)?),
+        Ok(check) => {
+            let reported = validation_with(alloc, item, &check, scope, book);
+            drop(check);
+            reported
+        }
+    }
 }
 
 /// Evaluates an entry and returns its report.

@@ -1,21 +1,25 @@
 //! Evaluates expressions in the scope of a policy.
 ghost use Rattle.cel.specs.Program.{program_term};
-ghost use Rattle.cel_patterns.specs.Book.{Extends};
-ghost use Rattle.cel_patterns.specs.Entries.{entries_of};
-ghost use Rattle.cel_patterns.specs.Extensions.{HoldsForExtensions};
-ghost use Rattle.cel_semantics.specs.Outcome.{outcome_view};
+ghost use Rattle.cel.specs.Book.{Extends};
+ghost use Rattle.cel.specs.Entries.{entries_of};
+ghost use Rattle.cel.specs.Extensions.{HoldsForExtensions};
+ghost use Rattle.cel.specs.Outcome.{Outcome, outcome_view};
 ghost use Rattle.cel_value.specs.Faults.{fault_view};
-ghost use Rattle.cel_syntax_ast.specs.Term.{term};
-ghost use Rattle.cel_semantics.specs.Bindings.{bindings_of};
-ghost use Rattle.kube_manifests_policies.specs.Scopes.{evaluation, fault_message, fault_report, first_stop, is_double, is_limit, is_not_judged, outcome_in, outcome_or_reason, outcome_seen, scope_view, stops, tree_seen, tree_report, why_not};
-ghost use Rattle.kube_manifests_policies.specs.Verdicts.{result_view, report_view};
-ghost use Rattle.std.specs.Prelude.{◌≡◌, IfOk, map, option_map, string_bytes};
+ghost use Rattle.cel_syntax.specs.Term.{term};
+ghost use Rattle.cel.specs.Bindings.{bindings_of};
+ghost use Rattle.kube_manifests_policies.specs.Scopes.{evaluation as evaluation_of, fault_message, fault_report, first_stop, is_double, is_not_judged, outcome_in, outcome_or_reason, outcome_seen, scope_view, stops, tree_seen, tree_report, unread_report, why_not};
+ghost use Rattle.kube_manifests_policies.specs.Verdicts.{ItemReportData, result_view, report_view};
+ghost use Rattle.std.specs.Prelude.{◌≡◌, IfOk, map, option_map, Result, string_bytes};
 
 use crate::verdict::{ItemReport, PolicyResult};
-use cel::{Answer, Context, ExecutionError, Expr, PatternBook, Program, Value};
+use cel::{
+    Answer, Compiler, Context, Evaluator, ExecutionError, Expr, ParseErrors, PatternBook, Program,
+    Untyped, Value,
+};
 use kube_functions::AllFunctions;
+use kube_manifests_limits::is_limit;
 use kube_manifests_names::{Input, asks, first_missing};
-use kube_types_refused::Refused;
+use kube_types::Refused;
 use std::alloc::{AllocError, Global};
 
 /// The context of a policy's expressions, which may call all functions of Kubernetes.
@@ -123,14 +127,23 @@ pub(crate) fn reach(
     }
 }
 
-/// Reports whether an expression whose evaluation ended with this fault can't be evaluated here.
-fn is_limit(fault: &ExecutionError) -> bool
-    ensures { result ≡ is_limit (fault_view fault.now) }
-{
-    matches!(
-        fault,
-        ExecutionError::UndeclaredReference(_) | ExecutionError::InvalidPattern(_)
-    )
+impl Evaluator for Scope<'_> {
+    type Evaluation = Result<Answer, ItemReport>;
+
+    ghost Seen = { Result Outcome ItemReportData };
+
+    ghost seen = { outcome_seen };
+
+    ghost evaluation = { λ s b t. outcome_or_reason b (scope_view s) t };
+
+    fn evaluate(
+        &self,
+        alloc: Global,
+        program: &Program,
+        book: &mut PatternBook,
+    ) -> Result<Result<Answer, ItemReport>, Refused> {
+        reach(alloc, program, self, book)
+    }
 }
 
 /// Reports whether an expression met a double.
@@ -173,18 +186,25 @@ pub(crate) fn fault_report(alloc: Global, fault: &ExecutionError) -> Result<Item
     Ok(ItemReport::Error(message))
 }
 
+/// Returns the report of an expression whose text doesn't parse.
+pub(crate) fn unread_report(
+    alloc: Global,
+    text: &str,
+    errors: &ParseErrors,
+) -> Result<ItemReport, AllocError>
+    ensures { IfOk result (λ t. report_view t ≡ unread_report text.now) }
+{
+    let message = format!(in alloc; "failed to compile VAP expression \"{text}\": {errors}")?;
+    Ok(ItemReport::NotCompiled(message))
+}
+
 /// Compiles an expression. If it doesn't parse, the inner error is its report.
 pub(crate) fn read(alloc: Global, text: &str) -> Result<Result<Program, ItemReport>, Refused>
     ensures read { IfOk result (λ r. tree_seen r ≡ tree_report text.now) }
 {
-    match Program::compile(alloc, text)? {
+    match Untyped.compile(alloc, text)? {
         Ok(program) => Ok(Ok(program)),
-        Err(errors) => {
-            let message = format!(in alloc;
-                "failed to compile VAP expression \"{text}\": {errors}"
-            )?;
-            Ok(Err(ItemReport::NotCompiled(message)))
-        }
+        Err(errors) => Ok(Err(unread_report(alloc, text, &errors)?)),
     }
 }
 
@@ -198,7 +218,7 @@ pub(crate) fn evaluate(
 ) -> Result<Result<Answer, ItemReport>, Refused>
     ensures keeps { Extends (entries_of book.new) (entries_of book.old) }
     ensures reached { IfOk result (λ r. HoldsForExtensions (entries_of book.new) (outcome_seen r)
-        (λ b. evaluation (outcome_or_reason b (scope_view scope.now)) text.now)) }
+        (λ b. evaluation_of (outcome_or_reason b (scope_view scope.now)) text.now)) }
 {
     match read(alloc, text)? {
         Err(reported) => Ok(Err(reported)),

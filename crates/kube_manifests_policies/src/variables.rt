@@ -1,24 +1,24 @@
 //! Evaluates the variables of a policy, one after another.
-ghost use Rattle.cel_patterns.specs.Book.{Extends, Book};
-ghost use Rattle.cel_patterns.specs.Entries.{entries_of};
-ghost use Rattle.cel_semantics.specs.Members.{put_in};
-ghost use Rattle.cel_semantics.specs.Outcome.{outcome_view};
+ghost use Rattle.cel.specs.Book.{Extends, Book};
+ghost use Rattle.cel.specs.Entries.{entries_of};
+ghost use Rattle.cel.specs.Members.{put_in};
+ghost use Rattle.cel.specs.Outcome.{outcome_view};
 ghost use Rattle.cel_value.specs.Data.{text};
 ghost use Rattle.cel_value.specs.Faults.{fault_view};
 ghost use Rattle.cel_value.specs.View.{view};
-ghost use Rattle.kube_manifests_admission.specs.Policies.{item_view};
+ghost use Rattle.kube_manifests_documents.specs.Policies.{item_view};
 ghost use Rattle.kube_manifests_policies.specs.Scopes.{Alike, fault_report, is_absent, is_new, is_no, outcome_seen, scope_view, variable_step, variables_after, with_stored, with_values, with_variable, without_value};
 ghost use Rattle.kube_manifests_policies.specs.Verdicts.{report_view, result_view, with_report};
 ghost use Rattle.std.specs.Prelude.{◌≡◌, ◌++◌, [], ◌∷◌, IfOk, map, Ok, OnOk, true};
 
-use crate::context::bind;
-use crate::owned::both;
 use crate::scope::{Scope, evaluate, fault_report};
 use crate::verdict::{ItemReport, PolicyResult, with_report};
 use cel::{Answer, ExecutionError, Key, PatternBook, Text, Value};
 use cel_semantics::members::{has, put};
-use kube_manifests_admission::Item;
-use kube_types_refused::Refused;
+use cel_syntax_ast::both;
+use kube_cel_vap::bind;
+use kube_manifests_documents::Item;
+use kube_types::Refused;
 use std::alloc::{AllocError, Global};
 use std::mem::replace;
 

@@ -3,7 +3,7 @@ ghost use Rattle.kube_manifests_policies.specs.Verdicts.{after_conditions, any_i
 ghost use Rattle.std.specs.Prelude.{◌≡◌, IfOk, map, Some};
 
 use kube_manifests_names::Input;
-use kube_types_refused::Refused;
+use kube_types::Refused;
 use std::alloc::{AllocError, Global};
 use std::fmt;
 

@@ -1,8 +1,8 @@
 -- The findings under a book of patterns.
 use Rattle.std.proofs.Common.{◌≡◌, ℕ, List, [], ◌∷◌, ◌++◌, Bool, Option, Some, None, is_none, is_err, option_map, Result, Ok, Err, refl, ap, ◌∙◌}
 use Rattle.std.proofs.lemmas.List.{flat_map_more}
-use Rattle.cel_patterns.specs.Book.{Book, matched_by, pattern_in}
-use Rattle.cel_semantics.specs.Outcome.{outcome_view}
+use Rattle.cel.specs.Book.{Book, matched_by, pattern_in}
+use Rattle.cel.specs.Outcome.{outcome_view}
 use Rattle.cel_value.specs.declared.error.ExecutionError.{ExecutionError}
 use Rattle.cel_value.specs.declared.value.Value.{Value}
 use Rattle.kube_manifests_review.specs.Candidates.{Candidate, due, is_refused, due_finding}

@@ -1,9 +1,9 @@
 -- The nodes of a tree, seen as terms.
 use Rattle.std.proofs.Common.{◌≡◌, ℕ, List, [], ◌∷◌, true, Option, Some, None, Box, codes, cond, map, option_map, refl, sym, ap, ◌∙◌}
 use Rattle.std.specs.declared.alloc.Global.{Global}
-use Rattle.cel_syntax_ast.specs.Term.{Term, call, no_terms, qualified, term, term_and, term_step, terms_of}
-use Rattle.cel_syntax_ast.specs.declared.expr.Expr.{Expr, Expr-F, fold-roll-Expr}
-use Rattle.cel_syntax_ast.specs.declared.expr.Expr.TheVariants as expr
+use Rattle.cel_syntax.specs.Term.{Term, call, no_terms, qualified, term, term_and, term_step, terms_of}
+use Rattle.cel_syntax.specs.Expr.{Expr, Expr-F, fold-roll-Expr}
+use Rattle.cel_syntax.specs.Expr.TheVariants as expr
 use Rattle.cel_value.specs.Data.{Data}
 use Rattle.cel_value.specs.Same.{has_double}
 use Rattle.kube_manifests_review.specs.Calls.{Text, call_candidates, literal_candidates, node_candidates, text_candidate, terms_in}

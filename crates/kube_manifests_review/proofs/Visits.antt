@@ -5,16 +5,16 @@ use Rattle.std.proofs.lemmas.List.{length-append}
 use Rattle.std.specs.Ordering.{match_ordering}
 use Rattle.kube_schema_rules.proofs.Ordered.{IsIn, Contains-from_in, in_from_Contains, in_left, in_right}
 use Rattle.kube_schema_rules.proofs.Sorted.{key_cmp, same_key}
-use Rattle.kube_schema_rules.specs.declared.branches.BranchKind.{BranchKind}
-use Rattle.kube_schema_rules.specs.declared.branches.BranchKind.TheVariants.{AllOf, OneOf, AnyOf}
-use Rattle.kube_schema_rules.specs.Raw.{declared_property, raw_steps, undeclared_property}
-use Rattle.kube_schema_rules.specs.Step.{Step, property, item, additional_property, branch, keyword}
-use Rattle.kube_schema_rules.specs.Visit.{Root, Visit, further, goes, member_path, root_visit, unless_there, visit}
-use Rattle.kube_schema_rules.specs.Walk.{leads}
+use Rattle.kube_schema.specs.BranchKind.{BranchKind}
+use Rattle.kube_schema.specs.BranchKind.TheVariants.{AllOf, OneOf, AnyOf}
+use Rattle.kube_schema.specs.RulesRaw.{declared_property, raw_steps, undeclared_property}
+use Rattle.kube_schema.specs.Step.{Step, property, item, additional_property, branch, keyword}
+use Rattle.kube_schema.specs.Visit.{Root, Visit, further, goes, member_path, root_visit, unless_there, visit}
+use Rattle.kube_schema.specs.Walk.{leads}
 use Rattle.kube_schema.specs.View.{branches, items_or_none}
-use Rattle.kube_schema_values.specs.DefaultsAccessors.{members_or_none}
+use Rattle.kube_schema.specs.DefaultsAccessors.{members_or_none}
 use Rattle.kube_manifests_review.specs.Locations.{SchemaLocation, branch_locations, item_locations, locations_of, locations_within, maybe_locations, named_locations, named_schemas, names_locations, passed_over, unread_within}
-use Rattle.kube_manifests_review.specs.Pointers.{index_pointer, key_pointer, keyword_pointer}
+use Rattle.kube_manifests_documents.specs.Pointers.{index_pointer, key_pointer, keyword_pointer}
 use Rattle.kube_manifests_review.specs.Visited.{IsVisited, KeysOnce, KeysOnceInItems, KeysOnceInMembers, pointer_after, pointer_behind}
 use Rattle.serde_json.specs.Data.{Data, null, boolean, number, string, array, object, Items, no_items, item as item_and, Members, no_members, member}
 use Rattle.serde_json.specs.Find.{at, as_array, as_object, get, get_item, get_member}

@@ -1,7 +1,7 @@
 -- A call in a form that the function doesn't have.
 use Rattle.std.proofs.Common.{◌≡◌, ℕ, List, [], ◌∷◌, Bool, Option, is_some, length, ap, ◌∙◌}
-use Rattle.cel_semantics.specs.declared.functions.Form.TheVariants.{Wrong}
-use Rattle.cel_syntax_ast.specs.Term.{Term}
+use Rattle.cel.specs.Form.TheVariants.{Wrong}
+use Rattle.cel_syntax.specs.Term.{Term}
 use Rattle.kube_functions.specs.Kube.{all_library}
 use Rattle.kube_manifests_review.specs.Calls.{Text, call_candidates, form_candidates, text_candidate, wrong_text}
 use Rattle.kube_manifests_review.specs.Candidates.{always}

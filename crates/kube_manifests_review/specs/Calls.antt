@@ -2,13 +2,13 @@
 -- The candidate findings of one node of a rule's tree: calls that can't work, and refused literals.
 -- Source: Kubernetes documentation, "CEL in Kubernetes"; the functions are those of
 -- `kube_functions`; that doubles are refused is this project's own decision.
-use Rattle.std.specs.Prelude.{ℕ, List, [], ◌∷◌, ◌++◌, length, Bool, true, false, Option, Some, None, is_some, if◌then◌else◌, codes, decimal}
+use Rattle.std.specs.Prelude.{ℕ, List, [], ◌∷◌, ◌++◌, length, Bool, true, false, Option, Some, None, is_some, if◌then◌else◌, codes, decimal, string_bytes}
 use Rattle.std.specs.List.{list_any, slice_get}
 use Rattle.std.specs.Option.{option_and_then}
 use Rattle.std.specs.Str.{bytes_eq}
-use Rattle.cel_semantics.specs.declared.functions.Form.{Form}
-use Rattle.cel_semantics.specs.declared.functions.Form.TheVariants.{Unknown, Wrong, Known}
-use Rattle.cel_syntax_ast.specs.Term.{Term, literal, ident, select, has, index, unary, binary, conditional, list_of, map_with, call, qualified, macro, Terms, no_terms, term_and}
+use Rattle.cel.specs.Form.{Form}
+use Rattle.cel.specs.Form.TheVariants.{Unknown, Wrong, Known}
+use Rattle.cel_syntax.specs.Term.{Term, literal, ident, call, qualified, Terms, no_terms, term_and}
 use Rattle.cel_value.specs.Data.{Data}
 use Rattle.cel_value.specs.Parts.{text_in}
 use Rattle.cel_value.specs.Same.{has_double}
@@ -27,7 +27,7 @@ pub record Text : Type 0 where
   pub is_message : Bool
 
 abbrev pub text_view : code.Text → Text
-text_view t = record { pointer = t.pointer.now; rule = t.rule.now; is_message = t.is_message }
+text_view t = record { pointer = t.pointer.now; rule = string_bytes t.rule.now.value; is_message = t.is_message }
 
 -- a candidate finding of an expression of a rule
 abbrev pub text_candidate : Text → ReviewKind → List ℕ → When → Candidate
@@ -41,18 +41,7 @@ text_candidate t k m w = record {
 -- the string of a string literal
 abbrev pub literal_text : Term → Option (List ℕ)
 literal_text (literal v) = text_in v
-literal_text (ident x) = None
-literal_text (select a x) = None
-literal_text (has a x) = None
-literal_text (index a b) = None
-literal_text (unary o a) = None
-literal_text (binary o a b) = None
-literal_text (conditional a b c) = None
-literal_text (list_of ts) = None
-literal_text (map_with ps) = None
-literal_text (call r x ts) = None
-literal_text (qualified x ts) = None
-literal_text (macro k r x f b) = None
+literal_text _ = None
 
 -- the string literal that is the only argument of a call without a receiver
 abbrev pub only_text : Option Term → List Term → Option (List ℕ)
@@ -154,15 +143,6 @@ terms_in (term_and t ts) = t ∷ terms_in ts
 
 abbrev pub node_candidates : Text → Term → List Candidate
 node_candidates t (literal v) = literal_candidates t v
-node_candidates t (ident x) = []
-node_candidates t (select a x) = []
-node_candidates t (has a x) = []
-node_candidates t (index a b) = []
-node_candidates t (unary o a) = []
-node_candidates t (binary o a b) = []
-node_candidates t (conditional a b c) = []
-node_candidates t (list_of ts) = []
-node_candidates t (map_with ps) = []
 node_candidates t (call r x ts) = call_candidates t (first_term r) x (terms_in ts)
 node_candidates t (qualified x ts) = call_candidates t None x (terms_in ts)
-node_candidates t (macro k r x f b) = []
+node_candidates t _ = []

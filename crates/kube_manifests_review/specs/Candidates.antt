@@ -3,9 +3,9 @@
 -- reported. Source: this project's own definition.
 use Rattle.std.specs.Prelude.{◌≡◌, ℕ, List, [], ◌∷◌, ◌++◌, map, Bool, true, false, ◌&&◌, None, is_none, is_err, if◌then◌else◌, codes, string_bytes}
 use Rattle.std.specs.List.{flat_map}
-use Rattle.cel_patterns.specs.Book.{Book, pattern_in}
-use Rattle.cel_semantics.specs.declared.functions.Form.{Form}
-use Rattle.cel_semantics.specs.declared.functions.Form.TheVariants.{Unknown, Wrong, Known}
+use Rattle.cel.specs.Book.{Book, pattern_in}
+use Rattle.cel.specs.Form.{Form}
+use Rattle.cel.specs.Form.TheVariants.{Unknown, Wrong, Known}
 use Rattle.cel_value.specs.Data.{text}
 use Rattle.kube_cel_analysis.specs.declared.finding.LintKind.{LintKind}
 use Rattle.kube_cel_analysis.specs.declared.finding.LintKind.TheVariants as lint
@@ -29,7 +29,7 @@ pub record Finding : Type 0 where
 abbrev pub finding_view : ReviewFinding → Finding
 finding_view f = record {
   pointer = string_bytes f.pointer;
-  rule = string_bytes f.rule;
+  rule = string_bytes f.rule.value;
   kind = f.kind;
   message = string_bytes f.message;
 }

@@ -4,7 +4,7 @@
 -- Kubernetes", "CEL language libraries, features, and quirks".
 use Rattle.std.specs.Prelude.{ℕ, List, [], ◌∷◌, ◌++◌, ◌||◌, Bool, if◌then◌else◌, codes}
 use Rattle.std.specs.Str.{bytes_eq}
-use Rattle.kube_manifests_spelling.specs.Spelling.{is_word}
+use Rattle.kube_manifests_texts.specs.Spelling.{is_word}
 
 -- the macros of two variables
 unfoldable pub two_variable_macros : List (List ℕ)

@@ -5,10 +5,10 @@
 use Rattle.std.specs.Prelude.{ℕ, List, [], ◌∷◌, ◌++◌, Option, Some, None, if◌then◌else◌, codes}
 use Rattle.std.specs.List.{flat_map}
 use Rattle.kube_manifests_review.specs.Candidates.{Candidate, always}
-use Rattle.kube_manifests_review.specs.Pointers.{key_pointer}
+use Rattle.kube_manifests_documents.specs.Pointers.{key_pointer}
 use Rattle.kube_manifests_review.specs.declared.finding.ReviewKind.TheVariants.{Keyword}
-use Rattle.kube_manifests_spelling.specs.Spelling.{is_word, near}
-use Rattle.kube_schema_values.specs.DefaultsAccessors.{keys_in}
+use Rattle.kube_manifests_texts.specs.Spelling.{is_word, near}
+use Rattle.kube_schema.specs.DefaultsAccessors.{keys_in}
 use Rattle.serde_json.specs.Data.{Members}
 
 -- ---- the fields

@@ -1,9 +1,7 @@
 pub mod Candidates
-pub mod Pointers
 pub mod Keywords
 pub mod Locations
 pub mod Visited
-pub mod Nodes
 pub mod Features
 pub mod Calls
 pub mod Messages

@@ -2,10 +2,12 @@
 -- The candidates for the linter's findings. What the linter says of functions that this project lacks,
 -- and of names in a rule that calls one, is no mistake of the definition and is left out: `Calls.antt`
 -- says what is reported in its place. Source: this project's own definition.
-use Rattle.std.specs.Prelude.{ℕ, List, [], ◌∷◌, ◌++◌, ◌||◌, Bool, false, Option, Some, None, if◌then◌else◌}
+use Rattle.std.specs.Prelude.{ℕ, List, [], ◌∷◌, ◌++◌, ◌||◌, Bool, false, Option, Some, None, String, if◌then◌else◌, string_bytes}
 use Rattle.std.specs.List.{list_any}
 use Rattle.std.specs.Option.{option_map_or}
 use Rattle.std.specs.Str.{bytes_eq}
+use Rattle.std.specs.declared.alloc.Global.{Global}
+use Rattle.std.specs.declared.rc.Rc.{Rc}
 use Rattle.kube_cel_analysis.specs.Findings as linter
 use Rattle.kube_cel_analysis.specs.declared.finding.LintKind.{LintKind}
 use Rattle.kube_cel_analysis.specs.declared.finding.LintKind.TheVariants.{Compile, Function, Scope, Cost, Bounds, Depth}
@@ -66,3 +68,7 @@ abbrev pub lint_candidates : List ℕ → Option (List ℕ) → List linter.Find
 lint_candidates base last [] = []
 lint_candidates base last (f ∷ fs) =
     lint_candidate base last f ++ lint_candidates base (last_lacking last f) fs
+
+-- the bytes of a text that findings share
+abbrev pub shared_bytes : Rc (String Global) Global → List ℕ
+shared_bytes s = string_bytes s.value

@@ -10,10 +10,10 @@ use Rattle.std.specs.Option.{option_and_then}
 use Rattle.serde_json.specs.Data.{Data, Items, no_items, item, Members, no_members, member}
 use Rattle.serde_json.specs.Find.{get, as_object}
 use Rattle.serde_json.specs.View.{view}
-use Rattle.kube_schema_rules.specs.Raw.{undeclared_property}
-use Rattle.kube_schema_values.specs.DefaultsAccessors.{members_or_none, additional, preserves}
+use Rattle.kube_schema.specs.RulesRaw.{undeclared_property}
+use Rattle.kube_schema.specs.DefaultsAccessors.{members_or_none, additional, preserves}
 use Rattle.kube_schema.specs.View.{branches, items_or_none}
-use Rattle.kube_manifests_review.specs.Pointers.{keyword_pointer, key_pointer, index_pointer}
+use Rattle.kube_manifests_documents.specs.Pointers.{keyword_pointer, key_pointer, index_pointer}
 use Rattle.kube_manifests_review.specs.declared.locations.SchemaLocation as code
 
 pub record SchemaLocation : Type 0 where

@@ -6,17 +6,18 @@
 use Rattle.std.specs.Prelude.{ℕ, suc, List, [], ◌∷◌, ◌++◌, Bool, true, false, ◌&&◌, Option, Some, None, if◌then◌else◌, is_some, codes}
 use Rattle.std.specs.List.{flat_map, list_any}
 use Rattle.std.specs.Option.{option_and_then}
-use Rattle.cel_patterns.specs.Book.{Book}
+use Rattle.cel.specs.Book.{Book}
 use Rattle.serde_json.specs.Data.{Data, Items, no_items, item}
-use Rattle.serde_json.specs.Find.{get, as_array, as_object}
+use Rattle.serde_json.specs.Find.{as_object}
 use Rattle.kube_cel_analysis.specs.Findings.{Naming}
 use Rattle.kube_cel_analysis.specs.Lint.{findings}
-use Rattle.kube_schema_rules.specs.Rules.{rule_items}
+use Rattle.kube_schema.specs.Rules.{rule_items}
 use Rattle.kube_schema.specs.View.{items_or_none, view_of}
 use Rattle.kube_manifests_review.specs.Candidates.{Candidate, Finding, due, unconditional}
 use Rattle.kube_manifests_review.specs.Linted.{lint_candidates}
 use Rattle.kube_manifests_review.specs.Locations.{SchemaLocation, locations_of}
-use Rattle.kube_manifests_review.specs.Pointers.{index_pointer}
+use Rattle.kube_manifests_documents.specs.Definitions.{entries_of, schema_of}
+use Rattle.kube_manifests_documents.specs.Pointers.{index_pointer}
 use Rattle.kube_manifests_review.specs.Rules.{location_candidates}
 use Rattle.kube_manifests_review.specs.Stray.{stray}
 use Rattle.kube_manifests_review.specs.declared.finding.ReviewKind.TheVariants as kind
@@ -48,9 +49,7 @@ schema_candidates names base s =
 
 -- the schema of a version, if it is an object
 unfoldable pub version_schema : Data → Option Data
-version_schema d =
-    option_and_then (λ s. if is_some (as_object s) then Some s else None)
-    (option_and_then (get (codes "openAPIV3Schema")) (get (codes "schema") d))
+version_schema d = option_and_then (λ s. if is_some (as_object s) then Some s else None) (schema_of d)
 
 abbrev pub version_pointer : ℕ → List ℕ
 version_pointer i = index_pointer (codes "/spec/versions") i ++ codes "/schema/openAPIV3Schema"
@@ -67,9 +66,7 @@ versions_candidates names i (item d ds) =
 
 -- the versions of a document; none if they aren't a list
 unfoldable pub versions_of : Data → Items
-versions_of crd =
-    items_or_none (option_and_then as_array
-    (option_and_then (get (codes "versions")) (get (codes "spec") crd)))
+versions_of crd = items_or_none (entries_of crd)
 
 abbrev pub no_version_candidates : Items → List Candidate
 no_version_candidates ds =

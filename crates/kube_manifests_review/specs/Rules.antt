@@ -4,18 +4,18 @@
 use Rattle.std.specs.Prelude.{ℕ, suc, List, [], ◌∷◌, ◌++◌, Bool, false, true, Option, Some, None, unwrap_or, Result, Ok, Err, if◌then◌else◌, codes}
 use Rattle.std.specs.List.{flat_map}
 use Rattle.std.specs.Option.{option_and_then}
-use Rattle.cel_syntax_ast.specs.Term.{Term}
+use Rattle.cel_syntax.specs.Nodes.{nodes_of}
+use Rattle.cel_syntax.specs.Term.{Term}
 use Rattle.serde_json.specs.Data.{Data, Items, no_items, item, Members}
 use Rattle.serde_json.specs.Find.{get, as_array, as_object, as_str}
-use Rattle.kube_schema_values.specs.DefaultsAccessors.{members_or_none}
-use Rattle.kube_schema_rules.specs.Compilation.{Compiled, Malformed, compiled_rule}
+use Rattle.kube_schema.specs.DefaultsAccessors.{members_or_none}
+use Rattle.kube_schema.specs.Compilation.{Compiled, Malformed, compiled_rule}
 use Rattle.kube_manifests_review.specs.Calls.{Text, node_candidates, text_candidate}
 use Rattle.kube_manifests_review.specs.Candidates.{Candidate, always, unconditional}
 use Rattle.kube_manifests_review.specs.Keywords.{keys_candidates, rule_fields, schema_fields}
 use Rattle.kube_manifests_review.specs.Messages.{is_no_string}
-use Rattle.kube_manifests_review.specs.Nodes.{nodes_of}
 use Rattle.kube_manifests_review.specs.Locations.{SchemaLocation}
-use Rattle.kube_manifests_review.specs.Pointers.{keyword_pointer, index_pointer}
+use Rattle.kube_manifests_documents.specs.Pointers.{keyword_pointer, index_pointer}
 use Rattle.kube_manifests_review.specs.declared.finding.ReviewKind.TheVariants as kind
 
 -- the candidates of a tree, node by node

@@ -10,7 +10,7 @@ use Rattle.serde_json.specs.Find.{get, as_array}
 use Rattle.kube_manifests_review.specs.Candidates.{Candidate, Finding}
 use Rattle.kube_manifests_review.specs.Keywords.{keys_candidates, rule_fields, schema_fields}
 use Rattle.kube_manifests_review.specs.Locations.{SchemaLocation, locations_of}
-use Rattle.kube_manifests_review.specs.Pointers.{keyword_pointer, index_pointer}
+use Rattle.kube_manifests_documents.specs.Pointers.{keyword_pointer, index_pointer}
 use Rattle.kube_manifests_review.specs.Reviewed.{version_pointer, version_schema, versions_of}
 use Rattle.kube_manifests_review.specs.Rules.{members_of, no_list, text_of_rule, unread_candidates}
 use Rattle.kube_manifests_review.specs.Stray.{stray}

@@ -3,12 +3,12 @@
 -- walk is that of the rules: Kubernetes documentation, "Validation rules" (a rule is scoped to the
 -- part of the object where it stands).
 use Rattle.std.specs.Prelude.{◌≡◌, ◌≤◌, ℕ, List, [], ◌∷◌, length, Some, None, codes}
-use Rattle.kube_schema_rules.specs.Raw.{raw_steps}
-use Rattle.kube_schema_rules.specs.Step.{Step, property, item, additional_property, branch, keyword}
-use Rattle.kube_schema_rules.specs.Visit.{Visit, goes, root_visit}
-use Rattle.kube_schema_rules.specs.Walk.{leads}
+use Rattle.kube_schema.specs.RulesRaw.{raw_steps}
+use Rattle.kube_schema.specs.Step.{Step, property, item, additional_property, branch, keyword}
+use Rattle.kube_schema.specs.Visit.{Visit, goes, root_visit}
+use Rattle.kube_schema.specs.Walk.{leads}
 use Rattle.kube_manifests_review.specs.Locations.{SchemaLocation}
-use Rattle.kube_manifests_review.specs.Pointers.{index_pointer, key_pointer, keyword_pointer}
+use Rattle.kube_manifests_documents.specs.Pointers.{index_pointer, key_pointer, keyword_pointer}
 use Rattle.serde_json.specs.Data.{Data, null, boolean, number, string, array, object, Items, no_items, item as item_and, Members, no_members, member}
 use Rattle.serde_json.specs.Find.{get_member}
 

@@ -1,6 +1,6 @@
 //! Adds the candidate findings of calls.
 ghost use Rattle.std.specs.Prelude.{◌≡◌, [], ◌∷◌, OnOk, map, option_map};
-ghost use Rattle.cel_syntax_ast.specs.Term.{term};
+ghost use Rattle.cel_syntax.specs.Term.{term};
 ghost use Rattle.kube_manifests_review.specs.Calls as spec;
 ghost use Rattle.kube_manifests_review.specs.Calls.{text_view};
 ghost use Rattle.kube_manifests_review.specs.Candidates.{AddsCandidates, always};
@@ -10,8 +10,8 @@ use crate::feature::{is_lacked, lacking_text};
 use crate::finding::ReviewKind;
 use crate::messages::{fails_text, old_self_text, pattern_text, unknown_text, wrong_text};
 use crate::text::{Text, add_candidate};
-use cel_semantics::{Form, Functions};
-use cel_syntax_ast::Expr;
+use cel::{Form, Functions};
+use cel_syntax::Expr;
 use kube_functions::AllFunctions;
 use std::alloc::{AllocError, Global};
 
@@ -21,18 +21,7 @@ fn literal_text(expr: &Expr) -> Option<&str>
 {
     match expr {
         Expr::Literal(value) => value.as_str(),
-        Expr::Ident(_) => None,
-        Expr::Select(_, _) => None,
-        Expr::Has(_, _) => None,
-        Expr::Index(_, _) => None,
-        Expr::Unary(_, _) => None,
-        Expr::Binary(_, _, _) => None,
-        Expr::Cond(_, _, _) => None,
-        Expr::List(_) => None,
-        Expr::Map(_) => None,
-        Expr::Call { .. } => None,
-        Expr::Qualified { .. } => None,
-        Expr::Macro { .. } => None,
+        _ => None,
     }
 }
 

@@ -11,7 +11,8 @@ use crate::part::Part;
 use crate::schema::{add_schema, has_item};
 use crate::stray::add_stray;
 use crate::text::add_unconditional;
-use kube_types_refused::Refused;
+use kube_manifests_documents::{entries_of, schema_of};
+use kube_types::Refused;
 use serde_json::Value;
 use std::alloc::{AllocError, Global};
 
@@ -20,14 +21,8 @@ use std::alloc::{AllocError, Global};
 pub(crate) fn versions_of(crd: &Value) -> &[Value]
     ensures { items_view result.now ≡ spec.versions_of (view crd.now) }
 {
-    let Some(spec) = crd.get("spec") else {
-        return &[];
-    };
-    let Some(listed) = spec.get("versions") else {
-        return &[];
-    };
-    match listed.as_array() {
-        Some(versions) => versions.as_slice(),
+    match entries_of(crd) {
+        Some(entries) => entries,
         None => &[],
     }
 }
@@ -37,7 +32,7 @@ pub(crate) fn versions_of(crd: &Value) -> &[Value]
 pub(crate) fn version_schema(version: &Value) -> Option<&Value>
     ensures { option_map (λ s. view s.now) result ≡ spec.version_schema (view version.now) }
 {
-    let schema = version.get("schema")?.get("openAPIV3Schema")?;
+    let schema = schema_of(version)?;
     if schema.is_object() {
         Some(schema)
     } else {

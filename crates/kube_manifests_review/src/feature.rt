@@ -1,9 +1,9 @@
 //! What this project lacks of the CEL that Kubernetes has.
 ghost use Rattle.kube_manifests_review.specs.Features.{is_lacked, lacking_text, missing_functions, two_variable_macros, type_names};
-ghost use Rattle.kube_manifests_spelling.specs.Spelling.{is_word};
+ghost use Rattle.kube_manifests_texts.specs.Spelling.{is_word};
 ghost use Rattle.std.specs.Prelude.{◌≡◌, IfOk, string_bytes};
 
-use kube_manifests_spelling::is_word;
+use kube_manifests_texts::is_word;
 use std::alloc::{AllocError, Global};
 
 pub(crate) const TWO_VARIABLE_MACROS: [&str; 7] = [

@@ -3,6 +3,7 @@
 use crate::word::word_of;
 use kube_cel_analysis::LintKind;
 use std::fmt;
+use std::rc::Rc;
 
 /// The kind of a finding. It prints as one word.
 #[derive(Clone, Copy, Debug, PartialEq, Eq)]
@@ -22,7 +23,7 @@ pub enum ReviewKind {
     Unsupported,
     /// A messageExpression obviously doesn't evaluate to a string.
     Message,
-    /// A key is no field of schemas, or no field of rules.
+    /// A key is no field of schemas, or no field of rules, or what stands where a schema does is none.
     Keyword,
     /// `x-kubernetes-validations` is not a list, or is in a schema that no object is judged by.
     Rules,
@@ -46,8 +47,9 @@ impl fmt::Display for ReviewKind {
 pub struct ReviewFinding {
     /// The JSON Pointer (RFC 6901) into the document.
     pub pointer: String,
-    /// The source of the rule. Empty if the finding isn't about a rule.
-    pub rule: String,
+    /// The source of the rule, which findings about it share. Empty if the finding isn't about a
+    /// rule.
+    pub rule: Rc<String>,
     /// The finding for programs.
     pub kind: ReviewKind,
     /// The finding in words.

@@ -7,10 +7,11 @@ ghost use Rattle.serde_json.specs.View.{members_view};
 
 use crate::candidate::{Candidate, Condition};
 use crate::finding::{ReviewFinding, ReviewKind};
-use crate::pointer::key_pointer;
-use kube_manifests_spelling::{is_word, near};
+use kube_manifests_documents::key_pointer;
+use kube_manifests_texts::{is_word, near};
 use serde_json::{Map, Value};
 use std::alloc::{AllocError, Global};
+use std::rc::Rc;
 
 /// The fields of a schema: of `JSONSchemaProps` of `apiextensions.k8s.io/v1`.
 pub(crate) const SCHEMA_FIELDS: [&str; 44] = [
@@ -99,7 +100,7 @@ fn add_key(
     candidates.push(Candidate {
         finding: ReviewFinding {
             pointer: key_pointer(alloc, pointer, key)?,
-            rule: String::from_str(alloc, rule)?,
+            rule: Rc::new(alloc, String::from_str(alloc, rule)?)?,
             kind: ReviewKind::Keyword,
             message: unknown_text(alloc, key, meant)?,
         },

@@ -4,11 +4,11 @@ ghost use Rattle.std.specs.Prelude.{◌≡◌, ◌≤◌, ℕ, Contains, List, O
 ghost use Rattle.kube_manifests_review.specs.Keywords.{rule_fields, schema_fields};
 ghost use Rattle.kube_manifests_review.specs.Locations.{SchemaLocation, locations_of};
 ghost use Rattle.kube_manifests_review.specs.Visited.{IsVisited, KeysOnce, pointer_behind};
-ghost use Rattle.kube_manifests_spelling.specs.Spelling.{one_letter_off};
-ghost use Rattle.kube_schema_rules.specs.Raw.{raw_steps};
-ghost use Rattle.kube_schema_rules.specs.Step.{Step};
-ghost use Rattle.kube_schema_rules.specs.Visit.{Root, Visit, goes, root_visit};
-ghost use Rattle.kube_schema_rules.specs.Walk.{leads};
+ghost use Rattle.kube_manifests_texts.specs.Spelling.{one_letter_off};
+ghost use Rattle.kube_schema.specs.RulesRaw.{raw_steps};
+ghost use Rattle.kube_schema.specs.Step.{Step};
+ghost use Rattle.kube_schema.specs.Visit.{Root, Visit, goes, root_visit};
+ghost use Rattle.kube_schema.specs.Walk.{leads};
 ghost use Rattle.serde_json.specs.Data.{Data};
 
 /// No field of a schema is one letter off another, and no field of a rule is. All are ASCII, so

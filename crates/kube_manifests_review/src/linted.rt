@@ -1,10 +1,11 @@
 //! Turns the findings of the linter into candidates.
 ghost use Rattle.std.specs.List.{list_any};
-ghost use Rattle.std.specs.Prelude.{◌≡◌, IfOk, None, OnOk, map, option_map, string_bytes};
+ghost use Rattle.std.specs.Prelude.{◌≡◌, IfOk, None, OnOk, map, option_map};
 ghost use Rattle.kube_cel_analysis.specs.Findings as linter;
 ghost use Rattle.kube_manifests_review.specs.Candidates.{AddsCandidates, candidate_view};
 ghost use Rattle.kube_manifests_review.specs.Features.{missing_functions, two_variable_macros};
 ghost use Rattle.kube_manifests_review.specs.Linted as spec;
+ghost use Rattle.kube_manifests_review.specs.Linted.{shared_bytes};
 
 use crate::candidate::{Candidate, Condition};
 use crate::feature::{MISSING_FUNCTIONS, TWO_VARIABLE_MACROS};
@@ -12,6 +13,7 @@ use crate::finding::{ReviewFinding, ReviewKind};
 use crate::messages::unknown_text;
 use kube_cel_analysis::{LintFinding, LintKind};
 use std::alloc::{AllocError, Global};
+use std::rc::Rc;
 
 /// Reports whether a message says that a function of one of these names is unknown.
 fn is_about(alloc: Global, names: &[&str], message: &str) -> Result<bool, AllocError>
@@ -62,8 +64,8 @@ fn is_of_lacked(alloc: Global, kind: LintKind, message: &str) -> Result<bool, Al
 
 /// Reports whether a finding is about a name of the rule that was last found to call such a
 /// function.
-fn is_name_of(kind: LintKind, rule: &str, last: &Option<String>) -> bool
-    ensures { result ≡ spec.is_name_of kind rule.now (option_map string_bytes last.now) }
+fn is_name_of(kind: LintKind, rule: &str, last: &Option<Rc<String>>) -> bool
+    ensures { result ≡ spec.is_name_of kind rule.now (option_map shared_bytes last.now) }
 {
     match (kind, last) {
         (LintKind::Scope, Some(last)) => rule == last.as_str(),
@@ -105,14 +107,14 @@ fn candidate_of_finding(
 fn add_finding(
     alloc: Global,
     base: &str,
-    last: Option<String>,
+    last: Option<Rc<String>>,
     finding: LintFinding,
     candidates: &mut Vec<Candidate>,
-) -> Result<Option<String>, AllocError>
+) -> Result<Option<Rc<String>>, AllocError>
     ensures added { OnOk result (AddsCandidates candidates.old.items candidates.new.items
-        (spec.lint_candidate base.now (option_map string_bytes last) (linter.finding_view finding))) }
-    ensures last { IfOk result (λ o. option_map string_bytes o
-        ≡ spec.last_lacking (option_map string_bytes last) (linter.finding_view finding)) }
+        (spec.lint_candidate base.now (option_map shared_bytes last) (linter.finding_view finding))) }
+    ensures last { IfOk result (λ o. option_map shared_bytes o
+        ≡ spec.last_lacking (option_map shared_bytes last) (linter.finding_view finding)) }
 {
     if is_of_lacked(alloc, finding.kind, finding.message.as_str())? {
         return Ok(Some(finding.rule.clone()?));

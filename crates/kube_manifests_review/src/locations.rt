@@ -1,13 +1,13 @@
 //! Finds the schemas within a schema.
 ghost use Rattle.std.specs.Prelude.{◌≡◌, OnOk, false, option_map};
 ghost use Rattle.kube_manifests_review.specs.Locations.{AddsLocations, branch_locations, locations_of, locations_within, maybe_locations, named_schemas, names_locations, passed_over, unread_within};
-ghost use Rattle.kube_manifests_review.specs.Pointers.{keyword_pointer};
-ghost use Rattle.kube_schema_rules.specs.Raw.{undeclared_property};
-ghost use Rattle.kube_schema_values.specs.DefaultsAccessors.{additional, preserves};
+ghost use Rattle.kube_manifests_documents.specs.Pointers.{keyword_pointer};
+ghost use Rattle.kube_schema.specs.RulesRaw.{undeclared_property};
+ghost use Rattle.kube_schema.specs.DefaultsAccessors.{additional, preserves};
 ghost use Rattle.kube_schema.specs.View.{branches};
 ghost use Rattle.serde_json.specs.View.{items_view, members_view, view};
 
-use crate::pointer::{index_pointer, key_pointer, keyword_pointer};
+use kube_manifests_documents::{index_pointer, key_pointer, keyword_pointer};
 use serde_json::{Map, Value};
 use std::alloc::{AllocError, Global};
 

@@ -1,9 +1,9 @@
 //! Recognizes expressions that obviously aren't strings.
 ghost use Rattle.std.specs.Prelude.{◌≡◌};
-ghost use Rattle.cel_syntax_ast.specs.Term.{term};
+ghost use Rattle.cel_syntax.specs.Term.{term};
 ghost use Rattle.kube_manifests_review.specs.Messages.{is_no_string, may_join};
 
-use cel_syntax_ast::{BinaryOperator, Expr};
+use cel_syntax::{BinaryOperator, Expr};
 
 /// Reports whether the operator can yield a string.
 fn may_join(operator: BinaryOperator) -> bool
@@ -33,19 +33,12 @@ pub(crate) fn is_no_string(expr: &Expr) -> bool
 {
     match expr {
         Expr::Literal(value) => !value.as_str().is_some(),
-        Expr::Ident(_) => false,
-        Expr::Select(_, _) => false,
-        Expr::Has(_, _) => true,
-        Expr::Index(_, _) => false,
-        Expr::Unary(_, _) => true,
         Expr::Binary(operator, left, right) => {
             !may_join(*operator) || is_no_string(left) || is_no_string(right)
         }
         Expr::Cond(_, yes, no) => is_no_string(yes) || is_no_string(no),
-        Expr::List(_) => true,
-        Expr::Map(_) => true,
-        Expr::Call { .. } => false,
-        Expr::Qualified { .. } => false,
-        Expr::Macro { .. } => true,
+        Expr::Has(_, _) | Expr::Unary(_, _) | Expr::List(_) | Expr::Map(_) | Expr::Macro { .. } =>
+            true,
+        _ => false,
     }
 }

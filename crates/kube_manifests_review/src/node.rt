@@ -1,6 +1,6 @@
 //! Adds the candidate findings of the nodes of a rule's AST.
 ghost use Rattle.std.specs.Prelude.{OnOk, map, option_map};
-ghost use Rattle.cel_syntax_ast.specs.Term.{term};
+ghost use Rattle.cel_syntax.specs.Term.{term};
 ghost use Rattle.cel_value.specs.View.{view};
 ghost use Rattle.kube_manifests_review.specs.Calls.{call_candidates, literal_candidates, node_candidates, text_view};
 ghost use Rattle.kube_manifests_review.specs.Candidates.{AddsCandidates};
@@ -9,9 +9,8 @@ ghost use Rattle.kube_manifests_review.specs.Rules.{tree_candidates};
 use crate::call::add_call;
 use crate::candidate::{Candidate, Condition};
 use crate::finding::ReviewKind;
-use crate::nodes::add_nodes;
 use crate::text::{Text, add_candidate};
-use cel_syntax_ast::Expr;
+use cel_syntax::Expr;
 use cel_value::Value;
 use std::alloc::{AllocError, Global};
 
@@ -71,15 +70,6 @@ fn add_node(
 {
     match node {
         Expr::Literal(value) => add_literal(alloc, text, value, candidates)?,
-        Expr::Ident(_) => {}
-        Expr::Select(_, _) => {}
-        Expr::Has(_, _) => {}
-        Expr::Index(_, _) => {}
-        Expr::Unary(_, _) => {}
-        Expr::Binary(_, _, _) => {}
-        Expr::Cond(_, _, _) => {}
-        Expr::List(_) => {}
-        Expr::Map(_) => {}
         Expr::Call { target, name, args } => {
             add_method(
                 alloc,
@@ -100,7 +90,7 @@ fn add_node(
                 candidates,
             )?;
         }
-        Expr::Macro { .. } => {}
+        _ => {}
     }
     Ok(())
 }
@@ -115,8 +105,7 @@ pub(crate) fn add_tree(
     ensures { OnOk result (AddsCandidates candidates.old.items candidates.new.items
         (tree_candidates (text_view text.entry) (term tree.now))) }
 {
-    let mut nodes = Vec::new(alloc);
-    add_nodes(tree, &mut nodes)?;
+    let nodes = tree.nodes(alloc)?;
     for node in &nodes {
         add_node(alloc, text, *node, candidates)?;
     }

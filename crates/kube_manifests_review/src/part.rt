@@ -1,8 +1,10 @@
 //! What the parts of a CustomResourceDefinition are.
 ghost use Rattle.std.specs.Prelude.{◌≡◌};
-ghost use Rattle.kube_manifests_review.specs.Stray.{has_no_rules, item_part, member_part, named_part, schema_member};
+ghost use Rattle.kube_manifests_review.specs.Stray.{form_text, has_form, has_no_rules, item_part, member_part, named_part, schema_member};
+ghost use Rattle.serde_json.specs.View.{view};
 
-use kube_manifests_spelling::is_word;
+use kube_manifests_texts::is_word;
+use serde_json::Value;
 
 /// What a part of a document is.
 #[derive(Clone, Copy)]
@@ -19,12 +21,18 @@ pub(crate) enum Part {
     Validation,
     /// A schema.
     Schema,
+    /// A schema or a bool.
+    SchemaOrBool,
     /// A schema or a list of schemas.
     SchemaOrList,
+    /// A schema or a list of strings.
+    SchemaOrStrings,
     /// A list of schemas.
     SchemaList,
     /// An object of schemas by name.
     SchemaMap,
+    /// An object of schemas or lists of strings by name.
+    Dependencies,
     /// A value of any form, the rules of a schema, or what is below an unknown key: no schema is
     /// within it.
     Values,
@@ -32,30 +40,29 @@ pub(crate) enum Part {
     Other,
 }
 
-const SCHEMA_KEYWORDS: [&str; 3] = ["additionalProperties", "additionalItems", "not"];
+const BOOL_KEYWORDS: [&str; 2] = ["additionalProperties", "additionalItems"];
 
-const MAP_KEYWORDS: [&str; 4] = [
-    "properties",
-    "patternProperties",
-    "definitions",
-    "dependencies",
-];
+const MAP_KEYWORDS: [&str; 3] = ["properties", "patternProperties", "definitions"];
 
 const LIST_KEYWORDS: [&str; 3] = ["allOf", "oneOf", "anyOf"];
 
 /// What a member of a schema is. In any other member no schema stands.
-#[tactic(auto, unfolding(crate::specs::Stray::schema_keywords, crate::specs::Stray::map_keywords, crate::specs::Stray::list_keywords))]
+#[tactic(auto, unfolding(crate::specs::Stray::bool_keywords, crate::specs::Stray::map_keywords, crate::specs::Stray::list_keywords))]
 fn schema_member(key: &str) -> Part
     ensures { result ≡ schema_member key.now }
 {
-    if is_word(&SCHEMA_KEYWORDS, key) {
-        Part::Schema
+    if is_word(&BOOL_KEYWORDS, key) {
+        Part::SchemaOrBool
     } else if is_word(&MAP_KEYWORDS, key) {
         Part::SchemaMap
     } else if is_word(&LIST_KEYWORDS, key) {
         Part::SchemaList
     } else if key == "items" {
         Part::SchemaOrList
+    } else if key == "not" {
+        Part::Schema
+    } else if key == "dependencies" {
+        Part::Dependencies
     } else {
         Part::Values
     }
@@ -77,8 +84,12 @@ pub(crate) fn member_part(part: Part, key: &str) -> Part
         Part::Spec => named_part("versions", key, Part::Versions),
         Part::Version => named_part("schema", key, Part::Validation),
         Part::Validation => named_part("openAPIV3Schema", key, Part::Schema),
-        Part::Schema | Part::SchemaOrList => schema_member(key),
+        Part::Schema => schema_member(key),
+        Part::SchemaOrBool => schema_member(key),
+        Part::SchemaOrList => schema_member(key),
+        Part::SchemaOrStrings => schema_member(key),
         Part::SchemaMap => Part::Schema,
+        Part::Dependencies => Part::SchemaOrStrings,
         Part::Values => Part::Values,
         Part::Versions | Part::SchemaList | Part::Other => Part::Other,
     }
@@ -97,7 +108,10 @@ pub(crate) fn item_part(part: Part) -> Part
         | Part::Version
         | Part::Validation
         | Part::Schema
+        | Part::SchemaOrBool
+        | Part::SchemaOrStrings
         | Part::SchemaMap
+        | Part::Dependencies
         | Part::Other => Part::Other,
     }
 }
@@ -108,7 +122,13 @@ pub(crate) fn has_no_rules(part: Part) -> bool
     ensures { result ≡ has_no_rules part }
 {
     match part {
-        Part::Schema | Part::SchemaOrList | Part::SchemaMap | Part::Values => false,
+        Part::Schema
+        | Part::SchemaOrBool
+        | Part::SchemaOrList
+        | Part::SchemaOrStrings
+        | Part::SchemaMap
+        | Part::Dependencies
+        | Part::Values => false,
         Part::Document
         | Part::Spec
         | Part::Versions
@@ -116,5 +136,45 @@ pub(crate) fn has_no_rules(part: Part) -> bool
         | Part::Validation
         | Part::SchemaList
         | Part::Other => true,
+    }
+}
+
+/// Reports whether a value has the form of a part.
+pub(crate) fn has_form(part: Part, value: &Value) -> bool
+    ensures { result ≡ has_form part (view value.now) }
+{
+    match part {
+        Part::Schema | Part::SchemaMap | Part::Dependencies => value.is_object(),
+        Part::SchemaOrBool => value.is_object() || value.is_boolean(),
+        Part::SchemaOrList | Part::SchemaOrStrings => value.is_object() || value.is_array(),
+        Part::SchemaList => value.is_array(),
+        Part::Document
+        | Part::Spec
+        | Part::Versions
+        | Part::Version
+        | Part::Validation
+        | Part::Values
+        | Part::Other => true,
+    }
+}
+
+/// Returns what is wrong with a value that hasn't the form of a part.
+pub(crate) fn form_text(part: Part) -> &'static str
+    ensures { result.now ≡ form_text part }
+{
+    match part {
+        Part::SchemaList => "the schemas aren't a list",
+        Part::SchemaMap | Part::Dependencies => "the schemas by name aren't an object",
+        Part::Document
+        | Part::Spec
+        | Part::Versions
+        | Part::Version
+        | Part::Validation
+        | Part::Schema
+        | Part::SchemaOrBool
+        | Part::SchemaOrList
+        | Part::SchemaOrStrings
+        | Part::Values
+        | Part::Other => "a schema isn't an object",
     }
 }

@@ -1,8 +1,8 @@
 //! Reviews a document.
 ghost use Rattle.std.specs.Prelude.{◌≡◌, ◌++◌, IfOk, OnOk, map};
-ghost use Rattle.cel_patterns.specs.Book.{Extends, Book, IsBook};
-ghost use Rattle.cel_patterns.specs.Entries.{entries_of};
-ghost use Rattle.cel_patterns.specs.Extensions.{HoldsForExtensions};
+ghost use Rattle.cel.specs.Book.{Extends, Book, IsBook};
+ghost use Rattle.cel.specs.Entries.{entries_of};
+ghost use Rattle.cel.specs.Extensions.{HoldsForExtensions};
 ghost use Rattle.kube_cel_analysis.specs.Findings.{Naming};
 ghost use Rattle.kube_manifests_review.specs.Candidates.{candidate_view, finding_view, when_view};
 ghost use Rattle.kube_manifests_review.specs.Candidates as spec;
@@ -12,11 +12,10 @@ ghost use Rattle.serde_json.specs.View.{view};
 use crate::candidate::{Candidate, Condition};
 use crate::document::candidates_of;
 use crate::finding::ReviewFinding;
-use cel_patterns::PatternBook;
-use cel_semantics::{Form, Functions};
+use cel::{Form, Functions, PatternBook};
 use cel_value::Value as CelValue;
 use kube_functions::AllFunctions;
-use kube_types_refused::Refused;
+use kube_types::Refused;
 use serde_json::Value;
 use std::alloc::Global;
 

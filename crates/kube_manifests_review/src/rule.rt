@@ -1,14 +1,14 @@
 //! Adds the candidate findings of the rules of a schema.
-ghost use Rattle.std.specs.Prelude.{◌≡◌, OnOk, map, option_map};
+ghost use Rattle.std.specs.Prelude.{◌≡◌, OnOk, map, option_map, string_bytes};
 ghost use Rattle.cel.specs.Program.{program_term};
-ghost use Rattle.cel_syntax_ast.specs.Term.{term};
+ghost use Rattle.cel_syntax.specs.Term.{term};
 ghost use Rattle.kube_manifests_review.specs.Calls.{text_view};
 ghost use Rattle.kube_manifests_review.specs.Candidates.{AddsCandidates};
 ghost use Rattle.kube_manifests_review.specs.Keywords.{keys_candidates};
-ghost use Rattle.kube_manifests_review.specs.Pointers.{index_pointer};
+ghost use Rattle.kube_manifests_documents.specs.Pointers.{index_pointer};
 ghost use Rattle.kube_manifests_review.specs.Rules as spec;
 ghost use Rattle.kube_manifests_review.specs.Rules.{tree_candidates};
-ghost use Rattle.kube_schema_rules.specs.Compilation.{compiled_seen, result_view};
+ghost use Rattle.kube_schema.specs.Compilation.{compiled_seen, result_view};
 ghost use Rattle.serde_json.specs.View.{items_view, view};
 
 use crate::candidate::{Candidate, Condition};
@@ -16,14 +16,15 @@ use crate::finding::ReviewKind;
 use crate::keyword::{RULE_FIELDS, add_keys};
 use crate::message::is_no_string;
 use crate::node::add_tree;
-use crate::pointer::{index_pointer, keyword_pointer};
 use crate::text::{Text, add_candidate, add_unconditional};
 use cel::Program;
-use cel_syntax_ast::Expr;
-use kube_schema_rules::{CompilationError, CompilationResult, compile_rule};
-use kube_types_refused::Refused;
+use cel_syntax::Expr;
+use kube_manifests_documents::{index_pointer, keyword_pointer};
+use kube_schema::{CompilationError, CompilationResult, compile_rule};
+use kube_types::Refused;
 use serde_json::Value;
 use std::alloc::{AllocError, Global};
+use std::rc::Rc;
 
 /// Adds a candidate if a messageExpression obviously doesn't evaluate to a string.
 fn add_kind(
@@ -72,12 +73,12 @@ fn add_message(
 fn add_text(
     alloc: Global,
     pointer: &str,
-    rule: &str,
+    rule: &Rc<String>,
     tree: &Expr,
     candidates: &mut Vec<Candidate>,
 ) -> Result<(), AllocError>
     ensures { OnOk result (AddsCandidates candidates.old.items candidates.new.items
-        (tree_candidates (spec.rule_text_at pointer.now rule.now) (term tree.now))) }
+        (tree_candidates (spec.rule_text_at pointer.now (string_bytes rule.now.value)) (term tree.now))) }
 {
     let location = keyword_pointer(alloc, pointer, "rule")?;
     let text = Text {
@@ -92,12 +93,12 @@ fn add_text(
 fn add_message_text(
     alloc: Global,
     pointer: &str,
-    rule: &str,
+    rule: &Rc<String>,
     program: &Option<Program>,
     candidates: &mut Vec<Candidate>,
 ) -> Result<(), AllocError>
     ensures { OnOk result (AddsCandidates candidates.old.items candidates.new.items
-        (spec.message_candidates (spec.message_text_at pointer.now rule.now)
+        (spec.message_candidates (spec.message_text_at pointer.now (string_bytes rule.now.value))
         (option_map program_term program.now))) }
 {
     let location = keyword_pointer(alloc, pointer, "messageExpression")?;
@@ -119,15 +120,15 @@ fn add_compiled(
     ensures { OnOk result (AddsCandidates candidates.old.items candidates.new.items
         (spec.compiled_candidates pointer.now (Ok (result_view compiled.now)))) }
 {
-    let rule = compiled.rule.rule.as_str();
+    let rule = Rc::new(alloc, compiled.rule.rule.clone()?)?;
     add_text(
         alloc,
         pointer,
-        rule,
+        &rule,
         compiled.program.expression(),
         candidates,
     )?;
-    add_message_text(alloc, pointer, rule, &compiled.message_program, candidates)
+    add_message_text(alloc, pointer, &rule, &compiled.message_program, candidates)
 }
 
 /// Adds the candidates of a rule, if it compiled.

@@ -13,18 +13,17 @@ use crate::finding::ReviewKind;
 use crate::keyword::SCHEMA_FIELDS;
 use crate::linted::add_lint;
 use crate::locations::{SchemaLocation, add_locations};
-use crate::pointer::keyword_pointer;
 use crate::rule::{add_keys_of, add_schema_rules};
 use crate::text::add_unconditional;
 use kube_cel_analysis::lint_schema;
-use kube_schema::compile_schema;
-use kube_schema_rules::rule_values;
-use kube_types_refused::Refused;
+use kube_manifests_documents::keyword_pointer;
+use kube_schema::{MAX_SCHEMA_DEPTH, compile_schema, rule_values};
+use kube_types::Refused;
 use serde_json::Value;
 use std::alloc::{AllocError, Global};
 
 /// The number of levels of a schema that are reviewed: depths 0 to 64.
-pub(crate) const LEVELS: usize = 65;
+pub(crate) const LEVELS: usize = MAX_SCHEMA_DEPTH + 1;
 
 /// Reports whether the list has any item.
 pub(crate) fn has_item(items: &[Value]) -> bool

@@ -1,19 +1,20 @@
-//! Finds rules that stand where no schema of a version has its rules.
+//! Finds rules that stand where no schema of a version has its rules, and what stands where a schema
+//! does and is none.
 ghost use Rattle.std.specs.Prelude.{OnOk};
 ghost use Rattle.kube_manifests_review.specs.Candidates.{AddsCandidates};
-ghost use Rattle.kube_manifests_review.specs.Stray.{key_stray, stray, stray_items, stray_members};
+ghost use Rattle.kube_manifests_review.specs.Stray.{form_stray, key_stray, stray, stray_items, stray_members};
 ghost use Rattle.serde_json.specs.View.{items_view, members_view, view};
 
 use crate::candidate::Candidate;
 use crate::finding::ReviewKind;
-use crate::part::{Part, has_no_rules, item_part, member_part};
-use crate::pointer::{index_pointer, key_pointer};
+use crate::part::{Part, form_text, has_form, has_no_rules, item_part, member_part};
 use crate::text::add_unconditional;
+use kube_manifests_documents::{index_pointer, key_pointer};
 use serde_json::{Map, Value};
 use std::alloc::{AllocError, Global};
 
 /// Adds a candidate for each member `x-kubernetes-validations` within a part that is none of a
-/// schema's own.
+/// schema's own, and for each value within it that hasn't the form of its own part.
 #[cycle(stray)]
 pub(crate) fn add_stray(
     alloc: Global,
@@ -49,6 +50,7 @@ fn add_from_items(
 {
     for (index, item) in items.iter().enumerate() {
         let inner = index_pointer(alloc, pointer, index)?;
+        add_form_stray(alloc, part, inner.as_str(), item, candidates)?;
         add_stray(alloc, part, inner.as_str(), item, candidates)?;
     }
     Ok(())
@@ -70,6 +72,7 @@ fn add_from_members(
         let inner = key_pointer(alloc, pointer, key.as_str())?;
         add_key_stray(alloc, part, inner.as_str(), key.as_str(), candidates)?;
         let within = member_part(part, key.as_str());
+        add_form_stray(alloc, within, inner.as_str(), member, candidates)?;
         add_stray(alloc, within, inner.as_str(), member, candidates)?;
     }
     Ok(())
@@ -97,5 +100,29 @@ fn add_key_stray(
         )
     } else {
         Ok(())
+    }
+}
+
+/// Adds a candidate if a value hasn't the form of its part.
+fn add_form_stray(
+    alloc: Global,
+    part: Part,
+    pointer: &str,
+    value: &Value,
+    candidates: &mut Vec<Candidate>,
+) -> Result<(), AllocError>
+    ensures { OnOk result (AddsCandidates candidates.old.items candidates.new.items
+        (form_stray part pointer.now (view value.now))) }
+{
+    if has_form(part, value) {
+        Ok(())
+    } else {
+        add_unconditional(
+            alloc,
+            pointer,
+            ReviewKind::Keyword,
+            form_text(part),
+            candidates,
+        )
     }
 }

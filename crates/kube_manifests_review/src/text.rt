@@ -6,6 +6,7 @@ ghost use Rattle.kube_manifests_review.specs.Candidates.{AddsCandidates, uncondi
 use crate::candidate::{Candidate, Condition};
 use crate::finding::{ReviewFinding, ReviewKind};
 use std::alloc::{AllocError, Global};
+use std::rc::Rc;
 
 /// An expression of a rule: its own or its messageExpression.
 #[derive(Clone, Copy)]
@@ -13,7 +14,7 @@ pub(crate) struct Text<'a> {
     /// The expression's JSON Pointer into the document.
     pub(crate) pointer: &'a str,
     /// The source of the rule itself.
-    pub(crate) rule: &'a str,
+    pub(crate) rule: &'a Rc<String>,
     /// Whether the expression is the messageExpression.
     pub(crate) is_message: bool,
 }
@@ -33,7 +34,7 @@ pub(crate) fn add_candidate(
     candidates.push(Candidate {
         finding: ReviewFinding {
             pointer: String::from_str(alloc, text.pointer)?,
-            rule: String::from_str(alloc, text.rule)?,
+            rule: text.rule.clone()?,
             kind,
             message,
         },
@@ -53,9 +54,10 @@ pub(crate) fn add_unconditional(
     ensures { OnOk result (AddsCandidates candidates.old.items candidates.new.items
         (unconditional pointer.now kind message.now ∷ [])) }
 {
+    let rule = Rc::new(alloc, String::new(alloc))?;
     let text = Text {
         pointer,
-        rule: "",
+        rule: &rule,
         is_message: false,
     };
     let message = String::from_str(alloc, message)?;

@@ -12,11 +12,11 @@ use crate::finding::{ReviewFinding, ReviewKind};
 use crate::keyword::{RULE_FIELDS, SCHEMA_FIELDS};
 use crate::locations::{SchemaLocation, add_locations};
 use crate::part::Part;
-use crate::pointer::{index_pointer, keyword_pointer};
 use crate::rule::{add_keys_of, add_unread_rules, text_of_rule};
 use crate::schema::LEVELS;
 use crate::stray::add_stray;
 use crate::text::add_unconditional;
+use kube_manifests_documents::{index_pointer, keyword_pointer};
 use serde_json::Value;
 use std::alloc::{AllocError, Global};
 

@@ -1,4 +1,4 @@
-use Rattle.kube_manifests.proofs.Firsts.{lent_at}
+use Rattle.kube_manifests_texts.proofs.Firsts.{lent_at}
 use Rattle.kube_manifests.proofs.list.version_at.Goals as goal
 use Rattle.kube_manifests.specs.Lists.{version_view}
 

@@ -4,7 +4,7 @@ use Rattle.kube_cel_analysis.proofs.Walks.{fewer_in_branch, fewer_in_property, r
 use Rattle.kube_manifests.proofs.Counted.{all_counted, branches_more, branches_none, branches_past, counted_fits, properties_more, properties_none, properties_past, same_length}
 use Rattle.kube_manifests.proofs.rules.+count.Goals as goal
 use Rattle.kube_manifests.specs.Rules.{saturated_count, rules_in, rules_in_named, rules_in_nodes}
-use Rattle.kube_schema_rules.specs.Compilation.{compiled_seen}
+use Rattle.kube_schema.specs.Compilation.{compiled_seen}
 use Rattle.kube_schema.specs.Shown.{node_tree}
 use Rattle.kube_schema.specs.Tree.{branches_of, count, named_of, names, nodes_length, own}
 

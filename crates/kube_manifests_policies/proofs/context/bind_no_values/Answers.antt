@@ -1,4 +1,4 @@
-use Rattle.cel_semantics.specs.Bindings.{bindings_of}
+use Rattle.cel.specs.Bindings.{bindings_of}
 use Rattle.cel_value.specs.View.{view}
 use Rattle.kube_manifests_policies.proofs.Alike.{values_bound}
 use Rattle.kube_manifests_policies.proofs.context.bind_no_values.Goals as goal

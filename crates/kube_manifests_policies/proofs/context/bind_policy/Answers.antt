@@ -1,6 +1,6 @@
-use Rattle.cel_semantics.specs.Bindings.{bindings_of}
-use Rattle.kube_manifests_admission.specs.Inputs.{inputs_view}
-use Rattle.kube_manifests_admission.specs.Policies.{item_view}
+use Rattle.cel.specs.Bindings.{bindings_of}
+use Rattle.kube_manifests_documents.specs.Inputs.{inputs_view}
+use Rattle.kube_manifests_documents.specs.Policies.{item_view}
 use Rattle.kube_manifests_policies.proofs.Alike.{policy_names, under_no_values}
 use Rattle.kube_manifests_policies.proofs.context.bind_policy.Goals as goal
 use Rattle.kube_manifests_policies.specs.Bound.{policy_bindings}

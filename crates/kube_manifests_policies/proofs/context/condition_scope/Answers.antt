@@ -1,7 +1,7 @@
-use Rattle.cel_semantics.specs.Bindings.{bindings_of}
+use Rattle.cel.specs.Bindings.{bindings_of}
 use Rattle.kube_manifests_policies.proofs.Alike.{condition_names}
 use Rattle.kube_manifests_policies.proofs.context.condition_scope.Goals as goal
-use Rattle.kube_manifests_admission.specs.Inputs.{inputs_view}
+use Rattle.kube_manifests_documents.specs.Inputs.{inputs_view}
 use Rattle.kube_manifests_policies.specs.Verdicts.{result_view}
 use Rattle.std.proofs.Common.{ap, map}
 

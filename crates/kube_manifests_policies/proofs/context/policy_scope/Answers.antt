@@ -1,7 +1,7 @@
-use Rattle.cel_semantics.specs.Bindings.{binding, bindings_of}
+use Rattle.cel.specs.Bindings.{binding, bindings_of}
 use Rattle.cel_value.specs.View.{view}
-use Rattle.kube_manifests_admission.specs.Inputs.{inputs_view}
-use Rattle.kube_manifests_admission.specs.Policies.{item_view}
+use Rattle.kube_manifests_documents.specs.Inputs.{inputs_view}
+use Rattle.kube_manifests_documents.specs.Policies.{item_view}
 use Rattle.kube_manifests_policies.proofs.context.policy_scope.Goals as goal
 use Rattle.kube_manifests_policies.specs.Bound.{policy_bindings}
 use Rattle.kube_manifests_policies.specs.Scopes.{with_no_values}

@@ -1,6 +1,6 @@
 use Rattle.cel_patterns.proofs.Books.{Extends-refl}
 use Rattle.cel_patterns.proofs.Entries.{entries-IsBook}
-use Rattle.cel_patterns.specs.Entries.{entries_of}
+use Rattle.cel.specs.Entries.{entries_of}
 use Rattle.kube_manifests_policies.proofs.evaluation.evaluate_policy.Goals as goal
 
 pub returns : goal.returns

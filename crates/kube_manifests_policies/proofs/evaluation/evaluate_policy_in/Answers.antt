@@ -1,6 +1,6 @@
-use Rattle.kube_manifests_admission.specs.Faults.{fault_seen}
-use Rattle.kube_manifests_admission.specs.Inputs.{inputs_view}
-use Rattle.kube_manifests_admission.specs.Policies.{policy_view, reading_view}
+use Rattle.kube_manifests_documents.specs.Faults.{fault_seen}
+use Rattle.kube_manifests_documents.specs.Inputs.{inputs_view}
+use Rattle.kube_manifests_documents.specs.Policies.{policy_view, reading_view}
 use Rattle.kube_manifests_policies.proofs.Decided.{of_fault, of_policy}
 use Rattle.kube_manifests_policies.proofs.evaluation.evaluate_policy_in.Goals as goal
 use Rattle.serde_json.specs.View.{view}

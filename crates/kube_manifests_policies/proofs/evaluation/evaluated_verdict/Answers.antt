@@ -1,13 +1,13 @@
 use Rattle.cel_patterns.proofs.Books.{Extends-trans}
-use Rattle.cel_patterns.specs.Entries.{entries_of}
-use Rattle.cel_patterns.specs.Extensions.{HoldsForExtensions}
+use Rattle.cel.specs.Entries.{entries_of}
+use Rattle.cel.specs.Extensions.{HoldsForExtensions}
 use Rattle.kube_manifests_policies.proofs.Alike.{Alike-trans, after_alike, reach_same}
 use Rattle.kube_manifests_policies.proofs.Decided.{by_all, by_conditions}
 use Rattle.kube_manifests_policies.proofs.evaluation.evaluated_verdict.Goals as goal
-use Rattle.kube_manifests_admission.specs.Inputs.{inputs_view}
+use Rattle.kube_manifests_documents.specs.Inputs.{inputs_view}
 use Rattle.kube_manifests_names.specs.Inputs.{without_namespace}
 use Rattle.kube_manifests_policies.specs.Reports.{results_as}
-use Rattle.kube_manifests_admission.specs.Policies.{item_view, policy_view}
+use Rattle.kube_manifests_documents.specs.Policies.{item_view, policy_view}
 use Rattle.kube_manifests_policies.specs.Scopes.{Alike, first_scope, outcome_or_reason, scope_for, scope_view, variables_after}
 use Rattle.kube_manifests_policies.specs.Verdicts.{after_conditions, result_view}
 use Rattle.kube_manifests_policies.specs.declared.reports.Subject.TheVariants.{Condition}

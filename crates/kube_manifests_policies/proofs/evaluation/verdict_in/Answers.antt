@@ -1,10 +1,10 @@
 use Rattle.cel_patterns.proofs.Books.{Extends-trans}
-use Rattle.cel_patterns.specs.Entries.{entries_of}
-use Rattle.cel_patterns.specs.Extensions.{HoldsForExtensions}
+use Rattle.cel.specs.Entries.{entries_of}
+use Rattle.cel.specs.Extensions.{HoldsForExtensions}
 use Rattle.kube_manifests_policies.proofs.Decided.{by_both}
 use Rattle.kube_manifests_policies.proofs.evaluation.verdict_in.Goals as goal
 use Rattle.kube_manifests_policies.specs.Reports.{results_as}
-use Rattle.kube_manifests_admission.specs.Policies.{item_view, policy_view}
+use Rattle.kube_manifests_documents.specs.Policies.{item_view, policy_view}
 use Rattle.kube_manifests_policies.specs.Scopes.{outcome_or_reason, scope_view}
 use Rattle.kube_manifests_policies.specs.Verdicts.{Labelled, VerdictData, decision_of, result_view}
 use Rattle.kube_manifests_policies.specs.declared.reports.Subject.TheVariants.{Annotation, Validation}

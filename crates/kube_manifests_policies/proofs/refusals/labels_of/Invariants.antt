@@ -1,4 +1,4 @@
-use Rattle.kube_manifests_admission.specs.Policies.{item_view}
+use Rattle.kube_manifests_documents.specs.Policies.{item_view}
 use Rattle.kube_manifests_policies.proofs.Labels.{HasLabels}
 use Rattle.kube_manifests_policies.proofs.refusals.labels_of.Given as goal
 use Rattle.std.proofs.Common.{map, take}

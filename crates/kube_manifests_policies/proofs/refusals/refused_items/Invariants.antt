@@ -1,4 +1,4 @@
-use Rattle.kube_manifests_admission.specs.Policies.{item_view}
+use Rattle.kube_manifests_documents.specs.Policies.{item_view}
 use Rattle.kube_manifests_names.specs.Names.{names_view}
 use Rattle.kube_manifests_policies.proofs.refusals.refused_items.Given as goal
 use Rattle.kube_manifests_policies.specs.Refusals.{refused_item}

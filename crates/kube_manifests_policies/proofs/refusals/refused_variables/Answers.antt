@@ -1,5 +1,5 @@
-use Rattle.kube_manifests_admission.proofs.Entries.{no_item}
-use Rattle.kube_manifests_admission.specs.Policies.{item_view}
+use Rattle.kube_manifests_documents.proofs.Entries.{no_item}
+use Rattle.kube_manifests_documents.specs.Policies.{item_view}
 use Rattle.kube_manifests_policies.proofs.Labels.{label_more, variables_last, variables_next}
 use Rattle.kube_manifests_policies.proofs.refusals.refused_variables.Goals as goal
 use Rattle.kube_manifests_policies.specs.Verdicts.{result_view}
@@ -15,7 +15,7 @@ loop-item-preserved c =
     let x = get_or items i no_item in
     let is = get_or_default items i no_item x below in
     record {
-      names = label_more items i x l.before c.insert_name.new.names below is l.invariant.names c.in_ok-insert_name.ensures.added;
+      names = label_more items i x l.before c.insert_text.new.texts below is l.invariant.names c.in_ok-insert_text.ensures.added;
       refused = variables_next c.args.params items i x (map result_view l.refused.items) (map result_view c.add_refused.new.refused.items) l.before below is l.invariant.names c.in_ok-add_refused.ensures.added
           ∙ l.invariant.refused;
     }

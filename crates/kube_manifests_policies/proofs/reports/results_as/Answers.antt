@@ -1,9 +1,9 @@
 use Rattle.cel_patterns.proofs.Books.{Extends-trans}
-use Rattle.kube_manifests_policies.proofs.Listed.{one_more_seen}
-use Rattle.kube_manifests_admission.proofs.Entries.{no_item}
+use Rattle.kube_cel_vap.proofs.Listed.{one_more_seen}
+use Rattle.kube_manifests_documents.proofs.Entries.{no_item}
 use Rattle.kube_manifests_policies.proofs.reports.results_as.Goals as goal
 use Rattle.kube_manifests_policies.specs.Reports.{result_as, results_as}
-use Rattle.kube_manifests_admission.specs.Policies.{item_view}
+use Rattle.kube_manifests_documents.specs.Policies.{item_view}
 use Rattle.kube_manifests_policies.specs.Scopes.{outcome_or_reason, scope_view}
 use Rattle.kube_manifests_policies.specs.Verdicts.{result_view}
 use Rattle.std.proofs.Common.{◌<◌, length, get_or, map, arith, take_all, ap, ◌∙◌}

@@ -1,8 +1,8 @@
-use Rattle.cel_patterns.specs.Book.{Extends, Book}
-use Rattle.cel_patterns.specs.Entries.{entries_of}
+use Rattle.cel.specs.Book.{Extends, Book}
+use Rattle.cel.specs.Entries.{entries_of}
 use Rattle.kube_manifests_policies.proofs.reports.results_as.Given as goal
 use Rattle.kube_manifests_policies.specs.Reports.{result_as}
-use Rattle.kube_manifests_admission.specs.Policies.{item_view}
+use Rattle.kube_manifests_documents.specs.Policies.{item_view}
 use Rattle.kube_manifests_policies.specs.Scopes.{outcome_or_reason, scope_view}
 use Rattle.kube_manifests_policies.specs.Verdicts.{result_view}
 use Rattle.std.proofs.Common.{◌≡◌, map, take}

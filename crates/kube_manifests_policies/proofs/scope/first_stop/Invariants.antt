@@ -1,4 +1,4 @@
-use Rattle.cel_syntax_ast.specs.Term.{term}
+use Rattle.cel_syntax.specs.Term.{term}
 use Rattle.kube_manifests_policies.proofs.scope.first_stop.Given as goal
 use Rattle.kube_manifests_policies.specs.Scopes.{first_stop}
 use Rattle.kube_manifests_policies.specs.Verdicts.{result_view}

@@ -1,6 +1,6 @@
 use Rattle.cel.proofs.Bound.{bound}
-use Rattle.cel_semantics.specs.Bindings.{binding, bindings_of}
-use Rattle.cel_semantics.specs.Members.{put_in}
+use Rattle.cel.specs.Bindings.{binding, bindings_of}
+use Rattle.cel.specs.Members.{put_in}
 use Rattle.cel_value.specs.Data.{text}
 use Rattle.cel_value.specs.View.{view}
 use Rattle.kube_manifests_policies.proofs.Stored.{taken}

@@ -1,6 +1,6 @@
 use Rattle.cel_patterns.proofs.Books.{Extends-trans}
 use Rattle.kube_manifests_policies.proofs.Alike.{all_after, one_after}
-use Rattle.kube_manifests_admission.proofs.Entries.{no_item}
+use Rattle.kube_manifests_documents.proofs.Entries.{no_item}
 use Rattle.kube_manifests_policies.proofs.variables.with_variables.Goals as goal
 use Rattle.kube_manifests_policies.specs.Scopes.{scope_view}
 use Rattle.std.proofs.Common.{◌<◌, length, get_or, arith}

@@ -1,7 +1,7 @@
-use Rattle.cel_patterns.specs.Book.{Extends, Book}
-use Rattle.cel_patterns.specs.Entries.{entries_of}
+use Rattle.cel.specs.Book.{Extends, Book}
+use Rattle.cel.specs.Entries.{entries_of}
 use Rattle.kube_manifests_policies.proofs.variables.with_variables.Given as goal
-use Rattle.kube_manifests_admission.specs.Policies.{item_view}
+use Rattle.kube_manifests_documents.specs.Policies.{item_view}
 use Rattle.kube_manifests_policies.specs.Scopes.{Alike, scope_view, variables_after}
 use Rattle.std.proofs.Common.{drop, map}
 

@@ -1,6 +1,6 @@
 use Rattle.std.proofs.Common.{◌++◌, map, option_map, length, sym, ap, ◌∙◌}
 use Rattle.std.proofs.lemmas.List.{length-map}
-use Rattle.cel_syntax_ast.specs.Term.{term}
+use Rattle.cel_syntax.specs.Term.{term}
 use Rattle.kube_manifests_review.proofs.Steps.{some_mapped}
 use Rattle.kube_manifests_review.proofs.Wrong.{wrong_candidate}
 use Rattle.kube_manifests_review.proofs.call.add_call.Goals as goal

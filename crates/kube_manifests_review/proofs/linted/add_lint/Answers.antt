@@ -1,4 +1,4 @@
-use Rattle.std.proofs.Common.{◌++◌, [], ◌∷◌, None, map, option_map, ap, sym, ◌∙◌, append_assoc, string_bytes}
+use Rattle.std.proofs.Common.{◌++◌, [], ◌∷◌, None, map, option_map, ap, sym, ◌∙◌, append_assoc}
 use Rattle.std.proofs.lemmas.List.{map-append}
 use Rattle.kube_cel_analysis.specs.Findings as linter
 use Rattle.kube_manifests_review.proofs.Superseded.{last_of, last_of_more, lint_more}

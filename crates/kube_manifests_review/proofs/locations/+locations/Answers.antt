@@ -5,8 +5,8 @@ use Rattle.kube_manifests_review.proofs.Items.{last_item, next_item}
 use Rattle.kube_manifests_review.proofs.Steps.{no_more, one_more}
 use Rattle.kube_manifests_review.proofs.locations.+locations.Goals as goal
 use Rattle.kube_manifests_review.specs.Locations.{item_locations, maybe_locations, named_locations, location_view, locations_of, locations_within, unread_within}
-use Rattle.kube_manifests_review.specs.Pointers.{index_pointer, key_pointer, keyword_pointer}
-use Rattle.kube_schema_values.specs.DefaultsAccessors.{members_or_none}
+use Rattle.kube_manifests_documents.specs.Pointers.{index_pointer, key_pointer, keyword_pointer}
+use Rattle.kube_schema.specs.DefaultsAccessors.{members_or_none}
 use Rattle.kube_schema.specs.View.{items_or_none}
 use Rattle.serde_json.specs.View.{items_view, members_view, view}
 

@@ -1,5 +1,5 @@
 use Rattle.std.proofs.Common.{◌++◌, None, map, option_map, ap, sym, ◌∙◌}
-use Rattle.cel_syntax_ast.specs.Term.{term}
+use Rattle.cel_syntax.specs.Term.{term}
 use Rattle.kube_manifests_review.proofs.Seen.{call_seen, qualified_seen}
 use Rattle.kube_manifests_review.proofs.node.add_node.Goals as goal
 use Rattle.kube_manifests_review.specs.Calls.{call_candidates, node_candidates, text_view}

@@ -1,6 +1,6 @@
 use Rattle.std.proofs.Common.{◌≡◌, ◌++◌, map, drop}
 use Rattle.std.specs.List.{flat_map}
-use Rattle.cel_syntax_ast.specs.Term.{term}
+use Rattle.cel_syntax.specs.Term.{term}
 use Rattle.kube_manifests_review.specs.Calls.{node_candidates, text_view}
 use Rattle.kube_manifests_review.specs.Candidates.{candidate_view}
 use Rattle.kube_manifests_review.proofs.node.add_tree.Given as goal

@@ -1,6 +1,6 @@
 use Rattle.std.proofs.Common.{◌≡◌, map}
-use Rattle.cel_patterns.specs.Book.{Extends, Book}
-use Rattle.cel_patterns.specs.Entries.{entries_of}
+use Rattle.cel.specs.Book.{Extends, Book}
+use Rattle.cel.specs.Entries.{entries_of}
 use Rattle.kube_manifests_review.specs.Candidates.{candidate_view, due, finding_view}
 use Rattle.kube_manifests_review.proofs.review.due.Given as goal
 

@@ -1,5 +1,5 @@
 use Rattle.cel_patterns.proofs.Entries.{entries-IsBook}
-use Rattle.cel_patterns.specs.Entries.{entries_of}
+use Rattle.cel.specs.Entries.{entries_of}
 use Rattle.kube_manifests_review.proofs.review.review_crd.Goals as goal
 
 pub returns : goal.returns

@@ -1,5 +1,5 @@
 use Rattle.std.proofs.Common.{◌++◌, map, ap, sym, ◌∙◌, string_bytes}
-use Rattle.cel_syntax_ast.specs.Term.{term}
+use Rattle.cel_syntax.specs.Term.{term}
 use Rattle.kube_manifests_review.proofs.Seen.{kind_candidate}
 use Rattle.kube_manifests_review.proofs.rule.add_kind.Goals as goal
 use Rattle.kube_manifests_review.specs.Calls.{text_view}

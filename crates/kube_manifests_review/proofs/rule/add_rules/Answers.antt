@@ -2,7 +2,7 @@ use Rattle.std.proofs.Common.{◌++◌, map, refl, ap, ◌∙◌}
 use Rattle.kube_manifests_review.proofs.Items.{last_item, next_item}
 use Rattle.kube_manifests_review.proofs.rule.add_rules.Goals as goal
 use Rattle.kube_manifests_review.specs.Candidates.{candidate_view}
-use Rattle.kube_manifests_review.specs.Pointers.{index_pointer}
+use Rattle.kube_manifests_documents.specs.Pointers.{index_pointer}
 use Rattle.kube_manifests_review.specs.Rules.{rule_candidates, rules_candidates}
 use Rattle.serde_json.specs.View.{view}
 

@@ -3,7 +3,7 @@ use Rattle.kube_manifests_review.proofs.Steps.{two_steps}
 use Rattle.kube_manifests_review.proofs.schema.add_location.Goals as goal
 use Rattle.kube_manifests_review.specs.Candidates.{candidate_view}
 use Rattle.kube_manifests_review.specs.Keywords.{keys_candidates, schema_fields}
-use Rattle.kube_manifests_review.specs.Pointers.{keyword_pointer}
+use Rattle.kube_manifests_documents.specs.Pointers.{keyword_pointer}
 use Rattle.kube_manifests_review.specs.Rules.{members_of, location_candidates, schema_rules_candidates}
 use Rattle.serde_json.specs.View.{view}
 

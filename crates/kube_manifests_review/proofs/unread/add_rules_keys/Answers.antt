@@ -2,7 +2,7 @@ use Rattle.std.proofs.Common.{◌++◌, map, refl, ap, ◌∙◌}
 use Rattle.kube_manifests_review.proofs.Items.{last_item, next_item}
 use Rattle.kube_manifests_review.proofs.unread.add_rules_keys.Goals as goal
 use Rattle.kube_manifests_review.specs.Candidates.{candidate_view}
-use Rattle.kube_manifests_review.specs.Pointers.{index_pointer}
+use Rattle.kube_manifests_documents.specs.Pointers.{index_pointer}
 use Rattle.kube_manifests_review.specs.Unread.{rule_unread, rules_unread}
 use Rattle.serde_json.specs.View.{view}
 

@@ -1,6 +1,6 @@
 use Rattle.std.proofs.Common.{option_map, ap}
 use Rattle.kube_cel.proofs.Reports.{agrees_itself, shown_is_book}
-use Rattle.cel_patterns.specs.Entries.{entries_of}
+use Rattle.cel.specs.Entries.{entries_of}
 use Rattle.kube_manifests.proofs.Judged.{judged, judged_under, not_judged}
 use Rattle.kube_manifests.proofs.set.CrdSet.validate_in.Goals as goal
 use Rattle.kube_manifests.specs.Sets.{set_view, why_not}

@@ -1,4 +1,0 @@
-pub mod Faults
-pub mod Inputs
-pub mod Policies
-pub mod Reviews

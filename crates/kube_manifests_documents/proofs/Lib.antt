@@ -1,0 +1,6 @@
+pub mod Apart
+pub mod Each
+pub mod Entries
+pub mod Listed
+pub mod Names
+pub mod Slices

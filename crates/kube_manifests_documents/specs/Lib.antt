@@ -1,0 +1,11 @@
+pub mod Defined
+pub mod DefinitionTexts
+pub mod Definitions
+pub mod DocumentVersions
+pub mod Earlier
+pub mod Faults
+pub mod Inputs
+pub mod Pointers
+pub mod Policies
+pub mod Reviews
+pub mod Versions

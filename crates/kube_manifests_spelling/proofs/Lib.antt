@@ -1,3 +1,0 @@
-pub mod Edits
-pub mod Swaps
-pub mod Commas

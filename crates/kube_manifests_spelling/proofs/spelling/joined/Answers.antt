@@ -1,6 +1,0 @@
-use Rattle.std.proofs.Common.{◌∙◌, codes}
-use Rattle.kube_manifests_spelling.proofs.Commas.{join_map}
-use Rattle.kube_manifests_spelling.proofs.spelling.joined.Goals as goal
-
-pub returns : goal.returns
-returns c = c.in_ok-text.ensures.ok ∙ join_map (λ w. w.now) (codes ", ") c.args.words.now

@@ -1,7 +1,0 @@
-use Rattle.std.proofs.Common.{◌≡◌, map, drop}
-use Rattle.kube_manifests_spelling.specs.Spelling.{near}
-use Rattle.kube_manifests_spelling.proofs.spelling.near.Given as goal
-
--- the remaining words give the answer of all words
-abbrev pub invariant-loop-word : goal.invariant-loop-word
-invariant-loop-word l = near (map (λ w. w.now) (drop l.word-index l.words)) l.text ≡ near (map (λ w. w.now) l.words) l.text
