@@ -1,14 +1,14 @@
 -- What is said of an object that isn't judged, by versions with schemas or with trees.
-use Rattle.kube_manifests.specs.Documents.{is_defined}
-use Rattle.kube_manifests.specs.Explanations.{Sought, explanation, is_of_near_kind, is_of_near_version, listed, meant, names_of, no_kind_text, no_version_text, not_served_text, served_explanation, sought_explanation, sought_in, version_explanation}
+use Rattle.kube_manifests.specs.DocumentsVersions.{is_defined, TypeMeta, Version, api_version, type_meta_of}
+use Rattle.kube_manifests.specs.Explanations.{explanation, is_of_near_kind, is_of_near_version, listed, meant, names_of, no_kind_text, no_version_text, not_served_text, served_explanation, sought_explanation, version_explanation}
 use Rattle.kube_manifests.specs.Sets.{with_tree}
-use Rattle.kube_manifests.specs.Versions.{Version, api_version, is_of_kind}
+use Rattle.kube_manifests.specs.Versions.{is_of_kind}
 use Rattle.kube_manifests.specs.declared.judgement.Judgement.{Judgement}
 use Rattle.kube_manifests.specs.declared.judgement.Judgement.TheVariants as judgement
 use Rattle.kube_manifests.specs.declared.judgement.NotJudged.{NotJudged}
 use Rattle.kube_manifests.specs.declared.judgement.NotJudged.TheVariants as reason
 use Rattle.kube_schema.specs.Tree.{Node}
-use Rattle.kubecel_check.specs.Judgements.{item_of, judged_item, remark, verdict_for, why_not}
+use Rattle.kubecel_check.specs.Judgements.{item_of, judged_item, named_reason, remark, verdict_for, why_not}
 use Rattle.kubecel_io.specs.Reads.{Found}
 use Rattle.kubecel_report.specs.Items.{FindingData}
 use Rattle.serde_json.specs.Data.{Data}
@@ -64,7 +64,7 @@ served_alike : (vs : List (Version Data)) (text kind : List ℕ) (o : Option (Ve
 served_alike vs text kind None = refl
 served_alike vs text kind (Some v) = ap (λ ns. not_served_text text kind (listed ns)) (names_alike false v.group v.kind vs)
 
-sought_alike : (vs : List (Version Data)) (o : Option Sought) (r : NotJudged) → sought_explanation (map with_tree vs) o r ≡ sought_explanation vs o r
+sought_alike : (vs : List (Version Data)) (o : Option TypeMeta) (r : NotJudged) → sought_explanation (map with_tree vs) o r ≡ sought_explanation vs o r
 sought_alike vs None r = refl
 sought_alike vs (Some s) reason.NotAnObject = refl
 sought_alike vs (Some s) reason.NoApiVersion = refl
@@ -82,12 +82,12 @@ unfolding explanation
 explained_alike vs d reason.NotAnObject = refl
 explained_alike vs d reason.NoApiVersion = refl
 explained_alike vs d reason.NoKind = refl
-explained_alike vs d reason.NoSuchKind = sought_alike vs (sought_in d) reason.NoSuchKind
-explained_alike vs d reason.NoSuchVersion = sought_alike vs (sought_in d) reason.NoSuchVersion
-explained_alike vs d reason.NotServed = sought_alike vs (sought_in d) reason.NotServed
+explained_alike vs d reason.NoSuchKind = sought_alike vs (type_meta_of d) reason.NoSuchKind
+explained_alike vs d reason.NoSuchVersion = sought_alike vs (type_meta_of d) reason.NoSuchVersion
+explained_alike vs d reason.NotServed = sought_alike vs (type_meta_of d) reason.NotServed
 
 why_alike : (vs : List (Version Data)) (d : Data) (r : NotJudged) → why_not (map with_tree vs) d r ≡ why_not vs d r
-why_alike vs d r = rw (explained_alike vs d r) refl
+why_alike vs d r = rw (explained_alike vs d (named_reason d r)) refl
 
 -- with trees in place of schemas, the same is reported
 pub reported_alike : (ignores_missing : Bool) (set : List (Version Node)) (versions : List (Version Data)) → set ≡ map with_tree versions

@@ -2,13 +2,15 @@
 use Rattle.kube_manifests.proofs.Choices.{chosen_alike}
 use Rattle.kube_manifests.proofs.Formed.{mapped}
 use Rattle.kube_manifests.specs.Sets.{rules_of, with_tree}
-use Rattle.kube_manifests.specs.Versions.{Version, chosen_version}
+use Rattle.kube_manifests.specs.DocumentsVersions.{Version}
+use Rattle.kube_manifests.specs.Versions.{chosen_version}
 use Rattle.kube_manifests.specs.declared.judgement.NotJudged.{NotJudged}
 use Rattle.kube_manifests.specs.declared.judgement.NotJudged.TheVariants as reason
 use Rattle.kube_schema.specs.Tree.{Node}
 use Rattle.kube_schema.specs.View.{view_of}
 use Rattle.kubecel_io.specs.Objects.{objects_of}
 use Rattle.kubecel_io.specs.Reads.{Found}
+use Rattle.kubecel_check.specs.Judgements.{AreUsable, is_unusable, is_unusable_for}
 use Rattle.kubecel_check.specs.Objects.{AreDefined, all_judged, all_subjects, has_definition, holds_object, is_defined, is_held, subjects_in, unless_definition}
 use Rattle.serde_json.specs.Data.{Data}
 use Rattle.std.proofs.Common.{◌≡◌, ℕ, List, [], ◌∷◌, ◌++◌, ◌&&◌, ◌||◌, cond, flat_map, map, Bool, false, true, Result, Ok, Err, refl, sym, ap, ◌∙◌}
@@ -35,6 +37,11 @@ counted_alike (Err reason.NoSuchKind) = refl
 counted_alike (Err reason.NoSuchVersion) = refl
 counted_alike (Err reason.NotServed) = refl
 
+pub unusable_counted : (ignores_missing : Bool) (d : Data) (r : Result (Version Node) NotJudged)
+    → is_unusable_for ignores_missing d (rules_of r) ≡ is_unusable_for ignores_missing d r
+unusable_counted ignores_missing d (Ok v) = refl
+unusable_counted ignores_missing d (Err r) = refl
+
 all_alike : {A : Type 0} (p q : A → Bool) → ((x : A) → p x ≡ q x) → (xs : List A) → list_all p xs ≡ list_all q xs
 all_alike p q same [] = refl
 all_alike p q same (x ∷ xs) = ap (λ b. b && list_all p xs) (same x) ∙ ap (λ b. q x && b) (all_alike p q same xs)
@@ -59,6 +66,22 @@ pub held_alike : (set : List (Version Node)) (versions : List (Version Data)) �
 held_alike set versions same olds paths held =
     let one = λ (path : List ℕ) (f : Found). ap (λ b. b && bytes_eq path f.file) (same_defined set versions same f) in
     sym (all_alike (holds_object set olds) (holds_object versions olds) (λ path. any_alike (is_held set path) (is_held versions path) (one path) olds) paths) ∙ held
+
+unusable_mapped : {A B : Type 0} (ignores_missing : Bool) (d : Data) (f : A → B) (r : Result A NotJudged)
+    → is_unusable_for ignores_missing d (mapped f r) ≡ is_unusable_for ignores_missing d r
+unusable_mapped ignores_missing d f (Ok v) = refl
+unusable_mapped ignores_missing d f (Err r) = refl
+
+same_unusable : (ignores_missing : Bool) (set : List (Version Node)) (versions : List (Version Data)) → set ≡ map with_tree versions → (f : Found)
+    → is_unusable ignores_missing set f ≡ is_unusable ignores_missing versions f
+same_unusable ignores_missing set versions same f = ap (λ vs. is_unusable_for ignores_missing f.value (chosen_version vs f.value)) same
+    ∙ (ap (is_unusable_for ignores_missing f.value) (chosen_alike (view_of 65) versions f.value)
+    ∙ unusable_mapped ignores_missing f.value with_tree (chosen_version versions f.value))
+
+pub usable_alike : (ignores_missing : Bool) (set : List (Version Node)) (versions : List (Version Data)) → set ≡ map with_tree versions → (olds : List Found)
+    → AreUsable ignores_missing set olds → AreUsable ignores_missing versions olds
+usable_alike ignores_missing set versions same olds are =
+    sym (any_alike (is_unusable ignores_missing set) (is_unusable ignores_missing versions) (same_unusable ignores_missing set versions same) olds) ∙ are
 
 mapped_over : {A B : Type 0} (f g : A → List B) → ((x : A) → f x ≡ g x) → (xs : List A) → flat_map f xs ≡ flat_map g xs
 mapped_over f g same [] = refl

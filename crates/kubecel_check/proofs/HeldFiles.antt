@@ -1,63 +1,18 @@
 -- The files that hold an object of a definition.
-use Rattle.kube_manifests.specs.Versions.{Version}
+use Rattle.kube_manifests.specs.DocumentsVersions.{Version}
+use Rattle.kube_manifests_texts.proofs.TextSets.{any_more, or_none}
 use Rattle.kubecel_check.specs.HeldFiles.{AreHeld}
 use Rattle.kubecel_check.specs.Objects.{holds_object, is_defined, is_held}
 use Rattle.kubecel_io.specs.Reads.{Found}
 use Rattle.kubecel_io.specs.Subjects.{subject_view}
 use Rattle.kubecel_io.specs.declared.subject.Subject.{Subject}
-use Rattle.std.proofs.Common.{◌≡◌, ◌<◌, ℕ, ◌+◌, List, [], ◌∷◌, ◌++◌, get_or, length, map, take, Bool, true, false, ◌||◌, ◌&&◌, cond, Result, OnOk, Ok, Err, refl, sym, ap, subst, ◌∙◌, String, string_bytes}
+use Rattle.std.proofs.Common.{◌≡◌, ◌<◌, ℕ, ◌+◌, List, [], ◌∷◌, ◌++◌, get_or, length, map, take, Bool, true, false, ◌||◌, ◌&&◌, Result, OnOk, Ok, Err, refl, sym, ap, subst, ◌∙◌, String}
 use Rattle.std.proofs.lemmas.List.{map-append, take_more}
-use Rattle.std.proofs.lemmas.Map.Text.{btree_set_updates_text}
-use Rattle.std.proofs.lemmas.Slice.Eq.{bytes_eq-Decides}
-use Rattle.std.specs.BTreeSet.{BTreeSet, UpdatesBy, contains_text}
-use Rattle.std.specs.Cmp.Lexicographic.{slice_cmp}
+use Rattle.std.specs.BTreeSet.{BTreeSet, contains_text}
 use Rattle.std.specs.List.{list_all, list_any}
-use Rattle.std.specs.Ordering.{nat_cmp}
 use Rattle.std.specs.Str.{bytes_eq}
-use Rattle.std.specs.String.{string_cmp}
 use Rattle.std.specs.declared.alloc.Global.{Global}
 use denote.Ref.{Bor}
-
-same_bool : (a b : Bool) → (a ≡ true → b ≡ true) → (b ≡ true → a ≡ true) → a ≡ b
-same_bool true b h g = sym (h refl)
-same_bool false true h g = g refl
-same_bool false false h g = refl
-
-bytes_eq_flip : (x y : List ℕ) → bytes_eq x y ≡ bytes_eq y x
-bytes_eq_flip x y = same_bool (bytes_eq x y) (bytes_eq y x)
-    (λ h. (bytes_eq-Decides y x).1 (sym ((bytes_eq-Decides x y).0 h)))
-    (λ h. (bytes_eq-Decides x y).1 (sym ((bytes_eq-Decides y x).0 h)))
-
-or_of_cond : (e s : Bool) → cond e true s ≡ (s || e)
-or_of_cond true true = refl
-or_of_cond true false = refl
-or_of_cond false true = refl
-or_of_cond false false = refl
-
--- a set with one more path
-pub inserted : (path : List ℕ) (s n : BTreeSet (String Global)) (key : List ℕ) → key ≡ path
-    → UpdatesBy string_cmp (λ k. slice_cmp nat_cmp key (string_bytes k)) s n true
-    → (x : List ℕ) → contains_text n x ≡ (contains_text s x || bytes_eq x path)
-inserted path s n key is u x =
-    btree_set_updates_text key s n true u x ∙ or_of_cond (bytes_eq key x) (contains_text s x)
-    ∙ ap (λ e. contains_text s x || e) (bytes_eq_flip key x ∙ ap (bytes_eq x) is)
-
-no_change : (c e : Bool) → (e ≡ true → c ≡ true) → c ≡ (c || e)
-no_change true e h = refl
-no_change false true h = h refl
-no_change false false h = refl
-
--- adding a path that is there changes nothing
-pub already_there : (path : List ℕ) (s : BTreeSet (String Global)) → contains_text s path ≡ true → (x : List ℕ) → contains_text s x ≡ (contains_text s x || bytes_eq x path)
-already_there path s there x = no_change (contains_text s x) (bytes_eq x path) (λ e. ap (contains_text s) ((bytes_eq-Decides x path).0 e) ∙ there)
-
-or_assoc : (a b c : Bool) → (a || (b || c)) ≡ ((a || b) || c)
-or_assoc true b c = refl
-or_assoc false b c = refl
-
-or_none : (a : Bool) → (a || false) ≡ a
-or_none true = refl
-or_none false = refl
 
 -- an object that is of no definition adds nothing
 pub is_as_it_was : {A : Type 0} (s : BTreeSet (String Global)) (versions : List (Version A)) (f : Found) → is_defined versions f ≡ false
@@ -70,10 +25,6 @@ pub is_where_defined : {A E : Type 0} (s n : BTreeSet (String Global)) (versions
     → OnOk r ((path : List ℕ) → contains_text n path ≡ (contains_text s path || is_held versions path f))
 is_where_defined s n versions f (Ok u) some added = λ path. added path ∙ sym (ap (λ b. contains_text s path || (b && bytes_eq path f.file)) some)
 is_where_defined s n versions f (Err e) some added = tt
-
-any_more : (p : Found → Bool) (fs : List Found) (f : Found) → list_any p (fs ++ f ∷ []) ≡ (list_any p fs || p f)
-any_more p [] f = or_none (p f)
-any_more p (g ∷ fs) f = ap (λ c. p g || c) (any_more p fs f) ∙ or_assoc (p g) (list_any p fs) (p f)
 
 -- one more object
 pub one_more_held : {A : Type 0} (versions : List (Version A)) (xs : List Subject) (i : ℕ) (x : Subject) (s n : BTreeSet (String Global)) → i < length xs → x ≡ get_or xs i x

@@ -2,11 +2,11 @@
 -- Which documents are definitions: those of files of their own, and the CustomResourceDefinitions among the objects.
 -- Sources: Kubernetes documentation, "Extend the Kubernetes API with CustomResourceDefinitions"; API conventions, "Types
 -- (Kinds)" (apiVersion and kind of a resource, lists).
-use Rattle.kube_manifests.specs.Documents.{is_crd}
-use Rattle.kube_manifests.specs.Sets.{set_view, versions_of, with_tree}
-use Rattle.kube_manifests.specs.Versions.{Version}
+use Rattle.kube_manifests.specs.Definitions.{is_crd, versions_of, list_of}
+use Rattle.kube_manifests.specs.Sets.{set_view, with_tree}
+use Rattle.kube_manifests.specs.DocumentsVersions.{Version}
 use Rattle.kube_manifests.specs.declared.set.CrdSet.{CrdSet}
-use Rattle.kubecel_io.specs.Objects.{all_objects, list_items, text_at}
+use Rattle.kubecel_io.specs.Objects.{all_objects, text_at}
 use Rattle.kubecel_io.specs.Reads.{Found}
 use Rattle.serde_json.specs.Data.{Data}
 use Rattle.serde_json.specs.Find.{as_object, get}
@@ -35,7 +35,7 @@ is_full (b ∷ bs) = true
 abbrev pub is_other_resource : Data → Bool
 is_other_resource d =
     (is_full (text_at (codes "apiVersion") d) && is_full (text_at (codes "kind") d))
-    && not (is_called_crd d || is_some (list_items d))
+    && not (is_called_crd d || is_some (list_of d))
 
 -- whether a document of a file of definitions is passed over if missing definitions are ignored
 abbrev pub is_passed_over : Data → Bool

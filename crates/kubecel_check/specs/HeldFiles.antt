@@ -1,7 +1,7 @@
 -- Scaffolding: only proofs and private clauses cite it.
 -- For private clauses.
 -- The files that hold an object of a definition.
-use Rattle.kube_manifests.specs.Versions.{Version}
+use Rattle.kube_manifests.specs.DocumentsVersions.{Version}
 use Rattle.kubecel_check.specs.Objects.{holds_object}
 use Rattle.kubecel_io.specs.Reads.{Found}
 use Rattle.std.specs.BTreeSet.{BTreeSet, contains_text}

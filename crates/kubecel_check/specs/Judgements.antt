@@ -1,24 +1,27 @@
 -- Trusted by the clauses of kubecel.
 -- What is reported of an object, given its judgement.
-use Rattle.cel_patterns.specs.Book.{Book}
-use Rattle.cel_value.specs.Faults.{Fault, invalid_pattern, no_overload, undeclared}
-use Rattle.kube_cel_walk.specs.ErrorLists.{errors_in}
-use Rattle.kube_cel_walk.specs.Errors.{ErrorData, error_view}
-use Rattle.kube_cel_walk.specs.RuleErrors.{undeclared_name}
-use Rattle.kube_cel_walk.specs.declared.error.ErrorKind.{ErrorKind}
-use Rattle.kube_cel_walk.specs.declared.error.ErrorKind.TheVariants as error
+use Rattle.cel.specs.Book.{Book}
+use Rattle.cel_value.specs.Faults.{Fault, function_error, invalid_pattern, no_overload, undeclared}
+use Rattle.kube_cel.specs.ErrorLists.{errors_in}
+use Rattle.kube_cel.specs.Errors.{ErrorData, error_view}
+use Rattle.kube_cel.specs.RuleErrors.{undeclared_name}
+use Rattle.kube_cel.specs.ErrorKind.{ErrorKind}
+use Rattle.kube_cel.specs.ErrorKind.TheVariants as error
 use Rattle.kube_manifests.specs.Explanations.{explanation}
 use Rattle.kube_manifests.specs.Sets.{IsJudgementUnder, set_view, with_tree}
-use Rattle.kube_manifests.specs.Versions.{Version}
+use Rattle.kube_manifests.specs.DocumentsVersions.{Version}
+use Rattle.kube_manifests.specs.Versions.{chosen_version}
 use Rattle.kube_manifests.specs.declared.judgement.Judgement.{Judgement}
 use Rattle.kube_manifests.specs.declared.judgement.Judgement.TheVariants as judgement
 use Rattle.kube_manifests.specs.declared.judgement.NotJudged.{NotJudged}
 use Rattle.kube_manifests.specs.declared.judgement.NotJudged.TheVariants as reason
 use Rattle.kube_manifests.specs.declared.set.CrdSet.{CrdSet}
+use Rattle.kube_manifests.specs.Limits.{is_limit}
 use Rattle.kube_manifests_review.specs.Features.{lacking_text}
-use Rattle.kubecel_check.specs.Definitions.{is_called_crd, is_no_resource}
+use Rattle.kubecel_check.specs.Definitions.{is_called_crd, is_full, is_no_resource}
 use Rattle.kubecel_check.specs.Doubles.{first_double}
-use Rattle.kubecel_io.specs.Objects.{identity_of, list_items, old_of}
+use Rattle.kube_manifests.specs.Definitions.{is_crd, list_of}
+use Rattle.kubecel_io.specs.Objects.{identity_of, old_of, text_at}
 use Rattle.kubecel_io.specs.Reads.{Found}
 use Rattle.kubecel_report.specs.Items.{FindingData, ItemData}
 use Rattle.kubecel_report.specs.declared.item.Verdict.{Verdict}
@@ -28,7 +31,7 @@ use Rattle.serde_json.specs.Read.{read}
 use Rattle.std.specs.List.{list_any}
 use Rattle.std.specs.Option.{option_map_or}
 use Rattle.std.specs.Str.{bytes_eq}
-use Rattle.std.specs.Prelude.{◌≡◌, ℕ, List, [], ◌∷◌, ◌++◌, map, Bool, true, false, not, ◌&&◌, ◌||◌, Option, Some, None, is_some, option_and_then, Ok, Err, if◌then◌else◌, codes}
+use Rattle.std.specs.Prelude.{◌≡◌, ℕ, List, [], ◌∷◌, ◌++◌, map, Bool, true, false, not, ◌&&◌, ◌||◌, Option, Some, None, is_some, option_and_then, Result, Ok, Err, if◌then◌else◌, codes}
 
 -- the item of an object: its file, kind, namespace and name, with its verdict and findings
 abbrev pub item_of : Found → Verdict → List FindingData → ItemData
@@ -48,17 +51,18 @@ remark message = record { location = []; rule = []; message = message } ∷ []
 
 -- ---- the errors of an object
 
--- whether a function reads an optional value
-abbrev pub is_of_optional : List ℕ → Bool
-is_of_optional name = bytes_eq name (codes "hasValue") || bytes_eq name (codes "value")
+-- what is said of a limit at a call of this function
+abbrev pub narrow_text : Bool → List ℕ → Option (List ℕ)
+narrow_text true name = Some (name ++ codes "() isn't supported for this value")
+narrow_text false name = None
 
--- what this tool lacks, in words, if an evaluation ended for that: at a name that isn't known, at a
--- pattern of a syntax that it doesn't read, or at a call on what is an optional value in an API server
+-- what this tool lacks, in words, if an evaluation ended at a limit: at a name that isn't known, at a pattern of a syntax
+-- that isn't read, or at a call for which an API server may have a value
 abbrev pub lacking : Fault → Option (List ℕ)
 lacking (undeclared name) = Some (lacking_text name)
 lacking (invalid_pattern s) = Some (codes "a pattern has a syntax that isn't supported")
-lacking (no_overload name) =
-    if is_of_optional name then Some (name ++ codes "() isn't supported where oldSelf is optional") else None
+lacking (no_overload name) = narrow_text (is_limit (no_overload name)) name
+lacking (function_error name message) = narrow_text (is_limit (function_error name message)) name
 lacking _ = None
 
 -- what is lacking where an object has this error
@@ -153,7 +157,12 @@ is_of_version reason.NotServed = true
 -- whether what isn't judged is a list among the items of a list: of a list that no definition has,
 -- the items are judged
 abbrev pub is_nested : Data → NotJudged → Bool
-is_nested d r = is_some (list_items d) && not (is_of_version r)
+is_nested d r = is_some (list_of d) && not (is_of_version r)
+
+-- the reason in words: an object of a kind without a letter has none
+abbrev pub named_reason : Data → NotJudged → NotJudged
+named_reason d reason.NoSuchKind = if is_full (text_at (codes "kind") d) then reason.NoSuchKind else reason.NoKind
+named_reason d r = r
 
 -- the reason why an object isn't judged by these versions
 abbrev pub why_not : {A : Type 0} → List (Version A) → Data → NotJudged → List ℕ
@@ -161,7 +170,7 @@ why_not versions d r =
     if is_nested d r then codes "a list within a list: its items aren't judged"
     else (if is_no_resource d then codes "no resource: neither apiVersion nor kind"
     else (if is_called_crd d && not (is_of_version r) then codes "only CustomResourceDefinitions of apiextensions.k8s.io/v1 are read"
-    else explanation versions d r))
+    else explanation versions d (named_reason d r)))
 
 -- whether the reason is that no definition has the object's group and kind
 abbrev pub is_missing : NotJudged → Bool
@@ -175,7 +184,7 @@ is_missing reason.NotServed = false
 -- whether an object is skipped if missing definitions are ignored: there is none for it, or it is no resource. A list
 -- within a list isn't skipped, nor a definition of another apiVersion
 abbrev pub is_skipped : Data → NotJudged → Bool
-is_skipped d r = is_no_resource d || (is_missing r && not (is_nested d r || is_called_crd d))
+is_skipped d r = is_no_resource d || (is_missing (named_reason d r) && not (is_nested d r || is_called_crd d))
 
 -- what isn't skipped couldn't be judged
 abbrev pub verdict_for : Bool → Data → NotJudged → Verdict
@@ -198,6 +207,22 @@ IsJudged book ignores_missing versions olds f i =
     × (is_partly_judged j ≡ false)
     × (hints : List FindingData) × AreHints f.value (errors_of j) hints
     × (i ≡ judged_item ignores_missing versions f j hints)
+
+-- ---- old objects
+
+-- whether an old object is of no use, as by the reason why it has no version: it is of no definition, is none itself, and
+-- isn't skipped either, if missing definitions are ignored. It may be the old state of an object
+abbrev pub is_unusable_for : {A : Type 0} → Bool → Data → Result A NotJudged → Bool
+is_unusable_for ignores_missing d (Ok v) = false
+is_unusable_for ignores_missing d (Err r) =
+    not (is_of_version r) && not (is_crd d || (ignores_missing && is_skipped d r))
+
+abbrev pub is_unusable : {A : Type 0} → Bool → List (Version A) → Found → Bool
+is_unusable ignores_missing versions f = is_unusable_for ignores_missing f.value (chosen_version versions f.value)
+
+-- no old object is
+abbrev pub AreUsable : {A : Type 0} → Bool → List (Version A) → List Found → Type 0
+AreUsable ignores_missing versions olds = list_any (is_unusable ignores_missing versions) olds ≡ false
 
 -- ---- documents that are passed over
 

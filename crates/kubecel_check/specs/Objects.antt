@@ -1,8 +1,9 @@
 -- Trusted by the clauses of kubecel.
 -- The objects of documents, given the versions of definitions; which of them are of a definition, and have an old object.
 -- Sources: API conventions, "Types (Kinds)" (lists); Kubernetes documentation, "Validation rules" (transition rules).
-use Rattle.kube_manifests.specs.Documents.{is_crd}
-use Rattle.kube_manifests.specs.Versions.{Version, chosen_version}
+use Rattle.kube_manifests.specs.Definitions.{is_crd}
+use Rattle.kube_manifests.specs.DocumentsVersions.{Version}
+use Rattle.kube_manifests.specs.Versions.{chosen_version}
 use Rattle.kube_manifests.specs.declared.judgement.NotJudged.{NotJudged}
 use Rattle.kube_manifests.specs.declared.judgement.NotJudged.TheVariants as reason
 use Rattle.kubecel_io.specs.Objects.{objects_of, old_of}

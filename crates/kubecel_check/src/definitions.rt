@@ -1,13 +1,13 @@
 //! Finds the definitions among documents.
 ghost use Rattle.kubecel_check.specs.Definitions.{definitions, given_definitions, is_called_crd, is_full, is_no_resource, is_other_resource, is_passed_over, passed_over, unless_passed_over, where_definition, where_passed_over};
+ghost use Rattle.kube_manifests.specs.Definitions as shapes;
 ghost use Rattle.kubecel_io.specs.Subjects.{subject_view};
 ghost use Rattle.serde_json.specs.Find.{get};
 ghost use Rattle.serde_json.specs.View.{view};
 ghost use Rattle.std.specs.List.{flat_map};
 ghost use Rattle.std.specs.Prelude.{◌≡◌, ◌++◌, IfOk, OnOk, is_some, map};
 
-use crate::lists::is_list;
-use kube_manifests::is_crd;
+use kube_manifests_documents::{is_crd, list_of};
 use kubecel_io::{Subject, objects_among, text_at};
 use serde_json::Value;
 use std::alloc::{AllocError, Global};
@@ -34,10 +34,18 @@ pub(crate) fn is_called_crd(value: &Value) -> bool
     text_at(value, "kind") == "CustomResourceDefinition"
 }
 
-fn is_full(text: &str) -> bool
+pub(crate) fn is_full(text: &str) -> bool
     ensures { result ≡ is_full text.now }
 {
     !text.is_empty()
+}
+
+/// Reports whether a value is a list: its kind ends in `List`, and it has an array in `items`.
+#[tactic(auto, using(crate::proofs::Nested::some_mapped))]
+pub(crate) fn is_list(value: &Value) -> bool
+    ensures { result ≡ is_some (shapes.list_of (view value.now)) }
+{
+    list_of(value).is_some()
 }
 
 /// Reports whether a document is a resource of another kind than definitions, and no list.

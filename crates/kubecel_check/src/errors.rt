@@ -1,38 +1,32 @@
 //! The errors of objects as findings, and the verdicts on them.
-ghost use Rattle.cel_value.specs.Faults.{fault_view, no_overload};
-ghost use Rattle.kube_cel_walk.specs.Errors.{error_view};
-ghost use Rattle.kube_cel_walk.specs.RuleErrors.{undeclared_name};
+ghost use Rattle.cel_value.specs.Faults.{fault_view};
+ghost use Rattle.kube_cel.specs.Errors.{error_view};
+ghost use Rattle.kube_cel.specs.RuleErrors.{undeclared_name};
 ghost use Rattle.kubecel_report.specs.Items.{finding_view};
-ghost use Rattle.kubecel_check.specs.Judgements.{AreHints, any_denial, any_other, double_finding, error_finding, error_message, errors_of, errors_verdict, is_denial, is_of_double, is_of_optional, is_partly_judged, lacking, lacking_of, name_of};
+ghost use Rattle.kubecel_check.specs.Judgements.{AreHints, any_denial, any_other, double_finding, error_finding, error_message, errors_of, errors_verdict, is_denial, is_of_double, is_partly_judged, lacking, lacking_of, name_of, narrow_text};
 ghost use Rattle.std.specs.Prelude.{◌≡◌, ◌++◌, IfOk, is_some, map, option_map, string_bytes};
 ghost use Rattle.std.specs.List.{list_any};
 ghost use Rattle.serde_json.specs.View.{view};
 
 use crate::doubles::{Double, double_in};
 use cel_value::ExecutionError;
-use kube_cel_walk::ErrorKind;
+use kube_cel::ErrorKind;
 use kube_manifests::{Judgement, ValidationError};
+use kube_manifests_limits::is_limit;
 use kube_manifests_review::lacking_text;
 use kubecel_report::{Finding, Verdict};
 use serde_json::Value;
 use std::alloc::{AllocError, Global};
 
-/// Reports whether a function reads an optional value.
-fn is_of_optional(name: &str) -> bool
-    ensures { result ≡ is_of_optional name.now }
-{
-    name == "hasValue" || name == "value"
-}
-
 /// Reports whether an evaluation ended for want of something that this tool lacks.
+#[tactic(auto, using(crate::proofs::Nested::narrow_some))]
 fn is_lacking(error: &ExecutionError) -> bool
     ensures { result ≡ is_some (lacking (fault_view error.now)) }
 {
     match error {
         ExecutionError::UndeclaredReference(_) | ExecutionError::InvalidPattern(_) => true,
-        ExecutionError::NoSuchOverload(name) => is_of_optional(name.as_str()),
+        ExecutionError::NoSuchOverload(_) | ExecutionError::FunctionError { .. } => is_limit(error),
         ExecutionError::NoSuchKey(_)
-        | ExecutionError::FunctionError { .. }
         | ExecutionError::Overflow
         | ExecutionError::DivisionByZero
         | ExecutionError::RemainderByZero
@@ -153,9 +147,13 @@ fn lacking(alloc: Global, error: &ExecutionError) -> Result<Option<String>, Allo
             alloc,
             "a pattern has a syntax that isn't supported",
         )?)),
-        ExecutionError::NoSuchOverload(name) => of_optional(alloc, name.as_str()),
+        ExecutionError::NoSuchOverload(name) => {
+            narrow_text(alloc, is_limit(error), name.as_str())
+        }
+        ExecutionError::FunctionError { function, .. } => {
+            narrow_text(alloc, is_limit(error), function.as_str())
+        }
         ExecutionError::NoSuchKey(_)
-        | ExecutionError::FunctionError { .. }
         | ExecutionError::Overflow
         | ExecutionError::DivisionByZero
         | ExecutionError::RemainderByZero
@@ -165,12 +163,12 @@ fn lacking(alloc: Global, error: &ExecutionError) -> Result<Option<String>, Allo
     }
 }
 
-/// Returns what is lacking where a function has no overload, if it reads an optional value.
-fn of_optional(alloc: Global, name: &str) -> Result<Option<String>, AllocError>
-    ensures { IfOk result (λ o. option_map string_bytes o ≡ lacking (no_overload name.now)) }
+/// Returns what is said of a call of this function, if it is a limit.
+fn narrow_text(alloc: Global, is_limit: bool, name: &str) -> Result<Option<String>, AllocError>
+    ensures { IfOk result (λ o. option_map string_bytes o ≡ narrow_text is_limit name.now) }
 {
-    if is_of_optional(name) {
-        let text = format!(in alloc; "{name}() isn't supported where oldSelf is optional")?;
+    if is_limit {
+        let text = format!(in alloc; "{name}() isn't supported for this value")?;
         Ok(Some(text))
     } else {
         Ok(None)

@@ -1,22 +1,21 @@
 //! Judges one object.
-ghost use Rattle.cel_patterns.specs.Book.{Book, Extends};
-ghost use Rattle.cel_patterns.specs.Entries.{entries_of};
+ghost use Rattle.cel.specs.Book.{Book, Extends};
+ghost use Rattle.cel.specs.Entries.{entries_of};
 ghost use Rattle.kube_manifests.specs.Sets.{IsJudgementUnder, set_view, with_tree};
-ghost use Rattle.kube_manifests.specs.Versions.{Version};
+ghost use Rattle.kube_manifests.specs.DocumentsVersions.{Version};
 ghost use Rattle.kube_manifests.specs.declared.judgement.Judgement as spec;
-ghost use Rattle.kubecel_check.specs.Judgements.{AreHints, errors_of, is_missing, is_nested, is_of_version, is_partly_judged, is_skipped, judged_item, passed_over_item, verdict_for, why_not};
+ghost use Rattle.kubecel_check.specs.Judgements.{AreHints, errors_of, is_missing, is_nested, is_of_version, is_partly_judged, is_skipped, judged_item, named_reason, passed_over_item, verdict_for, why_not};
 ghost use Rattle.kubecel_io.specs.Subjects.{subject_view};
 ghost use Rattle.kubecel_report.specs.Items.{FindingData, finding_view, item_view};
 ghost use Rattle.serde_json.specs.Data.{Data};
 ghost use Rattle.serde_json.specs.View.{view};
 ghost use Rattle.std.specs.Prelude.{◌≡◌, IfOk, List, map, option_map, string_bytes};
 
-use crate::definitions::{is_called_crd, is_no_resource};
+use crate::definitions::{is_called_crd, is_full, is_list, is_no_resource};
 use crate::errors::{error_findings, errors_verdict, hints_of, is_partly_judged, with_hints};
 use crate::item::{item_of, remark};
-use crate::lists::is_list;
 use kube_manifests::{CrdSet, Judgement, NotJudged, PatternBook};
-use kubecel_io::{Refused, Subject};
+use kubecel_io::{Refused, Subject, text_at};
 use kubecel_report::{Finding, Item, Verdict};
 use serde_json::Value;
 use std::alloc::{AllocError, Global};
@@ -90,11 +89,12 @@ fn verdict_for(ignores_missing: bool, object: &Value, reason: NotJudged) -> Verd
 
 /// Reports whether an object that isn't judged for this reason is skipped if missing definitions are
 /// ignored: there is none for it, or it is no resource.
-fn is_skipped(object: &Value, reason: NotJudged) -> bool
+pub(crate) fn is_skipped(object: &Value, reason: NotJudged) -> bool
     ensures { result ≡ is_skipped (view object.now) reason }
 {
     is_no_resource(object)
-        || (is_missing(reason) && !(is_nested(object, reason) || is_called_crd(object)))
+        || (is_missing(named_reason(object, reason))
+            && !(is_nested(object, reason) || is_called_crd(object)))
 }
 
 /// Reports whether the reason is that no definition has the object's group and kind.
@@ -111,6 +111,26 @@ fn is_missing(reason: NotJudged) -> bool
     }
 }
 
+/// Returns the reason that is told: an object of a kind without a letter has none.
+fn named_reason(object: &Value, reason: NotJudged) -> NotJudged
+    ensures { result ≡ named_reason (view object.now) reason }
+{
+    match reason {
+        NotJudged::NoSuchKind => {
+            if is_full(text_at(object, "kind")) {
+                NotJudged::NoSuchKind
+            } else {
+                NotJudged::NoKind
+            }
+        }
+        NotJudged::NotAnObject => NotJudged::NotAnObject,
+        NotJudged::NoApiVersion => NotJudged::NoApiVersion,
+        NotJudged::NoKind => NotJudged::NoKind,
+        NotJudged::NoSuchVersion => NotJudged::NoSuchVersion,
+        NotJudged::NotServed => NotJudged::NotServed,
+    }
+}
+
 /// Reports whether what isn't judged is a list among the items of a list.
 fn is_nested(object: &Value, reason: NotJudged) -> bool
     ensures { result ≡ is_nested (view object.now) reason }
@@ -119,7 +139,7 @@ fn is_nested(object: &Value, reason: NotJudged) -> bool
 }
 
 /// Reports whether the reason is one about a version of a definition of the object's group and kind.
-fn is_of_version(reason: NotJudged) -> bool
+pub(crate) fn is_of_version(reason: NotJudged) -> bool
     ensures { result ≡ is_of_version reason }
 {
     match reason {
@@ -132,7 +152,7 @@ fn is_of_version(reason: NotJudged) -> bool
 }
 
 /// Returns the reason why an object isn't judged by a set.
-fn why_not(
+pub(crate) fn why_not(
     alloc: Global,
     set: &CrdSet,
     object: &Value,
@@ -152,7 +172,7 @@ fn why_not(
         let why = "only CustomResourceDefinitions of apiextensions.k8s.io/v1 are read";
         return Ok(String::from_str(alloc, why)?);
     }
-    set.explain(alloc, object, reason)
+    set.explain(alloc, object, named_reason(object, reason))
 }
 
 /// Builds the item of a document in a file of definitions that is passed over.

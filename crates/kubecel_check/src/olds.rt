@@ -1,21 +1,85 @@
 //! Finds old objects that are of no use, by which rules on changes would be passed over.
 ghost use Rattle.kube_manifests.specs.Sets.{set_view};
 ghost use Rattle.kubecel_check.specs.HeldFiles.{AreHeld};
+ghost use Rattle.kubecel_check.specs.Judgements.{AreUsable, is_unusable};
 ghost use Rattle.kubecel_check.specs.Objects.{AreCompared, has_old, holds_object, is_held};
 ghost use Rattle.kubecel_io.specs.Subjects.{subject_view};
 ghost use Rattle.std.specs.BTreeSet.{contains_text};
 ghost use Rattle.std.specs.List.{list_all, list_any};
 ghost use Rattle.std.specs.Prelude.{◌≡◌, ◌||◌, ℕ, IfOk, List, OnOk, map, true};
-ghost use Rattle.std.specs.Str.{bytes_eq};
 
 use crate::defined::is_defined;
-use kube_manifests::CrdSet;
-use kubecel_io::{OldObjects, Stop, Subject};
+use crate::judgements::{is_of_version, is_skipped, why_not};
+use kube_manifests::{CrdSet, is_crd};
+use kube_manifests_texts::insert_text;
+use kubecel_io::{OldObjects, Refused, Stop, Subject};
 use std::alloc::{AllocError, Global};
 use std::collections::BTreeSet;
 
+/// Ends a run if one of these files of old objects holds no object of a definition, or if one of the old
+/// objects is of no use: it may be the old state of an object.
+pub fn refuse_unless_useful(
+    alloc: Global,
+    ignores_missing: bool,
+    paths: &[&str],
+    set: &CrdSet,
+    olds: &[Subject<'_>],
+) -> Result<(), Stop>
+    ensures held { OnOk result (list_all (holds_object (set_view set.now) (map subject_view olds.now))
+        (map (λ s. s.now) paths.now) ≡ true) }
+    ensures usable { OnOk result (AreUsable ignores_missing (set_view set.now) (map subject_view olds.now)) }
+{
+    refuse_unless_held(alloc, paths, set, olds)?;
+    refuse_unless_usable(alloc, ignores_missing, set, olds)?;
+    Ok(())
+}
+
+/// Ends a run if one of these old objects is of no use.
+fn refuse_unless_usable(
+    alloc: Global,
+    ignores_missing: bool,
+    set: &CrdSet,
+    olds: &[Subject<'_>],
+) -> Result<(), Stop>
+    ensures { OnOk result (AreUsable ignores_missing (set_view set.now) (map subject_view olds.now)) }
+{
+    for old in olds {
+        if is_unusable(ignores_missing, set, old) {
+            return Err(Stop::Said(unusable_text(alloc, set, old)?));
+        }
+    }
+    Ok(())
+}
+
+/// Reports whether an old object is of no use: it is of no definition, is none itself, and isn't skipped
+/// either, if missing definitions are ignored.
+#[tactic(auto, using(crate::proofs::Held::unusable_counted))]
+fn is_unusable(ignores_missing: bool, set: &CrdSet, old: &Subject<'_>) -> bool
+    ensures { result ≡ is_unusable ignores_missing (set_view set.now) (subject_view old.now) }
+{
+    match set.rule_count(old.value) {
+        Ok(_) => false,
+        Err(reason) => {
+            !is_of_version(reason)
+                && !(is_crd(old.value) || (ignores_missing && is_skipped(old.value, reason)))
+        }
+    }
+}
+
+/// Says where an old object stands that is of no use, and why.
+fn unusable_text(alloc: Global, set: &CrdSet, old: &Subject<'_>) -> Result<String, Refused> {
+    let (file, index) = (old.file, old.index);
+    match set.rule_count(old.value) {
+        Ok(_) => Ok(format!(in alloc; "{file}[{index}]")?),
+        Err(reason) => {
+            let why = why_not(alloc, set, old.value, reason)?;
+            Ok(format!(in alloc; "{file}[{index}]: {why}")?)
+        }
+    }
+}
+
 /// Ends a run if one of these files of old objects holds no object of a definition.
-pub fn refuse_unless_held(
+fn refuse_unless_held(
     alloc: Global,
     paths: &[&str],
     set: &CrdSet,
@@ -62,19 +126,7 @@ fn add_where_defined(
     if !is_defined(set, old) {
         return Ok(());
     }
-    insert_path(alloc, old.file, held)
-}
-
-/// Adds a path to a set, unless it is there already.
-fn insert_path(alloc: Global, path: &str, paths: &mut BTreeSet<String>) -> Result<(), AllocError>
-    ensures added { OnOk result ((x : List ℕ)
-        → contains_text paths.new x ≡ (contains_text paths.old x || bytes_eq x path.now)) }
-{
-    if paths.contains(path) {
-        return Ok(());
-    }
-    let _is_new = paths.insert(String::from_str(alloc, path)?)?;
-    Ok(())
+    insert_text(alloc, old.file, held)
 }
 
 /// Ends a run if files of old objects are named, but no object has an old one.

@@ -1,10 +1,13 @@
-//! Compiles definitions.
-ghost use Rattle.kubecel_check.specs.Definitions.{IsSetOf};
+//! Compiles definitions, or finds their first fault.
+ghost use Rattle.kube_manifests.specs.DocumentsVersions.{Version};
+ghost use Rattle.kubecel_check.specs.Definitions.{AreWhole, IsSetOf};
 ghost use Rattle.kubecel_io.specs.Subjects.{subject_view};
+ghost use Rattle.serde_json.specs.Data.{Data};
 ghost use Rattle.serde_json.specs.View.{view};
-ghost use Rattle.std.specs.Prelude.{◌≡◌, IfOk, map};
+ghost use Rattle.std.specs.Prelude.{◌≡◌, IfOk, List, None, map};
 
-use kube_manifests::{CrdError, CrdFault, CrdSet, earlier_definition};
+use kube_manifests::CrdSet;
+use kube_manifests_documents::{CrdError, CrdFault, DefinedVersions, earlier_definition};
 use kubecel_io::{Refused, Subject};
 use serde_json::Value;
 use std::alloc::{AllocError, Global};
@@ -21,6 +24,20 @@ pub fn set_or_fault(
     match CrdSet::from_documents(alloc, values.as_slice())? {
         Ok(set) => Ok(Ok(set)),
         Err(error) => Ok(Err(fault_text(alloc, definitions, values.as_slice(), &error)?)),
+    }
+}
+
+/// Returns the first fault of the first of these definitions that has one, with its place. No schema
+/// is compiled.
+pub fn fault_of(alloc: Global, definitions: &[Subject<'_>]) -> Result<Option<String>, Refused>
+    ensures { IfOk result (λ f. f ≡ None
+        → (versions : List (Version Data)) × AreWhole (map subject_view definitions.now) versions) }
+{
+    let values = values_of(alloc, definitions)?;
+    let read = DefinedVersions::read(alloc, values.as_slice())?;
+    match read {
+        Ok(_) => Ok(None),
+        Err(error) => Ok(Some(fault_text(alloc, definitions, values.as_slice(), &error)?)),
     }
 }
 

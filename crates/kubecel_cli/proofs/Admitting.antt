@@ -1,8 +1,7 @@
 -- The inputs that a request is judged over.
-use Rattle.kube_manifests_admission.specs.Inputs.{Variables}
-use Rattle.kube_manifests_admission.specs.Inputs.{inputs_view}
+use Rattle.kube_manifests.specs.Inputs.{Variables, inputs_view}
 use Rattle.kube_manifests_policies.specs.Reports.{IsVerdictOf}
-use Rattle.kube_manifests_admission.specs.declared.inputs.PolicyInputs.{PolicyInputs}
+use Rattle.kube_manifests.specs.PolicyInputs.{PolicyInputs}
 use Rattle.kube_manifests_policies.specs.declared.verdict.PolicyVerdict.{PolicyVerdict}
 use Rattle.kube_manifests_policies.specs.Verdicts.{verdict_view}
 use Rattle.kubecel_io.specs.Reads.{document_view}

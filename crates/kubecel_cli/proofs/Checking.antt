@@ -1,11 +1,11 @@
 -- The results of the commands.
 use Rattle.kube_manifests.specs.Sets.{set_view, with_tree}
-use Rattle.kube_manifests.specs.Versions.{Version}
+use Rattle.kube_manifests.specs.DocumentsVersions.{Version}
 use Rattle.kube_manifests.specs.declared.set.CrdSet.{CrdSet}
 use Rattle.kubecel_check.proofs.Explained.{reported_alike}
-use Rattle.kubecel_check.proofs.Held.{defined_alike, held_alike, judged_alike, subjects_alike}
+use Rattle.kubecel_check.proofs.Held.{defined_alike, held_alike, judged_alike, subjects_alike, usable_alike}
 use Rattle.kubecel_check.specs.Definitions.{AreWhole, IsSetOf, definitions, passed_over}
-use Rattle.kubecel_check.specs.Judgements.{IsJudged, IsJudgedBy, passed_over_item}
+use Rattle.kubecel_check.specs.Judgements.{AreUsable, IsJudged, IsJudgedBy, passed_over_item}
 use Rattle.kubecel_check.specs.Objects.{AreCompared, AreDefined, AreSome, all_judged, all_subjects, holds_object}
 use Rattle.kubecel_io.specs.Objects.{all_objects}
 use Rattle.kubecel_io.specs.Reads.{AreRead, Found}
@@ -41,11 +41,12 @@ by_versions ignores_missing set versions olds objects items same are =
 pub judged_so : (asked : CheckData) (items : List ItemData) (crds olds objects : List Found) (set : CrdSet) (defined old_subjects subjects : List Found)
     → defined ≡ definitions asked.ignores_missing crds objects → IsSetOf defined set → old_subjects ≡ all_subjects (set_view set) olds → subjects ≡ all_judged (set_view set) objects
     → AreSome asked.allows_none subjects → list_all (holds_object (set_view set) old_subjects) asked.olds ≡ true
+    → AreUsable asked.ignores_missing (set_view set) old_subjects
     → AreCompared asked.olds (map (λ f. f.value) old_subjects) subjects → AreDefined asked.ignores_missing asked.allows_none (set_view set) subjects
     → UnlessAny (all_unread (all_objects defined))
     (AreBehind (map passed_over_item (passed_over asked.ignores_missing crds)) (AreJudgedBySet asked.ignores_missing set (map (λ f. f.value) old_subjects) subjects)) items
     → AreJudged asked crds olds objects items
-judged_so asked items crds olds objects set defined old_subjects subjects these of old_in are_in some held compared all_defined judged =
+judged_so asked items crds olds objects set defined old_subjects subjects these of old_in are_in some held usable compared all_defined judged =
     let versions = of.0 in
     let ignores = asked.ignores_missing in
     let old_are = old_in ∙ subjects_alike (set_view set) versions of.2 olds in
@@ -63,6 +64,7 @@ judged_so asked items crds olds objects set defined old_subjects subjects these 
       whole = subst (λ ds. AreWhole ds versions) these of.1;
       some = subst (AreSome asked.allows_none) are some;
       held = subst (λ os. list_all (holds_object versions os) asked.olds ≡ true) old_are (held_alike (set_view set) versions of.2 old_subjects asked.olds held);
+      usable = subst (AreUsable ignores versions) old_are (usable_alike ignores (set_view set) versions of.2 old_subjects usable);
       compared = subst (λ os. AreCompared asked.olds (map (λ f. f.value) os) (all_judged versions objects)) old_are (subst (AreCompared asked.olds values) are compared);
       defined = subst (AreDefined ignores asked.allows_none versions) are (defined_alike ignores asked.allows_none (set_view set) versions of.2 subjects all_defined);
       judged = subst (λ ds. UnlessAny (all_unread (all_objects ds)) (AreBehind first (AreJudgedByOne ignores versions (map (λ f. f.value) (all_subjects versions olds)) (all_judged versions objects))) items) these of_olds;

@@ -1,9 +1,9 @@
 -- Things reported one after another.
 use Rattle.cel_patterns.proofs.Books.{Extends-refl}
 use Rattle.cel_patterns.proofs.Entries.{entries-IsBook}
-use Rattle.cel_patterns.specs.Book.{Book, Extends}
-use Rattle.cel_patterns.specs.Entries.{entries_of}
-use Rattle.cel_patterns.specs.declared.book.PatternBook.{PatternBook}
+use Rattle.cel.specs.Book.{Book, Extends}
+use Rattle.cel.specs.Entries.{entries_of}
+use Rattle.cel.specs.PatternBook.{PatternBook}
 use Rattle.kube_manifests.specs.declared.set.CrdSet.{CrdSet}
 use Rattle.kubecel_check.specs.Judgements.{IsJudgedBy}
 use Rattle.kubecel_io.specs.Reads.{AreRead, Found}

@@ -1,7 +1,7 @@
 -- Places of the first entries that pass a test.
 use Rattle.std.proofs.Common.{arith, ◌≡◌, ◌+◌, ℕ, suc, List, [], ◌∷◌, length, cond, not, Bool, true, false, Option, Some, None, option_map, refl, sym, ap, ◌∙◌, if◌then◌else◌}
 use Rattle.std.specs.List.{position_or_len}
-use Rattle.kube_manifests.specs.Lists.{first_at}
+use Rattle.kube_manifests.specs.Positions.{first_at}
 
 -- the place, or another number if there is none
 abbrev pub place_or : Option ℕ → ℕ → ℕ

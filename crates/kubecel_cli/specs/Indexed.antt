@@ -1,7 +1,6 @@
 -- Scaffolding: only proofs and private clauses cite it.
 -- Entries of a policy that are found by their labels.
-use Rattle.kube_manifests.specs.Lists.{first_at}
-use Rattle.kube_manifests_index.specs.Positions.{position_at}
+use Rattle.kube_manifests.specs.Positions.{first_at, position_at}
 use Rattle.kubecel_cli.specs.Reports.{Expressions, entries_in, expressions_view, is_labelled}
 use Rattle.kubecel_cli.specs.declared.place.Entries.{Entries}
 use Rattle.serde_json.specs.Data.{Data}

@@ -1,20 +1,20 @@
 -- Trusted by the clauses of kubecel.
 -- The meaning of a run of `kubecel`: which files are read, in order, and the result of each thing
 -- in them.
-use Rattle.cel_patterns.specs.Book.{Book, IsBook}
-use Rattle.kube_cel_analysis.specs.Findings.{Naming}
-use Rattle.kube_manifests_admission.specs.Inputs.{Variables, no_variables}
-use Rattle.kube_manifests.specs.Documents.{is_crd}
-use Rattle.kube_manifests.specs.Versions.{Version}
+use Rattle.cel.specs.Book.{Book, IsBook}
+use Rattle.kube_cel.specs.Findings.{Naming}
+use Rattle.kube_manifests.specs.Inputs.{Variables, no_variables}
+use Rattle.kube_manifests.specs.Definitions.{is_crd}
+use Rattle.kube_manifests.specs.DocumentsVersions.{Version}
 use Rattle.kube_manifests.specs.declared.set.CrdSet.{CrdSet}
-use Rattle.kube_manifests_admission.specs.Faults.{FaultData}
+use Rattle.kube_manifests.specs.Faults.{FaultData}
 use Rattle.kube_manifests_policies.specs.Reports.{IsVerdictOf}
-use Rattle.kube_manifests_admission.specs.Reviews.{review_of}
+use Rattle.kube_manifests.specs.Reviews.{review_of}
 use Rattle.kube_manifests_policies.specs.Verdicts.{verdict_view}
 use Rattle.kube_manifests_policies.specs.declared.verdict.PolicyVerdict.{PolicyVerdict}
 use Rattle.kube_manifests_review.specs.Reviewed.{crd_findings}
 use Rattle.kubecel_check.specs.Definitions.{AreWhole, definitions, passed_over}
-use Rattle.kubecel_check.specs.Judgements.{IsJudged, IsJudgedBy, passed_over_item}
+use Rattle.kubecel_check.specs.Judgements.{AreUsable, IsJudged, IsJudgedBy, passed_over_item}
 use Rattle.kubecel_check.specs.Objects.{AreCompared, AreDefined, AreSome, all_judged, all_subjects, holds_object}
 use Rattle.kubecel_io.specs.Objects.{all_objects}
 use Rattle.kubecel_io.specs.Reads.{AreRead, Found}
@@ -60,15 +60,16 @@ abbrev pub AreBehind : List ItemData → (List ItemData → Type 0) → List Ite
 AreBehind first Are items = (others : List ItemData) × (items ≡ first ++ others) × Are others
 
 -- The definitions, those among the objects too, are well-formed. There is at least one object that isn't a definition,
--- unless none is allowed. If files of old objects are named, each of them holds an object of a definition, and at least
--- one object has an old one. If missing definitions are ignored, at least one object is of a definition, unless none is
--- allowed. If some definitions have parts that aren't read, only these are reported, as not judged. Otherwise what is
--- passed over in files of definitions is reported as skipped, and each object is judged.
+-- unless none is allowed. If files of old objects are named, each of them holds an object of a definition, each of their
+-- objects is of use, and at least one object has an old one. If missing definitions are ignored, at least one object is of
+-- a definition, unless none is allowed. If some definitions have parts that aren't read, only these are reported, as not
+-- judged. Otherwise what is passed over in files of definitions is reported as skipped, and each object is judged.
 pub record AreJudged (asked : CheckData) (crds olds objects : List Found) (items : List ItemData) : Type 0 where
   pub versions : List (Version Data)
   pub whole : AreWhole (definitions asked.ignores_missing crds objects) versions
   pub some : AreSome asked.allows_none (all_judged versions objects)
   pub held : list_all (holds_object versions (all_subjects versions olds)) asked.olds ≡ true
+  pub usable : AreUsable asked.ignores_missing versions (all_subjects versions olds)
   pub compared : AreCompared asked.olds (map (λ f. f.value) (all_subjects versions olds)) (all_judged versions objects)
   pub defined : AreDefined asked.ignores_missing asked.allows_none versions (all_judged versions objects)
   pub judged : UnlessAny (all_unread (all_objects (definitions asked.ignores_missing crds objects)))

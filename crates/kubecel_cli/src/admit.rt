@@ -1,5 +1,5 @@
 //! `admit`: judges a request by a policy.
-ghost use Rattle.kube_manifests_admission.specs.Inputs.{inputs_view};
+ghost use Rattle.kube_manifests.specs.Inputs.{inputs_view};
 ghost use Rattle.kube_manifests_policies.specs.Reports.{IsVerdictOf};
 ghost use Rattle.kube_manifests_policies.specs.Verdicts.{result_view, verdict_view};
 ghost use Rattle.kubecel_io.specs.Reads.{document_view};

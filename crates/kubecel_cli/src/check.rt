@@ -14,7 +14,7 @@ use crate::unread::all_unread;
 use kube_manifests::{CrdSet, PatternBook};
 use kubecel_check::{
     definitions_of, judge, judged_subjects, passed_over, passed_over_item, refuse_unless_compared,
-    refuse_unless_defined, refuse_unless_held, refuse_unless_some, set_or_fault, subjects_of,
+    refuse_unless_defined, refuse_unless_some, refuse_unless_useful, set_or_fault, subjects_of,
 };
 use kubecel_io::{OldObjects, Refused, Sources, Stop, Subject, read_files, whole_documents};
 use kubecel_report::Item;
@@ -76,7 +76,7 @@ fn judged<E: Write>(
     let earlier = subjects_of(alloc, &set, olds)?;
     let subjects = judged_subjects(alloc, &set, objects)?;
     refuse_unless_some(alloc, check.allows_none, subjects.as_slice())?;
-    refuse_unless_held(alloc, check.olds, &set, earlier.as_slice())?;
+    refuse_unless_useful(alloc, ignores_missing, check.olds, &set, earlier.as_slice())?;
     let indexed = OldObjects::of(alloc, earlier.as_slice())?;
     refuse_unless_compared(alloc, check.olds, &indexed, subjects.as_slice())?;
     refuse_unless_defined(

@@ -6,7 +6,7 @@ ghost use Rattle.serde_json.specs.View.{items_view, view};
 ghost use Rattle.std.specs.List.{find, position_or_len};
 ghost use Rattle.std.specs.Prelude.{◌≡◌, IfOk, codes, map, option_and_then, option_map, string_bytes};
 
-use kube_manifests_index::Index;
+use kube_manifests_texts::Index;
 use kubecel_io::text_at;
 use serde_json::Value;
 use std::alloc::{AllocError, Global};

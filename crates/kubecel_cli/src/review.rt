@@ -1,5 +1,5 @@
 //! `review`: reports what a person should look at in CustomResourceDefinitions.
-ghost use Rattle.kube_manifests.specs.Versions.{Version};
+ghost use Rattle.kube_manifests.specs.DocumentsVersions.{Version};
 ghost use Rattle.kube_manifests_review.specs.Candidates as candidates;
 ghost use Rattle.kubecel_io.specs.Reads.{document_view};
 ghost use Rattle.kubecel_io.specs.Subjects.{subject_view};
@@ -15,7 +15,7 @@ use crate::in_part::reviewed_in_part;
 use crate::report::Report;
 use kube_manifests::is_crd;
 use kube_manifests_review::{ReviewFinding, ReviewKind, review_crd};
-use kubecel_check::{item_of, remark, set_or_fault};
+use kubecel_check::{fault_of, item_of, remark};
 use kubecel_io::{
     Contents, Document, Refused, Sources, Stop, Subject, objects_of, read_files, whole_documents,
 };
@@ -56,18 +56,7 @@ pub(crate) fn fault_in(alloc: Global, documents: &[Document]) -> Result<Option<S
         → (versions : List (Version Data)) × AreWhole (map document_view documents.now) versions) }
 {
     let whole = whole_documents(alloc, documents)?;
-    fault_among(alloc, whole.as_slice())
-}
-
-/// Returns the first fault of the first of these definitions that has one, with its place.
-fn fault_among(alloc: Global, definitions: &[Subject<'_>]) -> Result<Option<String>, Refused>
-    ensures { IfOk result (λ f. f ≡ None
-        → (versions : List (Version Data)) × AreWhole (map subject_view definitions.now) versions) }
-{
-    match set_or_fault(alloc, definitions)? {
-        Ok(_) => Ok(None),
-        Err(fault) => Ok(Some(fault)),
-    }
+    fault_of(alloc, whole.as_slice())
 }
 
 /// Reviews each definition.
@@ -162,7 +151,7 @@ fn review_finding(alloc: Global, found: &ReviewFinding) -> Result<Finding, Alloc
     let kind = found.kind;
     Ok(Finding {
         location: found.pointer.clone()?,
-        rule: found.rule.clone()?,
+        rule: String::from_str(alloc, found.rule.as_str())?,
         message: format!(in alloc; "{kind}: {}", found.message)?,
     })
 }

@@ -1,5 +1,5 @@
 -- Old objects by an index.
-use Rattle.kubecel_io.specs.Objects.{IdentityData, identity_of, is_same, old_of}
+use Rattle.kubecel_io.specs.Objects.{IdentityData, identity_of, is_same, first_same}
 use Rattle.kubecel_io.specs.Index.{first_from, has_text, identity_text}
 use Rattle.kubecel_io.specs.Subjects.{subject_view}
 use Rattle.kubecel_io.specs.declared.subject.Subject.{Subject}
@@ -59,10 +59,10 @@ same_text a b e =
 has_the_text : (d o : Data) → is_same (identity_of o) (identity_of d) ≡ true → has_text (identity_text (identity_of d)) o ≡ true
 has_the_text d o e = (bytes_eq-Decides (identity_text (identity_of o)) (identity_text (identity_of d))).1 (same_text (identity_of o) (identity_of d) e)
 
-old_found : (olds : List Data) (d o : Data) → find (has_text (identity_text (identity_of d))) olds ≡ Some o → is_same (identity_of o) (identity_of d) ≡ true → old_of olds d ≡ Some o
+old_found : (olds : List Data) (d o : Data) → find (has_text (identity_text (identity_of d))) olds ≡ Some o → is_same (identity_of o) (identity_of d) ≡ true → first_same olds d ≡ Some o
 old_found olds d o e h = found_by (λ x. is_same (identity_of x) (identity_of d)) (has_text (identity_text (identity_of d))) (has_the_text d) olds o e h
 
-old_nowhere : (olds : List Data) (d : Data) → find (has_text (identity_text (identity_of d))) olds ≡ None → old_of olds d ≡ None
+old_nowhere : (olds : List Data) (d : Data) → find (has_text (identity_text (identity_of d))) olds ≡ None → first_same olds d ≡ None
 old_nowhere olds d e = nowhere_by (λ x. is_same (identity_of x) (identity_of d)) (has_text (identity_text (identity_of d))) (has_the_text d) olds e
 
 -- the object with the number that is found
@@ -91,14 +91,14 @@ no_number k m (d ∷ ds) e = by (has_text k d) refl e (λ g. no_number k (m + 1)
 
 -- by the index: the object whose number it gives, if that has the identity
 pub old_by_number : (olds : List Data) (d o : Data) (k : List ℕ) (n : ℕ) → k ≡ identity_text (identity_of d) → first_from k 0 olds ≡ Some n → slice_get olds n ≡ Some o
-    → is_same (identity_of o) (identity_of d) ≡ true → old_of olds d ≡ Some o
+    → is_same (identity_of o) (identity_of d) ≡ true → first_same olds d ≡ Some o
 old_by_number olds d o k n same e at h =
     let none : n - 0 ≡ n = omega arith in
     let found : find (has_text k) olds ≡ Some o = (at_number k 0 olds n e).1 ∙ ap (slice_get olds) none ∙ at in
     old_found olds d o (subst (λ t. find (has_text t) olds ≡ Some o) same found) h
 
 -- and none, if it gives no number
-pub no_old_by_number : (olds : List Data) (d : Data) (k : List ℕ) → k ≡ identity_text (identity_of d) → first_from k 0 olds ≡ None → old_of olds d ≡ None
+pub no_old_by_number : (olds : List Data) (d : Data) (k : List ℕ) → k ≡ identity_text (identity_of d) → first_from k 0 olds ≡ None → first_same olds d ≡ None
 no_old_by_number olds d k same e = old_nowhere olds d (subst (λ t. find (has_text t) olds ≡ None) same (no_number k 0 olds e))
 
 -- ---- making the index

@@ -2,12 +2,13 @@
 -- The objects in a document, their identities, and the old object that has an object's identity.
 -- Sources: Kubernetes API conventions, "Types (Kinds)" (lists), "Metadata"; Kubernetes
 -- documentation, "API groups and versioning".
+use Rattle.kube_manifests_documents.specs.Definitions.{list_of}
 use Rattle.kubecel_io.specs.Reads.{Found}
 use Rattle.kubecel_io.specs.declared.objects.Identity.{Identity}
 use Rattle.serde_json.specs.Data.{Data, Items, no_items, item}
-use Rattle.serde_json.specs.Find.{get, as_array, as_str}
-use Rattle.std.specs.List.{before_first, ends_with, find, flat_map, position_or_len}
-use Rattle.std.specs.Prelude.{ℕ, ◌==◌, ◌&&◌, List, [], ◌∷◌, map, length, nat_eq, nat_lt, Bool, if◌then◌else◌, Option, None, option_and_then, unwrap_or, codes}
+use Rattle.serde_json.specs.Find.{get, as_str}
+use Rattle.std.specs.List.{before_first, find, flat_map, position_or_len}
+use Rattle.std.specs.Prelude.{ℕ, ◌==◌, ◌&&◌, List, [], ◌∷◌, map, length, nat_lt, Bool, if◌then◌else◌, Option, None, option_and_then, unwrap_or, not, codes}
 use Rattle.std.specs.Option.{option_map_or}
 use Rattle.std.specs.Str.{bytes_eq}
 
@@ -22,19 +23,13 @@ metadata_at key d =
 
 -- ---- lists
 
--- the items of a list: an object whose kind ends in `List`, with an array in `items`
-abbrev pub list_items : Data → Option Items
-list_items d =
-    if ends_with nat_eq (text_at (codes "kind") d) (codes "List")
-    then option_and_then as_array (get (codes "items") d) else None
-
 abbrev pub each_item : Items → List Data
 each_item no_items = []
 each_item (item d ds) = d ∷ each_item ds
 
 -- the objects of a document: its items if it is a list, otherwise the document itself
 abbrev pub objects_in : Data → List Data
-objects_in d = option_map_or each_item (list_items d) (d ∷ [])
+objects_in d = option_map_or each_item (list_of d) (d ∷ [])
 
 -- an object of a document, with the document's file and index
 abbrev pub object_of : Found → Data → Found
@@ -74,9 +69,17 @@ is_same a b =
     bytes_eq a.name b.name && (bytes_eq a.namespace b.namespace
     && (bytes_eq a.kind b.kind && bytes_eq a.group b.group))
 
--- the first of the old objects that has the object's identity
+abbrev pub is_named : IdentityData → Bool
+is_named i = not (length i.name == 0)
+
+-- the first of the old objects that has the object's names
+abbrev pub first_same : List Data → Data → Option Data
+first_same olds d = find (λ o. is_same (identity_of o) (identity_of d)) olds
+
+-- the first of the old objects that has the object's identity; none of an object without a name, which has no identity
+-- until an API server has made one from its generateName
 abbrev pub old_of : List Data → Data → Option Data
-old_of olds d = find (λ o. is_same (identity_of o) (identity_of d)) olds
+old_of olds d = if is_named (identity_of d) then first_same olds d else None
 
 -- ---- views of the code's values
 

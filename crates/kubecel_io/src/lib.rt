@@ -22,4 +22,4 @@ pub use olds::OldObjects;
 pub use sources::{Contents, Document, Sources, Stop, add_items, read_documents, read_files};
 pub use stops::{write_stop, write_stopped};
 pub use subject::Subject;
-pub use subjects::{objects_among, objects_of, old_of, whole_documents};
+pub use subjects::{objects_among, objects_of, whole_documents};

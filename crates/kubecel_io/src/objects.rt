@@ -1,9 +1,9 @@
 //! The objects of a document, and their identities.
-ghost use Rattle.kubecel_io.specs.Objects.{group_in, identity_of, identity_view, is_same, list_items, metadata_at, objects_in, text_at};
-ghost use Rattle.serde_json.specs.View.{items_view, view};
-ghost use Rattle.std.specs.List.{ends_with};
-ghost use Rattle.std.specs.Prelude.{◌≡◌, map, nat_eq, option_map};
+ghost use Rattle.kubecel_io.specs.Objects.{group_in, identity_of, identity_view, is_named, is_same, metadata_at, objects_in, text_at};
+ghost use Rattle.serde_json.specs.View.{view};
+ghost use Rattle.std.specs.Prelude.{◌≡◌, map};
 
+use kube_manifests_documents::list_of;
 use serde_json::Value;
 use std::slice;
 
@@ -59,7 +59,14 @@ impl<'v> Identity<'v> {
         }
     }
 
-    /// Reports whether two identities are those of the same object. The version isn't compared.
+    /// Reports whether the object has a name. Without one it has no identity yet.
+    pub fn is_named(&self) -> bool
+        ensures { result ≡ is_named (identity_view self.now) }
+    {
+        !self.name.is_empty()
+    }
+
+    /// Reports whether the names of two objects are the same. The version isn't compared.
     pub fn is_same(&self, other: &Identity<'_>) -> bool
         ensures { result ≡ is_same (identity_view self.now) (identity_view other.now) }
     {
@@ -70,28 +77,11 @@ impl<'v> Identity<'v> {
     }
 }
 
-fn has_end(text: &str, end: &str) -> bool
-    ensures { result ≡ ends_with nat_eq text.now end.now }
-{
-    text.ends_with(end)
-}
-
-/// The items of a list. `None` if the document isn't one.
-fn list_items(document: &Value) -> Option<&[Value]>
-    ensures { option_map (λ v. items_view v.now) result ≡ list_items (view document.now) }
-{
-    if has_end(text_at(document, "kind"), "List") {
-        Some(document.get("items")?.as_array()?.as_slice())
-    } else {
-        None
-    }
-}
-
 /// Returns the objects of a document: the items if it is a list, otherwise the document itself.
 pub fn objects_in(document: &Value) -> &[Value]
     ensures { map view result.now ≡ objects_in (view document.now) }
 {
-    match list_items(document) {
+    match list_of(document) {
         Some(items) => items,
         None => slice::from_ref(document),
     }

@@ -1,13 +1,13 @@
 //! Finds old objects by their identity, in a time that hardly grows with their number.
 ghost use Rattle.kubecel_io.specs.Index.{IsIndex, identity_text};
-ghost use Rattle.kubecel_io.specs.Objects.{identity_view, old_of};
+ghost use Rattle.kubecel_io.specs.Objects.{first_same, identity_view, old_of};
 ghost use Rattle.kubecel_io.specs.Subjects.{subject_view};
 ghost use Rattle.serde_json.specs.View.{view};
 ghost use Rattle.std.specs.Prelude.{◌≡◌, IfOk, map, option_map, string_bytes};
 
 use crate::objects::Identity;
 use crate::subject::Subject;
-use crate::subjects::old_of;
+use crate::subjects::first_same;
 use serde_json::Value;
 use std::alloc::{AllocError, Global};
 use std::collections::BTreeMap;
@@ -62,6 +62,22 @@ impl<'o, 'd> OldObjects<'o, 'd> {
         ensures { IfOk result (λ o. option_map (λ v. view v.now) o
             ≡ old_of (map (λ f. f.value) (map subject_view self.now.objects.now)) (subject_view subject.now).value) }
     {
+        if subject.identity.is_named() {
+            self.first_same(alloc, subject)
+        } else {
+            Ok(None)
+        }
+    }
+
+    /// Returns the first of the old objects that has the subject's names, if any.
+    fn first_same(
+        &self,
+        alloc: Global,
+        subject: &Subject<'_>,
+    ) -> Result<Option<&'d Value>, AllocError>
+        ensures { IfOk result (λ o. option_map (λ v. view v.now) o
+            ≡ first_same (map (λ f. f.value) (map subject_view self.now.objects.now)) (subject_view subject.now).value) }
+    {
         let text = identity_text(alloc, &subject.identity)?;
         let Some(number) = self.index.get(text.as_str()) else {
             return Ok(None);
@@ -69,7 +85,7 @@ impl<'o, 'd> OldObjects<'o, 'd> {
         match self.objects.get(*number) {
             Some(old) if old.identity.is_same(&subject.identity) => Ok(Some(old.value)),
             // another identity with the same text
-            Some(_) | None => Ok(old_of(self.objects, subject)),
+            Some(_) | None => Ok(first_same(self.objects, subject)),
         }
     }
 }

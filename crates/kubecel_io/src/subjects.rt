@@ -1,5 +1,5 @@
 //! Lists the objects of documents.
-ghost use Rattle.kubecel_io.specs.Objects.{all_objects, object_of, objects_in, old_of};
+ghost use Rattle.kubecel_io.specs.Objects.{all_objects, first_same, object_of, objects_in};
 ghost use Rattle.kubecel_io.specs.Reads.{document_view};
 ghost use Rattle.kubecel_io.specs.Subjects.{subject_view};
 ghost use Rattle.serde_json.specs.View.{view};
@@ -81,10 +81,10 @@ fn add_objects<'d>(
     Ok(())
 }
 
-/// Returns the first of the old objects that has the subject's identity, if any.
-pub fn old_of<'d>(olds: &[Subject<'d>], subject: &Subject<'_>) -> Option<&'d Value>
+/// Returns the first of the old objects that has the subject's names, if any.
+pub(crate) fn first_same<'d>(olds: &[Subject<'d>], subject: &Subject<'_>) -> Option<&'d Value>
     ensures { option_map (λ v. view v.now) result
-        ≡ old_of (map (λ f. f.value) (map subject_view olds.now)) (subject_view subject.now).value }
+        ≡ first_same (map (λ f. f.value) (map subject_view olds.now)) (subject_view subject.now).value }
 {
     for old in olds {
         if old.identity.is_same(&subject.identity) {

@@ -1,5 +1,5 @@
 use Rattle.kubecel_check.proofs.errors.any_of_double.Given as goal
-use Rattle.kube_cel_walk.specs.Errors.{error_view}
+use Rattle.kube_cel.specs.Errors.{error_view}
 use Rattle.kubecel_check.specs.Judgements.{is_of_double}
 use Rattle.std.proofs.Common.{◌≡◌, drop, map}
 use Rattle.std.specs.List.{list_any}

@@ -1,5 +1,5 @@
 use Rattle.kubecel_check.proofs.errors.any_other.Given as goal
-use Rattle.kube_cel_walk.specs.Errors.{error_view}
+use Rattle.kube_cel.specs.Errors.{error_view}
 use Rattle.kubecel_check.specs.Judgements.{any_other}
 use Rattle.std.proofs.Common.{◌≡◌, drop, map}
 

@@ -1,5 +1,5 @@
 use Rattle.kubecel_check.proofs.errors.error_findings.Given as goal
-use Rattle.kube_cel_walk.specs.Errors.{error_view}
+use Rattle.kube_cel.specs.Errors.{error_view}
 use Rattle.kubecel_report.specs.Items.{finding_view}
 use Rattle.kubecel_check.specs.Judgements.{error_finding}
 use Rattle.std.proofs.Common.{◌≡◌, map, take}

@@ -10,5 +10,5 @@ returns-then-not-is_defined c =
 
 pub returns : goal.returns
 returns c =
-    is_where_defined c.args.held.now c.insert_path.new.paths (set_view c.args.set.now) (subject_view c.args.old.now) c.insert_path.result (sym c.is_defined.ensures ∙ c.if-not-is_defined.false)
-    c.insert_path.ensures.added
+    is_where_defined c.args.held.now c.insert_text.new.texts (set_view c.args.set.now) (subject_view c.args.old.now) c.insert_text.result (sym c.is_defined.ensures ∙ c.if-not-is_defined.false)
+    c.insert_text.ensures.added

@@ -1,4 +1,4 @@
-use Rattle.kube_manifests_admission.specs.Inputs.{inputs_view}
+use Rattle.kube_manifests.specs.Inputs.{inputs_view}
 use Rattle.kubecel_report.specs.Items.{item_view}
 use Rattle.kubecel_cli.proofs.Admitting.{judged_so, reported_of_file}
 use Rattle.kubecel_cli.proofs.admit.admitted.Goals as goal

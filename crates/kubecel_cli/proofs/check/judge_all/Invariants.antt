@@ -1,5 +1,5 @@
-use Rattle.cel_patterns.specs.Book.{Book, Extends}
-use Rattle.cel_patterns.specs.Entries.{entries_of}
+use Rattle.cel.specs.Book.{Book, Extends}
+use Rattle.cel.specs.Entries.{entries_of}
 use Rattle.kubecel_check.specs.Judgements.{IsJudgedBy}
 use Rattle.kubecel_cli.proofs.check.judge_all.Given as goal
 use Rattle.kubecel_cli.specs.Runs.{AreItems}

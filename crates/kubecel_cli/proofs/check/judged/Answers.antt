@@ -1,6 +1,6 @@
 use Rattle.kube_manifests.specs.Sets.{set_view}
 use Rattle.kubecel_check.specs.Definitions.{IsSetOf, passed_over}
-use Rattle.kubecel_check.specs.Judgements.{passed_over_item}
+use Rattle.kubecel_check.specs.Judgements.{AreUsable, passed_over_item}
 use Rattle.kubecel_check.specs.Objects.{AreCompared, AreDefined, AreSome, holds_object}
 use Rattle.kubecel_io.specs.Objects.{all_objects}
 use Rattle.kubecel_io.specs.Subjects.{subject_view}
@@ -27,7 +27,8 @@ returns g c = λ none.
     let same_olds : indexed ≡ earlier = c.in_ok-indexed.ensures ∙ c.as_slice-4.ensures.value in
     let of = subst (λ ds. IsSetOf (map subject_view ds) set) c.as_slice.ensures.value c.in_ok-set.ensures in
     let some = subst (λ ss. AreSome asked.allows_none (map subject_view ss)) c.as_slice-2.ensures.value c.in_ok-refuse_unless_some.ensures in
-    let held = subst (λ os. list_all (holds_object (set_view set) (map subject_view os)) asked.olds ≡ true) c.as_slice-3.ensures.value c.in_ok-refuse_unless_held.ensures in
+    let held = subst (λ os. list_all (holds_object (set_view set) (map subject_view os)) asked.olds ≡ true) c.as_slice-3.ensures.value c.in_ok-refuse_unless_useful.ensures.held in
+    let usable = subst (λ os. AreUsable ignores (set_view set) (map subject_view os)) c.as_slice-3.ensures.value c.in_ok-refuse_unless_useful.ensures.usable in
     let with_olds = subst (λ os. AreCompared asked.olds (map (λ f. f.value) (map subject_view os)) (map subject_view c.as_slice-5.result.now)) same_olds c.in_ok-refuse_unless_compared.ensures in
     let compared = subst (λ ss. AreCompared asked.olds (map (λ f. f.value) (map subject_view earlier)) (map subject_view ss)) c.as_slice-5.ensures.value with_olds in
     let defined = subst (λ ss. AreDefined ignores asked.allows_none (set_view set) (map subject_view ss)) c.as_slice-6.ensures.value c.in_ok-refuse_unless_defined.ensures in
@@ -46,4 +47,4 @@ returns g c = λ none.
     (AreBehind ps (AreJudgedBySet ignores set (map (λ f. f.value) (map subject_view earlier)) (map subject_view subjects))) items)
     c.in_ok-passed.ensures by_unread in
     judged_so asked items crds (map subject_view c.args.olds.now) (map subject_view c.args.objects.now) set (map subject_view definitions) (map subject_view earlier) (map subject_view subjects)
-    c.in_ok-definitions.ensures of c.in_ok-earlier.ensures c.in_ok-subjects.ensures some held compared defined judged
+    c.in_ok-definitions.ensures of c.in_ok-earlier.ensures c.in_ok-subjects.ensures some held usable compared defined judged

@@ -1,6 +1,5 @@
 use Rattle.kubecel_cli.proofs.place.Entries.find_in.Given as goal
-use Rattle.kube_manifests.specs.Lists.{first_at}
-use Rattle.kube_manifests_index.specs.Positions.{position_at}
+use Rattle.kube_manifests.specs.Positions.{first_at, position_at}
 use Rattle.kubecel_cli.specs.Reports.{expressions_view, is_labelled}
 use Rattle.serde_json.specs.View.{view}
 use Rattle.std.proofs.Common.{◌≡◌, ℕ, List, [], map, take}

@@ -1,4 +1,4 @@
-use Rattle.kube_manifests.proofs.Firsts.{found_at_first, lent_at}
+use Rattle.kube_manifests_texts.proofs.Firsts.{found_at_first, lent_at}
 use Rattle.kubecel_cli.proofs.place.Entries.first_of.Goals as goal
 use Rattle.kubecel_cli.specs.Reports.{expressions_view, is_labelled}
 use Rattle.serde_json.specs.View.{view}

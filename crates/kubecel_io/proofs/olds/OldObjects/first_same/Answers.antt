@@ -1,5 +1,5 @@
 use Rattle.kubecel_io.proofs.Indexed.{no_old_by_number, old_by_number, value_at}
-use Rattle.kubecel_io.proofs.olds.OldObjects.old_of.Goals as goal
+use Rattle.kubecel_io.proofs.olds.OldObjects.first_same.Goals as goal
 use Rattle.kubecel_io.specs.Index.{identity_text}
 use Rattle.kubecel_io.specs.Objects.{identity_of, identity_view, is_same}
 use Rattle.kubecel_io.specs.Subjects.{subject_view}
