@@ -1,0 +1,5 @@
+pub mod Tree
+pub mod Placed
+pub mod Grammar
+pub mod Machine
+pub mod Depth

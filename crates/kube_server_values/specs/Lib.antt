@@ -1,0 +1,7 @@
+pub mod Limits
+pub mod Optionals
+pub mod Selections
+pub mod Pairs
+pub mod Maps
+pub mod Types
+pub mod Bools
