@@ -1,7 +1,7 @@
 //! Answers questions about the CEL names of fields.
 
 use conformance_rows::{Field, Found, Output, Stop};
-use kube_schema_values::{escape_field_name, unescape_field_name};
+use kube_schema::{escape_field_name, unescape_field_name};
 use std::alloc::Global;
 
 /// Writes a field's CEL name, and checks that unescaping gives the field back.

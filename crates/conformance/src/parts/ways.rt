@@ -5,7 +5,7 @@ use cel::{Answer, Context, Functions, PatternBook, Program, StandardFunctions, V
 use conformance_rows::keys::bound_name;
 use conformance_rows::{Field, Found, Output, Stop, given};
 use kube_functions::{Context as KubeContext, KubeCelExt};
-use kube_schema_values::bind_plain;
+use kube_schema::bind_plain;
 use std::alloc::Global;
 use std::rc::Rc;
 
