@@ -1,5 +1,6 @@
 -- Added rules leave all other errors as they were.
 use Rattle.cel.specs.Book.{Book}
+use Rattle.cel.specs.Bindings.{Bindings}
 use Rattle.kube_cel.proofs.AddedKept.{same_at}
 use Rattle.kube_cel.proofs.AddedParts.{added, at_key}
 use Rattle.kube_cel.proofs.Marks.{Marked, marked_steps, as_is, as_was, bound_alike, filled_alike, leads_is, leads_left, leads_was, places_are, places_were}
@@ -18,26 +19,26 @@ use Rattle.kube_schema.specs.Visit.{Root, Visit, candidates, goes, root_visit}
 use Rattle.kube_schema.specs.Step.{Step}
 use Rattle.kube_schema.specs.Walk.{answers, if_some, leads, places}
 use Rattle.kube_cel.specs.Visits.{with_node_of}
-use Rattle.kube_cel_walk.specs.Verdicts.{list_of_option, verdict, with_old, with_root}
+use Rattle.kube_cel_walk.specs.Verdicts.{list_of_option, optional_old_at, verdict, with_old, with_root}
 use Rattle.kube_cel_walk.specs.Answers.{answer, bound_at, place_bindings, rule_verdicts, verdicts}
 use Rattle.kube_schema.specs.Conversion.{levels}
-use Rattle.kube_schema.specs.Compilation.{Compiled, Malformed, compiled_rule, compiled_rules}
+use Rattle.kube_schema.specs.Compilation.{Compiled, Malformed, compiled_rule, compiled_rules, compiled_rules_by}
 use Rattle.kube_schema.specs.Rules.{rule_items}
 use Rattle.serde_json.specs.Data.{Data, null, boolean, number, string, array, object, Items, no_items, item}
 use Rattle.serde_json.specs.Find.{as_array, get}
-use Rattle.std.proofs.Common.{◌≡◌, ◌==◌, List, [], ◌∷◌, ◌++◌, Bool, true, false, if◌then◌else◌, Option, Some, None, option_map, option_and_then, unwrap_or, is_some, codes, refl, sym, ap, subst, ◌∙◌, append-nil, Result}
+use Rattle.std.proofs.Common.{◌≡◌, ◌==◌, List, [], ◌∷◌, ◌++◌, Bool, true, false, if◌then◌else◌, Option, Some, None, option_map, option_and_then, unwrap_or, is_some, codes, refl, sym, ap, subst, ◌∙◌, append-nil, Result, Ok, Err}
 use Rattle.std.proofs.lemmas.List.Concat.{flat_map-append}
 use Rattle.std.specs.List.{flat_map}
 
 -- ---- rules
 
 all_compiled : (ds more : Items) → compiled_rules (all_items ds more) ≡ compiled_rules ds ++ compiled_rules more
-unfolding compiled_rules
+unfolding compiled_rules_by
 all_compiled no_items more = refl
 all_compiled (item d ds) more = ap (λ rs. compiled_rule d ∷ rs) (all_compiled ds more)
 
 rules_behind : (more : Items) (d : Data) → compiled_rules (rule_items (with_rules more [] d)) ≡ compiled_rules (rule_items d) ++ added_rules more d
-unfolding rule_items compiled_rules
+unfolding rule_items compiled_rules_by
 rules_behind more d = ap (λ o. compiled_rules (unwrap_or (option_and_then as_array o) no_items)) (at_key more (codes "x-kubernetes-validations") [] d) ∙ by (get (codes "x-kubernetes-validations") d)
   where
     by : (o : Option Data) → compiled_rules (unwrap_or (option_and_then as_array (option_map (with_items more) o)) no_items)
@@ -79,13 +80,23 @@ module _ (b : Book) (more : Items) where
 
   -- the errors of a rule at a visit
   reported : Visit Data → Result Compiled Malformed → List ErrorData
-  reported s q = list_of_option (verdict b (place_bindings raw_accessors s) s.old s.path q)
+  reported s q = list_of_option (verdict raw_accessors b (place_bindings raw_accessors s) s q)
+
+  -- a rule has the same verdict whatever the node is, under the same bindings
+  verdict_moved : (r : Option (List NodeStep)) (s : Visit Data) (e : Bindings) (q : Result Compiled Malformed) → verdict raw_accessors b e (with_node_of (added more r) s) q ≡ verdict raw_accessors b e s q
+  unfolding verdict raw_accessors optional_old_at
+  verdict_moved r s e (Err m) = refl
+  verdict_moved r s e (Ok c) = refl
 
   -- the bindings are the same, whatever the rules
   same_reported : (r : Option (List NodeStep)) (s : Visit Data)
       → rule_verdicts raw_accessors b (place_bindings raw_accessors (with_node_of (added more r) s)) (with_node_of (added more r) s) ≡ flat_map (reported s) (compiled_rules (rule_items (added more r s.node)))
   unfolding rule_verdicts raw_accessors reported
-  same_reported r s = ap (λ e. flat_map (λ q. list_of_option (verdict b e s.old s.path q)) (compiled_rules (rule_items (added more r s.node)))) (bindings_alike r s)
+  same_reported r s =
+      let t = with_node_of (added more r) s in
+      let e = place_bindings raw_accessors t in
+      flat_map_same (λ q. list_of_option (verdict raw_accessors b e t q)) (λ q. list_of_option (verdict raw_accessors b e s q)) (λ q. ap list_of_option (verdict_moved r s e q)) (compiled_rules (rule_items (added more r s.node)))
+      ∙ ap (λ e. flat_map (λ q. list_of_option (verdict raw_accessors b e s q)) (compiled_rules (rule_items (added more r s.node)))) (bindings_alike r s)
 
   -- the rules of a node, followed by the added ones if it is the node that gets them
   all_reported : (r : Option (List NodeStep)) (s : Visit Data)
@@ -110,7 +121,7 @@ module _ (b : Book) (more : Items) where
   unless_deep false r deep after before here e = e
 
   verdicts_added : (r : Option (List NodeStep)) (s : Visit Data) → verdicts raw_accessors b (with_node_of (added more r) s) ≡ verdicts raw_accessors b s ++ if_there r (added_verdicts b more s)
-  unfolding verdicts added_verdicts reported
+  unfolding verdicts added_verdicts reported raw_accessors
   verdicts_added r s =
       unless_deep (s.depth == 65) r (too_deep s.path ∷ []) _ (rule_verdicts raw_accessors b (place_bindings raw_accessors s) s) (flat_map (reported s) (added_rules more s.node)) (rules_reported r s)
 

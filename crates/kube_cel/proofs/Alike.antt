@@ -11,12 +11,14 @@ use Rattle.kube_cel.proofs.Same.{tree_answers}
 use Rattle.kube_cel.specs.Visits.{with_node_of}
 use Rattle.kube_cel_walk.specs.declared.root.RootContext.{RootContext}
 use Rattle.kube_cel_walk.specs.Roots.{root_view}
-use Rattle.kube_cel_walk.specs.Verdicts.{list_of_option, verdict, with_old, with_root}
+use Rattle.kube_cel_walk.specs.Verdicts.{list_of_option, optional_old_at, verdict, with_old, with_root}
 use Rattle.kube_cel_walk.specs.Answers.{bound_at, place_bindings, rule_verdicts, verdicts, answer}
 use Rattle.kube_schema.specs.Conversion.{to_cel}
 use Rattle.kube_schema.specs.Conversion as accessors
 use Rattle.kube_schema.specs.Defaults.{defaulted_value}
-use Rattle.kube_schema.specs.Compilation.{compiled_rules}
+use Rattle.cel.specs.Bindings.{Bindings}
+use Rattle.kube_schema_rules.proofs.Found.{flat_map_same}
+use Rattle.kube_schema.specs.Compilation.{Compiled, Malformed, compiled_rules}
 use Rattle.kube_schema.specs.Rules.{rule_items}
 use Rattle.kube_schema.proofs.SameDefaults.{filled_same}
 use Rattle.kube_schema.specs.CompiledDefaults as tree_fill
@@ -30,7 +32,7 @@ use Rattle.kube_schema.specs.CompiledConversion as tree_conversion
 use Rattle.serde_json.specs.Data.{Data}
 use Rattle.serde_json.specs.declared.value.Value.{Value}
 use Rattle.serde_json.specs.View.{view}
-use Rattle.std.proofs.Common.{Bor, ◌≡◌, ◌+◌, ◌-◌, ◌==◌, ℕ, zero, suc, [], ◌∷◌, true, Option, Some, None, option_map, codes, if◌then◌else◌, refl, sym, ap, ◌∙◌, arith}
+use Rattle.std.proofs.Common.{Bor, ◌≡◌, ◌+◌, ◌-◌, ◌==◌, ℕ, zero, suc, [], ◌∷◌, true, Option, Some, None, option_map, Result, Ok, Err, codes, if◌then◌else◌, refl, sym, ap, ◌∙◌, arith}
 use Rattle.std.proofs.lemmas.Bool.Decides.{nat_tests}
 use Rattle.std.specs.List.{flat_map}
 
@@ -56,8 +58,14 @@ bindings_alike n s e = λ i. with_root s.root (with_old (old_alike n s s.old e i
 
 -- ---- errors
 
+-- one rule
+same_verdict : (b : Book) (n : ℕ) (s : Visit Data) (e : Bindings) (r : Result Compiled Malformed) → verdict raw_accessors b e s r ≡ verdict compiled_accessors b e (with_node_of (view_of n) s) r
+unfolding verdict raw_accessors compiled_accessors optional_old_at
+same_verdict b n s e (Err m) = refl
+same_verdict b n s e (Ok c) = refl
+
 deep_alike : (b : Book) (s : Visit Data) (t : Visit Node) → s.path ≡ t.path → (s.depth == 65) ≡ true → (t.depth == 65) ≡ true → verdicts raw_accessors b s ≡ verdicts compiled_accessors b t
-unfolding verdicts
+unfolding verdicts raw_accessors compiled_accessors
 deep_alike b s t p d e =
     ap (λ d. if d then too_deep s.path ∷ [] else rule_verdicts raw_accessors b (place_bindings raw_accessors s) s) d
     ∙ ap (λ p. too_deep p ∷ []) p
@@ -66,10 +74,14 @@ deep_alike b s t p d e =
 rules_alike : (n : ℕ) (b : Book) (s : Visit Data) → s.depth + suc n ≡ 65 → rule_verdicts raw_accessors b (place_bindings raw_accessors s) s
     ≡ rule_verdicts compiled_accessors b (place_bindings compiled_accessors (with_node_of (view_of (suc n)) s)) (with_node_of (view_of (suc n)) s)
 unfolding rule_verdicts raw_accessors compiled_accessors view_of children_view own_view
-rules_alike n b s e = λ i. flat_map (λ r. list_of_option (verdict b (bindings_alike (suc n) s e i) s.old s.path r)) (compiled_rules (rule_items s.node))
+rules_alike n b s e =
+    let t = with_node_of (view_of (suc n)) s in
+    let bindings = place_bindings compiled_accessors t in
+    (λ i. flat_map (λ r. list_of_option (verdict raw_accessors b (bindings_alike (suc n) s e i) s r)) (compiled_rules (rule_items s.node)))
+    ∙ flat_map_same (λ r. list_of_option (verdict raw_accessors b bindings s r)) (λ r. list_of_option (verdict compiled_accessors b bindings t r)) (λ r. ap list_of_option (same_verdict b (suc n) s bindings r)) (compiled_rules (rule_items s.node))
 
 verdicts_alike : (b : Book) (n : ℕ) (s : Visit Data) → s.depth + n ≡ 65 → verdicts raw_accessors b s ≡ verdicts compiled_accessors b (with_node_of (view_of n) s)
-unfolding verdicts
+unfolding verdicts raw_accessors compiled_accessors
 verdicts_alike b zero s e =
     let d : (s.depth == 65) ≡ true = grind (arith, nat_tests, e) in
     deep_alike b s (with_node_of (view_of 0) s) refl d d

@@ -51,6 +51,8 @@ marked_steps = record {
   additional_property = λ m. option_map (marked (behind (step.additional_property []) m)) (raw_steps.additional_property m.0);
   branch_count = λ kind m. raw_steps.branch_count kind m.0;
   branch = λ kind i m. option_map (marked (behind (step.branch kind i) m)) (raw_steps.branch kind i m.0);
+  old_member = λ k m old. raw_steps.old_member k m.0 old;
+  old_item = λ i m value old. raw_steps.old_item i m.0 value old;
 }
 
 unfoldable pub marked_fill : fill.DefaultsAccessors Marked
@@ -82,6 +84,8 @@ walk_was m = record {
   additional_property = was (behind (step.additional_property []) m) (raw_steps.additional_property m.0);
   branch_count = λ kind. refl;
   branch = λ kind i. was (behind (step.branch kind i) m) (raw_steps.branch kind i m.0);
+  old_member = λ k old. refl;
+  old_item = λ i value old. refl;
 }
 
 fill_was : (m : Marked) → filling.Alike marked_fill fill.raw as_was m m.0
@@ -139,6 +143,8 @@ module _ (more : Items) where
     additional_property = is (behind (step.additional_property []) m) (raw_steps.additional_property m.0) ∙ sym (undeclared_added more [] m.1 m.0);
     branch_count = λ kind. sym (counts_added more kind m.1 m.0);
     branch = λ kind i. is (behind (step.branch kind i) m) (raw_steps.branch kind i m.0) ∙ sym (branch_added more kind i m.1 m.0);
+    old_member = λ k old. refl;
+    old_item = λ i value old. refl;
   }
 
   additional_is : (m : Marked) → option_map as_is (marked_fill.additional m) ≡ fill.raw.additional (as_is m)
@@ -219,11 +225,11 @@ additional_left d path q r None o value old u e = further_left None d path r o v
 
 goes_left : (p : step.Step) (s u : Visit Marked) → goes marked_steps p s ≡ Some u → u.node.1 ≡ behind p s.node
 unfolding goes marked_steps
-goes_left (step.property k) s u e = further_left None s.depth (member_path s.path k) (behind (step.property k) s.node) (raw_steps.property k s.node.0) (get k s.value) (option_and_then (get k) s.old) u e
+goes_left (step.property k) s u e = further_left None s.depth (member_path s.path k) (behind (step.property k) s.node) (raw_steps.property k s.node.0) (get k s.value) (option_and_then (raw_steps.old_member k s.node.0) s.old) u e
 goes_left (step.item i) s u e =
-    further_left None s.depth (item_path s.path i) (behind (step.item 0) s.node) (raw_steps.items s.node.0) (at i s.value) (option_and_then (at i) s.old) u e ∙ one_item 0 i s.node.1
+    further_left None s.depth (item_path s.path i) (behind (step.item 0) s.node) (raw_steps.items s.node.0) (at i s.value) (option_and_then (raw_steps.old_item i s.node.0 s.value) s.old) u e ∙ one_item 0 i s.node.1
 goes_left (step.additional_property k) s u e =
-    additional_left s.depth (member_path s.path k) (behind (step.property k) s.node) (behind (step.additional_property []) s.node) (raw_steps.property k s.node.0) (raw_steps.additional_property s.node.0) (get k s.value) (option_and_then (get k) s.old) u e
+    additional_left s.depth (member_path s.path k) (behind (step.property k) s.node) (behind (step.additional_property []) s.node) (raw_steps.property k s.node.0) (raw_steps.additional_property s.node.0) (get k s.value) (option_and_then (raw_steps.old_member k s.node.0) s.old) u e
     ∙ one_additional_property [] k s.node.1
 goes_left (step.branch kind i) s u e = further_left s.root s.depth s.path (behind (step.branch kind i) s.node) (raw_steps.branch kind i s.node.0) (Some s.value) s.old u e
 

@@ -63,22 +63,39 @@ module _ {S : Type 0} (accessors : ConversionAccessors S) (n : ℕ) (node p : S)
 
 -- ---- forms in which the walk and the binding read the same nodes
 
-pub record SeesAlike {S : Type 0} (form : WalkAccessors S) : Type 0 where
-  pub property : (k : List ℕ) (node : S) → form.steps.property k node ≡ form.conversion.property k node
-  pub items : (node : S) → form.steps.items node ≡ form.conversion.items node
-  pub additional : (node p : S) → form.steps.additional_property node ≡ Some p → form.conversion.additional node ≡ Some p
+pub record SeesAlike {S : Type 0} (form : WalkAccessors S) (conversion : ConversionAccessors S) : Type 0 where
+  pub property : (k : List ℕ) (node : S) → form.steps.property k node ≡ conversion.property k node
+  pub items : (node : S) → form.steps.items node ≡ conversion.items node
+  pub additional : (node p : S) → form.steps.additional_property node ≡ Some p → conversion.additional node ≡ Some p
+  pub old_member : (k : List ℕ) (node : S) (old : Data) → form.steps.old_member k node old ≡ get k old
+  pub old_item : (i : ℕ) (node : S) (value old : Data) → form.steps.old_item i node value old ≡ at i old
+  pub bound : (depth : ℕ) (node : S) (value : Data) → form.bound depth node value ≡ to_cel conversion (65 - depth) node value
 
 unless_kept : {S : Type 0} (kept : Bool) (o : Option S) (p : S) → (if kept then None else o) ≡ Some p → o ≡ Some p
 unless_kept true o p e = cc
 unless_kept false o p e = e
 
-pub raw_sees_alike : SeesAlike raw_accessors
+pub raw_sees_alike : SeesAlike raw_accessors raw
 unfolding raw_accessors raw_steps raw declared_property undeclared_property property_of items_of additional_of
-raw_sees_alike = record { property = λ k node. refl; items = λ node. refl; additional = λ node p e. unless_kept (unwrap_or (option_and_then as_bool (get (codes "x-kubernetes-preserve-unknown-fields") node)) false) (additional_of node) p e }
+raw_sees_alike = record {
+  property = λ k node. refl;
+  items = λ node. refl;
+  additional = λ node p e. unless_kept (unwrap_or (option_and_then as_bool (get (codes "x-kubernetes-preserve-unknown-fields") node)) false) (additional_of node) p e;
+  old_member = λ k node old. refl;
+  old_item = λ i node value old. refl;
+  bound = λ depth node value. refl;
+}
 
-pub tree_sees_alike : SeesAlike compiled_accessors
+pub tree_sees_alike : SeesAlike compiled_accessors tree_accessors
 unfolding compiled_accessors compiled_steps tree_accessors
-tree_sees_alike = record { property = λ k node. refl; items = λ node. refl; additional = λ node p e. unless_kept (own node).preserves (tree.additional_of node) p e }
+tree_sees_alike = record {
+  property = λ k node. refl;
+  items = λ node. refl;
+  additional = λ node p e. unless_kept (own node).preserves (tree.additional_of node) p e;
+  old_member = λ k node old. refl;
+  old_item = λ i node value old. refl;
+  bound = λ depth node value. refl;
+}
 
 -- ---- one step of a walk
 
@@ -101,90 +118,90 @@ undeclared : {S : Type 0} (a b : Option S) (p : S) → unless_there a b ≡ Some
 undeclared None b p e = (refl, e)
 undeclared (Some s) b p e = cc
 
-module _ {S : Type 0} (form : WalkAccessors S) (alike : SeesAlike form) where
-  declared_node : (k : List ℕ) (node p : S) → form.steps.property k node ≡ Some p → member_node form.conversion node k ≡ Some p
-  declared_node k node p e = ap (λ o. or_else o (form.conversion.additional node)) (sym (alike.property k node) ∙ e)
+module _ {S : Type 0} (form : WalkAccessors S) (conversion : ConversionAccessors S) (alike : SeesAlike form conversion) where
+  declared_node : (k : List ℕ) (node p : S) → form.steps.property k node ≡ Some p → member_node conversion node k ≡ Some p
+  declared_node k node p e = ap (λ o. or_else o (conversion.additional node)) (sym (alike.property k node) ∙ e)
 
-  undeclared_node : (k : List ℕ) (node p : S) → unless_there (form.steps.property k node) (form.steps.additional_property node) ≡ Some p → member_node form.conversion node k ≡ Some p
+  undeclared_node : (k : List ℕ) (node p : S) → unless_there (form.steps.property k node) (form.steps.additional_property node) ≡ Some p → member_node conversion node k ≡ Some p
   undeclared_node k node p e =
       let u = undeclared (form.steps.property k node) (form.steps.additional_property node) p e in
-      ap (λ o. or_else o (form.conversion.additional node)) (sym (alike.property k node) ∙ u.0) ∙ alike.additional node p u.1
+      ap (λ o. or_else o (conversion.additional node)) (sym (alike.property k node) ∙ u.0) ∙ alike.additional node p u.1
 
   -- with the levels that apply there, one fewer after each step
   value_part : (p : Step) (s t : Visit S) (n : ℕ) → is_branch p ≡ false → goes form.steps p s ≡ Some t
-      → part_at form s.node p (to_cel form.conversion (suc n) s.node s.value) ≡ Ok (to_cel form.conversion n t.node t.value)
+      → part_at form conversion s.node p (to_cel conversion (suc n) s.node s.value) ≡ Ok (to_cel conversion n t.node t.value)
   unfolding goes
   value_part (property k) s t n b e =
-      let r = reached None s.depth (member_path s.path k) (form.steps.property k s.node) (get k s.value) (option_and_then (get k) s.old) t e in
-      member_part form.conversion n s.node t.node k s.value t.value (declared_node k s.node t.node r.node_there) r.value_there
+      let r = reached None s.depth (member_path s.path k) (form.steps.property k s.node) (get k s.value) (option_and_then (form.steps.old_member k s.node) s.old) t e in
+      member_part conversion n s.node t.node k s.value t.value (declared_node k s.node t.node r.node_there) r.value_there
   value_part (item i) s t n b e =
-      let r = reached None s.depth (item_path s.path i) (form.steps.items s.node) (at i s.value) (option_and_then (at i) s.old) t e in
-      item_part form.conversion n s.node t.node i s.value t.value (sym (alike.items s.node) ∙ r.node_there) r.value_there
+      let r = reached None s.depth (item_path s.path i) (form.steps.items s.node) (at i s.value) (option_and_then (form.steps.old_item i s.node s.value) s.old) t e in
+      item_part conversion n s.node t.node i s.value t.value (sym (alike.items s.node) ∙ r.node_there) r.value_there
   value_part (additional_property k) s t n b e =
-      let r = reached None s.depth (member_path s.path k) (unless_there (form.steps.property k s.node) (form.steps.additional_property s.node)) (get k s.value) (option_and_then (get k) s.old) t e in
-      member_part form.conversion n s.node t.node k s.value t.value (undeclared_node k s.node t.node r.node_there) r.value_there
+      let r = reached None s.depth (member_path s.path k) (unless_there (form.steps.property k s.node) (form.steps.additional_property s.node)) (get k s.value) (option_and_then (form.steps.old_member k s.node) s.old) t e in
+      member_part conversion n s.node t.node k s.value t.value (undeclared_node k s.node t.node r.node_there) r.value_there
   value_part (branch kind j) s t n b e = cc
 
   old_part : (p : Step) (s t : Visit S) (n : ℕ) (o q : Data) → is_branch p ≡ false → goes form.steps p s ≡ Some t → s.old ≡ Some o → t.old ≡ Some q
-      → part_at form s.node p (to_cel form.conversion (suc n) s.node o) ≡ Ok (to_cel form.conversion n t.node q)
+      → part_at form conversion s.node p (to_cel conversion (suc n) s.node o) ≡ Ok (to_cel conversion n t.node q)
   unfolding goes
   old_part (property k) s t n o q b e before after =
-      let r = reached None s.depth (member_path s.path k) (form.steps.property k s.node) (get k s.value) (option_and_then (get k) s.old) t e in
-      member_part form.conversion n s.node t.node k o q (declared_node k s.node t.node r.node_there) (sym (ap (option_and_then (get k)) before) ∙ r.old_there ∙ after)
+      let r = reached None s.depth (member_path s.path k) (form.steps.property k s.node) (get k s.value) (option_and_then (form.steps.old_member k s.node) s.old) t e in
+      member_part conversion n s.node t.node k o q (declared_node k s.node t.node r.node_there) (sym (alike.old_member k s.node o) ∙ sym (ap (option_and_then (form.steps.old_member k s.node)) before) ∙ r.old_there ∙ after)
   old_part (item i) s t n o q b e before after =
-      let r = reached None s.depth (item_path s.path i) (form.steps.items s.node) (at i s.value) (option_and_then (at i) s.old) t e in
-      item_part form.conversion n s.node t.node i o q (sym (alike.items s.node) ∙ r.node_there) (sym (ap (option_and_then (at i)) before) ∙ r.old_there ∙ after)
+      let r = reached None s.depth (item_path s.path i) (form.steps.items s.node) (at i s.value) (option_and_then (form.steps.old_item i s.node s.value) s.old) t e in
+      item_part conversion n s.node t.node i o q (sym (alike.items s.node) ∙ r.node_there) (sym (alike.old_item i s.node s.value o) ∙ sym (ap (option_and_then (form.steps.old_item i s.node s.value)) before) ∙ r.old_there ∙ after)
   old_part (additional_property k) s t n o q b e before after =
-      let r = reached None s.depth (member_path s.path k) (unless_there (form.steps.property k s.node) (form.steps.additional_property s.node)) (get k s.value) (option_and_then (get k) s.old) t e in
-      member_part form.conversion n s.node t.node k o q (undeclared_node k s.node t.node r.node_there) (sym (ap (option_and_then (get k)) before) ∙ r.old_there ∙ after)
+      let r = reached None s.depth (member_path s.path k) (unless_there (form.steps.property k s.node) (form.steps.additional_property s.node)) (get k s.value) (option_and_then (form.steps.old_member k s.node) s.old) t e in
+      member_part conversion n s.node t.node k o q (undeclared_node k s.node t.node r.node_there) (sym (alike.old_member k s.node o) ∙ sym (ap (option_and_then (form.steps.old_member k s.node)) before) ∙ r.old_there ∙ after)
   old_part (branch kind j) s t n o q b e before after = cc
 
   deeper : (p : Step) (s t : Visit S) → goes form.steps p s ≡ Some t → s.depth + 1 ≡ t.depth
   unfolding goes
-  deeper (property k) s t e = (reached None s.depth (member_path s.path k) (form.steps.property k s.node) (get k s.value) (option_and_then (get k) s.old) t e).deeper
-  deeper (item i) s t e = (reached None s.depth (item_path s.path i) (form.steps.items s.node) (at i s.value) (option_and_then (at i) s.old) t e).deeper
+  deeper (property k) s t e = (reached None s.depth (member_path s.path k) (form.steps.property k s.node) (get k s.value) (option_and_then (form.steps.old_member k s.node) s.old) t e).deeper
+  deeper (item i) s t e = (reached None s.depth (item_path s.path i) (form.steps.items s.node) (at i s.value) (option_and_then (form.steps.old_item i s.node s.value) s.old) t e).deeper
   deeper (additional_property k) s t e =
-      (reached None s.depth (member_path s.path k) (unless_there (form.steps.property k s.node) (form.steps.additional_property s.node)) (get k s.value) (option_and_then (get k) s.old) t e).deeper
+      (reached None s.depth (member_path s.path k) (unless_there (form.steps.property k s.node) (form.steps.additional_property s.node)) (get k s.value) (option_and_then (form.steps.old_member k s.node) s.old) t e).deeper
   deeper (branch kind j) s t e = (reached s.root s.depth s.path (form.steps.branch kind j s.node) (Some s.value) s.old t e).deeper
 
   no_old : (p : Step) (s t : Visit S) → goes form.steps p s ≡ Some t → s.old ≡ None → t.old ≡ None
   unfolding goes
   no_old (property k) s t e none =
-      sym (reached None s.depth (member_path s.path k) (form.steps.property k s.node) (get k s.value) (option_and_then (get k) s.old) t e).old_there ∙ ap (option_and_then (get k)) none
+      sym (reached None s.depth (member_path s.path k) (form.steps.property k s.node) (get k s.value) (option_and_then (form.steps.old_member k s.node) s.old) t e).old_there ∙ ap (option_and_then (form.steps.old_member k s.node)) none
   no_old (item i) s t e none =
-      sym (reached None s.depth (item_path s.path i) (form.steps.items s.node) (at i s.value) (option_and_then (at i) s.old) t e).old_there ∙ ap (option_and_then (at i)) none
+      sym (reached None s.depth (item_path s.path i) (form.steps.items s.node) (at i s.value) (option_and_then (form.steps.old_item i s.node s.value) s.old) t e).old_there ∙ ap (option_and_then (form.steps.old_item i s.node s.value)) none
   no_old (additional_property k) s t e none =
-      sym (reached None s.depth (member_path s.path k) (unless_there (form.steps.property k s.node) (form.steps.additional_property s.node)) (get k s.value) (option_and_then (get k) s.old) t e).old_there
-      ∙ ap (option_and_then (get k)) none
+      sym (reached None s.depth (member_path s.path k) (unless_there (form.steps.property k s.node) (form.steps.additional_property s.node)) (get k s.value) (option_and_then (form.steps.old_member k s.node) s.old) t e).old_there
+      ∙ ap (option_and_then (form.steps.old_member k s.node)) none
   no_old (branch kind j) s t e none = sym (reached s.root s.depth s.path (form.steps.branch kind j s.node) (Some s.value) s.old t e).old_there ∙ none
 
   -- ---- all steps
 
-  levels_at : (s : Visit S) (n : ℕ) (v : Data) → s.depth + n ≡ 65 → bound_at form s v ≡ to_cel form.conversion n s.node v
-  levels_at s n v d = let levels : 65 - s.depth ≡ n = omega (arith, d) in ap (λ m. to_cel form.conversion m s.node v) levels
+  levels_at : (s : Visit S) (n : ℕ) (v : Data) → s.depth + n ≡ 65 → bound_at form s v ≡ to_cel conversion n s.node v
+  levels_at s n v d = let levels : 65 - s.depth ≡ n = omega (arith, d) in alike.bound s.depth s.node v ∙ ap (λ m. to_cel conversion m s.node v) levels
 
   neither : (a b : Bool) → (a || b) ≡ false → (a ≡ false) × (b ≡ false)
   neither true b e = cc
   neither false b e = (refl, e)
 
   pub values_along : (ps : List Step) (s t : Visit S) (n : ℕ) → list_any is_branch ps ≡ false → s.depth + n ≡ 65 → length ps ≤ n → leads (goes form.steps) ps s ≡ Some t
-      → part_along form ps s (bound_at form s s.value) ≡ Some (bound_at form t t.value)
+      → part_along form conversion ps s (bound_at form s s.value) ≡ Some (bound_at form t t.value)
   unfolding leads part_along
   values_along [] s t n b d l e = let same : s ≡ t = cc in ap (λ u. Some (bound_at form u u.value)) same
   values_along (p ∷ ps) s t zero b d l e = absurd (omega (arith, l))
   values_along (p ∷ ps) s t (suc n) b d l e = by (goes form.steps p s) refl e (λ u bs below led. values_along ps u t n bs below (omega (arith, l)) led)
     where
       by : (o : Option (Visit S)) → goes form.steps p s ≡ o → option_and_then (leads (goes form.steps) ps) o ≡ Some t
-          → ((u : Visit S) → list_any is_branch ps ≡ false → u.depth + n ≡ 65 → leads (goes form.steps) ps u ≡ Some t → part_along form ps u (bound_at form u u.value) ≡ Some (bound_at form t t.value))
-          → option_and_then (λ u. option_and_then (part_along form ps u) (result_ok (part_at form s.node p (bound_at form s s.value)))) o ≡ Some (bound_at form t t.value)
+          → ((u : Visit S) → list_any is_branch ps ≡ false → u.depth + n ≡ 65 → leads (goes form.steps) ps u ≡ Some t → part_along form conversion ps u (bound_at form u u.value) ≡ Some (bound_at form t t.value))
+          → option_and_then (λ u. option_and_then (part_along form conversion ps u) (result_ok (part_at form conversion s.node p (bound_at form s s.value)))) o ≡ Some (bound_at form t t.value)
       by None g e rec = cc
       by (Some u) g e rec =
           let bs = neither (is_branch p) (list_any is_branch ps) b in
           let step = deeper p s u g in
           let below : u.depth + n ≡ 65 = omega (arith, d, step) in
-          ap (λ v. option_and_then (part_along form ps u) (result_ok (part_at form s.node p v))) (levels_at s (suc n) s.value d)
-          ∙ ap (λ r. option_and_then (part_along form ps u) (result_ok r)) (value_part p s u n bs.0 g)
-          ∙ ap (part_along form ps u) (sym (levels_at u n u.value below))
+          ap (λ v. option_and_then (part_along form conversion ps u) (result_ok (part_at form conversion s.node p v))) (levels_at s (suc n) s.value d)
+          ∙ ap (λ r. option_and_then (part_along form conversion ps u) (result_ok r)) (value_part p s u n bs.0 g)
+          ∙ ap (part_along form conversion ps u) (sym (levels_at u n u.value below))
           ∙ rec u bs.1 below e
 
   none_along : (ps : List Step) (s t : Visit S) → leads (goes form.steps) ps s ≡ Some t → s.old ≡ None → t.old ≡ None
@@ -198,7 +215,7 @@ module _ {S : Type 0} (form : WalkAccessors S) (alike : SeesAlike form) where
       by (Some u) g e rec = rec u e (no_old p s u g none)
 
   pub olds_along : (ps : List Step) (s t : Visit S) (n : ℕ) (o q : Data) → list_any is_branch ps ≡ false → s.depth + n ≡ 65 → length ps ≤ n → leads (goes form.steps) ps s ≡ Some t
-      → s.old ≡ Some o → t.old ≡ Some q → part_along form ps s (bound_at form s o) ≡ Some (bound_at form t q)
+      → s.old ≡ Some o → t.old ≡ Some q → part_along form conversion ps s (bound_at form s o) ≡ Some (bound_at form t q)
   unfolding leads part_along
   olds_along [] s t n o q b d l e before after =
       let same : s ≡ t = cc in
@@ -210,35 +227,35 @@ module _ {S : Type 0} (form : WalkAccessors S) (alike : SeesAlike form) where
     where
       -- if the step leads on in the old value, as it must
       on : (u : Visit S) → goes form.steps p s ≡ Some u → leads (goes form.steps) ps u ≡ Some t
-          → ((w : Data) → list_any is_branch ps ≡ false → u.depth + n ≡ 65 → u.old ≡ Some w → part_along form ps u (bound_at form u w) ≡ Some (bound_at form t q))
-          → (m : Option Data) → u.old ≡ m → option_and_then (part_along form ps u) (result_ok (part_at form s.node p (bound_at form s o))) ≡ Some (bound_at form t q)
+          → ((w : Data) → list_any is_branch ps ≡ false → u.depth + n ≡ 65 → u.old ≡ Some w → part_along form conversion ps u (bound_at form u w) ≡ Some (bound_at form t q))
+          → (m : Option Data) → u.old ≡ m → option_and_then (part_along form conversion ps u) (result_ok (part_at form conversion s.node p (bound_at form s o))) ≡ Some (bound_at form t q)
       on u g e rec None none = let gone = none_along ps u t e none in cc
       on u g e rec (Some w) there =
           let bs = neither (is_branch p) (list_any is_branch ps) b in
           let step = deeper p s u g in
           let below : u.depth + n ≡ 65 = omega (arith, d, step) in
-          ap (λ v. option_and_then (part_along form ps u) (result_ok (part_at form s.node p v))) (levels_at s (suc n) o d)
-          ∙ ap (λ r. option_and_then (part_along form ps u) (result_ok r)) (old_part p s u n o w bs.0 g before there)
-          ∙ ap (part_along form ps u) (sym (levels_at u n w below))
+          ap (λ v. option_and_then (part_along form conversion ps u) (result_ok (part_at form conversion s.node p v))) (levels_at s (suc n) o d)
+          ∙ ap (λ r. option_and_then (part_along form conversion ps u) (result_ok r)) (old_part p s u n o w bs.0 g before there)
+          ∙ ap (part_along form conversion ps u) (sym (levels_at u n w below))
           ∙ rec w bs.1 below there
 
       by : (g : Option (Visit S)) → goes form.steps p s ≡ g → option_and_then (leads (goes form.steps) ps) g ≡ Some t
           → ((u : Visit S) (w : Data) → list_any is_branch ps ≡ false → u.depth + n ≡ 65 → leads (goes form.steps) ps u ≡ Some t → u.old ≡ Some w
-          → part_along form ps u (bound_at form u w) ≡ Some (bound_at form t q))
-          → option_and_then (λ u. option_and_then (part_along form ps u) (result_ok (part_at form s.node p (bound_at form s o)))) g ≡ Some (bound_at form t q)
+          → part_along form conversion ps u (bound_at form u w) ≡ Some (bound_at form t q))
+          → option_and_then (λ u. option_and_then (part_along form conversion ps u) (result_ok (part_at form conversion s.node p (bound_at form s o)))) g ≡ Some (bound_at form t q)
       by None g e rec = cc
       by (Some u) g e rec = on u g e (λ w bs below there. rec u w bs below e there) u.old refl
 
   -- within the levels that apply
   pub values_within : (s t : Visit S) (ps : List Step) → s.depth + length ps ≤ 65 → list_any is_branch ps ≡ false → leads (goes form.steps) ps s ≡ Some t
-      → part_along form ps s (bound_at form s s.value) ≡ Some (bound_at form t t.value)
+      → part_along form conversion ps s (bound_at form s s.value) ≡ Some (bound_at form t t.value)
   values_within s t ps within b e =
       let there : s.depth + (65 - s.depth) ≡ 65 = omega (arith, within) in
       let short : length ps ≤ 65 - s.depth = omega (arith, within) in
       values_along ps s t (65 - s.depth) b there short e
 
   pub olds_within : (s t : Visit S) (ps : List Step) (o q : Data) → s.depth + length ps ≤ 65 → list_any is_branch ps ≡ false → leads (goes form.steps) ps s ≡ Some t
-      → s.old ≡ Some o → t.old ≡ Some q → part_along form ps s (bound_at form s o) ≡ Some (bound_at form t q)
+      → s.old ≡ Some o → t.old ≡ Some q → part_along form conversion ps s (bound_at form s o) ≡ Some (bound_at form t q)
   olds_within s t ps o q within b e before after =
       let there : s.depth + (65 - s.depth) ≡ 65 = omega (arith, within) in
       let short : length ps ≤ 65 - s.depth = omega (arith, within) in

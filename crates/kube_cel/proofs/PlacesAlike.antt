@@ -31,9 +31,9 @@ further_deeper r d path (Some n) (Some v) c u e = let same : visit n v c r path 
 
 deeper : {S : Type 0} (steps : StepAccessors S) (p : Step) (s u : Visit S) → goes steps p s ≡ Some u → u.depth ≡ s.depth + 1
 unfolding goes
-deeper steps (property k) s u e = further_deeper None s.depth (member_path s.path k) (steps.property k s.node) (get k s.value) (option_and_then (get k) s.old) u e
-deeper steps (item i) s u e = further_deeper None s.depth (item_path s.path i) (steps.items s.node) (at i s.value) (option_and_then (at i) s.old) u e
-deeper steps (additional_property k) s u e = further_deeper None s.depth (member_path s.path k) (unless_there (steps.property k s.node) (steps.additional_property s.node)) (get k s.value) (option_and_then (get k) s.old) u e
+deeper steps (property k) s u e = further_deeper None s.depth (member_path s.path k) (steps.property k s.node) (get k s.value) (option_and_then (steps.old_member k s.node) s.old) u e
+deeper steps (item i) s u e = further_deeper None s.depth (item_path s.path i) (steps.items s.node) (at i s.value) (option_and_then (steps.old_item i s.node s.value) s.old) u e
+deeper steps (additional_property k) s u e = further_deeper None s.depth (member_path s.path k) (unless_there (steps.property k s.node) (steps.additional_property s.node)) (get k s.value) (option_and_then (steps.old_member k s.node) s.old) u e
 deeper steps (branch kind j) s u e = further_deeper s.root s.depth s.path (steps.branch kind j s.node) (Some s.value) s.old u e
 
 module _ {S T : Type 0} (ls : StepAccessors S) (lt : StepAccessors T) (view : S → T) where
@@ -44,20 +44,31 @@ module _ {S T : Type 0} (ls : StepAccessors S) (lt : StepAccessors T) (view : S 
     pub additional_property : option_map view (ls.additional_property s) ≡ lt.additional_property t
     pub branch_count : (kind : BranchKind) → ls.branch_count kind s ≡ lt.branch_count kind t
     pub branch : (kind : BranchKind) (i : ℕ) → option_map view (ls.branch kind i s) ≡ lt.branch kind i t
+    pub old_member : (k : List ℕ) (old : Data) → ls.old_member k s old ≡ lt.old_member k t old
+    pub old_item : (i : ℕ) (value old : Data) → ls.old_item i s value old ≡ lt.old_item i t value old
 
   module _ (at_t : S → T) (s : Visit S) (h : Alike s.node (at_t s.node)) where
+    old_members : (k : List ℕ) (o : Option Data) → option_and_then (ls.old_member k s.node) o ≡ option_and_then (lt.old_member k (at_t s.node)) o
+    old_members k None = refl
+    old_members k (Some old) = h.old_member k old
+
+    old_items : (i : ℕ) (o : Option Data) → option_and_then (ls.old_item i s.node s.value) o ≡ option_and_then (lt.old_item i (at_t s.node) s.value) o
+    old_items i None = refl
+    old_items i (Some old) = h.old_item i s.value old
+
     goes_same : (p : Step) → option_map (with_node_of view) (goes ls p s) ≡ goes lt p (with_node_of at_t s)
     unfolding goes
     goes_same (property k) =
-        further_moved view None s.depth (member_path s.path k) (ls.property k s.node) (get k s.value) (option_and_then (get k) s.old)
-        ∙ ap (λ a. further None s.depth (member_path s.path k) a (get k s.value) (option_and_then (get k) s.old)) (h.property k)
+        further_moved view None s.depth (member_path s.path k) (ls.property k s.node) (get k s.value) (option_and_then (ls.old_member k s.node) s.old)
+        ∙ (λ i. further None s.depth (member_path s.path k) (h.property k i) (get k s.value) (old_members k s.old i))
     goes_same (item i) =
-        further_moved view None s.depth (item_path s.path i) (ls.items s.node) (at i s.value) (option_and_then (at i) s.old)
-        ∙ ap (λ a. further None s.depth (item_path s.path i) a (at i s.value) (option_and_then (at i) s.old)) h.items
+        further_moved view None s.depth (item_path s.path i) (ls.items s.node) (at i s.value) (option_and_then (ls.old_item i s.node s.value) s.old)
+        ∙ (λ j. further None s.depth (item_path s.path i) (h.items j) (at i s.value) (old_items i s.old j))
     goes_same (additional_property k) =
-        further_moved view None s.depth (member_path s.path k) (unless_there (ls.property k s.node) (ls.additional_property s.node)) (get k s.value) (option_and_then (get k) s.old)
-        ∙ ap (λ a. further None s.depth (member_path s.path k) a (get k s.value) (option_and_then (get k) s.old))
+        further_moved view None s.depth (member_path s.path k) (unless_there (ls.property k s.node) (ls.additional_property s.node)) (get k s.value) (option_and_then (ls.old_member k s.node) s.old)
+        ∙ ap (λ a. further None s.depth (member_path s.path k) a (get k s.value) (option_and_then (ls.old_member k s.node) s.old))
         (unless_moved view (ls.property k s.node) (ls.additional_property s.node) ∙ (λ i. unless_there (h.property k i) (h.additional_property i)))
+        ∙ ap (λ o. further None s.depth (member_path s.path k) (unless_there (lt.property k (at_t s.node)) (lt.additional_property (at_t s.node))) (get k s.value) o) (old_members k s.old)
     goes_same (branch kind j) =
         further_moved view s.root s.depth s.path (ls.branch kind j s.node) (Some s.value) s.old
         ∙ ap (λ a. further s.root s.depth s.path a (Some s.value) s.old) (h.branch kind j)

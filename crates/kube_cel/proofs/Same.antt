@@ -63,6 +63,8 @@ module _ (n : ℕ) (s : Data) where
     additional_property = unless (view_of n) (preserves s) (additional s);
     branch_count = counted;
     branch = branched;
+    old_member = λ k old. refl;
+    old_item = λ i value old. refl;
   }
 
 pub tree_places : (n : ℕ) (s : Visit Data) → places (goes raw_steps) (candidates raw_steps) n s ≡ places (goes compiled_steps) (candidates compiled_steps) n (with_node_of (view_of n) s)

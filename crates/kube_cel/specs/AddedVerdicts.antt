@@ -26,7 +26,7 @@ added_rules more node =
 unfoldable pub added_verdicts : Book → Items → Visit Data → List ErrorData
 added_verdicts b more s =
     if s.depth == 65 then []
-    else flat_map (λ r. list_of_option (verdict b (place_bindings raw_accessors s) s.old s.path r))
+    else flat_map (λ r. list_of_option (verdict raw_accessors b (place_bindings raw_accessors s) s r))
     (added_rules more s.node)
 
 -- the list if no step remains, else the empty list

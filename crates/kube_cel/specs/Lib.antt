@@ -25,5 +25,7 @@ pub mod Answers
 pub mod Compiled
 pub mod Parts
 pub mod Raw
+pub mod Reading
 pub mod Starts
 pub mod FilledStart
+pub mod OneLibrary

@@ -6,6 +6,7 @@ ghost use Rattle.std.specs.Prelude.{◌≡◌, option_map, ⊤};
 use cel_demand::Demand;
 use cel_value::Value as CelValue;
 use kube_cel_walk::Node;
+use kube_functions::AllFunctions;
 use kube_schema::{NodeKeywords, SchemaNode, bind_node_part, rebind_node_part};
 use kube_schema_rules::{BranchKind, CompiledRules};
 use kube_types::Refused;
@@ -41,7 +42,10 @@ fn additional_property<'a, K: NodeKeywords>(node: &SchemaNode<'a, K>) -> Option<
 }
 
 impl<K: NodeKeywords> Node for CompiledNode<'_, K> {
+    type FunctionSet = AllFunctions;
+
     ghost use Rattle.kube_cel.specs.Compiled.{compiled_accessors};
+    ghost use Rattle.kube_cel.specs.OneLibrary.{one_library};
     ghost use Rattle.kube_schema.specs.Shown.{node_tree};
     ghost use Rattle.kube_schema.specs.Tree.{Node as Tree};
 
@@ -50,6 +54,8 @@ impl<K: NodeKeywords> Node for CompiledNode<'_, K> {
     ghost seen = { λ n. node_tree n.node };
 
     ghost form = { compiled_accessors };
+
+    ghost one_library = { one_library };
 
     #[tactic(auto, unfolding(crate::specs::Compiled::compiled_accessors, crate::specs::CompiledSteps::compiled_steps))]
     fn property(&self, name: &str) -> Option<Self> {
@@ -78,6 +84,21 @@ impl<K: NodeKeywords> Node for CompiledNode<'_, K> {
     fn branch(&self, kind: BranchKind, index: usize) -> Option<Self> {
         let node = self.node.branch(kind, index)?;
         Some(CompiledNode { node })
+    }
+
+    #[tactic(auto, unfolding(crate::specs::Compiled::compiled_accessors, crate::specs::CompiledSteps::compiled_steps))]
+    fn old_member<'v>(&self, key: &str, old: &'v Value) -> Option<&'v Value> {
+        old.get(key)
+    }
+
+    #[tactic(auto, unfolding(crate::specs::Compiled::compiled_accessors, crate::specs::CompiledSteps::compiled_steps))]
+    fn old_item<'v>(&self, index: usize, _list: &Value, old: &'v Value) -> Option<&'v Value> {
+        old.get(index)
+    }
+
+    #[tactic(auto, unfolding(crate::specs::Compiled::compiled_accessors))]
+    fn runs_at(&self, _value: &Value) -> bool {
+        true
     }
 
     #[tactic(auto, unfolding(crate::specs::Compiled::compiled_accessors))]
@@ -109,6 +130,19 @@ impl<K: NodeKeywords> Node for CompiledNode<'_, K> {
     ) -> Result<(), Refused> {
         rebind_node_part(alloc, &self.node, value, depth, demand, place)?;
         Ok(())
+    }
+
+    #[tactic(auto, unfolding(crate::specs::Compiled::compiled_accessors))]
+    fn optional_old(
+        &self,
+        _alloc: Global,
+        old: Option<&Value>,
+        _depth: usize,
+    ) -> Result<Option<CelValue>, Refused> {
+        match old {
+            Some(_) => Ok(None),
+            None => Ok(Some(CelValue::Null)),
+        }
     }
 
     fn has_no_rules_below(&self, levels: usize) -> bool {

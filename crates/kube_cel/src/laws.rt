@@ -11,6 +11,9 @@ ghost use Rattle.kube_cel.specs.Parts.{is_branch, part_along};
 ghost use Rattle.kube_cel.specs.Raw.{raw_accessors};
 ghost use Rattle.kube_cel.specs.Starts.{defaulted_start, tree_start};
 ghost use Rattle.kube_cel.specs.Visits.{with_node_of};
+ghost use Rattle.kube_functions.specs.Kube.{all_library};
+ghost use Rattle.kube_schema.specs.CompiledConversion.{tree_accessors};
+ghost use Rattle.kube_schema.specs.Conversion.{raw};
 ghost use Rattle.kube_schema.specs.RulesRaw.{raw_steps};
 ghost use Rattle.kube_schema.specs.Step.{Step};
 ghost use Rattle.kube_schema.specs.Visit.{Visit, candidates, goes, Root, root_visit};
@@ -70,12 +73,14 @@ pub fn added_rules_leave_all_other_errors()
 {}
 
 /// An answer depends on a book only through the set of texts that the book
-/// refuses, in either form of the schema. So all plain books give one list.
+/// refuses, in each form of a schema whose rules may call these functions. So all plain books give one list.
 pub fn books_that_refuse_alike_give_one_list<S>()
     ensures alike { (a b : Book) → ((text : List ℕ) → IsRefused a text ↔ IsRefused b text)
-        → (form : WalkAccessors S) (root : Visit S) → answer form a 65 root ≡ answer form b 65 root }
+        → (form : WalkAccessors S) → form.library ≡ all_library
+        → (root : Visit S) → answer form a 65 root ≡ answer form b 65 root }
     ensures plain { (a b : Book) → IsBook a → IsBook b → IsPlain a → IsPlain b
-        → (form : WalkAccessors S) (root : Visit S) → answer form a 65 root ≡ answer form b 65 root }
+        → (form : WalkAccessors S) → form.library ≡ all_library
+        → (root : Visit S) → answer form a 65 root ≡ answer form b 65 root }
 {}
 
 /// If one book is lent to two calls, one by the schema and one by its tree, in either
@@ -103,7 +108,8 @@ pub fn one_lent_book_gives_one_list()
 /// as patterns, the call has returned the answer that every plain book gives.
 pub fn a_plain_lent_book_gives_the_plain_list<S>()
     ensures { (lent : PatternBook) (plain : Book) → IsPlain (entries_of lent) → IsBook plain → IsPlain plain
-        → (form : WalkAccessors S) (root : Visit S) (answered : Result (Unit {0}) (List ErrorData))
+        → (form : WalkAccessors S) → form.library ≡ all_library
+        → (root : Visit S) (answered : Result (Unit {0}) (List ErrorData))
         → ((b : Book) → Extends b (entries_of lent) → answered ≡ report_of (answer form b 65 root))
         → answered ≡ report_of (answer form plain 65 root) }
 {}
@@ -117,23 +123,23 @@ pub fn self_is_the_part_of_the_roots()
     ensures schema { (root place : Visit Data) (steps : List Step)
         → root.depth + length steps ≤ 65 → list_any is_branch steps ≡ false
         → leads (goes raw_accessors.steps) steps root ≡ Some place
-        → part_along raw_accessors steps root (bound_at raw_accessors root root.value)
+        → part_along raw_accessors raw steps root (bound_at raw_accessors root root.value)
         ≡ Some (bound_at raw_accessors place place.value) }
     ensures schema_old { (root place : Visit Data) (steps : List Step) (old part : Data)
         → root.depth + length steps ≤ 65
         → list_any is_branch steps ≡ false → leads (goes raw_accessors.steps) steps root ≡ Some place
         → root.old ≡ Some old → place.old ≡ Some part
-        → part_along raw_accessors steps root (bound_at raw_accessors root old)
+        → part_along raw_accessors raw steps root (bound_at raw_accessors root old)
         ≡ Some (bound_at raw_accessors place part) }
     ensures tree { (root place : Visit Node) (steps : List Step)
         → root.depth + length steps ≤ 65 → list_any is_branch steps ≡ false
         → leads (goes compiled_accessors.steps) steps root ≡ Some place
-        → part_along compiled_accessors steps root (bound_at compiled_accessors root root.value)
+        → part_along compiled_accessors tree_accessors steps root (bound_at compiled_accessors root root.value)
         ≡ Some (bound_at compiled_accessors place place.value) }
     ensures tree_old { (root place : Visit Node) (steps : List Step) (old part : Data)
         → root.depth + length steps ≤ 65
         → list_any is_branch steps ≡ false → leads (goes compiled_accessors.steps) steps root ≡ Some place
         → root.old ≡ Some old → place.old ≡ Some part
-        → part_along compiled_accessors steps root (bound_at compiled_accessors root old)
+        → part_along compiled_accessors tree_accessors steps root (bound_at compiled_accessors root old)
         ≡ Some (bound_at compiled_accessors place part) }
 {}

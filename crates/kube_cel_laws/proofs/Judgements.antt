@@ -5,7 +5,7 @@ use Rattle.kube_cel.proofs.Reports.{is_answer}
 use Rattle.kube_cel.specs.Answers.{report_of}
 use Rattle.kube_cel.specs.Raw.{raw_accessors}
 use Rattle.kube_cel.specs.Starts.{defaulted_start}
-use Rattle.kube_cel_laws.proofs.Passes.{answer_passes, report_passes, reported_none}
+use Rattle.kube_cel_laws.proofs.Passes.{answer_passes, raw_library, report_passes, reported_none}
 use Rattle.kube_cel_laws.specs.Books.{RefusesNoMore}
 use Rattle.kube_cel.specs.WalkAnswers.{answer}
 use Rattle.kube_manifests.specs.Sets.{IsJudgement, IsJudgementUnder}
@@ -31,11 +31,11 @@ module _ (versions : List (Version Data)) (value : Data) (old : Option Data) whe
       → IsJudgementUnder strict versions value old (Judged (Ok tt)) → IsJudgementUnder lenient versions value old (Judged (Ok tt))
   judgement_passes strict lenient no_more j =
       let start = defaulted_start j.0.schema value old (Some (root_of j.0)) in
-      without_errors lenient j.0 j.1 (answer_passes strict lenient no_more raw_accessors 65 start (reported_none (answer raw_accessors strict 65 start) j.2))
+      without_errors lenient j.0 j.1 (answer_passes strict lenient no_more raw_accessors raw_library 65 start (reported_none (answer raw_accessors strict 65 start) j.2))
 
   pub judged_plainly : (plain : Book) → IsBook plain → IsPlain plain
       → IsJudgement versions value old (Judged (Ok tt)) ↔ IsJudgementUnder plain versions value old (Judged (Ok tt))
   judged_plainly plain is_book is_plain = (
-    (λ j. without_errors plain j.0 j.1 (report_passes plain is_plain raw_accessors (defaulted_start j.0.schema value old (Some (root_of j.0))) j.2)),
+    (λ j. without_errors plain j.0 j.1 (report_passes plain is_plain raw_accessors raw_library (defaulted_start j.0.schema value old (Some (root_of j.0))) j.2)),
     (λ j. (j.0, j.1, (plain, is_book, j.2, j.3))),
   )

@@ -17,13 +17,14 @@ use Rattle.kube_cel.specs.Errors.{ErrorData}
 use Rattle.kube_cel.specs.RuleErrors.{too_deep}
 use Rattle.kube_cel.specs.Verdicts.{bound_verdict, is_applicable, judged_error, list_of_option, outcome_in, rule_bindings, verdict}
 use Rattle.kube_cel.specs.WalkAccessors.{WalkAccessors}
+use Rattle.kube_cel.specs.Raw.{raw_accessors}
+use Rattle.kube_functions.specs.Kube.{all_library}
 use Rattle.kube_functions.specs.declared.sets.KubeFunctions.TheVariants.{All}
 use Rattle.kube_schema.specs.Compilation.{Compiled, Malformed}
 use Rattle.kube_schema.specs.Rules.{Fields}
 use Rattle.kube_schema.specs.Visit.{Visit, candidates, goes}
 use Rattle.kube_schema.specs.Walk.{answers, if_some, leads, places}
-use Rattle.serde_json.specs.Data.{Data as Json}
-use Rattle.std.proofs.Common.{◌≡◌, ◌==◌, ℕ, List, [], ◌∷◌, ◌++◌, Bool, true, false, Option, Some, None, option_map, Result, Ok, Err, flat_map, if◌then◌else◌, refl, sym, ap, subst}
+use Rattle.std.proofs.Common.{◌≡◌, ◌==◌, ℕ, List, [], ◌∷◌, ◌++◌, Bool, true, false, Option, Some, None, option_map, Result, Ok, Err, flat_map, if◌then◌else◌, refl, sym, ap, subst, ◌∙◌}
 
 -- ---- lists of errors
 
@@ -47,6 +48,10 @@ unless_deep : (deep : Bool) (x : ErrorData) (xs ys : List ErrorData) → (xs ≡
 unless_deep true x xs ys h e = cc
 unless_deep false x xs ys h e = h e
 
+if_run : (runs : Bool) (xs ys : List ErrorData) → (xs ≡ [] → ys ≡ []) → (if runs then xs else []) ≡ [] → (if runs then ys else []) ≡ []
+if_run true xs ys h e = h e
+if_run false xs ys h e = refl
+
 -- ---- the verdict of a rule
 
 value_passes : (path : List ℕ) (r : Fields) (m n : Option Outcome) (k : Kind) (o : Option Bool) → judged_error path r (value_judgement m k o) ≡ None → judged_error path r (value_judgement n k o) ≡ None
@@ -63,32 +68,40 @@ if_applicable true o p h e = h e
 if_applicable false o p h e = refl
 
 module _ (strict lenient : Book) (no_more : RefusesNoMore lenient strict) where
-  outcome_kept : (e : Bindings) (t : Term) → Keeps (outcome_in strict e t) (outcome_in lenient e t)
+  outcome_kept : (e : Bindings) (t : Term) → Keeps (outcome_in all_library strict e t) (outcome_in all_library lenient e t)
   unfolding outcome_in
   outcome_kept e t = tree_kept strict lenient no_more All t e
 
-  bound_passes : (e : Bindings) (path : List ℕ) (c : Compiled) → bound_verdict strict e path c ≡ None → bound_verdict lenient e path c ≡ None
+  bound_passes : (e : Bindings) (path : List ℕ) (c : Compiled) → bound_verdict all_library strict e path c ≡ None → bound_verdict all_library lenient e path c ≡ None
   unfolding bound_verdict
-  bound_passes e path c h = outcome_passes path c.fields (option_map (outcome_in strict e) c.message_tree) (option_map (outcome_in lenient e) c.message_tree)
-      (outcome_in strict e c.tree) (outcome_in lenient e c.tree) (outcome_kept e c.tree) h
-
-  rule_passes : (e : Bindings) (old : Option Json) (path : List ℕ) (r : Result Compiled Malformed) → verdict strict e old path r ≡ None → verdict lenient e old path r ≡ None
-  unfolding verdict
-  rule_passes e old path (Err m) h = cc
-  rule_passes e old path (Ok c) h = if_applicable (is_applicable old c) (bound_verdict strict (rule_bindings e old c.fields) path c) (bound_verdict lenient (rule_bindings e old c.fields) path c)
-      (bound_passes (rule_bindings e old c.fields) path c) h
+  bound_passes e path c h = outcome_passes path c.fields (option_map (outcome_in all_library strict e) c.message_tree) (option_map (outcome_in all_library lenient e) c.message_tree)
+      (outcome_in all_library strict e c.tree) (outcome_in all_library lenient e c.tree) (outcome_kept e c.tree) h
 
   -- ---- all places
 
-  module _ {S : Type 0} (form : WalkAccessors S) where
+  module _ {S : Type 0} (form : WalkAccessors S) (is : form.library ≡ all_library) where
+    compiled_passes : (e : Bindings) (path : List ℕ) (c : Compiled) → bound_verdict form.library strict e path c ≡ None → bound_verdict form.library lenient e path c ≡ None
+    compiled_passes e path c h = ap (λ l. bound_verdict l lenient e path c) is ∙ bound_passes e path c (sym (ap (λ l. bound_verdict l strict e path c) is) ∙ h)
+
+    rule_passes : (e : Bindings) (s : Visit S) (r : Result Compiled Malformed) → verdict form strict e s r ≡ None → verdict form lenient e s r ≡ None
+    unfolding verdict
+    rule_passes e s (Err m) h = cc
+    rule_passes e s (Ok c) h =
+        let f = rule_bindings form e s c.fields in
+        if_applicable (is_applicable s.old c) (bound_verdict form.library strict f s.path c) (bound_verdict form.library lenient f s.path c) (compiled_passes f s.path c) h
+
     rules_pass : (e : Bindings) (s : Visit S) → rule_verdicts form strict e s ≡ [] → rule_verdicts form lenient e s ≡ []
     unfolding rule_verdicts
-    rules_pass e s = none_kept (λ r. list_of_option (verdict strict e s.old s.path r)) (λ r. list_of_option (verdict lenient e s.old s.path r))
-        (λ r h. ap list_of_option (rule_passes e s.old s.path r (listed_none (verdict strict e s.old s.path r) h))) (form.rules s.node)
+    rules_pass e s = none_kept (λ r. list_of_option (verdict form strict e s r)) (λ r. list_of_option (verdict form lenient e s r))
+        (λ r h. ap list_of_option (rule_passes e s r (listed_none (verdict form strict e s r) h))) (form.rules s.node)
 
     place_passes : (s : Visit S) → verdicts form strict s ≡ [] → verdicts form lenient s ≡ []
     unfolding verdicts
-    place_passes s = unless_deep (s.depth == 65) (too_deep s.path) (rule_verdicts form strict (place_bindings form s) s) (rule_verdicts form lenient (place_bindings form s) s) (rules_pass (place_bindings form s) s)
+    place_passes s =
+        let runs = form.runs_at s.node s.value in
+        let first = rule_verdicts form strict (place_bindings form s) s in
+        let second = rule_verdicts form lenient (place_bindings form s) s in
+        unless_deep (s.depth == 65) (too_deep s.path) (if runs then first else []) (if runs then second else []) (if_run runs first second (rules_pass (place_bindings form s) s))
 
     reached_passes : (o : Option (Visit S)) → if_some (verdicts form strict) o ≡ [] → if_some (verdicts form lenient) o ≡ []
     reached_passes None e = refl
@@ -105,5 +118,9 @@ pub reported_none : (found : List ErrorData) → Ok tt ≡ report_of found → f
 reported_none [] e = refl
 reported_none (x ∷ xs) e = cc
 
-pub report_passes : (plain : Book) → IsPlain plain → {S : Type 0} (form : WalkAccessors S) (root : Visit S) → IsReportOf form root (Ok tt) → answer form plain 65 root ≡ []
-report_passes plain is_plain form root r = answer_passes r.0 plain (plain_refuses_least plain r.0 is_plain r.1) form 65 root (reported_none (answer form r.0 65 root) r.2)
+pub report_passes : (plain : Book) → IsPlain plain → {S : Type 0} (form : WalkAccessors S) → form.library ≡ all_library → (root : Visit S) → IsReportOf form root (Ok tt) → answer form plain 65 root ≡ []
+report_passes plain is_plain form is root r = answer_passes r.0 plain (plain_refuses_least plain r.0 is_plain r.1) form is 65 root (reported_none (answer form r.0 65 root) r.2)
+
+pub raw_library : raw_accessors.library ≡ all_library
+unfolding raw_accessors
+raw_library = refl

@@ -12,7 +12,7 @@ ghost use Rattle.kube_cel.specs.Answers.{IsReportOf};
 ghost use Rattle.kube_cel_laws.specs.Books.{RefusesNoMore};
 ghost use Rattle.kube_cel.specs.WalkAnswers.{answer};
 ghost use Rattle.kube_cel.specs.WalkAccessors.{WalkAccessors};
-ghost use Rattle.kube_functions.specs.Kube.{kube_library};
+ghost use Rattle.kube_functions.specs.Kube.{all_library, kube_library};
 ghost use Rattle.kube_functions.specs.declared.sets.KubeFunctions.{KubeFunctions};
 ghost use Rattle.kube_manifests.specs.Sets.{IsJudgement, IsJudgementUnder};
 ghost use Rattle.kube_manifests.specs.DocumentsVersions.{Version};
@@ -39,15 +39,15 @@ pub fn a_value_needs_no_book()
         → meaning (kube_library functions) plain t e ≡ Ok v }
 {}
 
-/// If a schema, in either form, finds no error under one book, it finds none under every book that
-/// refuses no more. So a call with a book of its own returns `Ok` only if every plain book gives no
-/// error.
+/// If a schema, in any form whose rules may call these functions, finds no error under one book, it finds
+/// none under every book that refuses no more. So a call with a book of its own returns `Ok` only if every
+/// plain book gives no error.
 pub fn a_pass_needs_no_book<S>()
     ensures no_more { (strict lenient : Book) → RefusesNoMore lenient strict
-        → (form : WalkAccessors S) (root : Visit S)
+        → (form : WalkAccessors S) → form.library ≡ all_library → (root : Visit S)
         → answer form strict 65 root ≡ [] → answer form lenient 65 root ≡ [] }
     ensures plain { (plain : Book) → IsPlain plain
-        → (form : WalkAccessors S) (root : Visit S)
+        → (form : WalkAccessors S) → form.library ≡ all_library → (root : Visit S)
         → IsReportOf form root (Ok tt) → answer form plain 65 root ≡ [] }
 {}
 

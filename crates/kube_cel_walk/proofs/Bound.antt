@@ -1,22 +1,11 @@
 -- The bindings at a place.
-use Rattle.cel.proofs.Bound.{bound, under}
+use Rattle.cel.proofs.Bound.{bound}
 use Rattle.cel.specs.Bindings.{Bindings, binding}
 use Rattle.cel_value.specs.Data.{Data, text}
-use Rattle.kube_cel_walk.specs.Verdicts.{with_old, with_root}
+use Rattle.kube_cel_walk.specs.Verdicts.{with_root}
 use Rattle.kube_schema_rules.specs.Visit.{Root}
 use Rattle.std.proofs.Common.{◌≡◌, ℕ, List, ◌∷◌, Option, Some, None, codes, if◌then◌else◌, refl, sym, ap, ◌∙◌}
 use Rattle.std.specs.Str.{bytes_eq}
-
-pub old_under : (o : Option Data) (e f : Bindings) → ((y : List ℕ) → binding y e ≡ binding y f) → (y : List ℕ) → binding y (with_old o e) ≡ binding y (with_old o f)
-old_under None e f h y = h y
-old_under (Some old) e f h y = under (codes "oldSelf") old e f h y
-
-pub root_under : (o : Option Root) (e f : Bindings) → ((y : List ℕ) → binding y e ≡ binding y f) → (y : List ℕ) → binding y (with_root o e) ≡ binding y (with_root o f)
-root_under None e f h y = h y
-root_under (Some r) e f h y =
-    let v : List ℕ × Data = (codes "apiVersion", text r.api_version) in
-    let g : List ℕ × Data = (codes "apiGroup", text r.api_group) in
-    under (codes "kind") (text r.kind) (g ∷ v ∷ e) (g ∷ v ∷ f) (under (codes "apiGroup") (text r.api_group) (v ∷ e) (v ∷ f) (under (codes "apiVersion") (text r.api_version) e f h)) y
 
 -- the names of the root context, one by one
 pub rooted : (o : Option Root) (r : Root) (e0 e1 e2 e3 : Bindings) (v g k : Data) → o ≡ Some r → v ≡ text r.api_version → g ≡ text r.api_group → k ≡ text r.kind

@@ -94,21 +94,21 @@ module _ {S : Type 0} (steps : StepAccessors S) where
   -- ---- where they lead
 
   pub property_goes : (s : Visit S) (k : List ℕ) (o : Option S) → steps.property k s.node ≡ o
-      → goes steps (property k) s ≡ further None s.depth (member_path s.path k) o (get k s.value) (option_and_then (get k) s.old)
+      → goes steps (property k) s ≡ further None s.depth (member_path s.path k) o (get k s.value) (option_and_then (steps.old_member k s.node) s.old)
   unfolding goes
-  property_goes s k o e = ap (λ o. further None s.depth (member_path s.path k) o (get k s.value) (option_and_then (get k) s.old)) e
+  property_goes s k o e = ap (λ o. further None s.depth (member_path s.path k) o (get k s.value) (option_and_then (steps.old_member k s.node) s.old)) e
 
   pub additional_goes : (s : Visit S) (k : List ℕ) (node : S) → Some node ≡ steps.additional_property s.node
-      → goes steps (additional_property k) s ≡ further None s.depth (member_path s.path k) (unless_there (steps.property k s.node) (Some node)) (get k s.value) (option_and_then (get k) s.old)
+      → goes steps (additional_property k) s ≡ further None s.depth (member_path s.path k) (unless_there (steps.property k s.node) (Some node)) (get k s.value) (option_and_then (steps.old_member k s.node) s.old)
   unfolding goes
-  additional_goes s k node e = ap (λ o. further None s.depth (member_path s.path k) (unless_there (steps.property k s.node) o) (get k s.value) (option_and_then (get k) s.old)) (sym e)
+  additional_goes s k node e = ap (λ o. further None s.depth (member_path s.path k) (unless_there (steps.property k s.node) o) (get k s.value) (option_and_then (steps.old_member k s.node) s.old)) (sym e)
 
   pub item_goes : (s : Visit S) (i : ℕ) (node : S) (v : Data) (ds : Items) → Some node ≡ steps.items s.node → Some ds ≡ as_array s.value → Some v ≡ get_item i ds
-      → goes steps (item i) s ≡ further None s.depth (item_path s.path i) (Some node) (Some v) (option_and_then (at i) s.old)
+      → goes steps (item i) s ≡ further None s.depth (item_path s.path i) (Some node) (Some v) (option_and_then (steps.old_item i s.node s.value) s.old)
   unfolding goes
   item_goes s i node v ds e a here =
-      ap (λ o. further None s.depth (item_path s.path i) o (at i s.value) (option_and_then (at i) s.old)) (sym e)
-      ∙ ap (λ o. further None s.depth (item_path s.path i) (Some node) o (option_and_then (at i) s.old)) (item_of i s.value ds a ∙ sym here)
+      ap (λ o. further None s.depth (item_path s.path i) o (at i s.value) (option_and_then (steps.old_item i s.node s.value) s.old)) (sym e)
+      ∙ ap (λ o. further None s.depth (item_path s.path i) (Some node) o (option_and_then (steps.old_item i s.node s.value) s.old)) (item_of i s.value ds a ∙ sym here)
 
   pub branch_goes : (kind : BranchKind) (s : Visit S) (j : ℕ) (o : Option S) → o ≡ steps.branch kind j s.node
       → goes steps (branch kind j) s ≡ further s.root s.depth s.path o (Some s.value) s.old
@@ -117,12 +117,12 @@ module _ {S : Type 0} (steps : StepAccessors S) where
 
   no_item_goes : (s : Visit S) (i : ℕ) → None ≡ steps.items s.node → goes steps (item i) s ≡ None
   unfolding goes
-  no_item_goes s i e = ap (λ o. further None s.depth (item_path s.path i) o (at i s.value) (option_and_then (at i) s.old)) (sym e)
+  no_item_goes s i e = ap (λ o. further None s.depth (item_path s.path i) o (at i s.value) (option_and_then (steps.old_item i s.node s.value) s.old)) (sym e)
 
   no_additional_goes : (s : Visit S) (k : List ℕ) → None ≡ steps.additional_property s.node → goes steps (additional_property k) s ≡ None
   unfolding goes
   no_additional_goes s k e =
-      ap (λ o. further None s.depth (member_path s.path k) o (get k s.value) (option_and_then (get k) s.old)) (ap (unless_there (steps.property k s.node)) (sym e) ∙ unless_none (steps.property k s.node))
+      ap (λ o. further None s.depth (member_path s.path k) o (get k s.value) (option_and_then (steps.old_member k s.node) s.old)) (ap (unless_there (steps.property k s.node)) (sym e) ∙ unless_none (steps.property k s.node))
 
 module _ {S : Type 0} (form : WalkAccessors S) where
   -- ---- nothing is found

@@ -36,28 +36,37 @@ module _ {S : Type 0} (form : WalkAccessors S) where
       subst (λ o. NamesAlike read e (with_root s.root (with_old (option_map (bound_at form s) o) ((codes "self", bound_at form s s.value) ∷ [])))) (sym no_old)
       (subst (λ r. NamesAlike read e (with_root r ((codes "self", bound_at form s s.value) ∷ []))) (sym no_root) h)
 
-  at_depth : Book → Visit S → Bool → List ErrorData
-  at_depth b s t = if t then too_deep s.path ∷ [] else rule_verdicts form b (place_bindings form s) s
+  at_depth : Book → Visit S → Bool → Bool → List ErrorData
+  at_depth b s t runs = if t then too_deep s.path ∷ [] else (if runs then rule_verdicts form b (place_bindings form s) s else [])
 
   pub deep_found : (b : Book) (s : Visit S) → s.depth ≡ 65 → verdicts form b s ≡ too_deep s.path ∷ []
   unfolding verdicts at_depth
   deep_found b s e =
       let t : (s.depth == 65) ≡ true = grind (arith, nat_tests, e) in
-      ap (at_depth b s) t
+      ap (λ t. at_depth b s t (form.runs_at s.node s.value)) t
 
   pub no_rules_found : (b : Book) (s : Visit S) → form.rules s.node ≡ [] → rule_verdicts form b (place_bindings form s) s ≡ []
   unfolding rule_verdicts
-  no_rules_found b s n = ap (flat_map (λ r. list_of_option (verdict b (place_bindings form s) s.old s.path r))) n
+  no_rules_found b s n = ap (flat_map (λ r. list_of_option (verdict form b (place_bindings form s) s r))) n
+
+  -- either way
+  none_run : (runs : Bool) (es : List ErrorData) → es ≡ [] → (if runs then es else []) ≡ []
+  none_run true es e = e
+  none_run false es e = refl
 
   pub none_found : (b : Book) (s : Visit S) → (s.depth == 65) ≡ false → form.rules s.node ≡ [] → verdicts form b s ≡ []
   unfolding verdicts at_depth
-  none_found b s t n = ap (at_depth b s) t ∙ no_rules_found b s n
+  none_found b s t n = ap (λ t. at_depth b s t (form.runs_at s.node s.value)) t ∙ none_run (form.runs_at s.node s.value) (rule_verdicts form b (place_bindings form s) s) (no_rules_found b s n)
 
-  pub shallow_found : (b : Book) (s : Visit S) → (s.depth == 65) ≡ false → verdicts form b s ≡ rule_verdicts form b (place_bindings form s) s
+  pub shallow_found : (b : Book) (s : Visit S) → (s.depth == 65) ≡ false → form.runs_at s.node s.value ≡ true → verdicts form b s ≡ rule_verdicts form b (place_bindings form s) s
   unfolding verdicts at_depth
-  shallow_found b s t = ap (at_depth b s) t
+  shallow_found b s t r = λ i. at_depth b s (t i) (r i)
+
+  pub unrun_found : (b : Book) (s : Visit S) → (s.depth == 65) ≡ false → form.runs_at s.node s.value ≡ false → verdicts form b s ≡ []
+  unfolding verdicts at_depth
+  unrun_found b s t r = λ i. at_depth b s (t i) (r i)
 
   pub rules_found : (b : Book) (s : Visit S) (e : Bindings) → NamesAlike (λ x. rules_read x (form.rules s.node)) e (place_bindings form s)
-      → flat_map (λ r. list_of_option (verdict b e s.old s.path r)) (form.rules s.node) ≡ rule_verdicts form b (place_bindings form s) s
+      → flat_map (λ r. list_of_option (verdict form b e s r)) (form.rules s.node) ≡ rule_verdicts form b (place_bindings form s) s
   unfolding rule_verdicts
-  rules_found b s e h = verdicts_read b e (place_bindings form s) s.old s.path (form.rules s.node) h
+  rules_found b s e h = verdicts_read form b e (place_bindings form s) s (form.rules s.node) h

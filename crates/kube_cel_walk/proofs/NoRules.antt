@@ -31,10 +31,10 @@ further_leads P root d path (Some m) (Some v) old h = (h m refl, refl)
 module _ {S : Type 0} (form : WalkAccessors S) where
   goes_leads : (P : S → Type 0) (s : Visit S) (p : Step) → EachChild form P s.node → LeadsTo P s.depth (goes form.steps p s)
   unfolding goes
-  goes_leads P s (property k) h = further_leads P None s.depth (member_path s.path k) (form.steps.property k s.node) (get k s.value) (option_and_then (get k) s.old) (h.0 k)
-  goes_leads P s (item i) h = further_leads P None s.depth (item_path s.path i) (form.steps.items s.node) (at i s.value) (option_and_then (at i) s.old) h.1
+  goes_leads P s (property k) h = further_leads P None s.depth (member_path s.path k) (form.steps.property k s.node) (get k s.value) (option_and_then (form.steps.old_member k s.node) s.old) (h.0 k)
+  goes_leads P s (item i) h = further_leads P None s.depth (item_path s.path i) (form.steps.items s.node) (at i s.value) (option_and_then (form.steps.old_item i s.node s.value) s.old) h.1
   goes_leads P s (additional_property k) h =
-      further_leads P None s.depth (member_path s.path k) (unless_there (form.steps.property k s.node) (form.steps.additional_property s.node)) (get k s.value) (option_and_then (get k) s.old)
+      further_leads P None s.depth (member_path s.path k) (unless_there (form.steps.property k s.node) (form.steps.additional_property s.node)) (get k s.value) (option_and_then (form.steps.old_member k s.node) s.old)
       (unless_child P (form.steps.property k s.node) (form.steps.additional_property s.node) h.2)
   goes_leads P s (branch kind j) h = further_leads P s.root s.depth s.path (form.steps.branch kind j s.node) (Some s.value) s.old (h.3 kind j)
 

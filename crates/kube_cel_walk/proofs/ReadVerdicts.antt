@@ -9,15 +9,15 @@ use Rattle.cel.specs.Reads.{reads_of}
 use Rattle.cel.specs.Book.{Book}
 use Rattle.cel.specs.Bindings.{Bindings, binding}
 use Rattle.cel_syntax.specs.Term.{Term}
-use Rattle.cel_value.specs.Data.{Data, null, text}
-use Rattle.kube_schema_rules.specs.Visit.{Root}
-use Rattle.kube_cel_walk.specs.Verdicts.{is_applicable, is_old_null, judged_error, list_of_option, outcome_in, bound_verdict, rule_bindings, verdict, with_root}
+use Rattle.cel.specs.Library.{Library}
+use Rattle.cel_value.specs.Data.{Data, text}
+use Rattle.kube_schema_rules.specs.Visit.{Root, Visit}
+use Rattle.kube_cel_walk.specs.Verdicts.{is_applicable, is_old_optional, judged_error, list_of_option, optional_old_at, outcome_in, bound_verdict, rule_bindings, verdict, with_old, with_root}
+use Rattle.kube_cel_walk.specs.WalkAccessors.{WalkAccessors}
 use Rattle.kube_cel_walk.specs.Kept.{AreSameOthers}
-use Rattle.kube_functions.specs.Kube.{all_library}
 use Rattle.kube_schema_rules.specs.Compilation.{Compiled, Malformed}
 use Rattle.kube_schema_rules.specs.Demands.{rule_read, rules_read}
 use Rattle.kube_schema_rules.specs.Reads.{texts_read}
-use Rattle.serde_json.specs.Data.{Data as Json}
 use Rattle.std.proofs.Common.{◌≡◌, ℕ, List, [], ◌∷◌, ◌++◌, codes, Bool, true, false, Option, Some, None, is_some, option_map, Result, Ok, Err, if◌then◌else◌, refl, sym, ap, ◌∙◌, subst, true≢false}
 use Rattle.std.proofs.lemmas.Bool.{false_from_ne_true}
 use Rattle.std.proofs.lemmas.Slice.Eq.{bytes_eq-Decides}
@@ -86,38 +86,40 @@ names_rooted read (Some r) d e f h same x =
 
 -- ---- verdicts
 
-outcome_reads : (b : Book) (t : Term) (e f : Bindings) → NamesAlike (λ x. part_read x (reads_of t)) e f → outcome_in b e t ≡ outcome_in b f t
+outcome_reads : (l : Library) (b : Book) (t : Term) (e f : Bindings) → NamesAlike (λ x. part_read x (reads_of t)) e f → outcome_in l b e t ≡ outcome_in l b f t
 unfolding outcome_in
-outcome_reads b t e f h = meaning_reads all_library b t e f h
+outcome_reads l b t e f h = meaning_reads l b t e f h
 
-bound_reads : (b : Book) (path : List ℕ) (c : Compiled) (m : Option Term) (e f : Bindings) → NamesAlike (λ x. texts_read x c.tree m) e f
-    → judged_error path c.fields (judgement (option_map (outcome_in b e) m) (outcome_in b e c.tree)) ≡ judged_error path c.fields (judgement (option_map (outcome_in b f) m) (outcome_in b f c.tree))
-bound_reads b path c None e f h = λ i. judged_error path c.fields (judgement None (outcome_reads b c.tree e f h i))
-bound_reads b path c (Some t) e f h =
+bound_reads : (l : Library) (b : Book) (path : List ℕ) (c : Compiled) (m : Option Term) (e f : Bindings) → NamesAlike (λ x. texts_read x c.tree m) e f
+    → judged_error path c.fields (judgement (option_map (outcome_in l b e) m) (outcome_in l b e c.tree)) ≡ judged_error path c.fields (judgement (option_map (outcome_in l b f) m) (outcome_in l b f c.tree))
+bound_reads l b path c None e f h = λ i. judged_error path c.fields (judgement None (outcome_reads l b c.tree e f h i))
+bound_reads l b path c (Some t) e f h =
     let tree = λ (x : List ℕ). (both_reads_alike (part_read x (reads_of c.tree)) (part_read x (reads_of t)) (binding x e) (binding x f) (h x)).0 in
     let message = λ (x : List ℕ). (both_reads_alike (part_read x (reads_of c.tree)) (part_read x (reads_of t)) (binding x e) (binding x f) (h x)).1 in
-    λ i. judged_error path c.fields (judgement (Some (outcome_reads b t e f message i)) (outcome_reads b c.tree e f tree i))
+    λ i. judged_error path c.fields (judgement (Some (outcome_reads l b t e f message i)) (outcome_reads l b c.tree e f tree i))
 
-null_under : (n : Bool) (read : List ℕ → Option Part) (e f : Bindings) → NamesAlike read e f → NamesAlike read (if n then (codes "oldSelf", null) ∷ e else e) (if n then (codes "oldSelf", null) ∷ f else f)
-null_under true read e f h = names_under read (codes "oldSelf") null e f h
-null_under false read e f h = h
+optional_under : (n : Bool) (old : Option Data) (read : List ℕ → Option Part) (e f : Bindings) → NamesAlike read e f → NamesAlike read (if n then with_old old e else e) (if n then with_old old f else f)
+optional_under true None read e f h = h
+optional_under true (Some v) read e f h = names_under read (codes "oldSelf") v e f h
+optional_under false old read e f h = h
 
-compiled_reads : (b : Book) (path : List ℕ) (c : Compiled) (e f : Bindings) → NamesAlike (λ x. texts_read x c.tree c.message_tree) e f → bound_verdict b e path c ≡ bound_verdict b f path c
+compiled_reads : (l : Library) (b : Book) (path : List ℕ) (c : Compiled) (e f : Bindings) → NamesAlike (λ x. texts_read x c.tree c.message_tree) e f → bound_verdict l b e path c ≡ bound_verdict l b f path c
 unfolding bound_verdict
-compiled_reads b path c e f h = bound_reads b path c c.message_tree e f h
+compiled_reads l b path c e f h = bound_reads l b path c c.message_tree e f h
 
-pub verdict_reads : (b : Book) (e f : Bindings) (old : Option Json) (path : List ℕ) (r : Result Compiled Malformed) → NamesAlike (λ x. rule_read x r) e f → verdict b e old path r ≡ verdict b f old path r
-unfolding verdict
-verdict_reads b e f old path (Err m) h = refl
-verdict_reads b e f old path (Ok c) h =
-    ap (λ x. if is_applicable old c then x else None)
-    (compiled_reads b path c (rule_bindings e old c.fields) (rule_bindings f old c.fields) (null_under (is_old_null old c.fields) (λ x. texts_read x c.tree c.message_tree) e f h))
+module _ {S : Type 0} (form : WalkAccessors S) where
+  pub verdict_reads : (b : Book) (e f : Bindings) (s : Visit S) (r : Result Compiled Malformed) → NamesAlike (λ x. rule_read x r) e f → verdict form b e s r ≡ verdict form b f s r
+  unfolding verdict
+  verdict_reads b e f s (Err m) h = refl
+  verdict_reads b e f s (Ok c) h =
+      ap (λ x. if is_applicable s.old c then x else None)
+      (compiled_reads form.library b s.path c (rule_bindings form e s c.fields) (rule_bindings form f s c.fields) (optional_under (is_old_optional c.fields) (optional_old_at form s) (λ x. texts_read x c.tree c.message_tree) e f h))
 
--- the verdicts of all rules of a node
-pub verdicts_read : (b : Book) (e f : Bindings) (old : Option Json) (path : List ℕ) (rs : List (Result Compiled Malformed)) → NamesAlike (λ x. rules_read x rs) e f
-    → flat_map (λ r. list_of_option (verdict b e old path r)) rs ≡ flat_map (λ r. list_of_option (verdict b f old path r)) rs
-verdicts_read b e f old path [] h = refl
-verdicts_read b e f old path (r ∷ rs) h =
-    let first = λ (x : List ℕ). (both_reads_alike (rule_read x r) (rules_read x rs) (binding x e) (binding x f) (h x)).0 in
-    let rest = λ (x : List ℕ). (both_reads_alike (rule_read x r) (rules_read x rs) (binding x e) (binding x f) (h x)).1 in
-    λ i. list_of_option (verdict_reads b e f old path r first i) ++ verdicts_read b e f old path rs rest i
+  -- the verdicts of all rules of a node
+  pub verdicts_read : (b : Book) (e f : Bindings) (s : Visit S) (rs : List (Result Compiled Malformed)) → NamesAlike (λ x. rules_read x rs) e f
+      → flat_map (λ r. list_of_option (verdict form b e s r)) rs ≡ flat_map (λ r. list_of_option (verdict form b f s r)) rs
+  verdicts_read b e f s [] h = refl
+  verdicts_read b e f s (r ∷ rs) h =
+      let first = λ (x : List ℕ). (both_reads_alike (rule_read x r) (rules_read x rs) (binding x e) (binding x f) (h x)).0 in
+      let rest = λ (x : List ℕ). (both_reads_alike (rule_read x r) (rules_read x rs) (binding x e) (binding x f) (h x)).1 in
+      λ i. list_of_option (verdict_reads b e f s r first i) ++ verdicts_read b e f s rs rest i

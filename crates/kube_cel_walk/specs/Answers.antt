@@ -11,7 +11,6 @@ use Rattle.kube_schema_rules.specs.Step.{Step}
 use Rattle.kube_schema_rules.specs.Walk.{answers, AreFoundAtPlaces, if_some}
 use Rattle.kube_cel_walk.specs.Verdicts.{list_of_option, verdict, with_old, with_root}
 use Rattle.kube_cel_walk.specs.WalkAccessors.{WalkAccessors}
-use Rattle.kube_schema_values.specs.Conversion.{to_cel, levels}
 use Rattle.serde_json.specs.Data.{Data as Json}
 use Rattle.std.specs.List.{flat_map}
 use Rattle.std.specs.Prelude.{ℕ, ◌==◌, List, [], ◌∷◌, if◌then◌else◌, Option, option_map, codes}
@@ -19,7 +18,7 @@ use Rattle.std.specs.Prelude.{ℕ, ◌==◌, List, [], ◌∷◌, if◌then◌el
 module _ {S : Type 0} (form : WalkAccessors S) where
   -- a JSON value at a place, converted to CEL by the place's node
   abbrev pub bound_at : Visit S → Json → Data
-  bound_at s value = to_cel form.conversion (levels s.depth) s.node value
+  bound_at s value = form.bound s.depth s.node value
 
   -- the bindings that all rules at a place share: `self` is the value there
   unfoldable pub place_bindings : Visit S → Bindings
@@ -28,11 +27,13 @@ module _ {S : Type 0} (form : WalkAccessors S) where
 
   -- the verdicts of the node's rules, in order, under these bindings
   unfoldable pub rule_verdicts : Book → Bindings → Visit S → List ErrorData
-  rule_verdicts b e s = flat_map (λ r. list_of_option (verdict b e s.old s.path r)) (form.rules s.node)
+  rule_verdicts b e s = flat_map (λ r. list_of_option (verdict form b e s r)) (form.rules s.node)
 
   -- the errors at a place; beyond depth 64 a single error instead of verdicts
   unfoldable pub verdicts : Book → Visit S → List ErrorData
-  verdicts b s = if s.depth == 65 then too_deep s.path ∷ [] else rule_verdicts b (place_bindings s) s
+  verdicts b s =
+      if s.depth == 65 then too_deep s.path ∷ []
+      else (if form.runs_at s.node s.value then rule_verdicts b (place_bindings s) s else [])
 
   -- the errors from a visit on, within n steps
   unfoldable pub answer : Book → ℕ → Visit S → List ErrorData

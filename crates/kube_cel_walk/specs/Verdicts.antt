@@ -3,14 +3,15 @@
 use Rattle.cel.specs.Checks.{JudgementData, errs, fails, false_message, holds, judgement, not_bool}
 use Rattle.cel.specs.Book.{Book}
 use Rattle.cel.specs.Bindings.{Bindings}
+use Rattle.cel.specs.Library.{Library}
 use Rattle.cel.specs.Meaning.{meaning}
 use Rattle.cel.specs.Outcome.{Outcome}
 use Rattle.cel_syntax.specs.Term.{Term}
-use Rattle.cel_value.specs.Data.{Data, null, text}
+use Rattle.cel_value.specs.Data.{Data, text}
 use Rattle.kube_cel_walk.specs.Errors.{ErrorData}
 use Rattle.kube_cel_walk.specs.RuleErrors.{failed_rule, no_bool, fault_error, undeclared_name, malformed_error}
-use Rattle.kube_schema_rules.specs.Visit.{Root}
-use Rattle.kube_functions.specs.Kube.{all_library}
+use Rattle.kube_cel_walk.specs.WalkAccessors.{WalkAccessors}
+use Rattle.kube_schema_rules.specs.Visit.{Root, Visit}
 use Rattle.kube_schema_rules.specs.Compilation.{Compiled, Malformed}
 use Rattle.kube_schema_rules.specs.Rules as schema
 use Rattle.serde_json.specs.Data.{Data as Json}
@@ -49,34 +50,35 @@ with_root (Some r) e =
 abbrev pub is_old_optional : schema.Fields → Bool
 is_old_optional r = unwrap_or r.optional_old_self false
 
--- there is no old counterpart, and the rule sets `optionalOldSelf`: `oldSelf` is null in it
-abbrev pub is_old_null : Option Json → schema.Fields → Bool
-is_old_null old r = not (is_some old) && is_old_optional r
-
 -- a transition rule applies if there is an old counterpart, or if it sets `optionalOldSelf`
 abbrev pub is_applicable : Option Json → Compiled → Bool
 is_applicable old c = not c.is_transition || (is_some old || is_old_optional c.fields)
 
--- the meaning of an expression with all functions
-unfoldable pub outcome_in : Book → Bindings → Term → Outcome
-outcome_in b e t = meaning all_library b t e
+-- the meaning of an expression with these functions
+unfoldable pub outcome_in : Library → Book → Bindings → Term → Outcome
+outcome_in library b e t = meaning library b t e
 
 -- the error of a rule under these bindings; none if the rule is true
-unfoldable pub bound_verdict : Book → Bindings → List ℕ → Compiled → Option ErrorData
-bound_verdict b e path c =
+unfoldable pub bound_verdict : Library → Book → Bindings → List ℕ → Compiled → Option ErrorData
+bound_verdict library b e path c =
     judged_error path c.fields
-    (judgement (option_map (outcome_in b e) c.message_tree) (outcome_in b e c.tree))
+    (judgement (option_map (outcome_in library b e) c.message_tree) (outcome_in library b e c.tree))
 
--- the verdict of a compiled rule: none if it isn't applicable or is
--- true. If it applies without an old counterpart, `oldSelf` is null
-abbrev pub rule_bindings : Bindings → Option Json → schema.Fields → Bindings
-rule_bindings e old r = if is_old_null old r then (codes "oldSelf", null) ∷ e else e
+module _ {S : Type 0} (form : WalkAccessors S) where
+  -- what `oldSelf` is bound to at a visit in a rule that sets `optionalOldSelf`
+  unfoldable pub optional_old_at : Visit S → Option Data
+  optional_old_at s = form.optional_old s.depth s.node s.old
 
-abbrev pub compiled_verdict : Book → Bindings → Option Json → List ℕ → Compiled → Option ErrorData
-compiled_verdict b e old path c =
-    if is_applicable old c then bound_verdict b (rule_bindings e old c.fields) path c else None
+  -- the bindings of a rule, by those that all rules at the visit share
+  abbrev pub rule_bindings : Bindings → Visit S → schema.Fields → Bindings
+  rule_bindings e s r = if is_old_optional r then with_old (optional_old_at s) e else e
 
--- the verdict of one rule: at most one error. A malformed rule is an error at every place
-unfoldable pub verdict : Book → Bindings → Option Json → List ℕ → Result Compiled Malformed → Option ErrorData
-verdict b e old path (Err m) = Some (malformed_error path m)
-verdict b e old path (Ok c) = compiled_verdict b e old path c
+  -- the verdict of a compiled rule: none if it isn't applicable or is true
+  abbrev pub compiled_verdict : Book → Bindings → Visit S → Compiled → Option ErrorData
+  compiled_verdict b e s c =
+      if is_applicable s.old c then bound_verdict form.library b (rule_bindings e s c.fields) s.path c else None
+
+  -- the verdict of one rule: at most one error. A malformed rule is an error wherever rules are run
+  unfoldable pub verdict : Book → Bindings → Visit S → Result Compiled Malformed → Option ErrorData
+  verdict b e s (Err m) = Some (malformed_error s.path m)
+  verdict b e s (Ok c) = compiled_verdict b e s c

@@ -13,7 +13,6 @@ ghost use Rattle.kube_cel_walk.specs.Paths.{path_view};
 ghost use Rattle.kube_cel_walk.specs.RuleErrors.{too_deep};
 ghost use Rattle.kube_cel_walk.specs.Verdicts.{list_of_option, verdict, with_old};
 ghost use Rattle.kube_cel_walk.specs.Visits.{IsAlone, visit_at};
-ghost use Rattle.kube_schema_values.specs.Conversion.{to_cel, levels};
 ghost use Rattle.kube_schema_rules.specs.Compilation.{compiled_seen};
 ghost use Rattle.kube_schema_rules.specs.Demands.{rules_read};
 ghost use Rattle.serde_json.specs.View.{view};
@@ -26,8 +25,8 @@ use crate::node::Node;
 use crate::path::Path;
 use crate::rule_error::deep_error;
 use crate::state::{WalkState, is_alone};
-use crate::verdict::{Context, add_verdicts, bind_root};
-use cel::{PatternBook, Stacks};
+use crate::verdict::{add_verdicts, bind_root};
+use cel::{Context, Functions, PatternBook, Stacks};
 use cel_demand::Demand;
 use cel_value::Value as CelValue;
 use kube_schema_rules::{CompiledRules, NodeRules};
@@ -43,7 +42,7 @@ pub(crate) const TOO_DEEP: usize = MAX_SCHEMA_DEPTH + 1;
 /// What other names are bound to stays the same, even if memory is refused.
 fn bind_name<N: Node>(
     alloc: Global,
-    context: &mut Context<'_>,
+    context: &mut Context<'_, N::FunctionSet>,
     name: &str,
     node: &N,
     value: &Value,
@@ -52,7 +51,7 @@ fn bind_name<N: Node>(
 ) -> Result<(), Refused>
     ensures bound { OnOk result (ReadAlike (option_map part_of demand.now)
         (binding name.now (bindings_of context.new))
-        (Some (to_cel N.form.conversion (levels depth) (N.seen node.now) (view value.now)))) }
+        (Some (N.form.bound depth (N.seen node.now) (view value.now)))) }
     ensures others { AreSameOthers name.now (bindings_of context.new) (bindings_of context.old) }
 {
     let Some(demand) = demand else {
@@ -65,7 +64,7 @@ fn bind_name<N: Node>(
 
 /// Takes the value that a name is bound to; null if it isn't bound. What other names are bound to
 /// stays the same.
-fn taken(context: &mut Context<'_>, name: &str) -> CelValue
+fn taken<F: Functions>(context: &mut Context<'_, F>, name: &str) -> CelValue
     ensures { AreSameOthers name.now (bindings_of context.new) (bindings_of context.old) }
 {
     match context.take_variable(name) {
@@ -77,7 +76,7 @@ fn taken(context: &mut Context<'_>, name: &str) -> CelValue
 /// Binds a name like [`bind_name`], in place of the value that it is bound to.
 fn rebind_name<N: Node>(
     alloc: Global,
-    context: &mut Context<'_>,
+    context: &mut Context<'_, N::FunctionSet>,
     name: &str,
     node: &N,
     value: &Value,
@@ -86,7 +85,7 @@ fn rebind_name<N: Node>(
 ) -> Result<(), Refused>
     ensures bound { OnOk result (ReadAlike (option_map part_of demand.now)
         (binding name.now (bindings_of context.new))
-        (Some (to_cel N.form.conversion (levels depth) (N.seen node.now) (view value.now)))) }
+        (Some (N.form.bound depth (N.seen node.now) (view value.now)))) }
     ensures others { AreSameOthers name.now (bindings_of context.new) (bindings_of context.old) }
 {
     let Some(demand) = demand else {
@@ -101,7 +100,7 @@ fn rebind_name<N: Node>(
 /// Binds `oldSelf` to the demanded part of the old counterpart, if there is one.
 fn bind_old<N: Node>(
     alloc: Global,
-    context: &mut Context<'_>,
+    context: &mut Context<'_, N::FunctionSet>,
     state: &WalkState<'_, N>,
     demand: &Option<Demand>,
 ) -> Result<(), Refused>
@@ -124,7 +123,7 @@ fn bind_old<N: Node>(
 /// and `apiVersion`, `apiGroup` and `kind` if there is a root context.
 fn bind_place<N: Node>(
     alloc: Global,
-    context: &mut Context<'_>,
+    context: &mut Context<'_, N::FunctionSet>,
     state: &WalkState<'_, N>,
     rules: &NodeRules,
 ) -> Result<(), Refused>
@@ -154,7 +153,7 @@ fn bind_place<N: Node>(
 /// There is no other name to bind.
 fn bind_alone<N: Node>(
     alloc: Global,
-    kept: &mut KeptContext<'_>,
+    kept: &mut KeptContext<'_, N::FunctionSet>,
     state: &WalkState<'_, N>,
     rules: &NodeRules,
 ) -> Result<(), Refused>
@@ -186,7 +185,7 @@ fn add_deep(path: &Path<'_>, errors: &mut Vec<ValidationError>) -> Result<(), Al
 fn add_rules<N: Node>(
     state: &WalkState<'_, N>,
     rules: &NodeRules,
-    context: &Context<'_>,
+    context: &Context<'_, N::FunctionSet>,
     path: &Path<'_>,
     book: &mut PatternBook,
     stacks: &mut Stacks,
@@ -196,11 +195,11 @@ fn add_rules<N: Node>(
     ensures keeps { (b : Book) → Extends b (entries_of book.new) → Extends b (entries_of book.old) }
     ensures found { OnOk result (AreAdded (entries_of book.new) errors.old.items errors.new.items
         (λ b. flat_map (λ r. list_of_option
-        (verdict b (bindings_of context.now) (option_map (λ v. view v.now) state.now.old) (path_view path.now) r))
+        (verdict N.form b (bindings_of context.now) (visit_at N.seen state.now (path_view path.now)) r))
         (N.form.rules (N.seen state.now.node)))) }
 {
     let rules = rules.rules.as_slice();
-    add_verdicts(rules, context, state.old, path, book, stacks, errors)?;
+    add_verdicts(rules, context, state, path, book, stacks, errors)?;
     Ok(())
 }
 
@@ -232,7 +231,7 @@ fn add_kept<N: Node>(
     state: &WalkState<'_, N>,
     rules: &NodeRules,
     path: &Path<'_>,
-    kept: &mut KeptContext<'_>,
+    kept: &mut KeptContext<'_, N::FunctionSet>,
     book: &mut PatternBook,
     errors: &mut Vec<ValidationError>,
 ) -> Result<(), Refused>
@@ -255,7 +254,7 @@ fn add_by_rules<N: Node>(
     state: &WalkState<'_, N>,
     rules: &NodeRules,
     path: &Path<'_>,
-    kept: &mut KeptContext<'_>,
+    kept: &mut KeptContext<'_, N::FunctionSet>,
     book: &mut PatternBook,
     errors: &mut Vec<ValidationError>,
 ) -> Result<(), Refused>
@@ -282,7 +281,7 @@ fn add_by_made<N: Node>(
     state: &WalkState<'_, N>,
     rules: NodeRules,
     path: &Path<'_>,
-    kept: &mut KeptContext<'_>,
+    kept: &mut KeptContext<'_, N::FunctionSet>,
     book: &mut PatternBook,
     errors: &mut Vec<ValidationError>,
 ) -> Result<(), Refused>
@@ -299,7 +298,7 @@ fn add_by_made<N: Node>(
 pub(crate) fn validate_at<N: Node>(
     state: &WalkState<'_, N>,
     path: &Path<'_>,
-    kept: &mut KeptContext<'_>,
+    kept: &mut KeptContext<'_, N::FunctionSet>,
     book: &mut PatternBook,
     errors: &mut Vec<ValidationError>,
 ) -> Result<(), Refused>
@@ -309,6 +308,9 @@ pub(crate) fn validate_at<N: Node>(
 {
     if state.depth == TOO_DEEP {
         add_deep(path, errors)?;
+        return Ok(());
+    }
+    if !state.node.runs_at(state.value) {
         return Ok(());
     }
     match state.node.rules(*errors.allocator())? {

@@ -5,10 +5,11 @@ ghost use Rattle.cel.specs.Bindings.{Bindings};
 ghost use Rattle.kube_cel_walk.specs.Errors.{error_view, SameFields};
 ghost use Rattle.kube_cel_walk.specs.ErrorLists.{SameErrors, errors_in};
 ghost use Rattle.kube_cel_walk.specs.Verdicts.{verdict};
+ghost use Rattle.kube_cel_walk.specs.WalkAccessors.{WalkAccessors};
 ghost use Rattle.kube_schema_rules.specs.Compilation.{Compiled, Malformed};
 ghost use Rattle.kube_schema_rules.specs.Demands.{rule_read};
-ghost use Rattle.serde_json.specs.Data.{Data as Json};
-ghost use Rattle.std.specs.Prelude.{◌↔◌, IsTrue, ◌≡◌, ℕ, List, Option, Result, map};
+ghost use Rattle.kube_schema_rules.specs.Visit.{Visit};
+ghost use Rattle.std.specs.Prelude.{◌↔◌, IsTrue, ◌≡◌, Result, map};
 
 use crate::error::{ErrorKind, ValidationError, ValidationErrors};
 
@@ -21,11 +22,11 @@ pub fn equal_by_five_fields(a: &ValidationError, b: &ValidationError) -> bool
 
 /// The verdict of a rule depends only on what the rule and
 /// its messageExpression read of the values at a place.
-pub fn verdict_depends_on_what_is_read()
-    ensures { (b : Book) (e f : Bindings) (old : Option Json)
-        (path : List ℕ) (rule : Result Compiled Malformed)
+pub fn verdict_depends_on_what_is_read<S>()
+    ensures { (form : WalkAccessors S) (b : Book) (e f : Bindings) (s : Visit S)
+        (rule : Result Compiled Malformed)
         → NamesAlike (λ x. rule_read x rule) e f
-        → verdict b e old path rule ≡ verdict b f old path rule }
+        → verdict form b e s rule ≡ verdict form b f s rule }
 {}
 
 /// The errors of two validations are equal exactly if there

@@ -1,9 +1,9 @@
 //! The state of a walk at a place.
 ghost use Rattle.kube_cel_walk.specs.Visits.{IsAlone};
-ghost use Rattle.serde_json.specs.Find.{at, get};
 ghost use Rattle.serde_json.specs.View.{view};
 ghost use Rattle.std.specs.Prelude.{◌≡◌, IsTrue, option_and_then, option_map};
 
+use crate::node::Node;
 use crate::root::RootContext;
 use serde_json::Value;
 
@@ -30,18 +30,20 @@ pub(crate) fn is_alone<N>(state: &WalkState<'_, N>) -> bool
     state.old.is_none() && state.root.is_none()
 }
 
-/// The member of the old value at a key, if any.
-pub(crate) fn old_member<'a>(old: Option<&'a Value>, key: &str) -> Option<&'a Value>
+/// The old counterpart of a member, by its key, if any.
+pub(crate) fn old_member<'a, N: Node>(state: &WalkState<'a, N>, key: &str) -> Option<&'a Value>
     ensures { option_map (λ v. view v.now) result
-        ≡ option_and_then (get key.now) (option_map (λ v. view v.now) old.entry) }
+        ≡ option_and_then (N.form.steps.old_member key.now (N.seen state.now.node))
+        (option_map (λ v. view v.now) state.now.old) }
 {
-    old?.get(key)
+    state.node.old_member(key, state.old?)
 }
 
-/// The item of the old value at an index, if any.
-pub(crate) fn old_item(old: Option<&Value>, index: usize) -> Option<&Value>
+/// The old counterpart of an item, by its index, if any.
+pub(crate) fn old_item<'a, N: Node>(state: &WalkState<'a, N>, index: usize) -> Option<&'a Value>
     ensures { option_map (λ v. view v.now) result
-        ≡ option_and_then (at index) (option_map (λ v. view v.now) old.entry) }
+        ≡ option_and_then (N.form.steps.old_item index (N.seen state.now.node) (view state.now.value.now))
+        (option_map (λ v. view v.now) state.now.old) }
 {
-    old?.get(index)
+    state.node.old_item(index, state.value, state.old?)
 }

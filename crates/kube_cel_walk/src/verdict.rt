@@ -2,16 +2,16 @@
 ghost use Rattle.cel.specs.Checks.{false_message, judgement, judgement_view};
 ghost use Rattle.cel.specs.Book.{Extends, Book};
 ghost use Rattle.cel.specs.Entries.{entries_of};
-ghost use Rattle.cel.specs.Bindings.{binding, bindings_of};
+ghost use Rattle.cel.specs.Bindings.{binding, bindings_of, functions_of};
 ghost use Rattle.cel.specs.Outcome.{outcome_view};
-ghost use Rattle.cel_value.specs.Data.{null};
 ghost use Rattle.cel_value.specs.View.{view as cel_view};
 ghost use Rattle.kube_cel_walk.specs.Errors.{error_view};
 ghost use Rattle.kube_cel_walk.specs.Paths.{path_view};
 ghost use Rattle.kube_cel_walk.specs.Roots.{root_view};
 ghost use Rattle.kube_cel_walk.specs.RuleErrors.{failed_rule, malformed_error};
 ghost use Rattle.kube_cel_walk.specs.AddedErrors.{AreAdded, is_true};
-ghost use Rattle.kube_cel_walk.specs.Verdicts.{bound_verdict, compiled_verdict, is_applicable, is_old_null, is_old_optional, judged_error, list_of_option, outcome_in, own_message, verdict, with_root};
+ghost use Rattle.kube_cel_walk.specs.Verdicts.{bound_verdict, compiled_verdict, is_applicable, is_old_optional, judged_error, list_of_option, optional_old_at, outcome_in, own_message, verdict, with_old, with_root};
+ghost use Rattle.kube_cel_walk.specs.Visits.{visit_at};
 ghost use Rattle.kube_schema_rules.specs.Compilation.{compiled_seen, error_view as malformed_view, result_view};
 ghost use Rattle.kube_schema_rules.specs.Rules.{rule_view};
 ghost use Rattle.serde_json.specs.View.{view};
@@ -19,29 +19,27 @@ ghost use Rattle.std.specs.List.{flat_map};
 ghost use Rattle.std.specs.Prelude.{◌≡◌, ◌++◌, ◌∷◌, [], codes, IfErr, IfOk, List, map, OnOk, option_map, string_bytes, ℕ};
 
 use crate::error::ValidationError;
+use crate::node::Node;
 use crate::path::Path;
 use crate::root::RootContext;
 use crate::rule_error::{failed_rule_error, fault_error, malformed_error, no_bool_error};
-use cel::{Answer, Judgement, PatternBook, Stacks, judge, message_text};
+use crate::state::WalkState;
+use cel::{Answer, Context, Functions, Judgement, PatternBook, Stacks, judge, message_text};
 use cel_value::Value as CelValue;
-use kube_functions::AllFunctions;
 use kube_schema_rules::{CompilationError, CompilationResult, Rule};
 use kube_schema_values::bind_text;
 use kube_types::Refused;
 use serde_json::Value;
 use std::alloc::{AllocError, Global};
 
-/// The context that the rules of a schema are evaluated in.
-pub type Context<'a> = cel::Context<'a, AllFunctions>;
-
 /// Binds `apiVersion`, `apiGroup` and `kind`, if there is a root context.
 ///
 /// # Errors
 ///
 /// [`Refused`] if memory is refused.
-pub fn bind_root(
+pub fn bind_root<F: Functions>(
     alloc: Global,
-    context: &mut Context<'_>,
+    context: &mut Context<'_, F>,
     root: Option<&RootContext>,
 ) -> Result<(), Refused>
     ensures bound { OnOk result ((x : List ℕ) → binding x (bindings_of context.new)
@@ -63,21 +61,6 @@ fn is_applicable(rule: &CompilationResult, old: Option<&Value>) -> bool
     ensures { result ≡ is_applicable (option_map (λ v. view v.now) old.entry) (result_view rule.now) }
 {
     !rule.is_transition_rule || old.is_some() || is_old_optional(&rule.rule)
-}
-
-/// Reports whether `oldSelf` is null for a rule: there
-/// is no old value, and the rule sets `optionalOldSelf`.
-fn is_old_null(rule: &Rule, old: Option<&Value>) -> bool
-    ensures { result ≡ is_old_null (option_map (λ v. view v.now) old.entry) (rule_view rule.now) }
-{
-    old.is_none() && is_old_optional(rule)
-}
-
-/// The value of `oldSelf` if there is no old value.
-fn null_old_self() -> CelValue
-    ensures { cel_view result ≡ null }
-{
-    CelValue::Null
 }
 
 /// Reports whether a rule sets `optionalOldSelf`.
@@ -165,10 +148,10 @@ fn push_listed(
 /// Appends the error of a rule by its outcome in this context, if it has one.
 #[inline(never)]
 #[tactic(auto, unfolding(crate::specs::Verdicts::outcome_in))]
-fn add_by_outcome(
+fn add_by_outcome<F: Functions>(
     rule: &CompilationResult,
     outcome: Answer,
-    context: &Context<'_>,
+    context: &Context<'_, F>,
     path: &Path<'_>,
     book: &mut PatternBook,
     errors: &mut Vec<ValidationError>,
@@ -176,8 +159,8 @@ fn add_by_outcome(
     ensures keeps { (b : Book) → Extends b (entries_of book.new) → Extends b (entries_of book.old) }
     ensures found { OnOk result (AreAdded (entries_of book.new) errors.old.items errors.new.items
         (λ b. list_of_option (judged_error (path_view path.now) (rule_view rule.now.rule)
-        (judgement (option_map (outcome_in b (bindings_of context.now)) (result_view rule.now).message_tree)
-        (outcome_view outcome))))) }
+        (judgement (option_map (outcome_in (F.library (functions_of context.now)) b (bindings_of context.now))
+        (result_view rule.now).message_tree) (outcome_view outcome))))) }
 {
     let alloc = *errors.allocator();
     let judgement = judge(alloc, outcome, &rule.message_program, context, book)?;
@@ -198,9 +181,9 @@ fn is_true(outcome: &Answer) -> bool
 
 /// Evaluates a rule in a context that binds its names. Appends its error, unless the rule is true.
 #[inline(always)]
-fn add_where_bound(
+fn add_where_bound<F: Functions>(
     rule: &CompilationResult,
-    context: &Context<'_>,
+    context: &Context<'_, F>,
     path: &Path<'_>,
     book: &mut PatternBook,
     stacks: &mut Stacks,
@@ -208,8 +191,8 @@ fn add_where_bound(
 ) -> Result<(), Refused>
     ensures keeps { (b : Book) → Extends b (entries_of book.new) → Extends b (entries_of book.old) }
     ensures found { OnOk result (AreAdded (entries_of book.new) errors.old.items errors.new.items
-        (λ b. list_of_option
-        (bound_verdict b (bindings_of context.now) (path_view path.now) (result_view rule.now)))) }
+        (λ b. list_of_option (bound_verdict (F.library (functions_of context.now)) b
+        (bindings_of context.now) (path_view path.now) (result_view rule.now)))) }
 {
     let outcome = rule
         .program
@@ -221,11 +204,12 @@ fn add_where_bound(
     Ok(())
 }
 
-/// Evaluates a rule like [`add_where_bound`], with `oldSelf` bound to null.
+/// Evaluates a rule like [`add_where_bound`], with `oldSelf` bound to this value.
 #[inline(never)]
-fn add_where_old_null(
+fn add_with_old<F: Functions>(
     rule: &CompilationResult,
-    context: &Context<'_>,
+    context: &Context<'_, F>,
+    old: CelValue,
     path: &Path<'_>,
     book: &mut PatternBook,
     stacks: &mut Stacks,
@@ -233,21 +217,21 @@ fn add_where_old_null(
 ) -> Result<(), Refused>
     ensures keeps { (b : Book) → Extends b (entries_of book.new) → Extends b (entries_of book.old) }
     ensures found { OnOk result (AreAdded (entries_of book.new) errors.old.items errors.new.items
-        (λ b. list_of_option (bound_verdict b ((codes "oldSelf", null) ∷ bindings_of context.now)
-        (path_view path.now) (result_view rule.now)))) }
+        (λ b. list_of_option (bound_verdict (F.library (functions_of context.now)) b
+        ((codes "oldSelf", cel_view old) ∷ bindings_of context.now) (path_view path.now) (result_view rule.now)))) }
 {
     let mut inner = context.new_inner_scope();
-    inner.add_variable("oldSelf", null_old_self())?;
+    inner.add_variable("oldSelf", old)?;
     add_where_bound(rule, &inner, path, book, stacks, errors)?;
     Ok(())
 }
 
-/// Appends the verdict of a compiled rule in this context. Binds `oldSelf`
-/// to null if the rule sets `optionalOldSelf` and there is no old value.
-fn add_compiled(
+/// Evaluates a rule that sets `optionalOldSelf` like [`add_where_bound`], with `oldSelf` bound as in such rules.
+#[inline(never)]
+fn add_where_optional<N: Node>(
     rule: &CompilationResult,
-    context: &Context<'_>,
-    old: Option<&Value>,
+    context: &Context<'_, N::FunctionSet>,
+    state: &WalkState<'_, N>,
     path: &Path<'_>,
     book: &mut PatternBook,
     stacks: &mut Stacks,
@@ -255,14 +239,44 @@ fn add_compiled(
 ) -> Result<(), Refused>
     ensures keeps { (b : Book) → Extends b (entries_of book.new) → Extends b (entries_of book.old) }
     ensures found { OnOk result (AreAdded (entries_of book.new) errors.old.items errors.new.items
-        (λ b. list_of_option (compiled_verdict b (bindings_of context.now)
-        (option_map (λ v. view v.now) old.entry) (path_view path.now) (result_view rule.now)))) }
+        (λ b. list_of_option (bound_verdict N.form.library b
+        (with_old (optional_old_at N.form (visit_at N.seen state.now (path_view path.now))) (bindings_of context.now))
+        (path_view path.now) (result_view rule.now)))) }
 {
-    if !is_applicable(rule, old) {
+    let alloc = *errors.allocator();
+    match state.node.optional_old(alloc, state.old, state.depth)? {
+        Some(old) => {
+            add_with_old(rule, context, old, path, book, stacks, errors)?;
+            Ok(())
+        }
+        None => {
+            add_where_bound(rule, context, path, book, stacks, errors)?;
+            Ok(())
+        }
+    }
+}
+
+/// Appends the verdict of a compiled rule in this context, which
+/// binds the names that all rules at the place share.
+fn add_compiled<N: Node>(
+    rule: &CompilationResult,
+    context: &Context<'_, N::FunctionSet>,
+    state: &WalkState<'_, N>,
+    path: &Path<'_>,
+    book: &mut PatternBook,
+    stacks: &mut Stacks,
+    errors: &mut Vec<ValidationError>,
+) -> Result<(), Refused>
+    ensures keeps { (b : Book) → Extends b (entries_of book.new) → Extends b (entries_of book.old) }
+    ensures found { OnOk result (AreAdded (entries_of book.new) errors.old.items errors.new.items
+        (λ b. list_of_option (compiled_verdict N.form b (bindings_of context.now)
+        (visit_at N.seen state.now (path_view path.now)) (result_view rule.now)))) }
+{
+    if !is_applicable(rule, state.old) {
         return Ok(());
     }
-    if is_old_null(&rule.rule, old) {
-        add_where_old_null(rule, context, path, book, stacks, errors)?;
+    if is_old_optional(&rule.rule) {
+        add_where_optional(rule, context, state, path, book, stacks, errors)?;
         return Ok(());
     }
     add_where_bound(rule, context, path, book, stacks, errors)?;
@@ -284,16 +298,16 @@ fn add_malformed(
     Ok(())
 }
 
-/// Appends the verdict of a rule in this context, if it is
-/// an error. `old` is the old value at the place, if any. The rule runs on `stacks`.
+/// Appends the verdict of a rule at a place in this context, if it is an error. The context binds
+/// the names that all rules there share. The rule runs on `stacks`.
 ///
 /// # Errors
 ///
 /// [`Refused`] if memory is refused, or a URL that a rule reads is too large.
-pub fn add_verdict(
+pub fn add_verdict<N: Node>(
     rule: &Result<CompilationResult, CompilationError>,
-    context: &Context<'_>,
-    old: Option<&Value>,
+    context: &Context<'_, N::FunctionSet>,
+    state: &WalkState<'_, N>,
     path: &Path<'_>,
     book: &mut PatternBook,
     stacks: &mut Stacks,
@@ -301,8 +315,8 @@ pub fn add_verdict(
 ) -> Result<(), Refused>
     ensures keeps { (b : Book) → Extends b (entries_of book.new) → Extends b (entries_of book.old) }
     ensures found { OnOk result (AreAdded (entries_of book.new) errors.old.items errors.new.items
-        (λ b. list_of_option (verdict b (bindings_of context.now)
-        (option_map (λ v. view v.now) old.entry) (path_view path.now) (compiled_seen rule.now)))) }
+        (λ b. list_of_option (verdict N.form b (bindings_of context.now)
+        (visit_at N.seen state.now (path_view path.now)) (compiled_seen rule.now)))) }
 {
     match rule {
         Err(error) => {
@@ -310,21 +324,21 @@ pub fn add_verdict(
             Ok(())
         }
         Ok(rule) => {
-            add_compiled(rule, context, old, path, book, stacks, errors)?;
+            add_compiled(rule, context, state, path, book, stacks, errors)?;
             Ok(())
         }
     }
 }
 
-/// Appends the verdicts of rules in this context, in order, like [`add_verdict`].
+/// Appends the verdicts of rules at a place in this context, in order, like [`add_verdict`].
 ///
 /// # Errors
 ///
 /// [`Refused`] if memory is refused, or a URL that a rule reads is too large.
-pub fn add_verdicts(
+pub fn add_verdicts<N: Node>(
     rules: &[Result<CompilationResult, CompilationError>],
-    context: &Context<'_>,
-    old: Option<&Value>,
+    context: &Context<'_, N::FunctionSet>,
+    state: &WalkState<'_, N>,
     path: &Path<'_>,
     book: &mut PatternBook,
     stacks: &mut Stacks,
@@ -332,12 +346,11 @@ pub fn add_verdicts(
 ) -> Result<(), Refused>
     ensures keeps { (b : Book) → Extends b (entries_of book.new) → Extends b (entries_of book.old) }
     ensures found { OnOk result (AreAdded (entries_of book.new) errors.old.items errors.new.items
-        (λ b. flat_map (λ r. list_of_option
-        (verdict b (bindings_of context.now)
-        (option_map (λ v. view v.now) old.entry) (path_view path.now) (compiled_seen r))) rules.now)) }
+        (λ b. flat_map (λ r. list_of_option (verdict N.form b (bindings_of context.now)
+        (visit_at N.seen state.now (path_view path.now)) (compiled_seen r))) rules.now)) }
 {
     for rule in rules {
-        add_verdict(rule, context, old, path, book, stacks, errors)?;
+        add_verdict(rule, context, state, path, book, stacks, errors)?;
     }
     Ok(())
 }

@@ -7,7 +7,6 @@ ghost use Rattle.kube_cel_walk.specs.Paths.{path_view};
 ghost use Rattle.kube_cel_walk.specs.Visits.{visit_at};
 ghost use Rattle.kube_schema_rules.specs.Visit.{branch_steps, additional_steps, further, goes, item_path, item_steps, member_path, property_steps, unless_there};
 ghost use Rattle.kube_schema_rules.specs.Step.{branch};
-ghost use Rattle.serde_json.specs.Find.{at, get};
 ghost use Rattle.serde_json.specs.View.{view};
 ghost use Rattle.std.specs.Prelude.{◌≡◌, ◌≤◌, ◌-◌, None, OnOk, option_and_then, option_map, Some};
 
@@ -27,7 +26,7 @@ use serde_json::Value;
 pub fn walk_node<N: Node>(
     state: &WalkState<'_, N>,
     path: &Path<'_>,
-    kept: &mut KeptContext<'_>,
+    kept: &mut KeptContext<'_, N::FunctionSet>,
     book: &mut PatternBook,
     errors: &mut Vec<ValidationError>,
 ) -> Result<(), Refused>
@@ -57,7 +56,7 @@ pub fn walk_node<N: Node>(
 fn walk_properties<N: Node>(
     state: &WalkState<'_, N>,
     path: &Path<'_>,
-    kept: &mut KeptContext<'_>,
+    kept: &mut KeptContext<'_, N::FunctionSet>,
     book: &mut PatternBook,
     errors: &mut Vec<ValidationError>,
 ) -> Result<(), Refused>
@@ -83,7 +82,7 @@ fn walk_properties<N: Node>(
 fn walk_extras<N: Node>(
     state: &WalkState<'_, N>,
     path: &Path<'_>,
-    kept: &mut KeptContext<'_>,
+    kept: &mut KeptContext<'_, N::FunctionSet>,
     book: &mut PatternBook,
     errors: &mut Vec<ValidationError>,
 ) -> Result<(), Refused>
@@ -115,7 +114,7 @@ fn walk_member<'a, N: Node>(
     key: &str,
     value: &'a Value,
     path: &Path<'_>,
-    kept: &mut KeptContext<'_>,
+    kept: &mut KeptContext<'_, N::FunctionSet>,
     book: &mut PatternBook,
     errors: &mut Vec<ValidationError>,
 ) -> Result<(), Refused>
@@ -124,7 +123,8 @@ fn walk_member<'a, N: Node>(
         (λ b. answer_if_reached N.form b (64 - state.now.depth)
         (further None state.now.depth (member_path (path_view path.now) key.now)
         (option_map N.seen node) (Some (view value.now))
-        (option_and_then (get key.now) (option_map (λ v. view v.now) state.now.old))))) }
+        (option_and_then (N.form.steps.old_member key.now (N.seen state.now.node))
+        (option_map (λ v. view v.now) state.now.old))))) }
     ensures keeps { (b : Book) → Extends b (entries_of book.new) → Extends b (entries_of book.old) }
 {
     let Some(node) = node else {
@@ -133,7 +133,7 @@ fn walk_member<'a, N: Node>(
     let member = WalkState {
         node,
         value,
-        old: old_member(state.old, key),
+        old: old_member(state, key),
         root: None,
         depth: state.depth + 1,
     };
@@ -147,7 +147,7 @@ fn walk_member<'a, N: Node>(
 fn walk_items<N: Node>(
     state: &WalkState<'_, N>,
     path: &Path<'_>,
-    kept: &mut KeptContext<'_>,
+    kept: &mut KeptContext<'_, N::FunctionSet>,
     book: &mut PatternBook,
     errors: &mut Vec<ValidationError>,
 ) -> Result<(), Refused>
@@ -177,7 +177,7 @@ fn walk_item<'a, N: Node>(
     index: usize,
     value: &'a Value,
     path: &Path<'_>,
-    kept: &mut KeptContext<'_>,
+    kept: &mut KeptContext<'_, N::FunctionSet>,
     book: &mut PatternBook,
     errors: &mut Vec<ValidationError>,
 ) -> Result<(), Refused>
@@ -186,13 +186,14 @@ fn walk_item<'a, N: Node>(
         (λ b. answer_if_reached N.form b (64 - state.now.depth)
         (further None state.now.depth (item_path (path_view path.now) index)
         (Some (N.seen node)) (Some (view value.now))
-        (option_and_then (at index) (option_map (λ v. view v.now) state.now.old))))) }
+        (option_and_then (N.form.steps.old_item index (N.seen state.now.node) (view state.now.value.now))
+        (option_map (λ v. view v.now) state.now.old))))) }
     ensures keeps { (b : Book) → Extends b (entries_of book.new) → Extends b (entries_of book.old) }
 {
     let item = WalkState {
         node,
         value,
-        old: old_item(state.old, index),
+        old: old_item(state, index),
         root: None,
         depth: state.depth + 1,
     };
@@ -208,7 +209,7 @@ fn walk_branches<N: Node>(
     kind: BranchKind,
     state: &WalkState<'_, N>,
     path: &Path<'_>,
-    kept: &mut KeptContext<'_>,
+    kept: &mut KeptContext<'_, N::FunctionSet>,
     book: &mut PatternBook,
     errors: &mut Vec<ValidationError>,
 ) -> Result<(), Refused>
@@ -231,7 +232,7 @@ fn walk_branch<N: Node>(
     state: &WalkState<'_, N>,
     index: usize,
     path: &Path<'_>,
-    kept: &mut KeptContext<'_>,
+    kept: &mut KeptContext<'_, N::FunctionSet>,
     book: &mut PatternBook,
     errors: &mut Vec<ValidationError>,
 ) -> Result<(), Refused>

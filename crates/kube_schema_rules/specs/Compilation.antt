@@ -52,24 +52,36 @@ with_trees fields trees = record {
   message_tree = trees.message_tree;
 }
 
--- the text first, then the messageExpression
-unfoldable pub compile_result : Fields → Result Compiled Malformed
-compile_result fields = do
-  trees ← trees_in fields (trees_of tree_of fields.rule fields.message_expression)
+-- the text first, then the messageExpression; `reads` gives the tree of a text, if it has one
+unfoldable pub compile_result_by : (List ℕ → Option Term) → Fields → Result Compiled Malformed
+compile_result_by reads fields = do
+  trees ← trees_in fields (trees_of reads fields.rule fields.message_expression)
   Ok (with_trees fields trees)
 
-abbrev pub compiled_of : Result Fields Fault → Result Compiled Malformed
-compiled_of (Ok fields) = compile_result fields
-compiled_of (Err f) = Err (invalid f)
+-- `compile` says how a rule is compiled
+module _ (compile : Fields → Result Compiled Malformed) where
+  abbrev pub compiled_of_by : Result Fields Fault → Result Compiled Malformed
+  compiled_of_by (Ok fields) = compile fields
+  compiled_of_by (Err f) = Err (invalid f)
 
--- the compiled rule in a JSON value, or the reason why there is none
-unfoldable pub compiled_rule : Data → Result Compiled Malformed
-compiled_rule d = compiled_of (rule_of d)
+  -- the compiled rule in a JSON value, or the reason why there is none
+  unfoldable pub compiled_rule_by : Data → Result Compiled Malformed
+  compiled_rule_by d = compiled_of_by (rule_of d)
 
--- the rules of a node, each compiled
-unfoldable pub compiled_rules : Items → List (Result Compiled Malformed)
-compiled_rules no_items = []
-compiled_rules (item d ds) = compiled_rule d ∷ compiled_rules ds
+  -- the rules of a node, each compiled
+  unfoldable pub compiled_rules_by : Items → List (Result Compiled Malformed)
+  compiled_rules_by no_items = []
+  compiled_rules_by (item d ds) = compiled_rule_by d ∷ compiled_rules_by ds
+
+-- the same by the grammar of CEL
+abbrev pub compile_result : Fields → Result Compiled Malformed
+compile_result = compile_result_by tree_of
+
+abbrev pub compiled_rule : Data → Result Compiled Malformed
+compiled_rule = compiled_rule_by compile_result
+
+abbrev pub compiled_rules : Items → List (Result Compiled Malformed)
+compiled_rules = compiled_rules_by compile_result
 
 abbrev pub error_text : Malformed → List ℕ
 error_text (unread rule) =

@@ -27,4 +27,6 @@ raw_steps = record {
   additional_property = undeclared_property;
   branch_count = λ kind node. count_at (get (keyword kind) node);
   branch = λ kind index node. option_and_then (at index) (get (keyword kind) node);
+  old_member = λ key node old. get key old;
+  old_item = λ index node value old. at index old;
 }

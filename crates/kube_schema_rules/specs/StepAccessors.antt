@@ -1,6 +1,7 @@
 -- Trusted by the headline.
--- What the walk reads of a schema's node, in either form.
+-- What the walk reads of a schema's node, in any form of the schema.
 use Rattle.kube_schema_rules.specs.declared.branches.BranchKind.{BranchKind}
+use Rattle.serde_json.specs.Data.{Data}
 use Rattle.std.specs.Prelude.{ℕ, List, Option}
 
 pub record StepAccessors (S : Type 0) : Type 0 where
@@ -14,3 +15,7 @@ pub record StepAccessors (S : Type 0) : Type 0 where
   pub branch_count : BranchKind → S → ℕ
   -- the branch at an index
   pub branch : BranchKind → ℕ → S → Option S
+  -- the counterpart of a member, by its key, in the old value at the node
+  pub old_member : List ℕ → S → Data → Option Data
+  -- the counterpart of an item, by its index, of the list at the node, which stands first, in the old value there
+  pub old_item : ℕ → S → Data → Data → Option Data

@@ -17,13 +17,13 @@ pub record Root : Type 0 where
   pub api_group : List ℕ
   pub kind : List ℕ
 
--- S is the type of the schema's nodes, in either form
+-- S is the type of the schema's nodes, in any form
 pub record Visit (S : Type 0) : Type 0 where
   -- the node of the schema
   pub node : S
   -- the value in the object
   pub value : Data
-  -- its old counterpart, if any: what the same steps find in the old object
+  -- its old counterpart, if any: what the steps' counterparts lead to in the old object
   pub old : Option Data
   -- the root context, at the root and at places that only branches lead to from there
   pub root : Option Root
@@ -72,14 +72,14 @@ module _ {S : Type 0} (steps : StepAccessors S) where
   unfoldable pub goes : Step → Visit S → Option (Visit S)
   goes (property k) s =
       further None s.depth (member_path s.path k) (steps.property k s.node)
-      (get k s.value) (option_and_then (get k) s.old)
+      (get k s.value) (option_and_then (steps.old_member k s.node) s.old)
   goes (item i) s =
       further None s.depth (item_path s.path i) (steps.items s.node)
-      (at i s.value) (option_and_then (at i) s.old)
+      (at i s.value) (option_and_then (steps.old_item i s.node s.value) s.old)
   goes (additional_property k) s =
       further None s.depth (member_path s.path k)
       (unless_there (steps.property k s.node) (steps.additional_property s.node))
-      (get k s.value) (option_and_then (get k) s.old)
+      (get k s.value) (option_and_then (steps.old_member k s.node) s.old)
   goes (branch kind j) s = further s.root s.depth s.path (steps.branch kind j s.node) (Some s.value) s.old
 
   -- the steps that may be allowed, by kind: members are reached only by keys that the value has

@@ -5,14 +5,14 @@ ghost use Rattle.kube_schema_rules.specs.Rules.{rule_view, rule_items};
 ghost use Rattle.cel.specs.Checks as check;
 ghost use Rattle.cel.specs.Checks.{check_view, trees_of};
 ghost use Rattle.cel.specs.Program.{program_term};
-ghost use Rattle.cel_syntax.specs.Reading.{tree_of};
 ghost use Rattle.cel_syntax.specs.Term.{term};
-ghost use Rattle.kube_schema_rules.specs.Compilation.{check_seen, compile_result, compiled_seen, compiled_rule, compiled_rules, error_view, result_view, trees_in, unread_in, with_trees};
+ghost use Rattle.kube_schema_rules.specs.Compilation.{check_seen, compile_result_by, compiled_seen, compiled_rule, compiled_rule_by, compiled_rules, compiled_rules_by, error_view, result_view, trees_in, unread_in, with_trees};
 
+use crate::compiler::RuleCompiler;
 use crate::demands::text_demands;
 use crate::result::CompilationResult;
 use crate::rule::{Rule, RuleFault, rule_values};
-use cel::{Check, CheckError, Expr, ParseErrors, Program, Untyped};
+use cel::{Check, CheckError, Compiler, Expr, ParseErrors, Program, Untyped};
 use cel_syntax_ast::both;
 use kube_types::Refused;
 use serde_json::Value;
@@ -82,7 +82,6 @@ impl fmt::Display for CompilationError {
 /// # Errors
 ///
 /// [`Refused`] if memory is refused.
-#[tactic(auto, unfolding(crate::specs::Compilation::compiled_rule))]
 pub fn compile_rule(
     alloc: Global,
     value: &Value,
@@ -90,9 +89,26 @@ pub fn compile_rule(
     ensures rule { IfOk result (λ r. compiled_seen r ≡ compiled_rule (view value.now)) }
     ensures memory { IfErr result (λ e. e ≡ Refused.Memory) }
 {
+    compile_rule_by(alloc, &Untyped, value)
+}
+
+/// Parses a rule and compiles it by this compiler, like [`compile_rule`].
+///
+/// # Errors
+///
+/// [`Refused`] if memory is refused.
+#[tactic(auto, unfolding(crate::specs::Compilation::compiled_rule_by))]
+pub fn compile_rule_by<C: RuleCompiler>(
+    alloc: Global,
+    compiler: &C,
+    value: &Value,
+) -> Result<Result<CompilationResult, CompilationError>, Refused>
+    ensures rule { IfOk result (λ r. compiled_seen r ≡ compiled_rule_by (C.compiled compiler.now) (view value.now)) }
+    ensures memory { IfErr result (λ e. e ≡ Refused.Memory) }
+{
     match Rule::from_json(alloc, value)? {
         Err(fault) => Ok(Err(CompilationError::InvalidRule(fault))),
-        Ok(rule) => compile_text(alloc, rule),
+        Ok(rule) => compiler.compile(alloc, rule),
     }
 }
 
@@ -109,24 +125,47 @@ pub fn rules_of(
         ≡ compiled_rules (rule_items (view schema.now))) }
     ensures memory { IfErr result (λ e. e ≡ Refused.Memory) }
 {
+    rules_by(alloc, &Untyped, schema)
+}
+
+/// Parses and compiles the rules of a schema's node, in order, each by this compiler.
+///
+/// # Errors
+///
+/// [`Refused`] if memory is refused.
+pub fn rules_by<C: RuleCompiler>(
+    alloc: Global,
+    compiler: &C,
+    schema: &Value,
+) -> Result<Vec<Result<CompilationResult, CompilationError>>, Refused>
+    ensures rules { IfOk result (λ v. map compiled_seen v.items
+        ≡ compiled_rules_by (C.compiled compiler.now) (rule_items (view schema.now))) }
+    ensures memory { IfErr result (λ e. e ≡ Refused.Memory) }
+{
     let values = rule_values(schema);
     let mut rules = Vec::with_capacity(alloc, values.len())?;
     for value in values {
-        rules.push(compile_rule(alloc, value)?)?;
+        rules.push(compile_rule_by(alloc, compiler, value)?)?;
     }
     Ok(rules)
 }
 
-// Compiles the texts of a rule.
-#[tactic(auto, unfolding(crate::specs::Compilation::compile_result))]
-fn compile_text(
+/// Compiles the texts of a rule by this compiler of texts. Returns the fault of the first that doesn't
+/// compile: the text of the rule, else its messageExpression.
+///
+/// # Errors
+///
+/// [`Refused`] if memory is refused.
+#[tactic(auto, unfolding(crate::specs::Compilation::compile_result_by))]
+pub fn compile_texts<C: Compiler>(
     alloc: Global,
+    compiler: &C,
     rule: Rule,
 ) -> Result<Result<CompilationResult, CompilationError>, Refused>
-    ensures rule { IfOk result (λ r. compiled_seen r ≡ compile_result (rule_view rule)) }
+    ensures rule { IfOk result (λ r. compiled_seen r ≡ compile_result_by (C.tree compiler.now) (rule_view rule)) }
     ensures memory { IfErr result (λ e. e ≡ Refused.Memory) }
 {
-    let (check, rule) = both(check_of(alloc, &rule), Ok(rule))?;
+    let (check, rule) = both(check_of(alloc, compiler, &rule), Ok(rule))?;
     match check {
         Err(error) => Ok(Err(error)),
         Ok(check) => Ok(Ok(with_check(alloc, rule, check)?)),
@@ -134,39 +173,41 @@ fn compile_text(
 }
 
 // The programs of a rule's texts.
-fn check_of(alloc: Global, rule: &Rule) -> Result<Result<Check, CompilationError>, Refused>
+fn check_of<C: Compiler>(
+    alloc: Global,
+    compiler: &C,
+    rule: &Rule,
+) -> Result<Result<Check, CompilationError>, Refused>
     ensures check { IfOk result (λ r. check_seen r ≡ trees_in (rule_view rule.now)
-        (trees_of tree_of (rule_view rule.now).rule (rule_view rule.now).message_expression)) }
+        (trees_of (C.tree compiler.now) (rule_view rule.now).rule (rule_view rule.now).message_expression)) }
     ensures memory { IfErr result (λ e. e ≡ Refused.Memory) }
 {
     let text = rule.rule.as_str();
     let message = rule.message_expression.as_deref();
-    match Check::compile(alloc, &Untyped, text, message)? {
+    match Check::compile(alloc, compiler, text, message)? {
         Ok(check) => Ok(Ok(check)),
         Err(error) => Ok(Err(unread_error(alloc, rule, error)?)),
     }
 }
 
-// Returns the error of a rule one of whose texts doesn't parse.
-fn unread_error(
+// Returns the error of a rule one of whose texts doesn't parse. It has the text, and not the reason of the compiler.
+fn unread_error<E: Drop>(
     alloc: Global,
     rule: &Rule,
-    error: CheckError<'_, ParseErrors>,
+    error: CheckError<'_, E>,
 ) -> Result<CompilationError, AllocError>
     ensures { IfOk result (λ e. error_view e ≡ unread_in (rule_view rule.now) (check.error_view error.entry)) }
 {
     match error {
-        CheckError::Expression(source) => Ok(CompilationError::Parse {
+        CheckError::Expression(_) => Ok(CompilationError::Parse {
             rule: rule.rule.clone()?,
-            source,
+            source: ParseErrors,
         }),
-        CheckError::MessageExpression(message, source) => {
-            Ok(CompilationError::MessageExpressionParse {
-                rule: rule.rule.clone()?,
-                message_expression: String::from_str(alloc, message)?,
-                source,
-            })
-        }
+        CheckError::MessageExpression(message, _) => Ok(CompilationError::MessageExpressionParse {
+            rule: rule.rule.clone()?,
+            message_expression: String::from_str(alloc, message)?,
+            source: ParseErrors,
+        }),
     }
 }
 

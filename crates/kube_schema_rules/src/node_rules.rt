@@ -2,14 +2,16 @@
 ghost use Rattle.std.specs.Prelude.{◌≡◌, ◌∷◌, [], codes, Err, IfErr, IfOk, map, option_map};
 ghost use Rattle.cel_demand.proofs.Sets.{same_read-prop};
 ghost use Rattle.cel.specs.Demand.{part_of};
-ghost use Rattle.kube_schema_rules.specs.Compilation.{compiled_rules, compiled_seen, past_depth};
+ghost use Rattle.kube_schema_rules.specs.Compilation.{compiled_rules, compiled_rules_by, compiled_seen, past_depth};
 ghost use Rattle.kube_schema_rules.specs.Demands.{rules_read};
 ghost use Rattle.kube_schema_rules.specs.Rules.{rule_items};
 ghost use Rattle.serde_json.specs.View.{view};
 
-use crate::compilation::{CompilationError, rules_of};
+use crate::compilation::{CompilationError, rules_by};
+use crate::compiler::RuleCompiler;
 use crate::demands::{Demands, no_demands, rules_demands};
 use crate::result::CompilationResult;
+use cel::Untyped;
 use kube_types::Refused;
 use serde_json::Value;
 use std::alloc::Global;
@@ -38,6 +40,19 @@ impl Drop for NodeRules {
 }
 
 impl NodeRules {
+    /// Compiles the rules of a schema's node.
+    ///
+    /// # Errors
+    ///
+    /// [`Refused`] if memory is refused.
+    pub fn of_schema(alloc: Global, schema: &Value) -> Result<NodeRules, Refused>
+        ensures rules { IfOk result (λ r. map compiled_seen r.rules.items
+            ≡ compiled_rules (rule_items (view schema.now))) }
+        ensures memory { IfErr result (λ e. e ≡ Refused.Memory) }
+    {
+        compile_rules(alloc, &Untyped, schema)
+    }
+
     /// Returns an empty list of rules. Allocates nothing.
     pub fn none(alloc: Global) -> NodeRules
         ensures { result.rules.items ≡ [] }
@@ -64,21 +79,6 @@ impl NodeRules {
         Ok(NodeRules { rules, demands })
     }
 
-    /// Compiles the rules of a schema's node.
-    ///
-    /// # Errors
-    ///
-    /// [`Refused`] if memory is refused.
-    pub fn of_schema(alloc: Global, schema: &Value) -> Result<NodeRules, Refused>
-        ensures rules { IfOk result (λ r. map compiled_seen r.rules.items
-            ≡ compiled_rules (rule_items (view schema.now))) }
-        ensures memory { IfErr result (λ e. e ≡ Refused.Memory) }
-    {
-        let rules = rules_of(alloc, schema)?;
-        let made = NodeRules::of(alloc, rules)?;
-        Ok(made)
-    }
-
     /// Returns the one error of a node at this depth, past the maximum, in place of its rules.
     ///
     /// # Errors
@@ -93,6 +93,25 @@ impl NodeRules {
         let made = NodeRules::of(alloc, rules)?;
         Ok(made)
     }
+}
+
+/// Compiles the rules of a schema's node by this compiler.
+///
+/// # Errors
+///
+/// [`Refused`] if memory is refused.
+pub fn compile_rules<C: RuleCompiler>(
+    alloc: Global,
+    compiler: &C,
+    schema: &Value,
+) -> Result<NodeRules, Refused>
+    ensures rules { IfOk result (λ r. map compiled_seen r.rules.items
+        ≡ compiled_rules_by (C.compiled compiler.now) (rule_items (view schema.now))) }
+    ensures memory { IfErr result (λ e. e ≡ Refused.Memory) }
+{
+    let rules = rules_by(alloc, compiler, schema)?;
+    let made = NodeRules::of(alloc, rules)?;
+    Ok(made)
 }
 
 /// The compiled rules of a node: lent by what stores them, or made for one use.

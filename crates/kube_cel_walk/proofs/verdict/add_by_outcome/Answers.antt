@@ -7,7 +7,7 @@ use Rattle.std.proofs.Common.{◌++◌, map, ap, ◌∙◌}
 
 pub returns-clause-found : goal.returns-clause-found
 unfolding outcome_in
-returns-clause-found c = λ b h.
+returns-clause-found g c = λ b h.
     let before = map error_view c.args.errors.now.items in
     c.in_ok-push_listed.ensures
     ∙ ap (λ o. before ++ list_of_option o)

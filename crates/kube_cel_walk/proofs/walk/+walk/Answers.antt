@@ -107,11 +107,11 @@ walk_properties-loop-key-preserved g t c =
       keeps = λ b h. l.invariant.keeps b (c.in_ok-walk_member.ensures.keeps b h);
       found = λ b h.
           let name = c.as_str-name.result.now in
-          let more : map error_view c.walk_member.new.errors.items ≡ had ++ answer_if_reached form b n (further None d (member_path (path_view c.args.path.now) k) (form.steps.property k node) (get k v) (option_and_then (get k) o)) =
+          let more : map error_view c.walk_member.new.errors.items ≡ had ++ answer_if_reached form b n (further None d (member_path (path_view c.args.path.now) k) (form.steps.property k node) (get k v) (option_and_then (g.N.Node.form.steps.old_member k (g.N.Node.seen c.args.state.now.node)) o)) =
           c.in_ok-walk_member.ensures.found b h
-          ∙ ap (λ w. had ++ answer_if_reached form b n (further None d (member_path (path_view c.args.path.now) name) w (Some m) (option_and_then (get name) o))) c.property-node.ensures
-          ∙ ap (λ q. had ++ answer_if_reached form b n (further None d (member_path (path_view c.args.path.now) q) (form.steps.property q node) (Some m) (option_and_then (get q) o))) c.as_str-name.ensures.value
-          ∙ ap (λ w. had ++ answer_if_reached form b n (further None d (member_path (path_view c.args.path.now) k) (form.steps.property k node) w (option_and_then (get k) o))) (sym here) in
+          ∙ ap (λ w. had ++ answer_if_reached form b n (further None d (member_path (path_view c.args.path.now) name) w (Some m) (option_and_then (g.N.Node.form.steps.old_member name (g.N.Node.seen c.args.state.now.node)) o))) c.property-node.ensures
+          ∙ ap (λ q. had ++ answer_if_reached form b n (further None d (member_path (path_view c.args.path.now) q) (form.steps.property q node) (Some m) (option_and_then (g.N.Node.form.steps.old_member q (g.N.Node.seen c.args.state.now.node)) o))) c.as_str-name.ensures.value
+          ∙ ap (λ w. had ++ answer_if_reached form b n (further None d (member_path (path_view c.args.path.now) k) (form.steps.property k node) w (option_and_then (g.N.Node.form.steps.old_member k (g.N.Node.seen c.args.state.now.node)) o))) (sym here) in
           one_more form b n s property (names_of done) k (map error_view c.args.errors.now.items) had (map error_view c.walk_member.new.errors.items)
           (l.invariant.found b (c.in_ok-walk_member.ensures.keeps b h)) (more ∙ ap (λ r. had ++ answer_if_reached form b n r) (sym goes_there))
           ∙ ap (λ ks. map error_view c.args.errors.now.items ++ found_through form b n s (map property ks)) (sym (names_more done e));
@@ -172,11 +172,11 @@ walk_extras-loop-key-preserved g t c =
       found = λ b h.
           let name = c.as_str-name.result.now in
           let node = g.N.Node.seen c.args.state.now.node in
-          let more : map error_view c.walk_member.new.errors.items ≡ had ++ answer_if_reached g.N.Node.form b n (further None d (member_path (path_view c.args.path.now) k) (unless_there (g.N.Node.form.steps.property k node) (Some other)) (get k v) (option_and_then (get k) o)) =
+          let more : map error_view c.walk_member.new.errors.items ≡ had ++ answer_if_reached g.N.Node.form b n (further None d (member_path (path_view c.args.path.now) k) (unless_there (g.N.Node.form.steps.property k node) (Some other)) (get k v) (option_and_then (g.N.Node.form.steps.old_member k (g.N.Node.seen c.args.state.now.node)) o)) =
           c.in_ok-walk_member.ensures.found b h
-          ∙ ap (λ w. had ++ answer_if_reached g.N.Node.form b n (further None d (member_path (path_view c.args.path.now) name) w (Some m) (option_and_then (get name) o))) c.unless_declared-node.ensures
-          ∙ ap (λ q. had ++ answer_if_reached g.N.Node.form b n (further None d (member_path (path_view c.args.path.now) q) (unless_there (g.N.Node.form.steps.property q node) (Some other)) (Some m) (option_and_then (get q) o))) c.as_str-name.ensures.value
-          ∙ ap (λ w. had ++ answer_if_reached g.N.Node.form b n (further None d (member_path (path_view c.args.path.now) k) (unless_there (g.N.Node.form.steps.property k node) (Some other)) w (option_and_then (get k) o))) (sym here) in
+          ∙ ap (λ w. had ++ answer_if_reached g.N.Node.form b n (further None d (member_path (path_view c.args.path.now) name) w (Some m) (option_and_then (g.N.Node.form.steps.old_member name (g.N.Node.seen c.args.state.now.node)) o))) c.unless_declared-node.ensures
+          ∙ ap (λ q. had ++ answer_if_reached g.N.Node.form b n (further None d (member_path (path_view c.args.path.now) q) (unless_there (g.N.Node.form.steps.property q node) (Some other)) (Some m) (option_and_then (g.N.Node.form.steps.old_member q (g.N.Node.seen c.args.state.now.node)) o))) c.as_str-name.ensures.value
+          ∙ ap (λ w. had ++ answer_if_reached g.N.Node.form b n (further None d (member_path (path_view c.args.path.now) k) (unless_there (g.N.Node.form.steps.property k node) (Some other)) w (option_and_then (g.N.Node.form.steps.old_member k (g.N.Node.seen c.args.state.now.node)) o))) (sym here) in
           one_more g.N.Node.form b n s additional_property (names_of done) k (map error_view c.args.errors.now.items) had (map error_view c.walk_member.new.errors.items)
           (l.invariant.found b (c.in_ok-walk_member.ensures.keeps b h)) (more ∙ ap (λ r. had ++ answer_if_reached g.N.Node.form b n r) (sym goes_there))
           ∙ ap (λ ks. map error_view c.args.errors.now.items ++ found_through g.N.Node.form b n s (map additional_property ks)) (sym (names_more done e));
@@ -198,7 +198,7 @@ walk_member-returns-in_default-clause-found g t c = λ b h.
     let old = map error_view c.args.errors.now.items in
     let k = c.args.key.now in
     let there = λ (node : Option _). further None c.args.state.now.depth (member_path (path_view c.args.path.now) k) (option_map g.N.Node.seen node) (Some (view c.args.value.now))
-    (option_and_then (get k) (option_map (λ x. view x.now) c.args.state.now.old)) in
+    (option_and_then (g.N.Node.form.steps.old_member k (g.N.Node.seen c.args.state.now.node)) (option_map (λ x. view x.now) c.args.state.now.old)) in
     sym (ap (λ (node : Option _). old ++ answer_if_reached g.N.Node.form b (64 - c.args.state.now.depth) (there node)) c.in_default.is ∙ append-nil old)
 
 pub walk_member-returns-clause-found : goal.walk_member-returns-clause-found
@@ -215,7 +215,7 @@ walk_member-returns-clause-found g t c = λ b h.
     ∙ ap (λ n. old ++ answer g.N.Node.form b n (visit p m o None (path_view (path.Member c.args.path c.args.key)) (d + 1))) full
     ∙ ap (λ u. old ++ answer g.N.Node.form b (64 - d) (visit p m o None u (d + 1))) (path_view-Member c.args.path c.args.key)
     ∙ ap (λ o. old ++ answer g.N.Node.form b (64 - d) (visit p m o None (member_path (path_view c.args.path.now) k) (d + 1))) c.old_member.ensures
-    ∙ ap (λ (node : Option _). old ++ answer_if_reached g.N.Node.form b (64 - d) (further None d (member_path (path_view c.args.path.now) k) (option_map g.N.Node.seen node) (Some m) (option_and_then (get k) (option_map (λ x. view x.now) c.args.state.now.old)))) (sym c.in-Some.is)
+    ∙ ap (λ (node : Option _). old ++ answer_if_reached g.N.Node.form b (64 - d) (further None d (member_path (path_view c.args.path.now) k) (option_map g.N.Node.seen node) (Some m) (option_and_then (g.N.Node.form.steps.old_member k (g.N.Node.seen c.args.state.now.node)) (option_map (λ x. view x.now) c.args.state.now.old)))) (sym c.in-Some.is)
 
 -- ---- items
 
