@@ -5,7 +5,7 @@ use Rattle.std.specs.Prelude.{ℕ, List, [], ◌∷◌, ◌++◌, ◌&&◌, ◌|
 use Rattle.std.specs.List.{filter, find, starts_with}
 use Rattle.std.specs.Option.{option_or}
 use Rattle.std.specs.Str.{bytes_eq}
-use Rattle.serde_json.specs.Data.{Data, null}
+use Rattle.serde_json.specs.Data.{Data, null, string}
 use Rattle.serde_json.specs.Find.{get}
 use Rattle.kube_manifests.specs.declared.judgement.NotJudged.{NotJudged}
 use Rattle.kube_manifests.specs.declared.judgement.NotJudged.TheVariants as reason
@@ -47,10 +47,11 @@ names_of all group kind vs =
 
 -- ---- objects
 
--- whether a member isn't there, or is null
+-- whether a member isn't there, is null, or is an empty string
 abbrev pub is_missing : Option Data → Bool
 is_missing None = true
 is_missing (Some null) = true
+is_missing (Some (string s)) = bytes_eq s []
 is_missing (Some _) = false
 
 -- that a member isn't there, or isn't a string

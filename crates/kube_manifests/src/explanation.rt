@@ -230,12 +230,13 @@ fn served_text(
     }
 }
 
-/// Reports whether a member isn't there, or is null.
+/// Reports whether a member isn't there, is null, or is an empty string.
 fn is_missing(member: Option<&Value>) -> bool
     ensures { result ≡ is_missing (option_map (λ v. view v.now) member.entry) }
 {
     match member {
         None | Some(Value::Null) => true,
+        Some(Value::String(text)) => text.as_str() == "",
         Some(_) => false,
     }
 }

@@ -10,7 +10,7 @@ use Rattle.std.proofs.lemmas.List.{drop_all}
 
 -- the entry after the last one
 abbrev pub no_item : Item
-no_item = record { label = record { ref_ptr = (0, 0); now = [] }; expression = record { ref_ptr = (0, 0); now = [] }; message = None; message_expression = None }
+no_item = record { index = 0; label = record { ref_ptr = (0, 0); now = [] }; expression = record { ref_ptr = (0, 0); now = [] }; message = None; message_expression = None }
 
 -- the entry at this index, then those after it
 pub one_read : (l : PolicyList) (done : List ItemData) (vs : List Value) (i : ℕ) (v : Value) → i < length vs → v ≡ get_or vs i v

@@ -3,13 +3,14 @@
 -- CustomResourceDefinition v1 (CustomResourceDefinitionSpec, CustomResourceDefinitionVersion,
 -- CustomResourceValidation); Kubernetes documentation, "Extend the Kubernetes API with
 -- CustomResourceDefinitions"; API conventions, "Types (Kinds)" (lists). Pointers: RFC 6901.
-use Rattle.std.specs.Prelude.{ℕ, suc, List, [], ◌∷◌, ◌++◌, ◌&&◌, Bool, false, Option, Some, None, option_and_then, Result, Ok, Err, codes, decimal, nat_eq, if◌then◌else◌}
+use Rattle.std.specs.Prelude.{ℕ, suc, List, [], ◌∷◌, ◌++◌, ◌&&◌, Bool, false, not, Option, Some, None, is_some, option_and_then, Result, Ok, Err, codes, decimal, nat_eq, if◌then◌else◌}
 use Rattle.std.specs.List.{ends_with, list_any}
 use Rattle.std.specs.Option.{option_map_or}
 use Rattle.std.specs.Str.{bytes_eq}
 use Rattle.serde_json.specs.Data.{Data, Items, no_items, item}
 use Rattle.serde_json.specs.Find.{get, as_bool, as_array, as_object}
 use Rattle.kube_manifests_documents.specs.Faults.{◌>>=◌}
+use Rattle.kube_manifests_documents.specs.Policies.{unknown_field}
 use Rattle.kube_manifests_documents.specs.Versions.{Version, api_version, is_defined, is_of_version, or_reason, text_at}
 use Rattle.kube_manifests_documents.specs.declared.crd_fault.CrdFault.{CrdFault}
 use Rattle.kube_manifests_documents.specs.declared.crd_fault.CrdFault.TheVariants as fault
@@ -79,10 +80,20 @@ is_crd d =
     has_text (codes "apiVersion") (codes "apiextensions.k8s.io/v1") d
     && has_text (codes "kind") (codes "CustomResourceDefinition") d
 
+-- the fields of a `List`
+abbrev pub list_fields : List (List ℕ)
+list_fields = codes "apiVersion" ∷ codes "kind" ∷ codes "metadata" ∷ codes "items" ∷ []
+
+-- whether a kind is that of a list. A `List` of v1 has no other fields, in which further objects could be hidden
+abbrev pub is_list_kind : List ℕ → Data → Bool
+is_list_kind t d =
+    ends_with nat_eq t (codes "List")
+    && not (bytes_eq t (codes "List") && is_some (unknown_field list_fields d))
+
 -- the items of a list: its kind ends in `List`
 unfoldable pub list_of : Data → Option Items
 list_of d =
-    if option_map_or (λ t. ends_with nat_eq t (codes "List")) (text_at (codes "kind") d) false
+    if option_map_or (λ t. is_list_kind t d) (text_at (codes "kind") d) false
     then option_and_then as_array (get (codes "items") d) else None
 
 abbrev pub unless_none : Items → Option Items

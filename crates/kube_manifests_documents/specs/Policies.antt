@@ -19,6 +19,8 @@ use Rattle.std.specs.declared.alloc.Global.{Global}
 
 -- one entry of a list of the policy
 pub record ItemData : Type 0 where
+  -- its index in the list
+  pub index : ℕ
   -- its name: for a validation the source of its expression, for an audit annotation its key
   pub label : List ℕ
   pub expression : List ℕ
@@ -159,6 +161,7 @@ entry_of l i d = do
   message_expression ← entry_text l i d (codes "messageExpression")
   reason ← entry_reason l i d
   Ok (record {
+    index = i;
     label = label;
     expression = expression;
     message = message;
@@ -280,6 +283,7 @@ policy_of d = spec_in d >>= spec_of
 
 abbrev pub item_view : Item → ItemData
 item_view x = record {
+  index = x.index;
   label = x.label.now;
   expression = x.expression.now;
   message = option_map (λ s. s.now) x.message;

@@ -4,7 +4,7 @@
 use Rattle.kube_manifests_documents.specs.Faults.{FaultData, NotBool, NotList, NotObject, NotString, fault_view, member_item_pointer, ◌>>=◌}
 use Rattle.kube_manifests_documents.specs.Pointers.{key_pointer}
 use Rattle.kube_manifests_documents.specs.Inputs.{Variables, inputs_view}
-use Rattle.kube_manifests_documents.specs.Policies.{object_of, required_one, required_text, text_of}
+use Rattle.kube_manifests_documents.specs.Policies.{object_of, required_one, required_text, text_of, unless_unknown}
 use Rattle.kube_manifests_documents.specs.declared.fault.PolicyFault.{PolicyFault}
 use Rattle.kube_manifests_documents.specs.declared.inputs.PolicyInputs.{PolicyInputs}
 use Rattle.kube_manifests_documents.specs.declared.review.Objects.{Objects}
@@ -71,12 +71,18 @@ strings_of base name (Some _) = Err (record { pointer = key_pointer base name; k
 
 -- ---- the request
 
--- a group, a version, and the name of a kind or of a resource, in the field of this key
-unfoldable pub served_fits : List ℕ → List ℕ → Data → Shape
-served_fits base key d = do
-  group ← text_fits base d (codes "group")
+-- a group, which is empty for the core group, a version, and the name of a kind or of a resource, in the field of this key
+abbrev pub names_fit : List ℕ → List ℕ → Data → Shape
+names_fit base key d = do
+  group ← required_text_fits base d (codes "group")
   version ← required_text_fits base d (codes "version")
   required_text_fits base d key
+
+-- these and no other field
+unfoldable pub served_fits : List ℕ → List ℕ → Data → Shape
+served_fits base key d = do
+  known ← unless_unknown base (codes "group" ∷ codes "version" ∷ key ∷ []) d
+  names_fit base key d
 
 abbrev pub user_pointer : List ℕ
 user_pointer = codes "/request/userInfo"
@@ -95,12 +101,16 @@ extra_of (Some null) = Ok tt
 extra_of (Some (object ms)) = extra_fits ms
 extra_of (Some _) = Err (record { pointer = key_pointer user_pointer (codes "extra"); kind = NotObject })
 
+abbrev pub user_fields : List (List ℕ)
+user_fields = codes "username" ∷ codes "uid" ∷ codes "groups" ∷ codes "extra" ∷ []
+
 abbrev pub user_texts : List (List ℕ)
 user_texts = codes "username" ∷ codes "uid" ∷ []
 
 -- the user who makes the request
 unfoldable pub user_fits : Data → Shape
 user_fits d = do
+  known ← unless_unknown user_pointer user_fields d
   texts ← texts_fit user_pointer d user_texts
   groups ← strings_of user_pointer (codes "groups") (get (codes "groups") d)
   extra_of (get (codes "extra") d)
@@ -137,6 +147,14 @@ operations = codes "CREATE" ∷ codes "UPDATE" ∷ codes "DELETE" ∷ codes "CON
 abbrev pub operation_in : Data → Result (List ℕ) FaultData
 operation_in d = required_one (key_pointer request_pointer (codes "operation")) operations (get (codes "operation") d)
 
+-- the fields of a request
+abbrev pub request_fields : List (List ℕ)
+request_fields =
+    codes "uid" ∷ codes "kind" ∷ codes "resource" ∷ codes "subResource"
+    ∷ codes "requestKind" ∷ codes "requestResource" ∷ codes "requestSubResource"
+    ∷ codes "name" ∷ codes "namespace" ∷ codes "operation" ∷ codes "userInfo"
+    ∷ codes "object" ∷ codes "oldObject" ∷ codes "dryRun" ∷ codes "options" ∷ []
+
 abbrev pub request_texts : List (List ℕ)
 request_texts =
     codes "name" ∷ codes "namespace" ∷ codes "subResource" ∷ codes "requestSubResource" ∷ []
@@ -144,6 +162,7 @@ request_texts =
 -- the request has the shape of an AdmissionRequest; its operation
 unfoldable pub request_of : Data → Result (List ℕ) FaultData
 request_of d = do
+  known ← unless_unknown request_pointer request_fields d
   operation ← operation_in d
   texts ← texts_fit request_pointer d request_texts
   dry_run ← bool_of (key_pointer request_pointer (codes "dryRun")) (get (codes "dryRun") d)
@@ -163,11 +182,16 @@ review_versions = codes "admission.k8s.io/v1" ∷ codes "admission.k8s.io/v1beta
 abbrev pub review_kinds : List (List ℕ)
 review_kinds = codes "AdmissionReview" ∷ []
 
+-- the fields of a review
+abbrev pub review_fields : List (List ℕ)
+review_fields = codes "apiVersion" ∷ codes "kind" ∷ codes "request" ∷ codes "response" ∷ []
+
 -- the `request` of a review's document
 unfoldable pub request_in : Data → Result Data FaultData
 request_in d = do
   version ← required_one (key_pointer [] (codes "apiVersion")) review_versions (get (codes "apiVersion") d)
   kind ← required_one (key_pointer [] (codes "kind")) review_kinds (get (codes "kind") d)
+  known ← unless_unknown [] review_fields d
   object_of (key_pointer [] (codes "request")) (get (codes "request") d)
 
 -- the two objects of a request

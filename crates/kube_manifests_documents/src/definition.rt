@@ -1,13 +1,17 @@
 //! Reads CustomResourceDefinitions and their versions from JSON.
 ghost use Rattle.kube_manifests_documents.specs.Defined.{crd_view, entry_view, shape_view, type_meta_view};
-ghost use Rattle.kube_manifests_documents.specs.Definitions.{crd_of, entries_of, entry_of, full_text_at, group_of, has_text, is_crd, kind_of, list_of, name_of, schema_of, unless_none};
+ghost use Rattle.kube_manifests_documents.specs.Definitions.{crd_of, entries_of, entry_of, full_text_at, group_of, has_text, is_crd, is_list_kind, kind_of, list_of, name_of, schema_of, unless_none};
 ghost use Rattle.kube_manifests_documents.specs.Versions.{text_at, type_meta_of};
 ghost use Rattle.serde_json.specs.View.{items_view, view};
 ghost use Rattle.std.specs.List.{ends_with};
 ghost use Rattle.std.specs.Prelude.{◌≡◌, nat_eq, option_and_then, option_map};
 
 use crate::crd_fault::CrdFault;
+use crate::item::has_unknown_field;
 use serde_json::Value;
+
+/// The fields of a `List`.
+const LIST_FIELDS: [&str; 4] = ["apiVersion", "kind", "metadata", "items"];
 
 /// The fields of a definition that all its versions share, and the entries of the versions.
 #[derive(Clone, Copy)]
@@ -44,13 +48,20 @@ pub fn is_crd(document: &Value) -> bool
         && has_text(document, "kind", "CustomResourceDefinition")
 }
 
-/// The items of a list: a value whose kind ends in `List`, with an array in `items`. `None` if the
-/// value is no such list.
+/// Reports whether a kind is that of a list. A `List` has no fields but those of a list.
+fn is_list_kind(kind: &str, document: &Value) -> bool
+    ensures { result ≡ is_list_kind kind.now (view document.now) }
+{
+    has_end(kind, "List") && !(kind == "List" && has_unknown_field(document, &LIST_FIELDS))
+}
+
+/// The items of a list: a value whose kind ends in `List`, with an array in `items`; a `List` may
+/// have no other fields but `apiVersion`, `kind` and `metadata`. `None` if the value is no such list.
 #[tactic(auto, unfolding(crate::specs::Definitions::list_of))]
 pub fn list_of(document: &Value) -> Option<&[Value]>
     ensures { option_map (λ v. items_view v.now) result ≡ list_of (view document.now) }
 {
-    if !has_end(text_at(document, "kind")?, "List") {
+    if !is_list_kind(text_at(document, "kind")?, document) {
         return None;
     }
     Some(document.get("items")?.as_array()?.as_slice())

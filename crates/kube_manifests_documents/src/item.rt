@@ -5,7 +5,7 @@ ghost use Rattle.kube_manifests_documents.specs.Policies.{HasNames, base, entrie
 ghost use Rattle.serde_json.specs.Find.{get};
 ghost use Rattle.serde_json.specs.View.{items_view, view};
 ghost use Rattle.std.specs.BTreeSet.{contains_text};
-ghost use Rattle.std.specs.Prelude.{◌≡◌, ◌&&◌, ◌||◌, [], ℕ, IfOk, length, List, map, OnOk, option_map, true};
+ghost use Rattle.std.specs.Prelude.{◌≡◌, ◌&&◌, ◌||◌, [], ℕ, IfOk, is_some, length, List, map, OnOk, option_map, true};
 ghost use Rattle.std.specs.Str.{bytes_eq};
 
 use crate::fault::{Found, Problem};
@@ -109,6 +109,8 @@ impl PolicyList {
 /// An entry of a list of a policy.
 #[derive(Clone, Copy, Drop)]
 pub struct Item<'v> {
+    /// Its index in the list, counted from 0.
+    pub index: usize,
     /// The entry's name: for a validation the source of its expression, for an audit annotation its
     /// key.
     pub label: &'v str,
@@ -205,7 +207,7 @@ pub(crate) fn optional_one_at<'v>(
 }
 
 /// The first field of an object that is none of these, if any.
-pub(crate) fn unknown_field<'v>(value: &'v Value, known: &[&str]) -> Option<&'v str>
+fn unknown_field<'v>(value: &'v Value, known: &[&str]) -> Option<&'v str>
     ensures { option_map (λ s. s.now) result
         ≡ unknown_field (map (λ s. s.now) known.now) (view value.now) }
 {
@@ -216,6 +218,31 @@ pub(crate) fn unknown_field<'v>(value: &'v Value, known: &[&str]) -> Option<&'v 
         }
     }
     None
+}
+
+/// Reports whether an object has a field that is none of these.
+pub(crate) fn has_unknown_field(value: &Value, known: &[&str]) -> bool
+    ensures { result ≡ is_some (unknown_field (map (λ s. s.now) known.now) (view value.now)) }
+{
+    unknown_field(value, known).is_some()
+}
+
+/// Checks that the object at the pointer `base` has no field but these.
+pub(crate) fn check_known<'v>(
+    base: &'static str,
+    value: &'v Value,
+    known: &'static [&'static str],
+) -> Result<(), Found<'v>>
+    ensures { reading_view (λ _. view value.now) result
+        ≡ unless_unknown base.now (map (λ s. s.now) known.now) (view value.now) }
+{
+    match unknown_field(value, known) {
+        None => Ok(()),
+        Some(name) => Err(Found {
+            location: Location::Field(base, name),
+            problem: Problem::UnknownField(name, known),
+        }),
+    }
 }
 
 /// The string in a field of the entry at `index`, if any.
@@ -278,6 +305,7 @@ fn entry_of(list: PolicyList, index: usize, value: &Value) -> Result<Item<'_>, F
     let message_expression = entry_text(list, index, value, "messageExpression")?;
     entry_reason(list, index, value)?;
     Ok(Item {
+        index,
         label,
         expression,
         message,

@@ -1,12 +1,12 @@
 //! Reads the document of a policy.
 ghost use Rattle.kube_manifests_documents.specs.Faults.{pointer_at};
-ghost use Rattle.kube_manifests_documents.specs.Policies.{entries_of, ignores_in, item_view, object_of, params_in, policy_of, policy_view, reading_view, spec_fields, spec_in, spec_of, unless_empty, unless_unknown};
+ghost use Rattle.kube_manifests_documents.specs.Policies.{entries_of, ignores_in, item_view, object_of, params_in, policy_of, policy_view, reading_view, spec_fields, spec_in, spec_of, unless_empty};
 ghost use Rattle.serde_json.specs.Find.{get};
 ghost use Rattle.serde_json.specs.View.{view};
-ghost use Rattle.std.specs.Prelude.{◌≡◌, IfErr, IfOk, codes, map};
+ghost use Rattle.std.specs.Prelude.{◌≡◌, IfErr, IfOk, map};
 
 use crate::fault::{Found, Problem};
-use crate::item::{Item, PolicyList, entries_of, optional_one_at, required_one_at, unknown_field};
+use crate::item::{Item, PolicyList, check_known, entries_of, optional_one_at, required_one_at};
 use crate::location::Location;
 use kube_types_refused::Refused;
 use serde_json::Value;
@@ -81,21 +81,6 @@ pub(crate) fn object_at<'v>(
     }
 }
 
-/// Checks that `spec` has no field but those of a policy.
-fn check_fields(spec: &Value) -> Result<(), Found<'_>>
-    ensures { reading_view (λ _. view spec.now) result
-        ≡ unless_unknown (codes "/spec") spec_fields (view spec.now) }
-{
-    let known = spec_fields();
-    match unknown_field(spec, known) {
-        None => Ok(()),
-        Some(name) => Err(Found {
-            location: Location::Field("/spec", name),
-            problem: Problem::UnknownField(name, known),
-        }),
-    }
-}
-
 /// The `spec` of a policy's document, after its apiVersion, kind and the fields of `spec` are
 /// checked.
 #[tactic(auto, unfolding(crate::specs::Policies::spec_in))]
@@ -106,7 +91,7 @@ fn spec_in(document: &Value) -> Result<&Value, Found<'_>>
     required_one_at(document, "apiVersion", &VERSIONS, version)?;
     required_one_at(document, "kind", &KINDS, Location::Field("", "kind"))?;
     let spec = object_at(document, "spec", Location::Field("", "spec"))?;
-    check_fields(spec)?;
+    check_known("/spec", spec, spec_fields())?;
     Ok(spec)
 }
 

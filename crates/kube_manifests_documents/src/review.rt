@@ -2,14 +2,14 @@
 ghost use Rattle.kube_manifests_documents.specs.Faults.{pointer_at};
 ghost use Rattle.kube_manifests_documents.specs.Inputs.{inputs_view};
 ghost use Rattle.kube_manifests_documents.specs.Policies.{reading_view};
-ghost use Rattle.kube_manifests_documents.specs.Reviews.{bool_of, extra_fits, extra_of, inputs_in, inputs_seen, inputs_with, is_with, kind_in, object_if, object_in, objects_of, objects_view, operation_in, optional_in, request_in, request_kind_in, request_of, request_resource_in, required_text_fits, resource_in, review_of, served_fits, strings_fit, strings_of, text_fits, texts_fit, user_fits, user_in, value_or_null, with_object, with_old_object};
+ghost use Rattle.kube_manifests_documents.specs.Reviews.{bool_of, extra_fits, extra_of, inputs_in, inputs_seen, inputs_with, is_with, kind_in, names_fit, object_if, object_in, objects_of, objects_view, operation_in, optional_in, request_in, request_kind_in, request_of, request_resource_in, required_text_fits, resource_in, review_of, served_fits, strings_fit, strings_of, text_fits, texts_fit, user_fits, user_in, value_or_null, with_object, with_old_object};
 ghost use Rattle.serde_json.specs.Find.{get};
 ghost use Rattle.serde_json.specs.View.{items_view, members_view, view};
-ghost use Rattle.std.specs.Prelude.{◌≡◌, IfErr, IfOk, map, option_map};
+ghost use Rattle.std.specs.Prelude.{◌≡◌, IfErr, IfOk, codes, map, option_map};
 
 use crate::fault::{Found, PolicyFault, Problem, reported};
 use crate::inputs::PolicyInputs;
-use crate::item::{required_one_at, required_text_at, text_at};
+use crate::item::{check_known, required_one_at, required_text_at, text_at};
 use crate::location::Location;
 use crate::policy::object_at;
 use kube_types_refused::Refused;
@@ -20,6 +20,36 @@ use std::alloc::{AllocError, Global};
 const REVIEW_VERSIONS: [&str; 2] = ["admission.k8s.io/v1", "admission.k8s.io/v1beta1"];
 
 const REVIEW_KINDS: [&str; 1] = ["AdmissionReview"];
+
+/// The fields of a review.
+const REVIEW_FIELDS: [&str; 4] = ["apiVersion", "kind", "request", "response"];
+
+/// The fields of a request.
+const REQUEST_FIELDS: [&str; 15] = [
+    "uid",
+    "kind",
+    "resource",
+    "subResource",
+    "requestKind",
+    "requestResource",
+    "requestSubResource",
+    "name",
+    "namespace",
+    "operation",
+    "userInfo",
+    "object",
+    "oldObject",
+    "dryRun",
+    "options",
+];
+
+/// The fields of a kind with its group and version, and those of such a resource.
+const KIND_FIELDS: [&str; 3] = ["group", "version", "kind"];
+
+const RESOURCE_FIELDS: [&str; 3] = ["group", "version", "resource"];
+
+/// The fields of the user who makes a request.
+const USER_FIELDS: [&str; 4] = ["username", "uid", "groups", "extra"];
 
 /// The operations that a request may have.
 const OPERATIONS: [&str; 4] = ["CREATE", "UPDATE", "DELETE", "CONNECT"];
@@ -145,18 +175,31 @@ fn check_list<'v>(
     }
 }
 
-/// Checks a kind or a resource. `key` is the field with its name.
-#[tactic(auto, unfolding(crate::specs::Reviews::served_fits))]
-fn check_served<'v>(
-    base: &'static str,
-    key: &'static str,
-    value: &'v Value,
-) -> Result<(), Found<'v>>
-    ensures { reading_view (λ u. u) result ≡ served_fits base.now key.now (view value.now) }
+/// Checks the group, the version and the name, in the field `key`, of a kind or a resource.
+fn check_names<'v>(base: &'static str, key: &'static str, value: &'v Value) -> Result<(), Found<'v>>
+    ensures { reading_view (λ u. u) result ≡ names_fit base.now key.now (view value.now) }
 {
-    check_text(base, value, "group")?;
+    check_required_text(base, value, "group")?;
     check_required_text(base, value, "version")?;
     check_required_text(base, value, key)
+}
+
+/// Checks a kind.
+#[tactic(auto, unfolding(crate::specs::Reviews::served_fits))]
+fn check_kind<'v>(base: &'static str, value: &'v Value) -> Result<(), Found<'v>>
+    ensures { reading_view (λ u. u) result ≡ served_fits base.now (codes "kind") (view value.now) }
+{
+    check_known(base, value, &KIND_FIELDS)?;
+    check_names(base, "kind", value)
+}
+
+/// Checks a resource.
+#[tactic(auto, unfolding(crate::specs::Reviews::served_fits))]
+fn check_resource<'v>(base: &'static str, value: &'v Value) -> Result<(), Found<'v>>
+    ensures { reading_view (λ u. u) result ≡ served_fits base.now (codes "resource") (view value.now) }
+{
+    check_known(base, value, &RESOURCE_FIELDS)?;
+    check_names(base, "resource", value)
 }
 
 /// Checks that each member is a list of strings.
@@ -189,6 +232,7 @@ fn check_user(user: &Value) -> Result<(), Found<'_>>
     ensures { reading_view (λ u. u) result ≡ user_fits (view user.now) }
 {
     let base = "/request/userInfo";
+    check_known(base, user, &USER_FIELDS)?;
     check_texts(base, user, &["username", "uid"])?;
     check_list(base, "groups", user.get("groups"))?;
     check_extra(user.get("extra"))
@@ -207,7 +251,7 @@ fn kind_in(request: &Value) -> Result<(), Found<'_>>
     ensures { reading_view (λ u. u) result ≡ kind_in (view request.now) }
 {
     let kind = object_in("/request", request, "kind")?;
-    check_served("/request/kind", "kind", kind)
+    check_kind("/request/kind", kind)
 }
 
 /// Checks the resource of a request's object.
@@ -215,7 +259,7 @@ fn resource_in(request: &Value) -> Result<(), Found<'_>>
     ensures { reading_view (λ u. u) result ≡ resource_in (view request.now) }
 {
     let resource = object_in("/request", request, "resource")?;
-    check_served("/request/resource", "resource", resource)
+    check_resource("/request/resource", resource)
 }
 
 /// Checks the kind that the request was made for.
@@ -224,7 +268,7 @@ fn request_kind_in(request: &Value) -> Result<(), Found<'_>>
 {
     match optional_in("/request", request, "requestKind")? {
         None => Ok(()),
-        Some(kind) => check_served("/request/requestKind", "kind", kind),
+        Some(kind) => check_kind("/request/requestKind", kind),
     }
 }
 
@@ -234,7 +278,7 @@ fn request_resource_in(request: &Value) -> Result<(), Found<'_>>
 {
     match optional_in("/request", request, "requestResource")? {
         None => Ok(()),
-        Some(resource) => check_served("/request/requestResource", "resource", resource),
+        Some(resource) => check_resource("/request/requestResource", resource),
     }
 }
 
@@ -246,12 +290,13 @@ fn operation_in(request: &Value) -> Result<&str, Found<'_>>
     required_one_at(request, "operation", &OPERATIONS, location)
 }
 
-/// Checks a request, and returns its operation.
+/// Checks a request, which may have no field but those of a request, and returns its operation.
 #[tactic(auto, unfolding(crate::specs::Reviews::request_of))]
 fn request_of(request: &Value) -> Result<&str, Found<'_>>
     ensures { reading_view (λ s. s.now) result ≡ request_of (view request.now) }
 {
     let base = "/request";
+    check_known(base, request, &REQUEST_FIELDS)?;
     let operation = operation_in(request)?;
     let texts = ["name", "namespace", "subResource", "requestSubResource"];
     check_texts(base, request, &texts)?;
@@ -265,7 +310,7 @@ fn request_of(request: &Value) -> Result<&str, Found<'_>>
     Ok(operation)
 }
 
-/// The `request` of a review's document, after its apiVersion and kind are checked.
+/// The `request` of a review's document, after its apiVersion, its kind and its fields are checked.
 #[tactic(auto, unfolding(crate::specs::Reviews::request_in))]
 fn request_in(document: &Value) -> Result<&Value, Found<'_>>
     ensures { reading_view (λ v. view v.now) result ≡ request_in (view document.now) }
@@ -273,6 +318,7 @@ fn request_in(document: &Value) -> Result<&Value, Found<'_>>
     let version = Location::Field("", "apiVersion");
     required_one_at(document, "apiVersion", &REVIEW_VERSIONS, version)?;
     required_one_at(document, "kind", &REVIEW_KINDS, Location::Field("", "kind"))?;
+    check_known("", document, &REVIEW_FIELDS)?;
     object_at(document, "request", Location::Field("", "request"))
 }
 
@@ -377,8 +423,9 @@ fn review_of(document: &Value) -> Result<Result<PolicyInputs, Found<'_>>, AllocE
 impl PolicyInputs {
     /// Reads `request`, `object` and `oldObject` from an AdmissionReview (`admission.k8s.io`). A
     /// CREATE must have an object, a DELETE an old object, and an UPDATE both; any other object that
-    /// the review leaves out is known to be null. `params` and `namespaceObject` are unknown: set
-    /// these fields afterwards.
+    /// the review leaves out is known to be null. Neither the review nor its request, kinds,
+    /// resources and user may have a field that isn't theirs. `params` and `namespaceObject` are
+    /// unknown: set these fields afterwards.
     ///
     /// The inner error is the first [`PolicyFault`] if the document is not such a review.
     ///

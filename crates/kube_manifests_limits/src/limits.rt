@@ -10,9 +10,10 @@ use kube_manifests_texts::is_word;
 
 const NARROW_FUNCTIONS: [&str; 5] = ["string", "int", "timestamp", "hasValue", "value"];
 
-const NARROW_ERRORS: [&str; 3] = ["sum", "duration", "timestamp"];
+const NARROW_ERRORS: [&str; 4] = ["sum", "duration", "timestamp", "url"];
 
-const NARROW_FORMATS: [&str; 2] = [
+const NARROW_FORMATS: [&str; 3] = [
+    "%s does not support bytes",
     "%s does not support duration",
     "%s does not support timestamp",
 ];

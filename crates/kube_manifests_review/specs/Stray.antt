@@ -2,8 +2,8 @@
 -- What of a document isn't part of a version's schema, though it may have been meant to be: the members
 -- named `x-kubernetes-validations` that stand where no schema of a version has its rules (beside the
 -- schemas, or within a keyword whose value isn't what the API reference says, such as `allOf` that is an
--- object), and the values that stand where a schema does and are none, such as a list of rules among the
--- properties. Source: Kubernetes API reference, `CustomResourceDefinitionSpec`,
+-- object, or `required` with an object in its list), and the values that stand where a schema does and are
+-- none, such as a list of rules among the properties. Source: Kubernetes API reference, `CustomResourceDefinitionSpec`,
 -- `CustomResourceDefinitionVersion`, `CustomResourceValidation`, `JSONSchemaProps`,
 -- `JSONSchemaPropsOrBool`, `JSONSchemaPropsOrArray`, `JSONSchemaPropsOrStringArray`.
 use Rattle.std.specs.Prelude.{ℕ, suc, List, [], ◌∷◌, ◌++◌, ◌&&◌, ◌||◌, is_some, Bool, true, false, if◌then◌else◌, codes}
@@ -11,6 +11,7 @@ use Rattle.std.specs.Str.{bytes_eq}
 use Rattle.serde_json.specs.Data.{Data, null, boolean, number, string, array, object, Items, no_items, item, Members, no_members, member}
 use Rattle.serde_json.specs.Find.{as_array, as_bool, as_object}
 use Rattle.kube_manifests_review.specs.Candidates.{Candidate, unconditional}
+use Rattle.kube_manifests_review.specs.Keywords.{schema_fields}
 use Rattle.kube_manifests_texts.specs.Spelling.{is_word}
 use Rattle.kube_manifests_documents.specs.Pointers.{index_pointer, key_pointer}
 use Rattle.kube_manifests_review.specs.declared.finding.ReviewKind.TheVariants as kind
@@ -31,8 +32,19 @@ map_keywords = codes "properties" ∷ codes "patternProperties" ∷ codes "defin
 unfoldable pub list_keywords : List (List ℕ)
 list_keywords = codes "allOf" ∷ codes "oneOf" ∷ codes "anyOf" ∷ []
 
--- what a member of a schema is. In any other member no schema stands: it holds a value of any form, or
--- the rules of the schema itself; or its key is no field, which is reported of the key
+-- those whose value has any form, and that of the rules of the schema itself
+unfoldable pub value_keywords : List (List ℕ)
+value_keywords =
+    codes "default" ∷ codes "enum" ∷ codes "example" ∷ codes "x-kubernetes-validations" ∷ []
+
+-- A member of a schema in which no schema stands. Within another field than these nothing may be meant to
+-- be a rule. A key that is no field is reported of the key.
+abbrev pub plain_member : List ℕ → Part
+plain_member k =
+    if is_word value_keywords k then part.Values
+    else if is_word schema_fields k then part.Other else part.Values
+
+-- what a member of a schema is
 abbrev pub schema_member : List ℕ → Part
 schema_member k =
     if is_word bool_keywords k then part.SchemaOrBool
@@ -40,7 +52,7 @@ schema_member k =
     else if is_word list_keywords k then part.SchemaList
     else if bytes_eq k (codes "items") then part.SchemaOrList
     else if bytes_eq k (codes "not") then part.Schema
-    else if bytes_eq k (codes "dependencies") then part.Dependencies else part.Values
+    else if bytes_eq k (codes "dependencies") then part.Dependencies else plain_member k
 
 -- this part for a member of this name, else another one
 abbrev pub named_part : List ℕ → List ℕ → Part → Part

@@ -1,8 +1,11 @@
 //! What the parts of a CustomResourceDefinition are.
 ghost use Rattle.std.specs.Prelude.{◌≡◌};
-ghost use Rattle.kube_manifests_review.specs.Stray.{form_text, has_form, has_no_rules, item_part, member_part, named_part, schema_member};
+ghost use Rattle.kube_manifests_review.specs.Stray.{form_text, has_form, has_no_rules, item_part, member_part, named_part, plain_member, schema_member, value_keywords};
+ghost use Rattle.kube_manifests_review.specs.Keywords.{schema_fields};
+ghost use Rattle.kube_manifests_texts.specs.Spelling.{is_word};
 ghost use Rattle.serde_json.specs.View.{view};
 
+use crate::keyword::SCHEMA_FIELDS;
 use kube_manifests_texts::is_word;
 use serde_json::Value;
 
@@ -46,7 +49,38 @@ const MAP_KEYWORDS: [&str; 3] = ["properties", "patternProperties", "definitions
 
 const LIST_KEYWORDS: [&str; 3] = ["allOf", "oneOf", "anyOf"];
 
-/// What a member of a schema is. In any other member no schema stands.
+const VALUE_KEYWORDS: [&str; 4] = ["default", "enum", "example", "x-kubernetes-validations"];
+
+/// Reports whether the value of a member of a schema has a form of its own.
+#[tactic(auto, unfolding(crate::specs::Stray::value_keywords))]
+fn is_value_keyword(key: &str) -> bool
+    ensures { result ≡ is_word value_keywords key.now }
+{
+    is_word(&VALUE_KEYWORDS, key)
+}
+
+/// Reports whether a member of a schema is one of its fields.
+#[tactic(auto, unfolding(crate::specs::Keywords::schema_fields))]
+fn is_schema_field(key: &str) -> bool
+    ensures { result ≡ is_word schema_fields key.now }
+{
+    is_word(&SCHEMA_FIELDS, key)
+}
+
+/// What a member of a schema is in which no schema stands.
+fn plain_member(key: &str) -> Part
+    ensures { result ≡ plain_member key.now }
+{
+    if is_value_keyword(key) {
+        Part::Values
+    } else if is_schema_field(key) {
+        Part::Other
+    } else {
+        Part::Values
+    }
+}
+
+/// What a member of a schema is.
 #[tactic(auto, unfolding(crate::specs::Stray::bool_keywords, crate::specs::Stray::map_keywords, crate::specs::Stray::list_keywords))]
 fn schema_member(key: &str) -> Part
     ensures { result ≡ schema_member key.now }
@@ -64,7 +98,7 @@ fn schema_member(key: &str) -> Part
     } else if key == "dependencies" {
         Part::Dependencies
     } else {
-        Part::Values
+        plain_member(key)
     }
 }
 

@@ -195,7 +195,7 @@ fn program_words<'a>(alloc: Global) -> Words<'a>
         .after_help(
             "Exit status: 0 if everything was judged and passes, 1 if a rule fails, 2 if something couldn't be judged.",
         )
-        .version("0.3.0")
+        .version("0.3.1")
         .subcommand_required(true)
         .arg_required_else_help(true)
 }

@@ -86,8 +86,8 @@ explained_alike vs d reason.NoSuchKind = sought_alike vs (type_meta_of d) reason
 explained_alike vs d reason.NoSuchVersion = sought_alike vs (type_meta_of d) reason.NoSuchVersion
 explained_alike vs d reason.NotServed = sought_alike vs (type_meta_of d) reason.NotServed
 
-why_alike : (vs : List (Version Data)) (d : Data) (r : NotJudged) → why_not (map with_tree vs) d r ≡ why_not vs d r
-why_alike vs d r = rw (explained_alike vs d (named_reason d r)) refl
+why_alike : (vs : List (Version Data)) (f : Found) (r : NotJudged) → why_not (map with_tree vs) f r ≡ why_not vs f r
+why_alike vs f r = rw (explained_alike vs f.value (named_reason f.value r)) refl
 
 -- with trees in place of schemas, the same is reported
 pub reported_alike : (ignores_missing : Bool) (set : List (Version Node)) (versions : List (Version Data)) → set ≡ map with_tree versions
@@ -95,4 +95,4 @@ pub reported_alike : (ignores_missing : Bool) (set : List (Version Node)) (versi
 reported_alike ignores_missing set versions same f (judgement.Judged (Ok u)) hints = refl
 reported_alike ignores_missing set versions same f (judgement.Judged (Err es)) hints = refl
 reported_alike ignores_missing set versions same f (judgement.NotJudged r) hints =
-    ap (λ text. item_of f (verdict_for ignores_missing f.value r) (remark text)) (ap (λ vs. why_not vs f.value r) same ∙ why_alike versions f.value r)
+    ap (λ text. item_of f (verdict_for ignores_missing f r) (remark text)) (ap (λ vs. why_not vs f r) same ∙ why_alike versions f r)

@@ -37,10 +37,10 @@ counted_alike (Err reason.NoSuchKind) = refl
 counted_alike (Err reason.NoSuchVersion) = refl
 counted_alike (Err reason.NotServed) = refl
 
-pub unusable_counted : (ignores_missing : Bool) (d : Data) (r : Result (Version Node) NotJudged)
-    → is_unusable_for ignores_missing d (rules_of r) ≡ is_unusable_for ignores_missing d r
-unusable_counted ignores_missing d (Ok v) = refl
-unusable_counted ignores_missing d (Err r) = refl
+pub unusable_counted : (ignores_missing : Bool) (f : Found) (r : Result (Version Node) NotJudged)
+    → is_unusable_for ignores_missing f (rules_of r) ≡ is_unusable_for ignores_missing f r
+unusable_counted ignores_missing f (Ok v) = refl
+unusable_counted ignores_missing f (Err r) = refl
 
 all_alike : {A : Type 0} (p q : A → Bool) → ((x : A) → p x ≡ q x) → (xs : List A) → list_all p xs ≡ list_all q xs
 all_alike p q same [] = refl
@@ -67,16 +67,16 @@ held_alike set versions same olds paths held =
     let one = λ (path : List ℕ) (f : Found). ap (λ b. b && bytes_eq path f.file) (same_defined set versions same f) in
     sym (all_alike (holds_object set olds) (holds_object versions olds) (λ path. any_alike (is_held set path) (is_held versions path) (one path) olds) paths) ∙ held
 
-unusable_mapped : {A B : Type 0} (ignores_missing : Bool) (d : Data) (f : A → B) (r : Result A NotJudged)
-    → is_unusable_for ignores_missing d (mapped f r) ≡ is_unusable_for ignores_missing d r
-unusable_mapped ignores_missing d f (Ok v) = refl
-unusable_mapped ignores_missing d f (Err r) = refl
+unusable_mapped : {A B : Type 0} (ignores_missing : Bool) (f : Found) (g : A → B) (r : Result A NotJudged)
+    → is_unusable_for ignores_missing f (mapped g r) ≡ is_unusable_for ignores_missing f r
+unusable_mapped ignores_missing f g (Ok v) = refl
+unusable_mapped ignores_missing f g (Err r) = refl
 
 same_unusable : (ignores_missing : Bool) (set : List (Version Node)) (versions : List (Version Data)) → set ≡ map with_tree versions → (f : Found)
     → is_unusable ignores_missing set f ≡ is_unusable ignores_missing versions f
-same_unusable ignores_missing set versions same f = ap (λ vs. is_unusable_for ignores_missing f.value (chosen_version vs f.value)) same
-    ∙ (ap (is_unusable_for ignores_missing f.value) (chosen_alike (view_of 65) versions f.value)
-    ∙ unusable_mapped ignores_missing f.value with_tree (chosen_version versions f.value))
+same_unusable ignores_missing set versions same f = ap (λ vs. is_unusable_for ignores_missing f (chosen_version vs f.value)) same
+    ∙ (ap (is_unusable_for ignores_missing f) (chosen_alike (view_of 65) versions f.value)
+    ∙ unusable_mapped ignores_missing f with_tree (chosen_version versions f.value))
 
 pub usable_alike : (ignores_missing : Bool) (set : List (Version Node)) (versions : List (Version Data)) → set ≡ map with_tree versions → (olds : List Found)
     → AreUsable ignores_missing set olds → AreUsable ignores_missing versions olds

@@ -17,15 +17,27 @@ use Rattle.std.specs.Prelude.{◌≡◌, ℕ, ◌&&◌, ◌||◌, not, List, [],
 
 -- ---- documents that aren't judged
 
--- whether a document is a mapping with neither apiVersion nor kind, such as the values of a chart: it is no resource
-abbrev pub is_no_resource : Data → Bool
-is_no_resource d =
+-- whether a value is a mapping with neither apiVersion nor kind
+abbrev pub has_no_type : Data → Bool
+has_no_type d =
     is_some (as_object d)
     && (not (is_some (get (codes "apiVersion") d)) && not (is_some (get (codes "kind") d)))
+
+-- whether a document is one, such as the values of a chart: it is no resource. The items of a list are resources
+abbrev pub is_no_resource : Found → Bool
+is_no_resource f = not f.is_item && has_no_type f.value
 
 -- whether a document is declared a definition, of whatever apiVersion
 abbrev pub is_called_crd : Data → Bool
 is_called_crd d = bytes_eq (text_at (codes "kind") d) (codes "CustomResourceDefinition")
+
+-- whether a document is declared a `List`, whatever its fields are
+abbrev pub is_called_list : Data → Bool
+is_called_list d = bytes_eq (text_at (codes "kind") d) (codes "List")
+
+-- whether it is that, or a list of another kind
+abbrev pub is_any_list : Data → Bool
+is_any_list d = is_called_list d || is_some (list_of d)
 
 abbrev pub is_full : List ℕ → Bool
 is_full [] = false
@@ -35,19 +47,19 @@ is_full (b ∷ bs) = true
 abbrev pub is_other_resource : Data → Bool
 is_other_resource d =
     (is_full (text_at (codes "apiVersion") d) && is_full (text_at (codes "kind") d))
-    && not (is_called_crd d || is_some (list_of d))
+    && not (is_called_crd d || is_any_list d)
 
 -- whether a document of a file of definitions is passed over if missing definitions are ignored
-abbrev pub is_passed_over : Data → Bool
-is_passed_over d = is_no_resource d || is_other_resource d
+abbrev pub is_passed_over : Found → Bool
+is_passed_over f = is_no_resource f || is_other_resource f.value
 
 -- ---- definitions
 
 abbrev pub unless_passed_over : Found → List Found
-unless_passed_over f = if is_passed_over f.value then [] else f ∷ []
+unless_passed_over f = if is_passed_over f then [] else f ∷ []
 
 abbrev pub where_passed_over : Found → List Found
-where_passed_over f = if is_passed_over f.value then f ∷ [] else []
+where_passed_over f = if is_passed_over f then f ∷ [] else []
 
 abbrev pub where_definition : Found → List Found
 where_definition f = if is_crd f.value then f ∷ [] else []

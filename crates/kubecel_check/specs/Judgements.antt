@@ -18,7 +18,7 @@ use Rattle.kube_manifests.specs.declared.judgement.NotJudged.TheVariants as reas
 use Rattle.kube_manifests.specs.declared.set.CrdSet.{CrdSet}
 use Rattle.kube_manifests.specs.Limits.{is_limit}
 use Rattle.kube_manifests_review.specs.Features.{lacking_text}
-use Rattle.kubecel_check.specs.Definitions.{is_called_crd, is_full, is_no_resource}
+use Rattle.kubecel_check.specs.Definitions.{is_any_list, is_called_crd, is_full, is_no_resource}
 use Rattle.kubecel_check.specs.Doubles.{first_double}
 use Rattle.kube_manifests.specs.Definitions.{is_crd, list_of}
 use Rattle.kubecel_io.specs.Objects.{identity_of, old_of, text_at}
@@ -26,7 +26,7 @@ use Rattle.kubecel_io.specs.Reads.{Found}
 use Rattle.kubecel_report.specs.Items.{FindingData, ItemData}
 use Rattle.kubecel_report.specs.declared.item.Verdict.{Verdict}
 use Rattle.kubecel_report.specs.declared.item.Verdict.TheVariants as verdict
-use Rattle.serde_json.specs.Data.{Data, Num, number}
+use Rattle.serde_json.specs.Data.{Data, Items, Num, number}
 use Rattle.serde_json.specs.Read.{read}
 use Rattle.std.specs.List.{list_any}
 use Rattle.std.specs.Option.{option_map_or}
@@ -154,23 +154,29 @@ is_of_version reason.NoSuchKind = false
 is_of_version reason.NoSuchVersion = true
 is_of_version reason.NotServed = true
 
--- whether what isn't judged is a list among the items of a list: of a list that no definition has,
--- the items are judged
-abbrev pub is_nested : Data → NotJudged → Bool
-is_nested d r = is_some (list_of d) && not (is_of_version r)
+-- whether what isn't judged is a list: one among the items of a list, or a `List` whose fields aren't those of one. Of
+-- any other list that no definition has, the items are judged
+abbrev pub is_unread_list : Data → NotJudged → Bool
+is_unread_list d r = is_any_list d && not (is_of_version r)
 
--- the reason in words: an object of a kind without a letter has none
+abbrev pub unread_list_text : Option Items → List ℕ
+unread_list_text (Some ds) = codes "a list within a list: its items aren't judged"
+unread_list_text None = codes "a List has its objects in items, and no other fields but apiVersion, kind and metadata"
+
+-- the reason in words: an object of a kind, or an apiVersion, without a letter has none
 abbrev pub named_reason : Data → NotJudged → NotJudged
-named_reason d reason.NoSuchKind = if is_full (text_at (codes "kind") d) then reason.NoSuchKind else reason.NoKind
+named_reason d reason.NoSuchKind =
+    if not (is_full (text_at (codes "kind") d)) then reason.NoKind
+    else (if not (is_full (text_at (codes "apiVersion") d)) then reason.NoApiVersion else reason.NoSuchKind)
 named_reason d r = r
 
 -- the reason why an object isn't judged by these versions
-abbrev pub why_not : {A : Type 0} → List (Version A) → Data → NotJudged → List ℕ
-why_not versions d r =
-    if is_nested d r then codes "a list within a list: its items aren't judged"
-    else (if is_no_resource d then codes "no resource: neither apiVersion nor kind"
-    else (if is_called_crd d && not (is_of_version r) then codes "only CustomResourceDefinitions of apiextensions.k8s.io/v1 are read"
-    else explanation versions d (named_reason d r)))
+abbrev pub why_not : {A : Type 0} → List (Version A) → Found → NotJudged → List ℕ
+why_not versions f r =
+    if is_unread_list f.value r then unread_list_text (list_of f.value)
+    else (if is_no_resource f then codes "no resource: neither apiVersion nor kind"
+    else (if is_called_crd f.value && not (is_of_version r) then codes "only CustomResourceDefinitions of apiextensions.k8s.io/v1 are read"
+    else explanation versions f.value (named_reason f.value r)))
 
 -- whether the reason is that no definition has the object's group and kind
 abbrev pub is_missing : NotJudged → Bool
@@ -182,13 +188,15 @@ is_missing reason.NoSuchVersion = false
 is_missing reason.NotServed = false
 
 -- whether an object is skipped if missing definitions are ignored: there is none for it, or it is no resource. A list
--- within a list isn't skipped, nor a definition of another apiVersion
-abbrev pub is_skipped : Data → NotJudged → Bool
-is_skipped d r = is_no_resource d || (is_missing (named_reason d r) && not (is_nested d r || is_called_crd d))
+-- isn't skipped, nor a definition of another apiVersion
+abbrev pub is_skipped : Found → NotJudged → Bool
+is_skipped f r =
+    is_no_resource f
+    || (is_missing (named_reason f.value r) && not (is_unread_list f.value r || is_called_crd f.value))
 
 -- what isn't skipped couldn't be judged
-abbrev pub verdict_for : Bool → Data → NotJudged → Verdict
-verdict_for ignores_missing d r = if ignores_missing && is_skipped d r then verdict.Skip else verdict.NotJudged
+abbrev pub verdict_for : Bool → Found → NotJudged → Verdict
+verdict_for ignores_missing f r = if ignores_missing && is_skipped f r then verdict.Skip else verdict.NotJudged
 
 -- the item of an object with this judgement by these versions, and these hints
 abbrev pub judged_item : {A : Type 0} → Bool → List (Version A) → Found → Judgement → List FindingData → ItemData
@@ -197,7 +205,7 @@ judged_item ignores_missing versions f (judgement.Judged (Err es)) hints =
     item_of f (errors_verdict (map error_view (errors_in es)))
     (map (λ e. error_finding (error_view e)) (errors_in es) ++ hints)
 judged_item ignores_missing versions f (judgement.NotJudged r) hints =
-    item_of f (verdict_for ignores_missing f.value r) (remark (why_not versions f.value r))
+    item_of f (verdict_for ignores_missing f r) (remark (why_not versions f r))
 
 -- an object is judged by these versions under a book of patterns, with the old object of the same identity, if any; the
 -- Bool says whether it is skipped if there is no definition for it. If a rule denies it, all its rules were evaluated
@@ -212,13 +220,13 @@ IsJudged book ignores_missing versions olds f i =
 
 -- whether an old object is of no use, as by the reason why it has no version: it is of no definition, is none itself, and
 -- isn't skipped either, if missing definitions are ignored. It may be the old state of an object
-abbrev pub is_unusable_for : {A : Type 0} → Bool → Data → Result A NotJudged → Bool
-is_unusable_for ignores_missing d (Ok v) = false
-is_unusable_for ignores_missing d (Err r) =
-    not (is_of_version r) && not (is_crd d || (ignores_missing && is_skipped d r))
+abbrev pub is_unusable_for : {A : Type 0} → Bool → Found → Result A NotJudged → Bool
+is_unusable_for ignores_missing f (Ok v) = false
+is_unusable_for ignores_missing f (Err r) =
+    not (is_of_version r) && not (is_crd f.value || (ignores_missing && is_skipped f r))
 
 abbrev pub is_unusable : {A : Type 0} → Bool → List (Version A) → Found → Bool
-is_unusable ignores_missing versions f = is_unusable_for ignores_missing f.value (chosen_version versions f.value)
+is_unusable ignores_missing versions f = is_unusable_for ignores_missing f (chosen_version versions f.value)
 
 -- no old object is
 abbrev pub AreUsable : {A : Type 0} → Bool → List (Version A) → List Found → Type 0

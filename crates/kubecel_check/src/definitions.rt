@@ -1,5 +1,5 @@
 //! Finds the definitions among documents.
-ghost use Rattle.kubecel_check.specs.Definitions.{definitions, given_definitions, is_called_crd, is_full, is_no_resource, is_other_resource, is_passed_over, passed_over, unless_passed_over, where_definition, where_passed_over};
+ghost use Rattle.kubecel_check.specs.Definitions.{definitions, given_definitions, has_no_type, is_any_list, is_called_crd, is_called_list, is_full, is_no_resource, is_other_resource, is_passed_over, passed_over, unless_passed_over, where_definition, where_passed_over};
 ghost use Rattle.kube_manifests.specs.Definitions as shapes;
 ghost use Rattle.kubecel_io.specs.Subjects.{subject_view};
 ghost use Rattle.serde_json.specs.Find.{get};
@@ -19,12 +19,19 @@ fn has_member(value: &Value, key: &str) -> bool
     value.get(key).is_some()
 }
 
-/// Reports whether a document is a mapping with neither apiVersion nor kind, such as the values of a
-/// chart: it is no resource.
-pub(crate) fn is_no_resource(value: &Value) -> bool
-    ensures { result ≡ is_no_resource (view value.now) }
+/// Reports whether a value is a mapping with neither apiVersion nor kind.
+fn has_no_type(value: &Value) -> bool
+    ensures { result ≡ has_no_type (view value.now) }
 {
     value.is_object() && (!has_member(value, "apiVersion") && !has_member(value, "kind"))
+}
+
+/// Reports whether a document is one, such as the values of a chart: it is no resource. The items of
+/// a list are resources.
+pub(crate) fn is_no_resource(subject: &Subject<'_>) -> bool
+    ensures { result ≡ is_no_resource (subject_view subject.now) }
+{
+    !subject.is_item && has_no_type(subject.value)
 }
 
 /// Reports whether a document is declared a definition, of whatever apiVersion.
@@ -32,6 +39,20 @@ pub(crate) fn is_called_crd(value: &Value) -> bool
     ensures { result ≡ is_called_crd (view value.now) }
 {
     text_at(value, "kind") == "CustomResourceDefinition"
+}
+
+/// Reports whether a document is declared a `List`, whatever its fields are.
+fn is_called_list(value: &Value) -> bool
+    ensures { result ≡ is_called_list (view value.now) }
+{
+    text_at(value, "kind") == "List"
+}
+
+/// Reports whether it is that, or a list of another kind.
+pub(crate) fn is_any_list(value: &Value) -> bool
+    ensures { result ≡ is_any_list (view value.now) }
+{
+    is_called_list(value) || is_list(value)
 }
 
 pub(crate) fn is_full(text: &str) -> bool
@@ -42,7 +63,7 @@ pub(crate) fn is_full(text: &str) -> bool
 
 /// Reports whether a value is a list: its kind ends in `List`, and it has an array in `items`.
 #[tactic(auto, using(crate::proofs::Nested::some_mapped))]
-pub(crate) fn is_list(value: &Value) -> bool
+fn is_list(value: &Value) -> bool
     ensures { result ≡ is_some (shapes.list_of (view value.now)) }
 {
     list_of(value).is_some()
@@ -53,15 +74,15 @@ fn is_other_resource(value: &Value) -> bool
     ensures { result ≡ is_other_resource (view value.now) }
 {
     (is_full(text_at(value, "apiVersion")) && is_full(text_at(value, "kind")))
-        && !(is_called_crd(value) || is_list(value))
+        && !(is_called_crd(value) || is_any_list(value))
 }
 
 /// Reports whether a document of a file of definitions is passed over if missing definitions are
 /// ignored.
-fn is_passed_over(value: &Value) -> bool
-    ensures { result ≡ is_passed_over (view value.now) }
+fn is_passed_over(document: &Subject<'_>) -> bool
+    ensures { result ≡ is_passed_over (subject_view document.now) }
 {
-    is_no_resource(value) || is_other_resource(value)
+    is_no_resource(document) || is_other_resource(document.value)
 }
 
 /// Returns the definitions: those in documents of files of definitions, and those among the objects
@@ -131,7 +152,7 @@ fn add_unless_passed_over<'d>(
     ensures { OnOk result (map subject_view kept.new.items
         ≡ map subject_view kept.old.items ++ unless_passed_over (subject_view document.now)) }
 {
-    if is_passed_over(document.value) {
+    if is_passed_over(document) {
         return Ok(());
     }
     kept.push(*document)?;
@@ -206,7 +227,7 @@ fn add_where_passed_over<'d>(
     ensures { OnOk result (map subject_view passed.new.items
         ≡ map subject_view passed.old.items ++ where_passed_over (subject_view document.now)) }
 {
-    if !is_passed_over(document.value) {
+    if !is_passed_over(document) {
         return Ok(());
     }
     passed.push(*document)?;

@@ -2,19 +2,21 @@
 ghost use Rattle.cel.specs.Book.{Book, Extends};
 ghost use Rattle.cel.specs.Entries.{entries_of};
 ghost use Rattle.kube_manifests.specs.Sets.{IsJudgementUnder, set_view, with_tree};
+ghost use Rattle.kube_manifests.specs.Definitions as shapes;
 ghost use Rattle.kube_manifests.specs.DocumentsVersions.{Version};
 ghost use Rattle.kube_manifests.specs.declared.judgement.Judgement as spec;
-ghost use Rattle.kubecel_check.specs.Judgements.{AreHints, errors_of, is_missing, is_nested, is_of_version, is_partly_judged, is_skipped, judged_item, named_reason, passed_over_item, verdict_for, why_not};
+ghost use Rattle.kubecel_check.specs.Judgements.{AreHints, errors_of, is_missing, is_of_version, is_partly_judged, is_skipped, is_unread_list, judged_item, named_reason, passed_over_item, unread_list_text, verdict_for, why_not};
 ghost use Rattle.kubecel_io.specs.Subjects.{subject_view};
 ghost use Rattle.kubecel_report.specs.Items.{FindingData, finding_view, item_view};
 ghost use Rattle.serde_json.specs.Data.{Data};
 ghost use Rattle.serde_json.specs.View.{view};
 ghost use Rattle.std.specs.Prelude.{◌≡◌, IfOk, List, map, option_map, string_bytes};
 
-use crate::definitions::{is_called_crd, is_full, is_list, is_no_resource};
+use crate::definitions::{is_any_list, is_called_crd, is_full, is_no_resource};
 use crate::errors::{error_findings, errors_verdict, hints_of, is_partly_judged, with_hints};
 use crate::item::{item_of, remark};
 use kube_manifests::{CrdSet, Judgement, NotJudged, PatternBook};
+use kube_manifests_documents::list_of;
 use kubecel_io::{Refused, Subject, text_at};
 use kubecel_report::{Finding, Item, Verdict};
 use serde_json::Value;
@@ -69,18 +71,18 @@ fn judged_item(
             Ok(item_of(alloc, subject, verdict, findings)?)
         }
         Judgement::NotJudged(reason) => {
-            let findings = remark(alloc, why_not(alloc, set, subject.value, *reason)?)?;
-            let verdict = verdict_for(ignores_missing, subject.value, *reason);
+            let findings = remark(alloc, why_not(alloc, set, subject, *reason)?)?;
+            let verdict = verdict_for(ignores_missing, subject, *reason);
             Ok(item_of(alloc, subject, verdict, findings)?)
         }
     }
 }
 
 /// Returns the verdict on an object that isn't judged for this reason.
-fn verdict_for(ignores_missing: bool, object: &Value, reason: NotJudged) -> Verdict
-    ensures { result ≡ verdict_for ignores_missing (view object.now) reason }
+fn verdict_for(ignores_missing: bool, subject: &Subject<'_>, reason: NotJudged) -> Verdict
+    ensures { result ≡ verdict_for ignores_missing (subject_view subject.now) reason }
 {
-    if ignores_missing && is_skipped(object, reason) {
+    if ignores_missing && is_skipped(subject, reason) {
         Verdict::Skip
     } else {
         Verdict::NotJudged
@@ -89,12 +91,13 @@ fn verdict_for(ignores_missing: bool, object: &Value, reason: NotJudged) -> Verd
 
 /// Reports whether an object that isn't judged for this reason is skipped if missing definitions are
 /// ignored: there is none for it, or it is no resource.
-pub(crate) fn is_skipped(object: &Value, reason: NotJudged) -> bool
-    ensures { result ≡ is_skipped (view object.now) reason }
+pub(crate) fn is_skipped(subject: &Subject<'_>, reason: NotJudged) -> bool
+    ensures { result ≡ is_skipped (subject_view subject.now) reason }
 {
-    is_no_resource(object)
+    let object = subject.value;
+    is_no_resource(subject)
         || (is_missing(named_reason(object, reason))
-            && !(is_nested(object, reason) || is_called_crd(object)))
+            && !(is_unread_list(object, reason) || is_called_crd(object)))
 }
 
 /// Reports whether the reason is that no definition has the object's group and kind.
@@ -111,16 +114,18 @@ fn is_missing(reason: NotJudged) -> bool
     }
 }
 
-/// Returns the reason that is told: an object of a kind without a letter has none.
+/// Returns the reason that is told: an object of a kind, or an apiVersion, without a letter has none.
 fn named_reason(object: &Value, reason: NotJudged) -> NotJudged
     ensures { result ≡ named_reason (view object.now) reason }
 {
     match reason {
         NotJudged::NoSuchKind => {
-            if is_full(text_at(object, "kind")) {
-                NotJudged::NoSuchKind
-            } else {
+            if !is_full(text_at(object, "kind")) {
                 NotJudged::NoKind
+            } else if !is_full(text_at(object, "apiVersion")) {
+                NotJudged::NoApiVersion
+            } else {
+                NotJudged::NoSuchKind
             }
         }
         NotJudged::NotAnObject => NotJudged::NotAnObject,
@@ -131,11 +136,24 @@ fn named_reason(object: &Value, reason: NotJudged) -> NotJudged
     }
 }
 
-/// Reports whether what isn't judged is a list among the items of a list.
-fn is_nested(object: &Value, reason: NotJudged) -> bool
-    ensures { result ≡ is_nested (view object.now) reason }
+/// Reports whether what isn't judged is a list: one among the items of a list, or a `List` whose
+/// fields aren't those of one.
+fn is_unread_list(object: &Value, reason: NotJudged) -> bool
+    ensures { result ≡ is_unread_list (view object.now) reason }
 {
-    is_list(object) && !is_of_version(reason)
+    is_any_list(object) && !is_of_version(reason)
+}
+
+/// Returns what is said of such a list.
+fn unread_list_text(object: &Value) -> &'static str
+    ensures { result.now ≡ unread_list_text (shapes.list_of (view object.now)) }
+{
+    match list_of(object) {
+        Some(_) => "a list within a list: its items aren't judged",
+        None => {
+            "a List has its objects in items, and no other fields but apiVersion, kind and metadata"
+        }
+    }
 }
 
 /// Reports whether the reason is one about a version of a definition of the object's group and kind.
@@ -155,16 +173,16 @@ pub(crate) fn is_of_version(reason: NotJudged) -> bool
 pub(crate) fn why_not(
     alloc: Global,
     set: &CrdSet,
-    object: &Value,
+    subject: &Subject<'_>,
     reason: NotJudged,
 ) -> Result<String, Refused>
-    ensures { IfOk result (λ s. string_bytes s ≡ why_not (set_view set.now) (view object.now) reason) }
+    ensures { IfOk result (λ s. string_bytes s ≡ why_not (set_view set.now) (subject_view subject.now) reason) }
 {
-    if is_nested(object, reason) {
-        let why = "a list within a list: its items aren't judged";
-        return Ok(String::from_str(alloc, why)?);
+    let object = subject.value;
+    if is_unread_list(object, reason) {
+        return Ok(String::from_str(alloc, unread_list_text(object))?);
     }
-    if is_no_resource(object) {
+    if is_no_resource(subject) {
         let why = "no resource: neither apiVersion nor kind";
         return Ok(String::from_str(alloc, why)?);
     }

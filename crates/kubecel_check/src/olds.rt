@@ -61,7 +61,7 @@ fn is_unusable(ignores_missing: bool, set: &CrdSet, old: &Subject<'_>) -> bool
         Ok(_) => false,
         Err(reason) => {
             !is_of_version(reason)
-                && !(is_crd(old.value) || (ignores_missing && is_skipped(old.value, reason)))
+                && !(is_crd(old.value) || (ignores_missing && is_skipped(old, reason)))
         }
     }
 }
@@ -72,7 +72,7 @@ fn unusable_text(alloc: Global, set: &CrdSet, old: &Subject<'_>) -> Result<Strin
     match set.rule_count(old.value) {
         Ok(_) => Ok(format!(in alloc; "{file}[{index}]")?),
         Err(reason) => {
-            let why = why_not(alloc, set, old.value, reason)?;
+            let why = why_not(alloc, set, old, reason)?;
             Ok(format!(in alloc; "{file}[{index}]: {why}")?)
         }
     }

@@ -1,18 +1,14 @@
 //! Lists the objects of documents.
 ghost use Rattle.kube_manifests.specs.Sets.{set_view};
 ghost use Rattle.kubecel_check.specs.Objects.{AreSome, all_judged, all_subjects, subjects_in, unless_definition};
-ghost use Rattle.kubecel_io.specs.Objects.{object_of};
 ghost use Rattle.kubecel_io.specs.Subjects.{subject_view};
-ghost use Rattle.serde_json.specs.View.{view};
 ghost use Rattle.std.specs.List.{flat_map};
 ghost use Rattle.std.specs.Prelude.{◌≡◌, ◌++◌, IfOk, OnOk, map};
 
 use crate::defined::has_definition;
 use kube_manifests::{CrdSet, is_crd};
-use kubecel_io::{Identity, Stop, Subject, objects_in};
-use serde_json::Value;
+use kubecel_io::{Stop, Subject, add_objects};
 use std::alloc::{AllocError, Global};
-use std::slice;
 
 /// Returns the objects of all documents, in order. A document that is of a definition is an object;
 /// any other is taken apart if it is a list.
@@ -41,30 +37,11 @@ fn add_subjects<'d>(
         ++ subjects_in (set_view set.now) (subject_view document.now)) }
 {
     if has_definition(set, document.value) {
-        add_values(document, slice::from_ref(document.value), subjects)
+        subjects.push(*document)?;
+        Ok(())
     } else {
-        add_values(document, objects_in(document.value), subjects)
+        add_objects(document, subjects)
     }
-}
-
-/// Appends these objects of a document.
-fn add_values<'d>(
-    document: &Subject<'d>,
-    values: &'d [Value],
-    subjects: &mut Vec<Subject<'d>>,
-) -> Result<(), AllocError>
-    ensures { OnOk result (map subject_view subjects.new.items ≡ map subject_view subjects.old.items
-        ++ map (object_of (subject_view document.now)) (map view values.now)) }
-{
-    for value in values {
-        subjects.push(Subject {
-            file: document.file,
-            index: document.index,
-            value,
-            identity: Identity::of(value),
-        })?;
-    }
-    Ok(())
 }
 
 /// Returns the objects of all documents that are judged, in order: all but the definitions.

@@ -11,7 +11,7 @@ use Rattle.kubecel_cli.specs.Runs.{instead}
 use Rattle.kubecel_cli.specs.Reports.{policy_item}
 use Rattle.serde_json.specs.Data.{Data}
 use Rattle.serde_json.specs.View.{view}
-use Rattle.std.proofs.Common.{◌≡◌, ℕ, List, [], ◌∷◌, Option, Ok, string_bytes, refl, subst, ◌∙◌}
+use Rattle.std.proofs.Common.{◌≡◌, ℕ, List, [], ◌∷◌, Option, Ok, string_bytes, refl, subst, ◌∙◌, false}
 
 -- the values of files of their own replaced those of the review
 pub judged_so : (base : Variables) (inputs : PolicyInputs) (object old params namespace : Option Data) (d : Data) (v : PolicyVerdict)
@@ -30,5 +30,5 @@ judged_so base inputs object old params namespace d v o p q r s judged =
 -- the report on the policy in a file
 pub reported_of_file : (items : List ItemData) (path : List ℕ) (d : Document) (v : PolicyVerdict) → string_bytes d.file ≡ path → d.index ≡ 0
     → items ≡ policy_item (document_view d) (verdict_view v) ∷ []
-    → items ≡ policy_item (record { file = path; index = 0; value = view d.value }) (verdict_view v) ∷ []
+    → items ≡ policy_item (record { file = path; index = 0; is_item = false; value = view d.value }) (verdict_view v) ∷ []
 reported_of_file items path d v file index reported = reported ∙ rw (file, index) refl

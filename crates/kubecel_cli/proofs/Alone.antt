@@ -5,7 +5,7 @@ use Rattle.kubecel_cli.specs.Runs.{IsOneRead}
 use Rattle.serde_json.specs.Data.{Data}
 use Rattle.serde_json.specs.View.{view}
 use Rattle.std.proofs.lemmas.Bool.{eqb-true}
-use Rattle.std.proofs.Common.{◌≡◌, ℕ, ◌==◌, List, [], ◌∷◌, ◌++◌, get_or, length, true, Option, string_bytes, ap, arith, refl, subst}
+use Rattle.std.proofs.Common.{◌≡◌, ℕ, ◌==◌, List, [], ◌∷◌, ◌++◌, get_or, length, true, Option, string_bytes, ap, arith, refl, subst, false}
 
 the_first : (path : List ℕ) (f : Found) (values : List Data) (rest : List Found) → rest ≡ [] → f ∷ [] ≡ with_indices path 0 values ++ rest → (f.file ≡ path) × (f.index ≡ 0)
 unfolding with_indices
@@ -23,7 +23,7 @@ pub one_read : {S : Type 0} (reads : S → List ℕ → Option (List ℕ) → S 
     → AreRead reads a (path ∷ []) (document_view d ∷ []) b → IsOneRead reads a path (view d.value) b
 one_read reads a path d b are =
     let location = first_of_file reads a path d b are in
-    let same : document_view d ≡ record { file = path; index = 0; value = view d.value } = rw (location.0, location.1) refl in
+    let same : document_view d ≡ record { file = path; index = 0; is_item = false; value = view d.value } = rw (location.0, location.1) refl in
     subst (λ f. AreRead reads a (path ∷ []) (f ∷ []) b) same are
 
 -- a value taken off the end that leaves none was the only one

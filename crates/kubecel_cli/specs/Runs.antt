@@ -93,7 +93,7 @@ module _ {S : Type 0} (reads : S → List ℕ → Option (List ℕ) → S → Ty
   -- the file at the path holds exactly this document
   abbrev pub IsOneRead : S → List ℕ → Data → S → Type 0
   IsOneRead before path value after =
-      AreRead reads before (path ∷ []) (record { file = path; index = 0; value = value } ∷ []) after
+      AreRead reads before (path ∷ []) (record { file = path; index = 0; is_item = false; value = value } ∷ []) after
 
   -- the same for a file that may not be named, in which case nothing is read
   abbrev pub IsOneReadWhereNamed : S → Option (List ℕ) → Option Data → S → Type 0
@@ -155,7 +155,7 @@ module _ {S : Type 0} (reads : S → List ℕ → Option (List ℕ) → S → Ty
       namespace_object = instead namespace base.namespace_object;
     }) policy (Ok verdict)
     pub reported : items
-        ≡ policy_item (record { file = asked.policy; index = 0; value = policy }) (verdict_view verdict) ∷ []
+        ≡ policy_item (record { file = asked.policy; index = 0; is_item = false; value = policy }) (verdict_view verdict) ∷ []
 
   abbrev pub AreFound : S → Asked → S → List ItemData → Type 0
   AreFound before (check asked) after items = AreChecked before asked after items

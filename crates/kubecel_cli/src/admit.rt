@@ -176,6 +176,7 @@ fn report_of(
     let subject = Subject {
         file: policy.file.as_str(),
         index: policy.index,
+        is_item: false,
         value: &policy.value,
         identity: Identity::of(&policy.value),
     };

@@ -8,7 +8,7 @@ use Rattle.kubecel_io.specs.declared.sources.Stop.{Stop}
 use Rattle.serde_json.specs.Data.{Data}
 use Rattle.serde_json.specs.View.{view}
 use Rattle.serde_json.specs.declared.value.Value.{Value}
-use Rattle.std.proofs.Common.{◌≡◌, ℕ, ◌+◌, List, [], ◌∷◌, ◌++◌, ◌<◌, ◌⊎◌, inl, inr, get_or, take, map, length, codes, string_bytes, true, Option, Some, None, IfErr, IfSome, Result, Ok, Err, refl, arith, sym, ap, subst, ◌∙◌}
+use Rattle.std.proofs.Common.{◌≡◌, ℕ, ◌+◌, List, [], ◌∷◌, ◌++◌, ◌<◌, ◌⊎◌, inl, inr, get_or, take, map, length, codes, string_bytes, true, Option, Some, None, IfErr, IfSome, Result, Ok, Err, refl, arith, sym, ap, subst, ◌∙◌, false}
 use Rattle.std.proofs.lemmas.Bool.{false≢true}
 use Rattle.std.proofs.lemmas.List.{append_assoc, append-nil, map-append, take_more}
 use denote.Ref.{Bor}
@@ -99,7 +99,7 @@ pub one_more_document : (file : List ℕ) (n : ℕ) (v : Value) (rest : List Dat
 unfolding with_indices
 one_more_document file n v rest d done after same_file same_index same_value pushed =
     let all = with_indices file (n + 1) rest in
-    let same : document_view d ≡ record { file = file; index = n; value = view v } = rw (same_file, same_index, same_value) refl in
+    let same : document_view d ≡ record { file = file; index = n; is_item = false; value = view v } = rw (same_file, same_index, same_value) refl in
     ap (λ f. map document_view done ++ f ∷ all) (sym same)
     ∙ sym (append_assoc (map document_view done) (document_view d ∷ []) all)
     ∙ ap (λ fs. fs ++ all) (sym (ap (map document_view) pushed ∙ map-append document_view done (d ∷ [])))

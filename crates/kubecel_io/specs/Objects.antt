@@ -8,7 +8,7 @@ use Rattle.kubecel_io.specs.declared.objects.Identity.{Identity}
 use Rattle.serde_json.specs.Data.{Data, Items, no_items, item}
 use Rattle.serde_json.specs.Find.{get, as_str}
 use Rattle.std.specs.List.{before_first, find, flat_map, position_or_len}
-use Rattle.std.specs.Prelude.{ℕ, ◌==◌, ◌&&◌, List, [], ◌∷◌, map, length, nat_lt, Bool, if◌then◌else◌, Option, None, option_and_then, unwrap_or, not, codes}
+use Rattle.std.specs.Prelude.{ℕ, ◌==◌, ◌&&◌, List, [], ◌∷◌, map, length, nat_lt, Bool, if◌then◌else◌, Option, None, option_and_then, unwrap_or, not, codes, true}
 use Rattle.std.specs.Option.{option_map_or}
 use Rattle.std.specs.Str.{bytes_eq}
 
@@ -27,16 +27,13 @@ abbrev pub each_item : Items → List Data
 each_item no_items = []
 each_item (item d ds) = d ∷ each_item ds
 
+-- an item of a document, with the document's file and index
+abbrev pub item_of : Found → Data → Found
+item_of f d = record { file = f.file; index = f.index; is_item = true; value = d }
+
 -- the objects of a document: its items if it is a list, otherwise the document itself
-abbrev pub objects_in : Data → List Data
-objects_in d = option_map_or each_item (list_of d) (d ∷ [])
-
--- an object of a document, with the document's file and index
-abbrev pub object_of : Found → Data → Found
-object_of f d = record { file = f.file; index = f.index; value = d }
-
 abbrev pub objects_of : Found → List Found
-objects_of f = map (object_of f) (objects_in f.value)
+objects_of f = option_map_or (λ ds. map (item_of f) (each_item ds)) (list_of f.value) (f ∷ [])
 
 -- the objects of all documents, in order
 abbrev pub all_objects : List Found → List Found

@@ -30,16 +30,17 @@ abbrev pub text_seen : Result (String Global) (String Global) → Option (List �
 text_seen (Ok text) = Some (string_bytes text)
 text_seen (Err e) = None
 
--- a document, with the path of its file and its index among those of the file
+-- a document, with the path of its file and its index among those of the file; or an item of a document that is a list
 pub record Found : Type 0 where
   pub file : List ℕ
   pub index : ℕ
+  pub is_item : Bool
   pub value : Data
 
 -- the values of one file with their indices, which start at this one
 unfoldable pub with_indices : List ℕ → ℕ → List Data → List Found
 with_indices file n [] = []
-with_indices file n (d ∷ ds) = record { file = file; index = n; value = d } ∷ with_indices file (n + 1) ds
+with_indices file n (d ∷ ds) = record { file = file; index = n; is_item = false; value = d } ∷ with_indices file (n + 1) ds
 
 -- a single finding, which is about the whole thing
 abbrev pub alone : List ℕ → List FindingData
@@ -116,4 +117,4 @@ unusable_of (stop.Said words) = None
 unusable_of (stop.Unusable items) = Some (map item_view items.items)
 
 abbrev pub document_view : Document → Found
-document_view d = record { file = string_bytes d.file; index = d.index; value = view d.value }
+document_view d = record { file = string_bytes d.file; index = d.index; is_item = false; value = view d.value }

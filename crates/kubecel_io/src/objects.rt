@@ -1,11 +1,9 @@
 //! The objects of a document, and their identities.
-ghost use Rattle.kubecel_io.specs.Objects.{group_in, identity_of, identity_view, is_named, is_same, metadata_at, objects_in, text_at};
+ghost use Rattle.kubecel_io.specs.Objects.{group_in, identity_of, identity_view, is_named, is_same, metadata_at, text_at};
 ghost use Rattle.serde_json.specs.View.{view};
-ghost use Rattle.std.specs.Prelude.{◌≡◌, map};
+ghost use Rattle.std.specs.Prelude.{◌≡◌};
 
-use kube_manifests_documents::list_of;
 use serde_json::Value;
-use std::slice;
 
 /// The names that identify an object.
 #[derive(Clone, Copy)]
@@ -74,15 +72,5 @@ impl<'v> Identity<'v> {
             && self.namespace == other.namespace
             && self.kind == other.kind
             && self.group == other.group
-    }
-}
-
-/// Returns the objects of a document: the items if it is a list, otherwise the document itself.
-pub fn objects_in(document: &Value) -> &[Value]
-    ensures { map view result.now ≡ objects_in (view document.now) }
-{
-    match list_of(document) {
-        Some(items) => items,
-        None => slice::from_ref(document),
     }
 }

@@ -13,6 +13,8 @@ pub struct Subject<'d> {
     pub file: &'d str,
     /// The index of its document in the file, counted from 0.
     pub index: usize,
+    /// Whether its document is a list, of which it is an item.
+    pub is_item: bool,
     pub value: &'d Value,
     /// The names that identify it.
     pub identity: Identity<'d>,

@@ -1,13 +1,14 @@
 //! Lists the objects of documents.
-ghost use Rattle.kubecel_io.specs.Objects.{all_objects, first_same, object_of, objects_in};
+ghost use Rattle.kubecel_io.specs.Objects.{all_objects, first_same, item_of, objects_of};
 ghost use Rattle.kubecel_io.specs.Reads.{document_view};
 ghost use Rattle.kubecel_io.specs.Subjects.{subject_view};
 ghost use Rattle.serde_json.specs.View.{view};
 ghost use Rattle.std.specs.Prelude.{◌≡◌, ◌++◌, IfOk, OnOk, map, option_map};
 
-use crate::objects::{Identity, objects_in};
+use crate::objects::Identity;
 use crate::sources::Document;
 use crate::subject::Subject;
+use kube_manifests_documents::list_of;
 use serde_json::Value;
 use std::alloc::{AllocError, Global};
 
@@ -19,6 +20,7 @@ fn whole_document(document: &Document) -> Subject<'_>
     Subject {
         file: document.file.as_str(),
         index,
+        is_item: false,
         value: &document.value,
         identity: Identity::of(&document.value),
     }
@@ -60,20 +62,37 @@ pub fn objects_among<'d>(
     Ok(subjects)
 }
 
-/// Appends the objects of a document.
-fn add_objects<'d>(
+/// Appends the objects of a document: its items if it is a list, otherwise the document itself.
+pub fn add_objects<'d>(
     document: &Subject<'d>,
     subjects: &mut Vec<Subject<'d>>,
 ) -> Result<(), AllocError>
     ensures { OnOk result (map subject_view subjects.new.items
-        ≡ map subject_view subjects.old.items
-        ++ map (object_of (subject_view document.now)) (objects_in (view document.now.value.now))) }
+        ≡ map subject_view subjects.old.items ++ objects_of (subject_view document.now)) }
 {
-    let values = objects_in(document.value);
-    for value in values {
+    match list_of(document.value) {
+        Some(items) => add_list_items(document, items, subjects),
+        None => {
+            subjects.push(*document)?;
+            Ok(())
+        }
+    }
+}
+
+/// Appends these items of a document.
+fn add_list_items<'d>(
+    document: &Subject<'d>,
+    items: &'d [Value],
+    subjects: &mut Vec<Subject<'d>>,
+) -> Result<(), AllocError>
+    ensures { OnOk result (map subject_view subjects.new.items ≡ map subject_view subjects.old.items
+        ++ map (item_of (subject_view document.now)) (map view items.now)) }
+{
+    for value in items {
         subjects.push(Subject {
             file: document.file,
             index: document.index,
+            is_item: true,
             value,
             identity: Identity::of(value),
         })?;

@@ -1,11 +1,12 @@
 -- The lines of a report.
-use Rattle.kubecel_report.proofs.Escaped.{ArePrintable, by_decimal, each_character, is_printable}
-use Rattle.kubecel_report.specs.Escapes.{escaped_character, escaped_text, is_hidden}
+use Rattle.kubecel_report.proofs.Escaped.{ArePrintable, by_decimal, each_behind, is_printable}
+use Rattle.kubecel_report.specs.Escapes.{after, at_start, escaped_rest, escaped_text, is_hidden}
 use Rattle.kubecel_report.specs.Items.{FindingData, ItemData, finding_text, title}
 use Rattle.kubecel_report.specs.Json.{json_finding, json_findings, json_head, json_item, json_items, json_list, json_string, later_finding, later_item, text_member, verdict_name}
-use Rattle.kubecel_report.specs.Lines.{colour, coloured_word, element, github_finding, github_item, junit_close, junit_finding, junit_item, junit_open, level, location, number_member, said, shown, text_finding, text_item, verdict_word}
+use Rattle.kubecel_report.specs.Lines.{colour, coloured_word, element, github_finding, github_item, junit_finding, junit_item, junit_open, level, location, number_member, said, text_finding, text_item, verdict_word}
 use Rattle.kubecel_report.specs.Output.{count_of, junit_head, output_text}
 use Rattle.kubecel_report.specs.Safe.{json_lines, line_count, report_lines, total}
+use Rattle.kubecel_report.specs.declared.escape.Before.{Before}
 use Rattle.kubecel_report.specs.declared.escape.Escape.{Escape}
 use Rattle.kubecel_report.specs.declared.escape.Escape.TheVariants as escape
 use Rattle.kubecel_report.specs.declared.item.Verdict.{Verdict}
@@ -14,7 +15,7 @@ use Rattle.kubecel_report.specs.declared.output.Output.{Output}
 use Rattle.kubecel_report.specs.declared.output.Output.TheVariants.{Text, Coloured, Json, Github, Junit}
 use Rattle.serde_json.specs.Data.{string}
 use Rattle.serde_json.specs.Written.{compact_text}
-use Rattle.std.proofs.Common.{◌≡◌, ℕ, zero, suc, ◌+◌, ◌/◌, ◌%◌, ◌<◌, ◌≤◌, ◌==◌, ◌&&◌, List, [], ◌∷◌, ◌++◌, nat_lt, length, max, Bool, true, false, if◌then◌else◌, chars, codes, decimal, refl, ap, ap₂, ◌∙◌, arith}
+use Rattle.std.proofs.Common.{◌≡◌, ℕ, zero, suc, ◌+◌, ◌/◌, ◌%◌, ◌<◌, ◌==◌, List, [], ◌∷◌, ◌++◌, nat_lt, length, max, Bool, true, false, if◌then◌else◌, chars, codes, decimal, refl, ap, ap₂, ◌∙◌, arith}
 use Rattle.std.proofs.lemmas.Bool.{and_parts, both_ways, cond_both, ltb-true, ne_eqb}
 use Rattle.std.specs.List.{flat_map, list_all}
 use lib.Utf8.{encode}
@@ -90,10 +91,13 @@ none_of [] = refl
 none_of (x ∷ xs) = omega (arith, none_of xs)
 
 -- an escaped text has no line feed
+rest : (e : Escape) (b : Before) (cs : List ℕ) → Lines (escaped_rest e b cs) 0
+rest e b [] = record { is = refl }
+rest e b (c ∷ cs) = and_then (each_behind (λ bs. Lines bs 0) e b c printable (encoded c)) (rest e (after b c) cs)
+
 escaped : (e : Escape) (text : List ℕ) → Lines (escaped_text e text) 0
 unfolding escaped_text
-escaped e text =
-    as_many (flat (escaped_character e) (λ c. 0) (λ c. each_character (λ bs. Lines bs 0) e c printable (encoded c)) (chars text)) (none_of (chars text))
+escaped e text = rest e at_start (chars text)
 
 each_one : {A : Type 0} (xs : List A) → total (λ x. 1) xs ≡ length xs
 each_one [] = refl

@@ -1,9 +1,10 @@
 -- Escapes consist of characters of ASCII that are seen.
-use Rattle.kubecel_report.specs.Escapes.{by_escape, character_reference, code_unit, data_escape, escape_of, escaped_character, hidden_escape, is_hidden, is_xml_char, property_escape, shown_escape, unicode_escape, xml_escape}
+use Rattle.kubecel_report.specs.Escapes.{after, by_escape, character_reference, command_escape, code_unit, data_escape, escape_of, escaped_character, escaped_rest, hidden_escape, is_hidden, is_xml_char, property_escape, shown_escape, is_of_command, unicode_escape, written_behind, xml_escape}
+use Rattle.kubecel_report.specs.declared.escape.Before.{Before}
 use Rattle.kubecel_report.specs.declared.escape.Escape.{Escape}
 use Rattle.kubecel_report.specs.declared.escape.Escape.TheVariants as escape
-use Rattle.std.proofs.Common.{◌≡◌, ℕ, zero, suc, ◌+◌, ◌-◌, ◌/◌, ◌%◌, ◌<◌, ◌≤◌, ◌==◌, ◌&&◌, List, [], ◌∷◌, ◌++◌, nat_lt, Bool, true, false, if◌then◌else◌, Option, Some, None, IfSome, codes, decimal, encode_utf8, refl, sym, ap, subst, ◌∙◌, arith}
-use Rattle.std.proofs.lemmas.Bool.{agree_below, agree_below_at, and_from, cond_both, lt-ltb, ltb-true, ltb-false}
+use Rattle.std.proofs.Common.{◌≡◌, ℕ, zero, suc, ◌+◌, ◌-◌, ◌/◌, ◌%◌, ◌<◌, ◌==◌, ◌&&◌, List, [], ◌∷◌, ◌++◌, nat_lt, Bool, true, false, if◌then◌else◌, Option, Some, None, IfSome, codes, decimal, encode_utf8, append-nil, append_assoc, refl, sym, ap, ◌∙◌, arith}
+use Rattle.std.proofs.lemmas.Bool.{and_from, cond_both, lt-ltb}
 use Rattle.std.proofs.lemmas.List.Folds.{list_all-append}
 use Rattle.std.specs.Char.{digit_char}
 use Rattle.std.specs.Fmt.{digits, digits_onto, digit_glyph}
@@ -113,3 +114,30 @@ by_cases P e c (Some text) fixed escaped seen = escaped text fixed
 pub each_character : (P : List ℕ → Type 0) (e : Escape) (c : ℕ) → ((bs : List ℕ) → ArePrintable bs → P bs) → (is_hidden c ≡ false → P (encode_utf8 c)) → P (escaped_character e c)
 unfolding escaped_character
 each_character P e c escaped seen = by_cases P e c (escape_of e c) (all_fixed e c) escaped seen
+
+by_command : (P : List ℕ → Type 0) (e : Escape) (c : ℕ) → ((bs : List ℕ) → ArePrintable bs → P bs) → (is_hidden c ≡ false → P (encode_utf8 c)) → P (command_escape e c)
+by_command P escape.Shown c escaped seen = escaped (unicode_escape c) (by_unicode c)
+by_command P escape.Json c escaped seen = escaped (unicode_escape c) (by_unicode c)
+by_command P escape.Xml c escaped seen = escaped (character_reference c) (by_reference c)
+by_command P escape.Data c escaped seen = each_character P escape.Data c escaped seen
+by_command P escape.Property c escaped seen = each_character P escape.Property c escaped seen
+
+-- the same, wherever the character stands
+pub each_behind : (P : List ℕ → Type 0) (e : Escape) (s : Before) (c : ℕ) → ((bs : List ℕ) → ArePrintable bs → P bs) → (is_hidden c ≡ false → P (encode_utf8 c)) → P (written_behind e s c)
+unfolding written_behind
+each_behind P e s c escaped seen = cond_both (is_of_command s c) (command_escape e c) (escaped_character e c) P (λ h. by_command P e c escaped seen) (λ h. each_character P e c escaped seen)
+
+-- ---- character by character
+
+-- what stands behind some characters
+abbrev pub after_all : Before → List ℕ → Before
+after_all s [] = s
+after_all s (c ∷ cs) = after_all (after s c) cs
+
+pub one_more : (e : Escape) (s : Before) (cs : List ℕ) (c : ℕ) → escaped_rest e s (cs ++ c ∷ []) ≡ escaped_rest e s cs ++ written_behind e (after_all s cs) c
+one_more e s [] c = append-nil (written_behind e s c)
+one_more e s (d ∷ cs) c = ap (λ xs. written_behind e s d ++ xs) (one_more e (after s d) cs c) ∙ sym (append_assoc (written_behind e s d) (escaped_rest e (after s d) cs) (written_behind e (after_all (after s d) cs) c))
+
+pub after_one_more : (s : Before) (cs : List ℕ) (c : ℕ) → after_all s (cs ++ c ∷ []) ≡ after (after_all s cs) c
+after_one_more s [] c = refl
+after_one_more s (d ∷ cs) c = after_one_more (after s d) cs c

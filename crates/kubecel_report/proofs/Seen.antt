@@ -1,16 +1,17 @@
 -- The characters of escaped texts.
-use Rattle.kubecel_report.proofs.Escaped.{ArePrintable, each_character, is_printable}
-use Rattle.kubecel_report.specs.Escapes.{escaped_character, escaped_text, is_format, is_hidden, is_separator, is_xml_char}
+use Rattle.kubecel_report.proofs.Escaped.{ArePrintable, each_behind, is_printable}
+use Rattle.kubecel_report.specs.Escapes.{after, at_start, escaped_rest, escaped_text, is_format, is_hidden, is_separator, is_xml_char, written_behind}
 use Rattle.kubecel_report.specs.Safe.{AreSeen, AreXmlChars}
+use Rattle.kubecel_report.specs.declared.escape.Before.{Before}
 use Rattle.kubecel_report.specs.declared.escape.Escape.{Escape}
 use Rattle.kubecel_report.specs.declared.escape.Escape.TheVariants as escape
-use Rattle.std.proofs.Common.{◌≡◌, ℕ, ◌<◌, ◌≤◌, ◌==◌, ◌&&◌, ◌||◌, ◌⊎◌, List, [], ◌∷◌, ◌++◌, append-nil, nat_lt, Bool, true, false, not, chars, encode_utf8, refl, sym, ap, ap₂, subst, ◌∙◌, arith}
-use Rattle.std.proofs.lemmas.Bool.{agree_below_at, and_from, and_parts, both_ways, cases_lt, false≢true, le-leb, ltb-true, not-true, not_from_false, or_left, or_parts, or_right}
+use Rattle.std.proofs.Common.{◌≡◌, ℕ, ◌<◌, ◌≤◌, ◌==◌, ◌&&◌, ◌||◌, List, [], ◌∷◌, ◌++◌, append-nil, nat_lt, Bool, true, false, not, chars, encode_utf8, refl, sym, ap, ap₂, ◌∙◌, arith}
+use Rattle.std.proofs.lemmas.Bool.{agree_below_at, and_from, and_parts, both_ways, cases_lt, le-leb, ltb-true, not-true, not_from_false, or_left, or_right}
 use Rattle.std.proofs.lemmas.List.Folds.{list_all-append}
 use Rattle.std.proofs.lemmas.Str.{chars-encodes, encode_ascii, encodes-append, scalars-chars}
 use Rattle.std.specs.Char.{is_control}
 use Rattle.std.specs.Int.{is_in_range}
-use Rattle.std.specs.List.{flat_map, list_all}
+use Rattle.std.specs.List.{list_all}
 use Rattle.std.specs.Str.{IsUtf8, all_scalars, encode_utf8_all}
 use lib.Utf8.{scalar, scalar_cases}
 use mathlib.Core.Logic.{⊎_elim}
@@ -47,15 +48,15 @@ seen_printable (b ∷ bs) p =
 seen_encoded : (c : ℕ) → scalar c ≡ true → is_hidden c ≡ false → IsSeen (encode_utf8 c)
 seen_encoded c s e = (c ∷ [], append-nil (encode_utf8 c), and_from (is_good c) true (and_from (scalar c) (not (is_hidden c)) s (not_from_false (is_hidden c) e)) refl)
 
-seen_flat : (e : Escape) (cs : List ℕ) → all_scalars cs ≡ true → IsSeen (flat_map (escaped_character e) cs)
-seen_flat e [] s = ([], refl, refl)
-seen_flat e (c ∷ cs) s =
+seen_rest : (e : Escape) (b : Before) (cs : List ℕ) → all_scalars cs ≡ true → IsSeen (escaped_rest e b cs)
+seen_rest e b [] s = ([], refl, refl)
+seen_rest e b (c ∷ cs) s =
     let parts = and_parts (scalar c) (all_scalars cs) s in
-    seen_append (escaped_character e c) (flat_map (escaped_character e) cs) (each_character IsSeen e c seen_printable (seen_encoded c parts.0)) (seen_flat e cs parts.1)
+    seen_append (written_behind e b c) (escaped_rest e (after b c) cs) (each_behind IsSeen e b c seen_printable (seen_encoded c parts.0)) (seen_rest e (after b c) cs parts.1)
 
 seen_text : (e : Escape) (text : List ℕ) → IsUtf8 text → IsSeen (escaped_text e text)
 unfolding escaped_text
-seen_text e text u = seen_flat e (chars text) (scalars-chars text u)
+seen_text e text u = seen_rest e at_start (chars text) (scalars-chars text u)
 
 -- ---- what the characters of a list have, if they are good
 

@@ -1,14 +1,15 @@
 -- Trusted by the clauses of kubecel.
 -- How a text of a file is written in each form of output, so that it adds no line and no command: what a
--- reader doesn't see is written as an escape. Sources: Unicode Character Database 18.0, DerivedGeneralCategory.txt
+-- reader doesn't see, and what GitHub's runner would take for a command, is written as an escape. Sources: Unicode Character Database 18.0, DerivedGeneralCategory.txt
 -- (Cc, Cf, Zl, Zp); RFC 8259, section 7; XML 1.0, sections 2.2 (production 2), 2.4, 2.11, 3.3.3, 4.1; GitHub's
--- documentation, "Workflow commands", and the escapes of its package `@actions/core`.
+-- documentation, "Workflow commands", and the escapes of its package `@actions/core`; the class `ActionCommand` of its
+-- runner.
+use Rattle.kubecel_report.specs.declared.escape.Before.{Before}
 use Rattle.kubecel_report.specs.declared.escape.Escape.{Escape}
 use Rattle.kubecel_report.specs.declared.escape.Escape.TheVariants as escape
-use Rattle.std.specs.Char.{digit_char, is_control}
+use Rattle.std.specs.Char.{digit_char, is_control, is_whitespace}
 use Rattle.std.specs.Int.{is_in_range}
-use Rattle.std.specs.List.{flat_map}
-use Rattle.std.specs.Prelude.{ℕ, ◌+◌, ◌-◌, ◌/◌, ◌%◌, ◌==◌, ◌||◌, nat_lt, List, [], ◌∷◌, ◌++◌, Bool, if◌then◌else◌, Option, Some, None, chars, codes, decimal, encode_utf8}
+use Rattle.std.specs.Prelude.{ℕ, ◌+◌, ◌-◌, ◌/◌, ◌%◌, ◌==◌, ◌&&◌, ◌||◌, nat_lt, List, [], ◌∷◌, ◌++◌, Bool, true, false, if◌then◌else◌, Option, Some, None, chars, codes, decimal, encode_utf8}
 
 -- ---- characters that aren't seen
 
@@ -102,5 +103,39 @@ by_escape e c (Some text) = text
 unfoldable pub escaped_character : Escape → ℕ → List ℕ
 escaped_character e c = by_escape e c (escape_of e c)
 
+-- ---- what GitHub's runner takes for a command
+
+-- what stands before a text
+abbrev pub at_start : Before
+at_start = record { is_blank = true; ends_in_sign = false; ends_in_two_signs = false }
+
+-- what stands behind a character
+abbrev pub after : Before → ℕ → Before
+after s c = record {
+  is_blank = s.is_blank && is_whitespace c;
+  ends_in_sign = c == 35;
+  ends_in_two_signs = s.ends_in_sign && c == 35;
+}
+
+-- A line with `::` behind blanks is a command, and so is what stands behind `##[`, wherever that is.
+abbrev pub is_of_command : Before → ℕ → Bool
+is_of_command s c = (s.is_blank && c == 58) || (s.ends_in_two_signs && c == 91)
+
+-- a colon that begins a text behind blanks, and a bracket behind two number signs; within a command there is no other
+abbrev pub command_escape : Escape → ℕ → List ℕ
+command_escape escape.Shown c = unicode_escape c
+command_escape escape.Json c = unicode_escape c
+command_escape escape.Xml c = character_reference c
+command_escape escape.Data c = escaped_character escape.Data c
+command_escape escape.Property c = escaped_character escape.Property c
+
+unfoldable pub written_behind : Escape → Before → ℕ → List ℕ
+written_behind e s c = if is_of_command s c then command_escape e c else escaped_character e c
+
+-- the rest of a text
+abbrev pub escaped_rest : Escape → Before → List ℕ → List ℕ
+escaped_rest e s [] = []
+escaped_rest e s (c ∷ cs) = written_behind e s c ++ escaped_rest e (after s c) cs
+
 unfoldable pub escaped_text : Escape → List ℕ → List ℕ
-escaped_text e text = flat_map (escaped_character e) (chars text)
+escaped_text e text = escaped_rest e at_start (chars text)

@@ -7,7 +7,7 @@ use Rattle.kubecel_report.specs.declared.escape.Escape.TheVariants as escape
 use Rattle.kubecel_report.specs.declared.output.Output.{Output}
 use Rattle.kubecel_report.specs.declared.output.Output.TheVariants.{Text, Coloured, Json, Github, Junit}
 use Rattle.std.specs.List.{list_all}
-use Rattle.std.specs.Prelude.{◌≡◌, ℕ, ◌+◌, ◌==◌, List, [], ◌∷◌, length, max, not, Bool, true, if◌then◌else◌, chars}
+use Rattle.std.specs.Prelude.{◌≡◌, ℕ, ◌+◌, ◌==◌, List, [], ◌∷◌, length, max, not, true, if◌then◌else◌, chars}
 
 -- ---- lines
 

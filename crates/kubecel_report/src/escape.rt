@@ -21,6 +21,50 @@ pub(crate) enum Escape {
     Property,
 }
 
+/// What stands before a character of a text.
+#[derive(Clone, Copy)]
+pub(crate) struct Before {
+    /// Whether it is white space alone.
+    is_blank: bool,
+    /// Whether it ends in a number sign.
+    ends_in_sign: bool,
+    /// Whether it ends in two number signs.
+    ends_in_two_signs: bool,
+}
+
+impl Before {
+    /// What stands before a text.
+    fn at_start() -> Before
+        ensures { result ≡ spec.at_start }
+    {
+        Before {
+            is_blank: true,
+            ends_in_sign: false,
+            ends_in_two_signs: false,
+        }
+    }
+
+    /// What stands behind a character.
+    fn after(self, character: char) -> Before
+        ensures { result ≡ spec.after self character }
+    {
+        let is_sign = character == '#';
+        Before {
+            is_blank: self.is_blank && character.is_whitespace(),
+            ends_in_sign: is_sign,
+            ends_in_two_signs: self.ends_in_sign && is_sign,
+        }
+    }
+
+    /// Reports whether GitHub's runner could take what begins, or ends, with this character for a
+    /// command.
+    fn is_of_command(self, character: char) -> bool
+        ensures { result ≡ spec.is_of_command self character }
+    {
+        (self.is_blank && character == ':') || (self.ends_in_two_signs && character == '[')
+    }
+}
+
 /// Reports whether a character has no glyph, and may change the order of those beside it.
 fn is_format(character: char) -> bool
     ensures { result ≡ spec.is_format character }
@@ -218,13 +262,50 @@ fn push_escaped(
     }
 }
 
+/// Appends the escape of a character that is part of a command.
+fn push_of_command(
+    alloc: Global,
+    out: &mut String,
+    escape: Escape,
+    character: char,
+) -> Result<(), AllocError>
+    ensures { OnOk result (string_bytes out.new
+        ≡ string_bytes out.old ++ spec.command_escape escape character) }
+{
+    match escape {
+        Escape::Shown | Escape::Json => push_unicode(out, character),
+        Escape::Xml => push_reference(alloc, out, character),
+        Escape::Data | Escape::Property => push_escaped(alloc, out, escape, character),
+    }
+}
+
+/// Appends a character behind what stands before it.
+#[tactic(auto, unfolding(crate::specs::Escapes::written_behind))]
+fn push_behind(
+    alloc: Global,
+    out: &mut String,
+    escape: Escape,
+    before: Before,
+    character: char,
+) -> Result<(), AllocError>
+    ensures { OnOk result (string_bytes out.new
+        ≡ string_bytes out.old ++ spec.written_behind escape before character) }
+{
+    if before.is_of_command(character) {
+        return push_of_command(alloc, out, escape, character);
+    }
+    push_escaped(alloc, out, escape, character)
+}
+
 /// Returns a text with each character escaped that has to be.
 pub(crate) fn escaped(alloc: Global, escape: Escape, text: &str) -> Result<String, AllocError>
     ensures { IfOk result (λ s. string_bytes s ≡ spec.escaped_text escape text.now) }
 {
     let mut out = String::new(alloc);
+    let mut before = Before::at_start();
     for character in text.chars() {
-        push_escaped(alloc, &mut out, escape, character)?;
+        push_behind(alloc, &mut out, escape, before, character)?;
+        before = before.after(character);
     }
     Ok(out)
 }

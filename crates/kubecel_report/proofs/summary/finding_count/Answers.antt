@@ -1,6 +1,6 @@
 use Rattle.kubecel_report.proofs.Summed.{from_begin, none_left_to_count, one_more_counted}
 use Rattle.kubecel_report.proofs.summary.finding_count.Goals as goal
-use Rattle.std.proofs.Common.{◌<◌, ◌≤◌, ◌-◌, ◌^◌, length, ◌∙◌, sym, arith}
+use Rattle.std.proofs.Common.{◌<◌, ◌≤◌, length, ◌∙◌, sym, arith}
 
 pub loop-item-preserved : goal.loop-item-preserved
 loop-item-preserved c =

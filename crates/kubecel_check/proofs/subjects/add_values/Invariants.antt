@@ -1,8 +1,0 @@
-use Rattle.kubecel_check.proofs.subjects.add_values.Given as goal
-use Rattle.kubecel_io.specs.Objects.{object_of}
-use Rattle.kubecel_io.specs.Subjects.{subject_view}
-use Rattle.serde_json.specs.View.{view}
-use Rattle.std.proofs.Common.{◌≡◌, ◌++◌, map, take}
-
-abbrev pub invariant-loop-value : goal.invariant-loop-value
-invariant-loop-value l = map subject_view l.subjects.items ≡ map subject_view l.fn.subjects.items ++ map (object_of (subject_view l.document)) (map view (take l.value-index l.values))
