@@ -35,7 +35,7 @@ proved=$crate/out/$name
 released=$crate/out/$name-released
 
 say() {
-    printf '%s\n' "$name: $*" >&2
+    printf '%s\n' "$name: ${*//'##['/'##\u005b'}" >&2
 }
 
 # Says something of how far a run is to be trusted.
