@@ -10,6 +10,7 @@ mod changed;
 mod functions;
 pub mod laws;
 mod operands;
+mod patterns;
 mod sets;
 mod table;
 mod texts;

@@ -6,6 +6,8 @@ ghost use Rattle.cel_patterns.specs.Extensions.{HoldsForExtensions};
 ghost use Rattle.cel_value.specs.View.{view};
 ghost use Rattle.cel_semantics.specs.Outcome.{outcome_view};
 ghost use Rattle.kube_functions.specs.Kube.{kube_form};
+ghost use Rattle.cel_stdlib.specs.Standard.{first_operand, second_operand};
+ghost use Rattle.kube_server_functions.specs.Patterns.{pattern_in};
 ghost use Rattle.kube_server_functions.specs.Names.{server_unknown};
 ghost use Rattle.kube_server_functions.specs.Server as spec;
 
@@ -13,6 +15,7 @@ use crate::calls::answer;
 use crate::changed::changed;
 use crate::functions::Function;
 use crate::operands::operands_of;
+use crate::patterns::{answer_by_pattern, pattern_in};
 use crate::table::{is_named, known_function};
 use cel_patterns::PatternBook;
 use cel_semantics::operators::Answer;
@@ -35,6 +38,32 @@ fn form_beside(named: bool, form: Form) -> Form
     }
 }
 
+// Answers a call of a function that an API server answers as `kube_functions` does, but for patterns.
+fn unchanged_answer(
+    alloc: Global,
+    name: &str,
+    receiver: Option<&Value>,
+    args: &[Value],
+    book: &mut PatternBook,
+) -> Result<Answer, Refused>
+    requires { kube_form name.now (is_some receiver) (length args.now) ≡ Form.Known }
+    ensures keeps { Extends (entries_of book.new) (entries_of book.old) }
+    ensures value { IfOk result (λ r. HoldsForExtensions (entries_of book.new) (outcome_view r)
+        (λ b. spec.unchanged_answer name.now
+        (option_map (λ v. view v.now) receiver.entry) (map view args.now)
+        (pattern_in name.now
+        (first_operand (option_map (λ v. view v.now) receiver.entry) (map view args.now))
+        (second_operand (option_map (λ v. view v.now) receiver.entry) (map view args.now))) b)) }
+{
+    let operands = operands_of(receiver, args);
+    match pattern_in(name, operands) {
+        Some((value, pattern)) => {
+            answer_by_pattern(alloc, name, value, pattern, operands.third, book)
+        }
+        None => AllFunctions.call(alloc, name, receiver, args, book),
+    }
+}
+
 // Answers a call of a function that isn't in the table.
 fn other_answer(
     alloc: Global,
@@ -51,7 +80,7 @@ fn other_answer(
 {
     match changed(alloc, name, operands_of(receiver, args))? {
         Some(answer) => Ok(answer),
-        None => AllFunctions.call(alloc, name, receiver, args, book),
+        None => unchanged_answer(alloc, name, receiver, args, book),
     }
 }
 

@@ -1,0 +1,12 @@
+pub mod Outcomes
+pub mod Terms
+pub mod Members
+pub mod Choices
+pub mod Calls
+pub mod Optionals
+pub mod Pairs
+pub mod Methods
+pub mod Values
+pub mod Port
+pub mod Functions
+pub mod Transforms

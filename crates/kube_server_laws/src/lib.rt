@@ -1,0 +1,4 @@
+//! *Server meaning*, and its laws. No crate stands on this one, and it has no calls.
+#![tactic(auto)]
+
+pub mod laws;

@@ -1,0 +1,11 @@
+use Rattle.std.proofs.Common.{sym, ◌∙◌}
+use Rattle.cel_syntax_lexer.proofs.Strings.{longest_bytes, no_bytes}
+use Rattle.kube_server_lexer.proofs.string_literal.bytes_length.Goals as goal
+
+pub returns-then-begins_either-clause-spelling : goal.returns-then-begins_either-clause-spelling
+returns-then-begins_either-clause-spelling c =
+    rw c.longer.ensures (longest_bytes c.args.text.now c.after_b_length.result (sym c.begins_either.ensures.value ∙ c.if-begins_either.true) (rw c.after.ensures at c.after_b_length.ensures.spelling))
+
+pub returns-else-begins_either-clause-spelling : goal.returns-else-begins_either-clause-spelling
+returns-else-begins_either-clause-spelling c =
+    no_bytes c.args.text.now (sym c.begins_either.ensures.value ∙ c.if-begins_either.false)

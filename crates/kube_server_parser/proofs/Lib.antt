@@ -1,0 +1,10 @@
+pub mod Levels
+pub mod Taken
+pub mod Ends
+pub mod Deep
+pub mod Inner
+pub mod Bounds
+pub mod Cuts
+pub mod Reading
+pub mod Counts
+pub mod Told

@@ -1,0 +1,12 @@
+pub mod Trees
+pub mod Words
+pub mod Expects
+pub mod Views
+pub mod Results
+pub mod Tables
+pub mod Pending
+pub mod Calls
+pub mod Texts
+pub mod Position
+pub mod Answers
+pub mod Described

@@ -1,0 +1,11 @@
+pub mod Fronts
+pub mod Escapes
+pub mod Classes
+pub mod Brackets
+pub mod Openings
+pub mod Repetitions
+pub mod Lexemes
+pub mod Groups
+pub mod Pieces
+pub mod States
+pub mod Translation

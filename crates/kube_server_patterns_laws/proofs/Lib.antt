@@ -1,0 +1,4 @@
+mod Opened
+mod Sets
+mod Trees
+mod Characters

@@ -1,0 +1,4 @@
+//! Laws of what `kube_server_patterns` writes.
+#![tactic(auto)]
+
+pub mod laws;
