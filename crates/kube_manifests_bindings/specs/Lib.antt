@@ -1,0 +1,5 @@
+pub mod Bindings
+pub mod Constraints
+pub mod Faults
+pub mod Fields
+pub mod Selectors

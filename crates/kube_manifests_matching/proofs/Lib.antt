@@ -1,0 +1,4 @@
+pub mod Blanks
+pub mod Lawful
+pub mod Monotone
+pub mod Steps

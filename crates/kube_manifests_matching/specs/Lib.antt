@@ -1,0 +1,14 @@
+pub mod Attributes
+pub mod Criteria
+pub mod Labels
+pub mod Laws
+pub mod Made
+pub mod Pairs
+pub mod Params
+pub mod Rules
+pub use Rattle.kube_manifests_bindings.specs.Bindings
+pub use Rattle.kube_manifests_bindings.specs.Constraints
+pub use Rattle.kube_manifests_bindings.specs.Faults
+pub use Rattle.kube_manifests_bindings.specs.Selectors
+pub use Rattle.kube_manifests_resources.specs.Builtins
+pub use Rattle.kube_manifests_resources.specs.Resources
