@@ -221,7 +221,8 @@ impl Machine {
         mark: Punctuator,
         place: Place,
     ) -> Result<Mode, Stop>
-        ensures { Acts (machine.part_by_mark (tree part.node, machine.in_round bracket ∷ frames_of self.old.frames.items) mark place)
+        ensures { Acts (machine.part_by_mark
+            (tree part.node, machine.in_round bracket ∷ frames_of self.old.frames.items) mark place)
             result self.new.frames.items }
     {
         match mark {

@@ -153,7 +153,8 @@ pub(crate) fn with_item(items: Items, is_optional: bool, item: Part) -> Result<I
 
 /// The list, which ends at the place.
 pub(crate) fn list(items: Items, end: Place) -> Result<Part, Stop>
-    ensures { Builds (spec.list_of (placed.across items.place end) (items_of (map item_view items.items.items))) result }
+    ensures { Builds (spec.list_of (placed.across items.place end)
+        (items_of (map item_view items.items.items))) result }
 {
     let level = above(items.level)?;
     let Items {

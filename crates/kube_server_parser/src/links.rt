@@ -191,7 +191,8 @@ impl Machine {
 
     /// The end of a part of a bracket.
     fn close_part(&mut self, mark: Punctuator, operand: Part, place: Place) -> Result<Mode, Stop>
-        ensures { Acts (machine.part_by_mark (machine.closed (frames_of self.old.frames.items) (tree operand.node)) mark place)
+        ensures { Acts (machine.part_by_mark
+            (machine.closed (frames_of self.old.frames.items) (tree operand.node)) mark place)
             result self.new.frames.items }
     {
         match self.take_in(None, operand) {
